@@ -1,0 +1,15 @@
+//! Formats that are read from left to right, tied to a grammar that is stated apart from the reader.
+//!
+//! `specs/Reading.antt` has the readers, `specs/Grammar.antt` the grammars and what it means that a
+//! reader is exact for one, and `proofs/Laws.antt` the laws by which a reader is built that is.
+#![tactic(auto)]
+
+ghost use Rattle.std.specs.Prelude.{ℕ};
+ghost use Rattle.kb_grammar.specs.Reading.{number, run};
+ghost use Rattle.kb_grammar.specs.Grammar.{Exact, IsNumber, IsRunOf};
+
+/// A number of any width is read exactly where its bytes are whole, and a run of bytes likewise.
+pub fn numbers_and_runs()
+    ensures numbers { (width : ℕ) → Exact (number (λ at. at) width) (IsNumber width) }
+    ensures runs { (n : ℕ) → Exact (run (λ at. at) n) (IsRunOf n) }
+{}
