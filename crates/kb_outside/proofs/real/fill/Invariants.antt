@@ -1,0 +1,12 @@
+use Rattle.std.proofs.Common.{◌≡◌, ◌≤◌, ◌+◌, ◌-◌, take, vec_len}
+use Rattle.kb_outside.proofs.real.fill.Given as goal
+
+abbrev pub invariant-loop-block : goal.invariant-loop-block
+invariant-loop-block g l = record {
+  start : l.start ≤ vec_len l.into;
+  within : vec_len l.into ≤ l.start + (l.limit + 1);
+  appended : take l.start l.into.items ≡ l.fn.into.items;
+}
+
+abbrev pub decreases-loop-block : goal.decreases-loop-block
+decreases-loop-block g l = l.limit + 1 - (vec_len l.into - l.start)

@@ -1,0 +1,23 @@
+-- What the contracts of shelves and sinks say of counts and bytes.
+use Rattle.std.specs.Prelude.{◌≡◌, ℕ, ◌+◌, ◌-◌, ◌^◌, ◌<◌, ◌≤◌, min, Option, None, List, ◌++◌, length, take}
+use Rattle.std.specs.Option.{option_map}
+
+-- the number after n in a count that stops at the last value of a u64
+abbrev pub next_count : ℕ → ℕ
+next_count n = min (n + 1) (2 ^ 64 - 1)
+
+-- the count rose between the two moments, or stands at its last value
+abbrev pub Rose : ℕ → ℕ → Type 0
+Rose before now = next_count before ≤ now
+
+-- what is told of bytes that are not known
+abbrev pub untold : Option (List ℕ)
+untold = None
+
+-- the bytes, where they are told, have gained the piece at their end
+abbrev pub Grows : Option (List ℕ) → Option (List ℕ) → List ℕ → Type 0
+Grows before now piece = now ≡ option_map (λ (bytes : List ℕ). bytes ++ piece) before
+
+-- the bytes, where they are told, have gained a front of the text that is not the whole of it
+abbrev pub GrowsByPart : Option (List ℕ) → Option (List ℕ) → List ℕ → Type 0
+GrowsByPart before now text = (n : ℕ) × (n < length text) × Grows before now (take n text)

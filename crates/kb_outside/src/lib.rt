@@ -1,0 +1,21 @@
+//! What the program reads from and writes to: shelves of files and sinks of bytes. Each has one form
+//! over the system and one in memory, whose bytes and faults are told to the last one.
+#![tactic(auto)]
+
+mod memory_shelf;
+mod memory_sink;
+mod real;
+mod shelves;
+mod sinks;
+#[cfg(test)]
+mod tests;
+
+pub use memory_shelf::MemoryShelf;
+pub use memory_sink::MemorySink;
+pub use real::{FileShelf, OutSink};
+pub use shelves::{Shelf, ShelfStop};
+pub use sinks::{Sink, SinkFailed, send_all};
+
+/// Memory ran out.
+#[derive(Clone, Copy, Debug, PartialEq, Eq)]
+pub struct NoMemory;
