@@ -1,0 +1,9 @@
+pub mod Reading
+pub mod Choices
+pub mod Fronts
+pub mod NameReader
+pub mod ShapeLaws
+pub mod ClassReader
+pub mod TypeReader
+pub mod MethodReader
+pub mod TargetReader

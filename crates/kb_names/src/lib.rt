@@ -1,0 +1,30 @@
+//! Names and types of the Java virtual machine, the descriptors that spell types, and the spelling of names
+//! in texts.
+#![tactic(auto)]
+
+mod class_names;
+mod descriptors;
+mod name;
+mod name_texts;
+mod row;
+mod stages;
+mod targets;
+#[cfg(test)]
+mod tests;
+mod types;
+mod writing;
+
+pub use class_names::Spelling;
+pub use descriptors::{
+    NameRefusal, read_method_type, read_method_type_as, read_type, read_type_as,
+};
+pub use name::Name;
+pub use name_texts::{NameTextRefusal, read_name, write_name};
+pub use row::Row;
+pub use targets::{TargetRefusal, read_target, write_target};
+pub use types::{Component, ExactType, JType, MethodType, Target};
+pub use writing::{write_method_type, write_type};
+
+/// Memory ran out.
+#[derive(Clone, Copy, Debug, PartialEq, Eq)]
+pub struct NoMemory;

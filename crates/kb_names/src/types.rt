@@ -1,0 +1,203 @@
+// Types of the Java virtual machine.
+ghost use Rattle.std.specs.Prelude.{◌≡◌, ◌↔◌, IfOk, IsTrue};
+ghost use Rattle.kb_names.specs.Types.{shape_of, arrays_of};
+
+use crate::{Name, NoMemory, Row};
+use std::alloc::Global;
+use std::marker::Model;
+
+/// A type of a field, a parameter or a result (JVMS 8 section 4.3.2).
+#[cycle(types)]
+#[derive(Debug, Drop)]
+pub enum JType {
+    Bool,
+    Byte,
+    Char,
+    Short,
+    Int,
+    Long,
+    Float,
+    Double,
+    /// A class or an interface.
+    Class(Name),
+    /// An array, by its component.
+    Array(Component),
+}
+
+/// The component type of an array.
+#[cycle(types)]
+#[derive(Debug, Drop)]
+pub struct Component {
+    of: Box<JType>,
+}
+
+impl Model for Component {
+    ghost use Rattle.std.specs.Prelude.{◌+◌, ◌≤◌};
+    ghost use Rattle.std.proofs.Common.{arith};
+    ghost use Rattle.kb_names.specs.Shape.{Shape};
+
+    ghost Value = { Shape };
+
+    ghost use Rattle.kb_names.specs.Types.{shape_of};
+
+    ghost view = { λ component. shape_of component.of.value };
+
+    ghost size = { λ shape. shape.dims };
+
+    ghost size_decreases = { λ a h. Prim.grind arith };
+}
+
+impl Component {
+    /// The component of that type.
+    pub fn new(alloc: Global, of: JType) -> Result<Component, NoMemory>
+        ensures { IfOk result (λ component. component ≡ shape_of of) }
+    {
+        match Box::new(alloc, of) {
+            Ok(of) => Ok(Component { of }),
+            Err(_) => Err(NoMemory),
+        }
+    }
+
+    /// The type.
+    pub fn get(&self) -> &JType
+        ensures { result.now ≡ arrays_of self.now.dims self.now.base }
+    {
+        &self.of
+    }
+}
+
+impl JType {
+    /// Another type that equals this one.
+    #[cycle(types)]
+    pub fn copied(&self, alloc: Global) -> Result<JType, NoMemory>
+        ensures { IfOk result (λ copy. copy ≡ self.now) }
+    {
+        match self {
+            JType::Bool => Ok(JType::Bool),
+            JType::Byte => Ok(JType::Byte),
+            JType::Char => Ok(JType::Char),
+            JType::Short => Ok(JType::Short),
+            JType::Int => Ok(JType::Int),
+            JType::Long => Ok(JType::Long),
+            JType::Float => Ok(JType::Float),
+            JType::Double => Ok(JType::Double),
+            JType::Class(name) => Ok(JType::Class(name.copied(alloc)?)),
+            JType::Array(component) => {
+                let of = component.of.copied(alloc)?;
+                Ok(JType::Array(Component::new(alloc, of)?))
+            }
+        }
+    }
+
+    /// Whether they are one type.
+    #[cycle(same)]
+    pub fn is_same(&self, other: &JType) -> bool
+        ensures { IsTrue result ↔ (self.now ≡ other.now) }
+    {
+        match (self, other) {
+            (JType::Class(name), JType::Class(other)) => name == other,
+            (JType::Array(component), JType::Array(other)) => component.of.is_same(&other.of),
+            (JType::Bool, JType::Bool) => true,
+            (JType::Byte, JType::Byte) => true,
+            (JType::Char, JType::Char) => true,
+            (JType::Short, JType::Short) => true,
+            (JType::Int, JType::Int) => true,
+            (JType::Long, JType::Long) => true,
+            (JType::Float, JType::Float) => true,
+            (JType::Double, JType::Double) => true,
+            _ => false,
+        }
+    }
+}
+
+// Another row of equal types.
+fn copied_types(alloc: Global, types: &[JType]) -> Result<Row<JType>, NoMemory>
+    ensures { IfOk result (λ copy. copy ≡ types.now) }
+{
+    let mut copy = Row::new(alloc);
+    for of in types {
+        copy = copy.with(of.copied(alloc)?)?;
+    }
+    Ok(copy)
+}
+
+// Another result that equals this one.
+fn copied_result(alloc: Global, of: &Option<JType>) -> Result<Option<JType>, NoMemory>
+    ensures { IfOk result (λ copy. copy ≡ of.now) }
+{
+    match of {
+        Some(of) => Ok(Some(of.copied(alloc)?)),
+        None => Ok(None),
+    }
+}
+
+/// The parameters and the result of a method; no result for `void` (JVMS 8 section 4.3.3).
+#[derive(Debug, Drop)]
+pub struct MethodType {
+    pub params: Row<JType>,
+    pub result: Option<JType>,
+}
+
+impl MethodType {
+    /// Another type that equals this one.
+    pub fn copied(&self, alloc: Global) -> Result<MethodType, NoMemory>
+        ensures { IfOk result (λ copy. copy ≡ self.now) }
+    {
+        let params = copied_types(alloc, self.params.as_slice())?;
+        let returned = copied_result(alloc, &self.result)?;
+        Ok(MethodType {
+            params,
+            result: returned,
+        })
+    }
+}
+
+/// What an object is: of a class, or an array with its component.
+#[derive(Debug, Drop)]
+pub enum ExactType {
+    Class(Name),
+    Array(JType),
+}
+
+impl ExactType {
+    /// Another type that equals this one.
+    pub fn copied(&self, alloc: Global) -> Result<ExactType, NoMemory>
+        ensures { IfOk result (λ copy. copy ≡ self.now) }
+    {
+        match self {
+            ExactType::Class(name) => Ok(ExactType::Class(name.copied(alloc)?)),
+            ExactType::Array(component) => Ok(ExactType::Array(component.copied(alloc)?)),
+        }
+    }
+
+    /// Whether they are one type.
+    pub fn is_same(&self, other: &ExactType) -> bool
+        ensures { IsTrue result ↔ (self.now ≡ other.now) }
+    {
+        match (self, other) {
+            (ExactType::Class(name), ExactType::Class(other)) => name == other,
+            (ExactType::Array(component), ExactType::Array(other)) => component.is_same(other),
+            _ => false,
+        }
+    }
+}
+
+/// A method of a class, by the class's name, its own and its type.
+#[derive(Debug, Drop)]
+pub struct Target {
+    pub class: Name,
+    pub name: Name,
+    pub kind: MethodType,
+}
+
+impl Target {
+    /// Another target that equals this one.
+    pub fn copied(&self, alloc: Global) -> Result<Target, NoMemory>
+        ensures { IfOk result (λ copy. copy ≡ self.now) }
+    {
+        let class = self.class.copied(alloc)?;
+        let name = self.name.copied(alloc)?;
+        let kind = self.kind.copied(alloc)?;
+        Ok(Target { class, name, kind })
+    }
+}
