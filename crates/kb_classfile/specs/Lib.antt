@@ -1,0 +1,5 @@
+pub mod Pool
+pub mod Spelling
+pub mod Small
+pub mod Reading
+pub mod Answers

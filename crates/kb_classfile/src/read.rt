@@ -1,0 +1,84 @@
+//! Reading a class file.
+
+ghost use Rattle.std.specs.Prelude.{◌≡◌, ◌<◌, ◌≤◌, ◌≢◌, ◌↔◌, ◌⊎◌, Ok, length, take, IfOk, IfErr, OnOk, IsErrOf};
+ghost use Rattle.kb_classfile.specs.Reading.{Gives};
+ghost use Rattle.kb_classfile.specs.Small.{SpellsSmall};
+ghost use Rattle.kb_classfile.specs.Answers.{IsMagicUnbuiltOrNoMemory, BeginsAsClass, DoesNotBegin, IsNotBuilt, IsUnbuiltOrNoMemory, unbuilt_for};
+ghost use Rattle.kb_classfile.specs.declared.file.ClassFile.{ClassFile};
+
+use crate::file::ClassFile;
+use crate::items::{MAGIC, class_of};
+use crate::refusal::ClassRefusal;
+use crate::small::has_own_names;
+use byteorder::{BigEndian, ByteOrder};
+use std::alloc::Global;
+
+/// The most bytes that are read.
+const MOST_BYTES: usize = 1_048_576;
+
+/// The class file that the bytes spell (JVMS 8 chapter 4), if it has the small form.
+///
+/// The small form: at most 1,048,576 bytes; only Utf8 and Class entries; a major version of 45 to 52;
+/// the superclass java/lang/Object, and a name that no platform class has; no interfaces, fields or
+/// attributes of the class; each method with the one attribute Code, without handlers and attributes;
+/// no two methods of one name and descriptor, and none named `<clinit>`.
+///
+/// Magic is answered where four bytes are there and are not the magic number, Unbuilt for all other bytes
+/// that are not of the small form, and NoMemory where memory runs out. No other refusal comes yet.
+pub fn read_class(alloc: Global, bytes: &[u8]) -> Result<ClassFile, ClassRefusal>
+    // What is read is spelled by the bytes, all of them, and of the small form.
+    ensures found { IfOk result (λ file. SpellsSmall file bytes.now) }
+    // What is spelled and of the small form is read, so no bytes spell two such files.
+    ensures only { (file : ClassFile) → SpellsSmall file bytes.now → Gives (λ read. read) result (Ok file) }
+    // Four bytes that are not the magic number, whatever follows, and nothing else.
+    ensures magic { IsErrOf result ClassRefusal.Magic ↔ ((4 ≤ length bytes.now) × (BeginsAsClass bytes.now → ⊥)) }
+    // Fewer than four bytes, or the magic number and then no file of the small form.
+    ensures unbuilt { IsErrOf result ClassRefusal.Unbuilt → IsNotBuilt bytes.now }
+    ensures others { IfErr result IsMagicUnbuiltOrNoMemory }
+{
+    begins_as_class(bytes)?;
+    small_class(alloc, bytes)
+}
+
+/// The class file of the small form that the bytes spell.
+fn small_class(alloc: Global, bytes: &[u8]) -> Result<ClassFile, ClassRefusal>
+    ensures found { IfOk result (λ file. SpellsSmall file bytes.now) }
+    ensures only { (file : ClassFile) → SpellsSmall file bytes.now → Gives (λ read. read) result (Ok file) }
+    ensures refusals { IfErr result IsUnbuiltOrNoMemory }
+{
+    if MOST_BYTES < bytes.len() {
+        return Err(ClassRefusal::Unbuilt);
+    }
+    let file = match class_of(alloc, bytes) {
+        Ok(file) => file,
+        Err(refusal) => return Err(unbuilt_for(refusal)),
+    };
+    if !has_own_names(alloc, &file)? {
+        return Err(ClassRefusal::Unbuilt);
+    }
+    Ok(file)
+}
+
+/// Each fault behind the magic number is Unbuilt, until each has its own refusal.
+fn unbuilt_for(refusal: ClassRefusal) -> ClassRefusal
+    ensures { result ≡ unbuilt_for refusal }
+{
+    match refusal {
+        ClassRefusal::NoMemory => ClassRefusal::NoMemory,
+        _ => ClassRefusal::Unbuilt,
+    }
+}
+
+/// Whether the bytes begin with the magic number.
+fn begins_as_class(bytes: &[u8]) -> Result<(), ClassRefusal>
+    ensures ok { OnOk result (BeginsAsClass bytes.now) }
+    ensures err { IfErr result (λ refusal. DoesNotBegin refusal bytes.now) }
+{
+    if bytes.len() < 4 {
+        return Err(ClassRefusal::Unbuilt);
+    }
+    if BigEndian::read_u32(bytes) != MAGIC {
+        return Err(ClassRefusal::Magic);
+    }
+    Ok(())
+}
