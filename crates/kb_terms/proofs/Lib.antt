@@ -1,0 +1,9 @@
+pub mod Computing
+pub mod Entries
+pub mod Equality
+pub mod Growth
+pub mod Interned
+pub mod Order
+pub mod Ranges
+pub mod Values
+pub mod Walking

@@ -1,0 +1,4 @@
+pub mod Numbering
+pub mod Op
+pub mod Terms
+pub mod Walk

@@ -1,0 +1,15 @@
+//! Terms over ints: constants, variables and operations, each a node of a pool that has no two equal nodes.
+#![tactic(auto)]
+
+mod node;
+mod numbering;
+mod op;
+mod pool;
+
+pub use node::{Node, TermId, VarKind};
+pub use numbering::Numbering;
+pub use op::Op;
+pub use pool::{NoMemory, Pool};
+
+#[cfg(test)]
+mod tests;

@@ -1,0 +1,269 @@
+//! The pool of terms.
+ghost use Rattle.std.specs.Prelude.{◌≡◌, ◌+◌, ◌<◌, ◌≤◌, ◌^◌, ◌++◌, ◌∷◌, [], ℤ, List, length, false, Some, IfOk, OnOk, OnErr};
+ghost use Rattle.std.specs.Option.{ForSome};
+ghost use Rattle.kb_terms.specs.declared.node.Node.TheVariants.{Const, Var};
+ghost use Rattle.kb_terms.specs.Op.{op_value};
+ghost use Rattle.kb_terms.specs.Terms.{IsTerm, node_at, is_variable, variables_of, AreOperands, constant_at, second_constant, int_at, made_node, NodeFits, IsWellFormed, Extends, HasNode, value_of, operand_value, values, node_value, CanCompute};
+
+use crate::node::{Node, TermId, VarKind};
+use crate::op::Op;
+use indexmap::IndexSet;
+use std::alloc::{AllocError, AllocFailed, Global};
+use std::marker::Model;
+
+/// Want of memory, or of numbers: a pool has fewer than 2^32 terms.
+#[derive(Clone, Copy, Debug, PartialEq, Eq)]
+pub struct NoMemory;
+
+impl From<AllocError> for NoMemory {
+    fn from(_error: AllocError) -> NoMemory {
+        NoMemory
+    }
+}
+
+impl<T: Drop> From<AllocFailed<T>> for NoMemory {
+    fn from(_error: AllocFailed<T>) -> NoMemory {
+        NoMemory
+    }
+}
+
+/// A list of terms, each numbered by its place. Contracts see the list of their nodes.
+///
+/// Equal terms are one term (hash-consing, Ershov 1958), an operation whose operands are all constants is a constant,
+/// and each operation's operands stand before it.
+#[derive(Drop)]
+pub struct Pool {
+    nodes: IndexSet<Node>,
+    variables: u32,
+}
+
+impl Model for Pool {
+    ghost use Rattle.std.specs.Prelude.{List, ◌≡◌};
+    ghost use Rattle.kb_terms.specs.declared.node.Node.{Node};
+    ghost use Rattle.kb_terms.specs.Terms.{IsWellFormed, variables_of};
+
+    ghost Value = { List Node };
+
+    ghost view = { λ p. p.nodes.keys };
+
+    ghost invariant = { λ p. IsWellFormed p.nodes.keys × (p.variables ≡ variables_of p.nodes.keys) };
+}
+
+impl Pool {
+    /// A pool with no terms.
+    pub fn new(alloc: Global) -> Pool
+        ensures empty { result ≡ [] }
+        ensures formed { IsWellFormed result }
+    {
+        Pool {
+            nodes: IndexSet::new(alloc),
+            variables: 0,
+        }
+    }
+
+    /// A pool with the same terms. Refused for want of memory alone.
+    pub fn copy(&self) -> Result<Pool, NoMemory>
+        ensures { IfOk result (λ p. p ≡ self.now) }
+    {
+        let nodes = self.nodes.clone()?;
+        Ok(Pool {
+            nodes,
+            variables: self.variables,
+        })
+    }
+
+    /// How many variables there are; they are numbered from 0.
+    pub fn variables(&self) -> u32
+        ensures count { result ≡ variables_of self.now }
+        ensures formed { IsWellFormed self.now }
+    {
+        self.variables
+    }
+
+    /// What the terms are, in the order of their numbers.
+    pub fn nodes(&self) -> &[Node]
+        ensures nodes { result.now ≡ self.now }
+        ensures formed { IsWellFormed result.now }
+    {
+        self.nodes.as_slice()
+    }
+
+    /// What a term is.
+    pub fn node(&self, term: TermId) -> Node
+        requires { IsTerm self.now term }
+        ensures node { node_at self.now term ≡ Some result }
+        ensures formed { IsWellFormed self.now }
+    {
+        node_of(self.nodes(), term)
+    }
+
+    /// The int of a term that is a constant; `None` for any other term.
+    pub fn is_const(&self, term: TermId) -> Option<i32>
+        requires { IsTerm self.now term }
+        ensures { result ≡ constant_at self.now term }
+    {
+        match self.node(term) {
+            Node::Const(value) => Some(value),
+            Node::Var(..) | Node::Op(..) => None,
+        }
+    }
+
+    /// The term that is this constant. Refused for want of memory alone.
+    pub fn constant(&mut self, value: i32) -> Result<TermId, NoMemory>
+        ensures term { IfOk result (IsTerm self.new) }
+        ensures node { IfOk result (λ t. HasNode self.old self.new t (Const value)) }
+        ensures value { IfOk result (λ t. (inputs : List ℤ) → value_of self.new t inputs ≡ value) }
+        ensures extends { Extends self.old self.new }
+        ensures grows { length self.old ≤ length self.new }
+        ensures variables { variables_of self.new ≡ variables_of self.old }
+        ensures formed { IsWellFormed self.new }
+        ensures err { OnErr result (self.new ≡ self.old) }
+    {
+        self.intern(Node::Const(value))
+    }
+
+    /// A new variable, which has the next number. Refused for want of memory alone.
+    pub fn variable(&mut self, kind: VarKind) -> Result<TermId, NoMemory>
+        ensures term { IfOk result (IsTerm self.new) }
+        ensures number { IfOk result (λ t. t.0 ≡ length self.old) }
+        ensures node { OnOk result (self.new ≡ self.old ++ Var (variables_of self.old) kind ∷ []) }
+        ensures value { IfOk result (λ t. (inputs : List ℤ) → value_of self.new t inputs ≡ int_at inputs (variables_of self.old)) }
+        ensures extends { Extends self.old self.new }
+        ensures grows { length self.old ≤ length self.new }
+        ensures variables { OnOk result (variables_of self.new ≡ variables_of self.old + 1) }
+        ensures formed { IsWellFormed self.new }
+        ensures err { OnErr result (self.new ≡ self.old) }
+    {
+        let next = self.variables.checked_add(1).ok_or(NoMemory)?;
+        let term = term_of(&mut self.nodes, Node::Var(self.variables, kind))?;
+        self.variables = next;
+        Ok(term)
+    }
+
+    /// The term of an operation on terms: the constant where its operands are constants, the equal term where there is
+    /// one, and else a new term. Refused for want of memory alone.
+    pub fn make(&mut self, op: Op, left: TermId, right: Option<TermId>) -> Result<TermId, NoMemory>
+        requires { AreOperands self.old op left right }
+        ensures term { IfOk result (IsTerm self.new) }
+        ensures node { IfOk result (λ t. HasNode self.old self.new t (made_node self.old op left right)) }
+        ensures value { IfOk result (λ t. (inputs : List ℤ) → value_of self.new t inputs ≡ op_value op (value_of self.old left inputs) (operand_value self.old right inputs)) }
+        ensures extends { Extends self.old self.new }
+        ensures grows { length self.old ≤ length self.new }
+        ensures variables { variables_of self.new ≡ variables_of self.old }
+        ensures formed { IsWellFormed self.new }
+        ensures err { OnErr result (self.new ≡ self.old) }
+    {
+        let node = self.made_node(op, left, right);
+        self.intern(node)
+    }
+
+    // The term of a node that is no variable, which is added unless it is there.
+    fn intern(&mut self, node: Node) -> Result<TermId, NoMemory>
+        requires fits { NodeFits self.old node }
+        requires fixed { is_variable node ≡ false }
+        ensures node { IfOk result (λ t. HasNode self.old self.new t node) }
+        ensures extends { Extends self.old self.new }
+        ensures grows { length self.old ≤ length self.new }
+        ensures variables { variables_of self.new ≡ variables_of self.old }
+        ensures formed { IsWellFormed self.new }
+        ensures err { OnErr result (self.new ≡ self.old) }
+    {
+        term_of(&mut self.nodes, node)
+    }
+
+    /// The value of a term, where each variable has the entry of `values` at its number. Each term up to this one is
+    /// computed once, in order. Refused for want of memory alone.
+    pub fn eval(&self, alloc: Global, term: TermId, values: &[i32]) -> Result<i32, NoMemory>
+        requires term { IsTerm self.now term }
+        requires inputs { length values.now ≡ variables_of self.now }
+        ensures { IfOk result (λ v. v ≡ value_of self.now term values.now) }
+    {
+        let nodes = &self.nodes()[..term.0 as usize + 1];
+        let computed = compute(alloc, nodes, values)?;
+        Ok(computed[term.0 as usize])
+    }
+
+    // The node of an operation, folded where its operands are constants.
+    #[tactic(auto, unfolding(crate::specs::Terms::made_node))]
+    fn made_node(&self, op: Op, left: TermId, right: Option<TermId>) -> Node
+        requires { AreOperands self.now op left right }
+        ensures node { result ≡ made_node self.now op left right }
+        ensures fits { NodeFits self.now result }
+        ensures fixed { is_variable result ≡ false }
+    {
+        match (self.is_const(left), self.second_constant(right)) {
+            (Some(first), Some(second)) => Node::Const(op.apply(first, second)),
+            (Some(_), None) | (None, _) => Node::Op(op, left, right),
+        }
+    }
+
+    // The int of a second operand that is a constant; 0 where there is no second operand.
+    fn second_constant(&self, right: Option<TermId>) -> Option<i32>
+        requires { ForSome right (IsTerm self.now) }
+        ensures { result ≡ second_constant self.now right }
+    {
+        match right {
+            Some(term) => self.is_const(term),
+            None => Some(0),
+        }
+    }
+}
+
+/// The node of a term among the nodes of its pool.
+pub(crate) fn node_of(nodes: &[Node], term: TermId) -> Node
+    requires { IsTerm nodes.now term }
+    ensures { node_at nodes.now term ≡ Some result }
+{
+    nodes[term.0 as usize]
+}
+
+// The values of the terms with these nodes, in order.
+fn compute(alloc: Global, nodes: &[Node], inputs: &[i32]) -> Result<Vec<i32>, NoMemory>
+    requires formed { IsWellFormed nodes.now }
+    requires enough { variables_of nodes.now ≤ length inputs.now }
+    ensures { IfOk result (λ computed. computed.items ≡ values inputs.now nodes.now) }
+{
+    let mut computed = Vec::with_capacity(alloc, nodes.len())?;
+    for node in nodes {
+        let value = node_value(*node, inputs, &computed);
+        computed.push(value)?;
+    }
+    Ok(computed)
+}
+
+// The value of a node, from those of the terms before it.
+fn node_value(node: Node, inputs: &[i32], computed: &[i32]) -> i32
+    requires { CanCompute inputs.now computed.now node }
+    ensures { result ≡ node_value inputs.now computed.now node }
+{
+    match node {
+        Node::Const(value) => value,
+        Node::Var(number, _) => inputs[number as usize],
+        Node::Op(op, left, None) => op.apply(computed[left.0 as usize], 0),
+        Node::Op(op, left, Some(right)) => {
+            op.apply(computed[left.0 as usize], computed[right.0 as usize])
+        }
+    }
+}
+
+// The term of a node, which goes to the end of the nodes unless it is there.
+fn term_of(nodes: &mut IndexSet<Node>, node: Node) -> Result<TermId, NoMemory>
+    requires formed { IsWellFormed nodes.old.keys }
+    requires fits { NodeFits nodes.old.keys node }
+    ensures node { IfOk result (λ t. HasNode nodes.old.keys nodes.new.keys t node) }
+    ensures extends { Extends nodes.old.keys nodes.new.keys }
+    ensures formed { IsWellFormed nodes.new.keys }
+    ensures err { OnErr result (nodes.new.keys ≡ nodes.old.keys) }
+{
+    if let Some(index) = nodes.get_index_of(&node) {
+        return Ok(TermId(index as u32));
+    }
+    let number = nodes.len();
+    if number >= u32::MAX as usize {
+        return Err(NoMemory);
+    }
+    match nodes.insert(node) {
+        Ok(_) => Ok(TermId(number as u32)),
+        Err(_) => Err(NoMemory),
+    }
+}
