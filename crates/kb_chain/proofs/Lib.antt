@@ -1,0 +1,12 @@
+pub mod CnfLaws
+pub mod LiteralLaws
+pub mod OrderLaws
+pub mod Soundness
+pub mod WorkingLaws
+pub mod ChainLaws
+pub mod LogLaws
+pub mod TrailLaws
+pub mod IndexLaws
+pub mod PropagationLaws
+pub mod SignLaws
+pub mod FreshnessLaws

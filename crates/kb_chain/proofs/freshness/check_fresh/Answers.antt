@@ -1,0 +1,69 @@
+use Rattle.std.proofs.Common.{◌≡◌, ◌∙◌, ap, sym, subst, Some, None, ◌∷◌, [], get_or, length, arith, List, length-append, rules}
+use Rattle.std.specs.Prelude.{IsSomeAnd}
+use Rattle.std.proofs.lemmas.Bool.{OnTrue_at, OnFalse_at}
+use Rattle.kb_chain.specs.Literal.{Literal}
+use Rattle.kb_chain.specs.Cnf.{IsWithin}
+use Rattle.kb_chain.specs.Chains.{entry_of, IsFirstBad}
+use Rattle.kb_chain.specs.Propagation.{IsNew}
+use Rattle.kb_chain.specs.Index.{IsIndexed}
+use Rattle.kb_chain.specs.declared.log.Chain.{Chain}
+use Rattle.kb_chain.proofs.ChainLaws.{AreWithin-from}
+use Rattle.kb_chain.proofs.FreshnessLaws.{AllWithin-push}
+use Rattle.kb_chain.proofs.LogLaws.{first_bad, EachEntry_more, derived_more}
+use Rattle.kb_chain.proofs.freshness.check_fresh.Goals as goal
+use Rattle.kb_chain.proofs.freshness.check_fresh.Goals.{In-Some}
+
+-- the entry's clause
+some : (c : In-Some) → entry_of c.loop-i.store.clauses (get_or c.as_slice-entries.result.now c.loop-i.i c.index-entries-i.result) ≡ Some c.in-Some.clause
+some c = ap (λ (e : Chain). entry_of c.loop-i.store.clauses e) (sym c.index-entries-i.is) ∙ (sym c.in_ok-clause.ensures.found ∙ c.in-Some.is)
+
+within : (c : In-Some) → IsWithin c.loop-i.store.vars c.in-Some.clause
+within c = rw c.in-Some.is at c.in_ok-clause.ensures.within
+
+pub returns-in_default : goal.returns-in_default
+returns-in_default c =
+    let none : entry_of c.loop-i.store.clauses (get_or c.as_slice-entries.result.now c.loop-i.i c.index-entries-i.result) ≡ None =
+    ap (λ (e : Chain). entry_of c.loop-i.store.clauses e) (sym c.index-entries-i.is) ∙ (sym c.in_ok-clause.ensures.found ∙ c.in_default.is) in
+    subst (λ (z : List Chain). IsFirstBad IsNew c.args.formula.now.clauses z c.loop-i.i) c.as_slice-entries.ensures
+    (first_bad IsNew c.as_slice-entries.result.now c.args.formula.now.clauses c.loop-i.store.clauses c.loop-i.i c.index-entries-i.result c.loop-i-test.true
+    c.loop-i.invariant.derived c.loop-i.invariant.fresh
+    (λ h. subst (λ o. IsSomeAnd o (IsNew c.loop-i.store.clauses)) none h))
+
+pub is_new-requires-clause-within : goal.is_new-requires-clause-within
+is_new-requires-clause-within c =
+    AreWithin-from c.args.formula.now.vars c.loop-i.trail.places c.in-Some.clause c.loop-i.invariant.trail
+    (subst (λ n. IsWithin n c.in-Some.clause) c.loop-i.invariant.vars (within (goal.at.is_new-requires-clause-within c).In-Some))
+
+pub returns-then-not-branch : goal.returns-then-not-branch
+returns-then-not-branch c =
+    subst (λ (z : List Chain). IsFirstBad IsNew c.args.formula.now.clauses z c.loop-i.i) c.as_slice-entries.ensures
+    (first_bad IsNew c.as_slice-entries.result.now c.args.formula.now.clauses c.loop-i.store.clauses c.loop-i.i c.index-entries-i.result c.loop-i-test.true
+    c.loop-i.invariant.derived c.loop-i.invariant.fresh
+    (λ h. OnFalse_at c.if-not-branch.true c.in_ok-is_new.ensures.known
+    (subst (λ o. IsSomeAnd o (IsNew c.loop-i.store.clauses)) (some (goal.at.returns-then-not-branch c).In-Some) h)))
+
+pub add-requires : goal.add-requires
+add-requires c =
+    AreWithin-from c.args.formula.now.vars (length c.loop-i.index.occurrences.items) c.in-Some.clause c.loop-i.invariant.rows
+    (subst (λ n. IsWithin n c.in-Some.clause) c.loop-i.invariant.vars (within (goal.at.add-requires c).In-Some))
+
+pub loop-i-preserved : goal.loop-i-preserved
+loop-i-preserved c =
+    let s = some (goal.at.loop-i-preserved c).In-Some in
+    let w = within (goal.at.loop-i-preserved c).In-Some in
+    let pushed = c.in_ok-push.ensures.ok in
+    record {
+      vars = c.in_ok-push.ensures.vars ∙ c.loop-i.invariant.vars;
+      count = ap (λ (z : List (List Literal)). length z) pushed ∙ (length-append c.loop-i.store.clauses (c.in-Some.clause ∷ []) ∙ omega (arith, c.loop-i.invariant.count));
+      all_within = rw (c.in_ok-push.ensures.vars, pushed) (AllWithin-push c.loop-i.store.vars c.loop-i.store.clauses c.in-Some.clause c.loop-i.invariant.all_within w);
+      places = c.in_ok-clause.ensures.places ∙ c.loop-i.invariant.places;
+      empty = c.in_ok-clause.ensures.empty (search rules);
+      trail = c.in_ok-is_new.ensures.places ∙ c.loop-i.invariant.trail;
+      rows = c.in_ok-add.ensures.places ∙ c.loop-i.invariant.rows;
+      indexed = subst (λ (z : List (List Literal)). IsIndexed z c.add.new.self) (sym pushed)
+          (c.in_ok-add.ensures.indexed c.loop-i.store.clauses (sym c.loop-i.invariant.count) c.loop-i.invariant.indexed);
+      derived = derived_more c.as_slice-entries.result.now c.args.formula.now.clauses c.loop-i.store.clauses c.loop-i.i c.index-entries-i.result c.in-Some.clause
+          c.loop-i-test.true c.loop-i.invariant.derived s ∙ ap Some (sym pushed);
+      fresh = EachEntry_more IsNew c.as_slice-entries.result.now c.args.formula.now.clauses c.loop-i.store.clauses c.loop-i.i c.index-entries-i.result c.in-Some.clause
+          c.loop-i-test.true c.loop-i.invariant.derived c.loop-i.invariant.fresh s (OnTrue_at c.if-not-branch.false c.in_ok-is_new.ensures.new);
+    }

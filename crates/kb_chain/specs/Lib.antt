@@ -1,0 +1,10 @@
+pub mod Literal
+pub mod Clause
+pub mod Cnf
+pub mod Chains
+pub mod Propagation
+pub mod Verdicts
+pub mod Working
+pub mod Trail
+pub mod Index
+pub mod Signs

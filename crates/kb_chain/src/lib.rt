@@ -1,0 +1,30 @@
+//! Clauses, formulas in conjunctive normal form, logs of chains of resolutions, and their check.
+#![tactic(auto)]
+
+mod clause;
+mod derivation;
+mod formula;
+mod freshness;
+mod index;
+mod literal;
+mod log;
+mod marks;
+mod memory;
+mod propagation;
+mod refutation;
+mod resolution;
+mod signs;
+mod store;
+#[cfg(test)]
+mod tests;
+mod trail;
+mod working;
+
+pub use clause::Clause;
+pub use formula::Formula;
+pub use freshness::check_fresh;
+pub use literal::Lit;
+pub use log::{Chain, Log, Row, Verdict};
+pub use memory::NoMemory;
+pub use refutation::check_refutation;
+pub use resolution::{ResolveStop, resolve};

@@ -1,0 +1,93 @@
+ghost use Rattle.std.specs.Prelude.{◌≡◌, ◌+◌, ◌*◌, ◌<◌, ◌≤◌, [], length, ◌||◌, OnOk, IfOk};
+ghost use Rattle.kb_chain.specs.Literal.{Literal, place_of, has};
+ghost use Rattle.kb_chain.specs.Working.{AreWithin};
+ghost use Rattle.kb_chain.specs.Index.{joined};
+
+use crate::literal::Lit;
+use crate::marks::{is_marked, unmark};
+use crate::memory::NoMemory;
+use std::alloc::Global;
+use std::marker::Model;
+
+/// Literals in the order in which unit propagation reaches them.
+#[derive(Drop)]
+pub(crate) struct Trail {
+    marks: Vec<bool>,
+    reached: Vec<Lit>,
+}
+
+impl Model for Trail {
+    ghost use Rattle.std.specs.Prelude.{length};
+    ghost use Rattle.kb_chain.specs.Trail.{Reached, IsMarked};
+
+    ghost Value = { Reached };
+
+    ghost view = { λ t. record {
+      places = length t.marks.items;
+      literals = t.reached.items;
+    } };
+
+    ghost invariant = { λ t. IsMarked t.marks.items t.reached.items };
+}
+
+impl Trail {
+    /// No literals of the variables up to `vars`.
+    pub(crate) fn new(alloc: Global, vars: u32) -> Result<Trail, NoMemory>
+        ensures places { IfOk result (λ t. t.places ≡ 2 * vars + 2) }
+        ensures literals { IfOk result (λ t. t.literals ≡ []) }
+    {
+        let marks = vec![in alloc; false; 2 * vars as usize + 2]?;
+        let reached = Vec::new(alloc);
+        Ok(Trail { marks, reached })
+    }
+
+    pub(crate) fn contains(&self, literal: Lit) -> bool
+        ensures { result ≡ has self.now.literals literal }
+    {
+        is_marked(self.marks.as_slice(), literal.place())
+    }
+
+    pub(crate) fn literals(&self) -> &[Lit]
+        ensures value { result.now ≡ self.now.literals }
+        ensures bound { length self.now.literals ≤ self.now.places }
+        ensures within { AreWithin self.now.places self.now.literals }
+    {
+        self.reached.as_slice()
+    }
+
+    /// Puts a literal behind the others, if it is not there yet.
+    pub(crate) fn insert(&mut self, literal: Lit) -> Result<(), NoMemory>
+        requires { place_of literal < self.old.places }
+        ensures ok { OnOk result (self.new.literals ≡ joined self.old.literals literal) }
+        ensures places { self.new.places ≡ self.old.places }
+    {
+        let place = literal.place();
+        if is_marked(self.marks.as_slice(), place) {
+            return Ok(());
+        }
+        self.reached.push(literal)?;
+        self.marks[place] = true;
+        Ok(())
+    }
+
+    /// Puts in each literal that is not there yet.
+    pub(crate) fn insert_all(&mut self, literals: &[Lit]) -> Result<(), NoMemory>
+        requires { AreWithin self.old.places literals.now }
+        ensures has { OnOk result ((l : Literal) → has self.new.literals l ≡ (has self.old.literals l || has literals.now l)) }
+        ensures places { self.new.places ≡ self.old.places }
+    {
+        for literal in literals {
+            self.insert(*literal)?;
+        }
+        Ok(())
+    }
+
+    /// Begins again with no literals.
+    pub(crate) fn clear(&mut self)
+        ensures literals { self.new.literals ≡ [] }
+        ensures places { self.new.places ≡ self.old.places }
+    {
+        unmark(self.marks.as_mut_slice(), self.reached.as_slice());
+        self.reached.clear();
+    }
+}
