@@ -1,0 +1,54 @@
+// The bounds of a run and of an exploration.
+ghost use Rattle.std.specs.Prelude.{◌≡◌, ◌↔◌, IsTrue};
+
+/// The bounds of a run. A run ends as past a bound at the instruction that would go beyond it.
+#[derive(Clone, Copy, Debug, PartialEq, Eq)]
+pub struct RunBounds {
+    /// The greatest length of an array that is made in the run.
+    pub alloc: u32,
+    /// How often an activation of a method may go back to an offset that is not above its own.
+    pub loops: u32,
+    /// The greatest number of frames.
+    pub depth: u32,
+    /// The greatest number of instructions that are carried out.
+    pub steps: u32,
+}
+
+impl RunBounds {
+    /// Whether each bound is the same.
+    pub fn is_same(&self, other: &RunBounds) -> bool
+        ensures { IsTrue result ↔ (self.now ≡ other.now) }
+    {
+        self == other
+    }
+}
+
+/// The bounds of an exploration: those of its runs and those of its inputs.
+#[derive(Clone, Copy, Debug, PartialEq, Eq)]
+pub struct Bounds {
+    /// The greatest number of references from an argument to an input object.
+    pub k: u32,
+    /// The greatest length of an input array.
+    pub array: u32,
+    pub run: RunBounds,
+}
+
+impl Bounds {
+    /// Whether each bound is the same.
+    pub fn is_same(&self, other: &Bounds) -> bool
+        ensures { IsTrue result ↔ (self.now ≡ other.now) }
+    {
+        self == other
+    }
+}
+
+/// One of the bounds.
+#[derive(Clone, Copy, Debug, PartialEq, Eq)]
+pub enum Bound {
+    K,
+    Array,
+    Alloc,
+    Loops,
+    Depth,
+    Steps,
+}
