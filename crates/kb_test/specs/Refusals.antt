@@ -1,0 +1,18 @@
+-- What the reader of tests answers.
+use Rattle.std.specs.Prelude.{◌≡◌, ℕ, List, Result, Ok, Err}
+use Rattle.kb_test.specs.Lines.{IsFirstBadLine}
+use Rattle.kb_test.specs.Texts.{IsTestsText}
+use Rattle.kb_test.specs.declared.test_case.Test.{Test}
+use Rattle.kb_test.specs.declared.reading.TestRefusal.{TestRefusal}
+use Rattle.kb_test.specs.declared.reading.TestRefusal.TheVariants.{TestLine, NoMemory as no_memory}
+
+-- these tests were read, unless memory ran out
+abbrev pub ReadsTests : Result (List Test) TestRefusal → List Test → Type 0
+ReadsTests (Ok read) tests = read ≡ tests
+ReadsTests (Err (TestLine number)) tests = ⊥
+ReadsTests (Err no_memory) tests = Unit {0}
+
+-- no list of tests goes on at that line, unless memory ran out
+abbrev pub RefusesTests : ℕ → List ℕ → TestRefusal → Type 0
+RefusesTests literals text (TestLine number) = IsFirstBadLine (IsTestsText literals) text number
+RefusesTests literals text no_memory = Unit {0}

@@ -1,0 +1,15 @@
+//! Tests of methods, written as texts and read back.
+#![tactic(auto)]
+
+mod lines;
+mod memory;
+mod reading;
+mod test_case;
+#[cfg(test)]
+mod tests;
+mod writing;
+
+pub use memory::NoMemory;
+pub use reading::{TestRefusal, read_tests};
+pub use test_case::Test;
+pub use writing::write_test;
