@@ -1,0 +1,11 @@
+pub mod Answers
+pub mod Listing
+pub mod Machine
+pub mod Operations
+pub mod Path
+pub mod Report
+pub mod StatusNumber
+pub mod Straight
+pub mod Symbolic
+pub mod Target
+pub mod Words

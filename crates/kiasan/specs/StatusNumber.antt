@@ -1,0 +1,13 @@
+-- The number with which the program ends.
+use Rattle.std.specs.Prelude.{ℕ}
+use Rattle.kiasan.specs.declared.status.Status.{Status}
+use Rattle.kiasan.specs.declared.status.Status.TheVariants.{Complete, Words, Class, Outside, ReadFault, WriteFault, Memory}
+
+abbrev pub status_number : Status → ℕ
+status_number Complete = 0
+status_number Words = 2
+status_number Class = 3
+status_number Outside = 5
+status_number ReadFault = 6
+status_number WriteFault = 7
+status_number Memory = 8

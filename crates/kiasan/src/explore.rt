@@ -1,0 +1,84 @@
+//! The exploration of a straight method.
+
+ghost use Rattle.std.specs.Prelude.{◌≡◌, ℕ, ◌≤◌, ℤ, List, length, map, IfOk, IfSome, IfNone, IsTrue, Some, Ok, None};
+ghost use Rattle.kb_terms.specs.Terms.{IsTerm, value_of};
+ghost use Rattle.kiasan.specs.Listing.{IsLaidOut};
+ghost use Rattle.kiasan.specs.Machine.{Int, Method, Object, Returned, run_of};
+ghost use Rattle.kiasan.specs.Symbolic.{IsSound, Returns, ReturnsNone};
+ghost use Rattle.kiasan.specs.Straight.{HasCode, IsIllTyped, ends_by_return};
+
+use crate::instruction::Instr;
+use crate::memory::NoMemory;
+use crate::state::{Limits, State, Step};
+use kb_terms::{Pool, TermId};
+use std::alloc::Global;
+
+/// The code of a method: its limits, its instructions by offset, and its length in bytes.
+#[derive(Clone, Copy, Debug)]
+pub struct StraightCode<'a> {
+    pub limits: Limits,
+    pub listing: &'a [(u32, Instr)],
+    pub size: usize,
+}
+
+/// What a straight method returns: a term of a pool whose variables are the arguments.
+#[derive(Drop)]
+pub struct Explored {
+    pub pool: Pool,
+    pub result: TermId,
+}
+
+/// Carries out a method that takes so many ints, for all ints at once. There is no result where the method is ill-typed.
+pub fn explore(
+    alloc: Global,
+    code: &StraightCode<'_>,
+    params: usize,
+) -> Result<Option<Explored>, NoMemory>
+    requires laid_out { IsLaidOut code.now.listing.now code.now.size }
+    requires ends { IsTrue (ends_by_return code.now.listing.now) }
+    ensures term { IfOk result (λ r. IfSome r (λ e. IsTerm e.pool e.result)) }
+    ensures returns { IfOk result (λ r. IfSome r (λ e. (steps : ℕ) (method : Method) (heap : List Object) (inputs : List ℤ) → HasCode method code.now → length code.now.listing.now ≤ steps → length inputs ≡ params → run_of steps method (map Int inputs) heap ≡ record { ending = Returned (Some (Int (value_of e.pool e.result inputs))); heap = heap })) }
+    ensures ill_typed { result ≡ Ok None → (steps : ℕ) (method : Method) (heap : List Object) (inputs : List ℤ) → HasCode method code.now → length code.now.listing.now ≤ steps → length inputs ≡ params → IsIllTyped (run_of steps method (map Int inputs) heap).ending }
+{
+    let mut state = State::start(alloc, params, code.limits)?;
+    for &(_, instr) in code.listing {
+        if let Instr::ReturnInt = instr {
+            return Ok(returned(state));
+        }
+        match state.take(instr)? {
+            Step::Goes => {}
+            Step::IllTyped => return Ok(None),
+        }
+    }
+    unreachable!()
+}
+
+/// What a return gives in a state, where an int is on the top of the stack.
+fn returned(state: State) -> Option<Explored>
+    requires { IsSound state }
+    ensures term { IfSome result (λ e. IsTerm e.pool e.result) }
+    ensures some { IfSome result (λ e. Returns state (value_of e.pool e.result)) }
+    ensures none { IfNone result (ReturnsNone state) }
+{
+    match state.returned() {
+        Some(result) => Some(Explored {
+            pool: state.into_pool(),
+            result,
+        }),
+        None => None,
+    }
+}
+
+/// Whether the first return is the last instruction.
+pub fn ends_by_return(listing: &[(u32, Instr)]) -> bool
+    ensures { result ≡ ends_by_return listing.now }
+{
+    let mut rest = listing;
+    while let [(_, instr), others @ ..] = rest {
+        if let Instr::ReturnInt = instr {
+            return others.is_empty();
+        }
+        rest = others;
+    }
+    false
+}

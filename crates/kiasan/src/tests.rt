@@ -1,0 +1,417 @@
+//! Tests of the top call. Values come from The Java Virtual Machine Specification, Java SE 8 Edition, section 6.5.
+
+use crate::status::Status;
+use crate::top::kiasan;
+use kb_outside::{MemoryShelf, MemorySink};
+use std::alloc::{AllocError, Global};
+use std::process::Abort;
+use std::test::Fail;
+
+/// A class file with `static int f(int, int)`, which adds its arguments.
+const CLASS_A: [u8; 102] = [
+    0xca, 0xfe, 0xba, 0xbe, 0x00, 0x00, 0x00, 0x34, 0x00, 0x08, 0x01, 0x00, 0x01, 0x41, 0x07, 0x00,
+    0x01, 0x01, 0x00, 0x10, 0x6a, 0x61, 0x76, 0x61, 0x2f, 0x6c, 0x61, 0x6e, 0x67, 0x2f, 0x4f, 0x62,
+    0x6a, 0x65, 0x63, 0x74, 0x07, 0x00, 0x03, 0x01, 0x00, 0x01, 0x66, 0x01, 0x00, 0x05, 0x28, 0x49,
+    0x49, 0x29, 0x49, 0x01, 0x00, 0x04, 0x43, 0x6f, 0x64, 0x65, 0x00, 0x21, 0x00, 0x02, 0x00, 0x04,
+    0x00, 0x00, 0x00, 0x00, 0x00, 0x01, 0x00, 0x09, 0x00, 0x05, 0x00, 0x06, 0x00, 0x01, 0x00, 0x07,
+    0x00, 0x00, 0x00, 0x10, 0x00, 0x02, 0x00, 0x02, 0x00, 0x00, 0x00, 0x04, 0x1a, 0x1b, 0x60, 0xac,
+    0x00, 0x00, 0x00, 0x00, 0x00, 0x00,
+];
+
+/// A class file as javac 8 lays it out, with `static int abs(int)` and line numbers.
+const CLASS_B: [u8; 261] = [
+    0xca, 0xfe, 0xba, 0xbe, 0x00, 0x00, 0x00, 0x34, 0x00, 0x10, 0x0a, 0x00, 0x03, 0x00, 0x0d, 0x07,
+    0x00, 0x0e, 0x07, 0x00, 0x0f, 0x01, 0x00, 0x06, 0x3c, 0x69, 0x6e, 0x69, 0x74, 0x3e, 0x01, 0x00,
+    0x03, 0x28, 0x29, 0x56, 0x01, 0x00, 0x04, 0x43, 0x6f, 0x64, 0x65, 0x01, 0x00, 0x0f, 0x4c, 0x69,
+    0x6e, 0x65, 0x4e, 0x75, 0x6d, 0x62, 0x65, 0x72, 0x54, 0x61, 0x62, 0x6c, 0x65, 0x01, 0x00, 0x03,
+    0x61, 0x62, 0x73, 0x01, 0x00, 0x04, 0x28, 0x49, 0x29, 0x49, 0x01, 0x00, 0x0d, 0x53, 0x74, 0x61,
+    0x63, 0x6b, 0x4d, 0x61, 0x70, 0x54, 0x61, 0x62, 0x6c, 0x65, 0x01, 0x00, 0x0a, 0x53, 0x6f, 0x75,
+    0x72, 0x63, 0x65, 0x46, 0x69, 0x6c, 0x65, 0x01, 0x00, 0x06, 0x42, 0x2e, 0x6a, 0x61, 0x76, 0x61,
+    0x0c, 0x00, 0x04, 0x00, 0x05, 0x01, 0x00, 0x01, 0x42, 0x01, 0x00, 0x10, 0x6a, 0x61, 0x76, 0x61,
+    0x2f, 0x6c, 0x61, 0x6e, 0x67, 0x2f, 0x4f, 0x62, 0x6a, 0x65, 0x63, 0x74, 0x00, 0x21, 0x00, 0x02,
+    0x00, 0x03, 0x00, 0x00, 0x00, 0x00, 0x00, 0x02, 0x00, 0x01, 0x00, 0x04, 0x00, 0x05, 0x00, 0x01,
+    0x00, 0x06, 0x00, 0x00, 0x00, 0x1d, 0x00, 0x01, 0x00, 0x01, 0x00, 0x00, 0x00, 0x05, 0x2a, 0xb7,
+    0x00, 0x01, 0xb1, 0x00, 0x00, 0x00, 0x01, 0x00, 0x07, 0x00, 0x00, 0x00, 0x06, 0x00, 0x01, 0x00,
+    0x00, 0x00, 0x01, 0x00, 0x09, 0x00, 0x08, 0x00, 0x09, 0x00, 0x01, 0x00, 0x06, 0x00, 0x00, 0x00,
+    0x2a, 0x00, 0x01, 0x00, 0x01, 0x00, 0x00, 0x00, 0x09, 0x1a, 0x9b, 0x00, 0x05, 0x1a, 0xac, 0x1a,
+    0x74, 0xac, 0x00, 0x00, 0x00, 0x02, 0x00, 0x07, 0x00, 0x00, 0x00, 0x06, 0x00, 0x01, 0x00, 0x00,
+    0x00, 0x02, 0x00, 0x0a, 0x00, 0x00, 0x00, 0x03, 0x00, 0x01, 0x06, 0x00, 0x01, 0x00, 0x0b, 0x00,
+    0x00, 0x00, 0x02, 0x00, 0x0c,
+];
+
+/// Where the flags of the method of class A stand.
+const METHOD_FLAGS: usize = 71;
+
+const EXPLORE_A: &str = "explore --method A.f(II)I A.class";
+
+/// The report on class A.
+const REPORT_A: &str = "kiasan report 1
+target A.f(II)I
+init lazy k 3 array 3 alloc 16 loops 10 depth 16 steps 2000 paths 1000 budget 2000
+path -
+see a0 v0
+see a1 v1
+let t0 add v0 v1
+returns t0
+arg 0
+arg 0
+total 1 ended 1 cut 0 undecided 0 open 0
+";
+
+/// A method of class A, and what its report says of its path, or why it is refused.
+#[derive(Clone, Copy)]
+struct CodeRow<'a> {
+    /// An `I` for each parameter.
+    ints: &'a str,
+    max_stack: u16,
+    max_locals: u16,
+    code: &'a [u8],
+    lines: &'a str,
+}
+
+const fn row<'a>(
+    ints: &'a str,
+    max_stack: u16,
+    max_locals: u16,
+    code: &'a [u8],
+    lines: &'a str,
+) -> CodeRow<'a> {
+    CodeRow {
+        ints,
+        max_stack,
+        max_locals,
+        code,
+        lines,
+    }
+}
+
+/// A shelf with the one file A.class.
+fn shelf_with(alloc: Global, bytes: &[u8]) -> Result<MemoryShelf, AllocError> {
+    let mut files = Vec::new(alloc);
+    let name = String::from_str(alloc, "A.class")?;
+    files.push((name, bytes.to_vec(alloc)?))?;
+    Ok(MemoryShelf::new(files, Vec::new(alloc)))
+}
+
+/// A sink that takes 10 bytes in a call.
+fn sink_failing_at(alloc: Global, fails: Vec<u64>) -> Result<MemorySink, Fail> {
+    Ok(MemorySink::new(alloc, 10, fails).with_room(4096)?)
+}
+
+/// The program's answer to these words.
+fn answer_to(
+    alloc: Global,
+    line: &str,
+    shelf: &mut MemoryShelf,
+    sink: &mut MemorySink,
+) -> Result<Status, AllocError> {
+    let mut words = Vec::new(alloc);
+    for word in line.split_whitespace() {
+        words.push(String::from_str(alloc, word)?)?;
+    }
+    Ok(kiasan(alloc, words.as_slice(), shelf, sink))
+}
+
+/// Asserts that the words have this status and this text where the file A.class has these bytes.
+fn assert_answer<A: Abort + AllocGlobal>(
+    rt: &A,
+    line: &str,
+    bytes: &[u8],
+    status: Status,
+    text: &str,
+) -> Result<(), Fail> {
+    let alloc = rt.alloc();
+    let mut shelf = shelf_with(alloc, bytes)?;
+    let mut sink = sink_failing_at(alloc, Vec::new(alloc))?;
+    assert_eq!(rt;
+        answer_to(alloc, line, &mut shelf, &mut sink)?,
+        status,
+        "{text}"
+    );
+    assert_eq!(rt; sink.bytes(), text.as_bytes(), "{text}");
+    Ok(())
+}
+
+/// Class A with another descriptor and other code.
+fn class_with(alloc: Global, row: &CodeRow<'_>) -> Result<Vec<u8>, Fail> {
+    let mut bytes = CLASS_A[..44].to_vec(alloc)?;
+    let descriptor = format!(in alloc; "({})I", row.ints)?;
+    bytes.extend_from_slice(&u16::try_from(descriptor.len())?.to_be_bytes())?;
+    bytes.extend_from_slice(descriptor.as_bytes())?;
+    bytes.extend_from_slice(&CLASS_A[51..80])?;
+    let length = u32::try_from(row.code.len())?;
+    bytes.extend_from_slice(&length.saturating_add(12).to_be_bytes())?;
+    bytes.extend_from_slice(&row.max_stack.to_be_bytes())?;
+    bytes.extend_from_slice(&row.max_locals.to_be_bytes())?;
+    bytes.extend_from_slice(&length.to_be_bytes())?;
+    bytes.extend_from_slice(row.code)?;
+    bytes.extend_from_slice(&CLASS_A[96..])?;
+    Ok(bytes)
+}
+
+/// The report on a row's method.
+fn report_on(alloc: Global, row: &CodeRow<'_>) -> Result<String, AllocError> {
+    let mut text = String::from_str(alloc, "kiasan report 1\n")?;
+    writeln!(text, "target A.f({})I", row.ints)?;
+    text.push_str("init lazy k 3 array 3 alloc 16 loops 10 depth 16")?;
+    text.push_str(" steps 2000 paths 1000 budget 2000\npath -\n")?;
+    for n in 0..row.ints.len() {
+        writeln!(text, "see a{n} v{n}")?;
+    }
+    text.push_str(row.lines)?;
+    for _ in 0..row.ints.len() {
+        text.push_str("arg 0\n")?;
+    }
+    text.push_str("total 1 ended 1 cut 0 undecided 0 open 0\n")?;
+    Ok(text)
+}
+
+/// Asserts that the method has this status and this text.
+fn assert_row<A: Abort + AllocGlobal>(
+    rt: &A,
+    row: &CodeRow<'_>,
+    status: Status,
+    text: &str,
+) -> Result<(), Fail> {
+    let alloc = rt.alloc();
+    let words = format!(in alloc; "explore --method A.f({})I A.class", row.ints)?;
+    let class = class_with(alloc, row)?;
+    let mut shelf = shelf_with(alloc, class.as_slice())?;
+    let mut sink = sink_failing_at(alloc, Vec::new(alloc))?;
+    let found = answer_to(alloc, words.as_str(), &mut shelf, &mut sink)?;
+    assert_eq!(rt; found, status, "{}", row.lines);
+    assert_eq!(rt; sink.bytes(), text.as_bytes(), "{}", row.lines);
+    Ok(())
+}
+
+/// Asserts that the method has its report.
+fn assert_report<A: Abort + AllocGlobal>(rt: &A, row: &CodeRow<'_>) -> Result<(), Fail> {
+    let report = report_on(rt.alloc(), row)?;
+    assert_row(rt, row, Status::Complete, report.as_str())
+}
+
+/// Asserts that each method without parameters returns its value.
+fn assert_values<A: Abort + AllocGlobal>(rt: &A, rows: &[(&[u8], i32)]) -> Result<(), Fail> {
+    for (code, value) in rows {
+        let lines = format!(in rt.alloc(); "returns {value}\n")?;
+        assert_report(rt, &row("", 2, 1, code, lines.as_str()))?;
+    }
+    Ok(())
+}
+
+/// Asserts that each method is refused.
+fn assert_refusals<A: Abort + AllocGlobal>(rt: &A, rows: &[CodeRow<'_>]) -> Result<(), Fail> {
+    for row in rows {
+        assert_row(rt, row, Status::Outside, "refused 50\n")?;
+    }
+    Ok(())
+}
+
+#[test]
+fn class_a_has_its_report(rt: HostRuntime) -> Result<(), Fail> {
+    assert_eq!(rt; REPORT_A.len(), 223);
+    assert_answer(&rt, EXPLORE_A, &CLASS_A, Status::Complete, REPORT_A)
+}
+
+#[test]
+fn a_file_that_is_not_there_is_a_fault_of_reading(rt: HostRuntime) -> Result<(), Fail> {
+    let alloc = rt.alloc();
+    let mut shelf = MemoryShelf::new(Vec::new(alloc), Vec::new(alloc));
+    let mut sink = sink_failing_at(alloc, Vec::new(alloc))?;
+    let status = answer_to(alloc, EXPLORE_A, &mut shelf, &mut sink)?;
+    assert_eq!(rt; status, Status::ReadFault);
+    assert!(rt; sink.bytes().is_empty());
+    Ok(())
+}
+
+#[test]
+fn a_sink_that_fails_has_the_front_of_the_report(rt: HostRuntime) -> Result<(), Fail> {
+    let alloc = rt.alloc();
+    let mut shelf = shelf_with(alloc, &CLASS_A)?;
+    let mut sink = sink_failing_at(alloc, vec![in alloc; 2u64]?)?;
+    let status = answer_to(alloc, EXPLORE_A, &mut shelf, &mut sink)?;
+    assert_eq!(rt; status, Status::WriteFault);
+    assert_eq!(rt; sink.bytes(), b"kiasan report 1\ntarg".as_slice());
+    Ok(())
+}
+
+#[test]
+fn words_and_files_are_refused(rt: HostRuntime) -> Result<(), Fail> {
+    let unbuilt = "refused 50\n";
+    assert_answer(&rt, "", &CLASS_A, Status::Words, "refused 90\n")?;
+    let more = "explore --method A.f(II)I A.class B.class";
+    assert_answer(&rt, more, &CLASS_A, Status::Outside, unbuilt)?;
+    let other_method = "explore --method A.g()I A.class";
+    assert_answer(&rt, other_method, &CLASS_A, Status::Outside, unbuilt)?;
+    let no_target = "explore --method A.f(II A.class";
+    let bad_target = "refused 98 word 2\n";
+    assert_answer(&rt, no_target, &CLASS_A, Status::Words, bad_target)?;
+    assert_answer(&rt, EXPLORE_A, &CLASS_A[..3], Status::Outside, unbuilt)?;
+    let abs = "explore --method B.abs(I)I A.class";
+    assert_answer(&rt, abs, &CLASS_B, Status::Outside, unbuilt)?;
+    let mut changed = CLASS_A;
+    changed[METHOD_FLAGS] = 1;
+    assert_answer(&rt, EXPLORE_A, &changed, Status::Outside, unbuilt)?;
+    let no_class = "refused 10 file 0\n";
+    assert_answer(&rt, EXPLORE_A, b"PK\x03\x04", Status::Class, no_class)
+}
+
+#[test]
+fn constants_are_pushed(rt: HostRuntime) -> Result<(), Fail> {
+    assert_values(
+        &rt,
+        &[
+            (b"\x02\xac", -1),
+            (b"\x03\xac", 0),
+            (b"\x04\xac", 1),
+            (b"\x05\xac", 2),
+            (b"\x06\xac", 3),
+            (b"\x07\xac", 4),
+            (b"\x08\xac", 5),
+            (b"\x10\x80\xac", -128),
+            (b"\x11\x80\x01\xac", -32767),
+            (b"\x00\x04\x00\xac", 1),
+        ],
+    )
+}
+
+/// The largest int is -1 shifted right by 1 without its sign, and the least is 1 shifted left by 31.
+#[test]
+fn constants_are_folded_as_ints(rt: HostRuntime) -> Result<(), Fail> {
+    assert_values(
+        &rt,
+        &[
+            (b"\x02\x04\x7c\x04\x60\xac", i32::MIN),
+            (b"\x04\x10\x1f\x78\x04\x64\xac", i32::MAX),
+            (b"\x04\x10\x1f\x78\x74\xac", i32::MIN),
+            (b"\x02\x04\x7c\x05\x68\xac", -2),
+            (b"\x05\x10\x21\x78\xac", 4),
+            (b"\x10\xf8\x10\x21\x7a\xac", -4),
+            (b"\x02\x10\x21\x7c\xac", i32::MAX),
+            (b"\x02\x02\x7c\xac", 1),
+            (b"\x10\x0c\x10\xfa\x7e\xac", 8),
+            (b"\x10\x0c\x10\xfa\x80\xac", -2),
+            (b"\x10\x0c\x10\xfa\x82\xac", -10),
+        ],
+    )
+}
+
+#[test]
+fn constants_are_narrowed_and_increased(rt: HostRuntime) -> Result<(), Fail> {
+    assert_values(
+        &rt,
+        &[
+            (b"\x11\x00\xc8\x91\xac", -56),
+            (b"\x02\x92\xac", 65535),
+            (b"\x11\x4e\x20\x05\x68\x93\xac", -25536),
+            (b"\x03\x3b\x84\x00\x80\x1a\xac", -128),
+            (b"\x05\x3b\x84\x00\x7f\x1a\xac", 129),
+        ],
+    )
+}
+
+#[test]
+fn locals_are_read_and_written(rt: HostRuntime) -> Result<(), Fail> {
+    for (load, store, local) in [
+        (0x1a, 0x3b, 0),
+        (0x1b, 0x3c, 1),
+        (0x1c, 0x3d, 2),
+        (0x1d, 0x3e, 3),
+    ] {
+        let lines = format!(in rt.alloc(); "returns v{local}\n")?;
+        assert_report(&rt, &row("IIIII", 1, 5, &[load, 0xac], lines.as_str()))?;
+        let code = [0x15, 0x04, store, load, 0xac];
+        assert_report(&rt, &row("IIIII", 1, 5, &code, "returns v4\n"))?;
+    }
+    let code = b"\x1a\x36\x05\x15\x05\xac";
+    assert_report(&rt, &row("I", 1, 6, code, "returns v0\n"))?;
+    let code = b"\x84\x01\xff\x1b\xac";
+    let lines = "let t0 add v1 -1\nreturns t0\n";
+    assert_report(&rt, &row("II", 1, 2, code, lines))
+}
+
+#[test]
+fn operations_are_terms(rt: HostRuntime) -> Result<(), Fail> {
+    for (opcode, op) in [
+        (0x60, "add"),
+        (0x64, "sub"),
+        (0x68, "mul"),
+        (0x78, "shl"),
+        (0x7a, "shr"),
+        (0x7c, "ushr"),
+        (0x7e, "and"),
+        (0x80, "or"),
+        (0x82, "xor"),
+    ] {
+        let lines = format!(in rt.alloc(); "let t0 {op} v0 v1\nreturns t0\n")?;
+        let code = [0x1a, 0x1b, opcode, 0xac];
+        assert_report(&rt, &row("II", 2, 2, &code, lines.as_str()))?;
+    }
+    for (opcode, op) in [
+        (0x74, "neg"),
+        (0x91, "byte"),
+        (0x92, "char"),
+        (0x93, "short"),
+    ] {
+        let lines = format!(in rt.alloc(); "let t0 {op} v0\nreturns t0\n")?;
+        assert_report(&rt, &row("I", 1, 1, &[0x1a, opcode, 0xac], lines.as_str()))?;
+    }
+    Ok(())
+}
+
+/// A term stands once, after its operands, the left one first, and only where the result needs it.
+#[test]
+fn terms_are_numbered_from_the_result(rt: HostRuntime) -> Result<(), Fail> {
+    let code = b"\x1a\x1b\x64\x1a\x1b\x60\x68\xac";
+    let lines = "let t0 sub v0 v1\nlet t1 add v0 v1\nlet t2 mul t0 t1\nreturns t2\n";
+    assert_report(&rt, &row("II", 3, 2, code, lines))?;
+    let code = b"\x1a\x1b\x60\x1a\x1b\x60\x68\xac";
+    let lines = "let t0 add v0 v1\nlet t1 mul t0 t0\nreturns t1\n";
+    assert_report(&rt, &row("II", 3, 2, code, lines))?;
+    let code = b"\x1a\x59\x60\xac";
+    let lines = "let t0 add v0 v0\nreturns t0\n";
+    assert_report(&rt, &row("I", 2, 1, code, lines))?;
+    let code = b"\x1a\x1b\x60\x57\x1a\xac";
+    assert_report(&rt, &row("II", 2, 2, code, "returns v0\n"))
+}
+
+#[test]
+fn faults_of_a_frame_are_refused(rt: HostRuntime) -> Result<(), Fail> {
+    assert_refusals(
+        &rt,
+        &[
+            row("II", 1, 2, b"\x1a\x1b\x60\xac", "above max_stack"),
+            row("I", 1, 1, b"\x1a\x59\x57\xac", "above max_stack by dup"),
+            row("II", 1, 1, b"\x1b\xac", "a read above max_locals"),
+            row("I", 1, 1, b"\x1a\x3c\x1a\xac", "a write above max_locals"),
+            row("", 1, 1, b"\x1a\xac", "a local that was never written"),
+            row("", 1, 1, b"\x84\x00\x01\x04\xac", "iinc of such a local"),
+            row("", 1, 0, b"\xac", "nothing to return"),
+            row("I", 1, 1, b"\x1a\x60\xac", "one operand for two"),
+            row("I", 1, 1, b"\x1a\x57\x57\x1a\xac", "nothing to pop"),
+        ],
+    )
+}
+
+#[test]
+fn code_that_is_not_straight_is_refused(rt: HostRuntime) -> Result<(), Fail> {
+    assert_refusals(
+        &rt,
+        &[
+            row("II", 2, 2, b"\x1a\x1b\x6c\xac", "idiv"),
+            row("I", 1, 1, b"\x1a\xac\x1a\xac", "a return in the middle"),
+            row("I", 1, 1, b"\x1a\x00", "no return"),
+            row("", 1, 0, b"\x10\xac", "a return that is an operand"),
+            row("", 1, 0, b"\x10", "half a bipush"),
+        ],
+    )
+}
+
+#[test]
+fn two_thousand_instructions_are_the_most(rt: HostRuntime) -> Result<(), Fail> {
+    let mut code = vec![in rt.alloc(); 0u8; 1998]?;
+    code.extend_from_slice(b"\x04\xac")?;
+    assert_report(&rt, &row("", 1, 0, code.as_slice(), "returns 1\n"))?;
+    code.insert(0, 0)?;
+    assert_refusals(&rt, &[row("", 1, 0, code.as_slice(), "one too many")])
+}
