@@ -1,9 +1,8 @@
 // How a run ends.
 ghost use Rattle.std.specs.Prelude.{◌≡◌, ◌↔◌, IfOk, IsTrue};
 
-use crate::same::are_same;
 use crate::{Bound, NoMemory, Value};
-use kb_names::{JType, MethodType, Target};
+use kb_names::Target;
 use std::alloc::Global;
 
 /// An instruction of a method, by its offset in the method's code; the code's length where the code runs off its
@@ -12,37 +11,6 @@ use std::alloc::Global;
 pub struct Place {
     pub method: Target,
     pub at: u32,
-}
-
-fn is_same_result(one: &Option<JType>, other: &Option<JType>) -> bool
-    ensures { IsTrue result ↔ (one.now ≡ other.now) }
-{
-    match (one, other) {
-        (Some(of), Some(other)) => of.is_same(other),
-        (None, None) => true,
-        _ => false,
-    }
-}
-
-fn is_same_method_type(one: &MethodType, other: &MethodType) -> bool
-    ensures { IsTrue result ↔ (one.now ≡ other.now) }
-{
-    if !is_same_result(&one.result, &other.result) {
-        return false;
-    }
-    are_same(one.params.as_slice(), other.params.as_slice())
-}
-
-fn is_same_method(one: &Target, other: &Target) -> bool
-    ensures { IsTrue result ↔ (one.now ≡ other.now) }
-{
-    if one.class != other.class {
-        return false;
-    }
-    if one.name != other.name {
-        return false;
-    }
-    is_same_method_type(&one.kind, &other.kind)
 }
 
 impl Place {
@@ -66,7 +34,7 @@ impl Place {
         if self.at != other.at {
             return false;
         }
-        is_same_method(&self.method, &other.method)
+        self.method.is_same(&other.method)
     }
 }
 

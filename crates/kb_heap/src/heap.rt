@@ -2,9 +2,8 @@
 ghost use Rattle.std.specs.Prelude.{◌≡◌, ◌↔◌, [], ◌∷◌, ◌++◌, Some, length, IfOk, IfErr, IsTrue};
 ghost use Rattle.kb_heap.specs.Heap.{IsPlace, value_at, with_value, with_object};
 
-use crate::same::{Same, are_same};
 use crate::{NoMemory, Row};
-use kb_names::ExactType;
+use kb_names::{ExactType, Same, are_same};
 use std::alloc::Global;
 
 /// A value: every one is of category 1 (JVMS 8 section 2.11.1).

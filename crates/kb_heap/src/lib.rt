@@ -5,7 +5,6 @@ mod bounds;
 mod ending;
 mod heap;
 mod row;
-mod same;
 #[cfg(test)]
 mod tests;
 

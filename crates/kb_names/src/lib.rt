@@ -7,6 +7,7 @@ mod descriptors;
 mod name;
 mod name_texts;
 mod row;
+mod same;
 mod stages;
 mod targets;
 #[cfg(test)]
@@ -21,6 +22,7 @@ pub use descriptors::{
 pub use name::Name;
 pub use name_texts::{NameTextRefusal, read_name, write_name};
 pub use row::Row;
+pub use same::{Same, are_same};
 pub use targets::{TargetRefusal, read_target, write_target};
 pub use types::{Component, ExactType, JType, MethodType, Target};
 pub use writing::{write_method_type, write_type};

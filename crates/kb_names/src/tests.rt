@@ -158,3 +158,24 @@ fn texts_that_are_no_targets_are_refused(rt: HostRuntime) {
         }
     }
 }
+
+#[test]
+fn a_target_is_told_apart_by_each_part(rt: HostRuntime) {
+    let alloc = rt.alloc();
+    let target = read_target(alloc, b"A.f(I[J)LB;").expect(&rt, "a target");
+    let cases = [
+        (b"A.f(I[J)LB;".as_slice(), true),
+        (b"B.f(I[J)LB;", false),
+        (b"A.g(I[J)LB;", false),
+        (b"A.f(I[J)LA;", false),
+        (b"A.f(I[J)V", false),
+        (b"A.f(I[I)LB;", false),
+        (b"A.f(I)LB;", false),
+        (b"A.f(I[JI)LB;", false),
+    ];
+    for (text, want) in cases {
+        let other = read_target(alloc, text).expect(&rt, "a target");
+        assert_eq!(rt; target.is_same(&other), want, "at {text:?}");
+        assert_eq!(rt; other.is_same(&target), want, "at {text:?}");
+    }
+}

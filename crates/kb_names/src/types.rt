@@ -2,6 +2,7 @@
 ghost use Rattle.std.specs.Prelude.{◌≡◌, ◌↔◌, IfOk, IsTrue};
 ghost use Rattle.kb_names.specs.Types.{shape_of, arrays_of};
 
+use crate::same::{Same, are_same};
 use crate::{Name, NoMemory, Row};
 use std::alloc::Global;
 use std::marker::Model;
@@ -110,6 +111,12 @@ impl JType {
     }
 }
 
+impl Same for JType {
+    fn is_same_as(&self, other: &JType) -> bool {
+        self.is_same(other)
+    }
+}
+
 // Another row of equal types.
 fn copied_types(alloc: Global, types: &[JType]) -> Result<Row<JType>, NoMemory>
     ensures { IfOk result (λ copy. copy ≡ types.now) }
@@ -131,6 +138,17 @@ fn copied_result(alloc: Global, of: &Option<JType>) -> Result<Option<JType>, NoM
     }
 }
 
+// Whether they are one result.
+fn is_same_result(one: &Option<JType>, other: &Option<JType>) -> bool
+    ensures { IsTrue result ↔ (one.now ≡ other.now) }
+{
+    match (one, other) {
+        (Some(of), Some(other)) => of.is_same(other),
+        (None, None) => true,
+        _ => false,
+    }
+}
+
 /// The parameters and the result of a method; no result for `void` (JVMS 8 section 4.3.3).
 #[derive(Debug, Drop)]
 pub struct MethodType {
@@ -149,6 +167,16 @@ impl MethodType {
             params,
             result: returned,
         })
+    }
+
+    /// Whether they are one type.
+    pub fn is_same(&self, other: &MethodType) -> bool
+        ensures { IsTrue result ↔ (self.now ≡ other.now) }
+    {
+        if !is_same_result(&self.result, &other.result) {
+            return false;
+        }
+        are_same(self.params.as_slice(), other.params.as_slice())
     }
 }
 
@@ -199,5 +227,18 @@ impl Target {
         let name = self.name.copied(alloc)?;
         let kind = self.kind.copied(alloc)?;
         Ok(Target { class, name, kind })
+    }
+
+    /// Whether they are one target.
+    pub fn is_same(&self, other: &Target) -> bool
+        ensures { IsTrue result ↔ (self.now ≡ other.now) }
+    {
+        if self.class != other.class {
+            return false;
+        }
+        if self.name != other.name {
+            return false;
+        }
+        self.kind.is_same(&other.kind)
     }
 }

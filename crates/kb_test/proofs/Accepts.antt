@@ -83,8 +83,8 @@ args_phase (value ∷ values) rest = ap (λ (p : Phase). phases p (map arg_line 
 open_phase : (of : Open) → (literals : ℕ) (tests : List Test) → IsFront literals (record { tests = tests; open_test = of }) → phases between (open_lines of) ≡ phase_of of
 open_phase Between literals tests good = refl
 open_phase (Named target) literals tests good = refl
-open_phase (Args target bounds values) literals tests good = ap (phases args) (sym (append-nil (map arg_line values))) ∙ args_phase values []
-open_phase (Ended target bounds values ending) literals tests good = args_phase values (ending_line ending ∷ []) ∙ ending_advances ending good.1.1.1.1
+open_phase (Args begun) literals tests good = ap (phases args) (sym (append-nil (map arg_line begun.args))) ∙ args_phase begun.args []
+open_phase (Ended begun ending) literals tests good = args_phase begun.args (ending_line ending ∷ []) ∙ ending_advances ending good.1.1.1.1
 
 front_phase : (literals : ℕ) (front : Front) → IsFront literals front → phases between (front_lines front) ≡ phase_of front.open_test
 front_phase literals front good =

@@ -29,9 +29,9 @@ pub tests_lines-more : (tests : List Test) (test : Test) → tests_lines (tests 
 tests_lines-more tests test = tests_lines-++ tests (test ∷ []) ∙ ap (λ (l : List (List ℕ)). tests_lines tests ++ l) (append-nil (test_lines test))
 
 pub arg_goes_on : (literals : ℕ) (tests : List Test) (target : Target) (bounds : RunBounds) (values more : List Value) (value : Value) (line : List ℕ)
-    → more ≡ values ++ value ∷ [] → SpellsArg value line → IsFront literals (record { tests = tests; open_test = Args target bounds values })
-    → IsFront literals (record { tests = tests; open_test = Args target bounds more })
-    × (front_lines (record { tests = tests; open_test = Args target bounds more }) ≡ front_lines (record { tests = tests; open_test = Args target bounds values }) ++ line ∷ [])
+    → more ≡ values ++ value ∷ [] → SpellsArg value line → IsFront literals (record { tests = tests; open_test = Args (record { target = target; bounds = bounds; args = values }) })
+    → IsFront literals (record { tests = tests; open_test = Args (record { target = target; bounds = bounds; args = more }) })
+    × (front_lines (record { tests = tests; open_test = Args (record { target = target; bounds = bounds; args = more }) }) ≡ front_lines (record { tests = tests; open_test = Args (record { target = target; bounds = bounds; args = values }) }) ++ line ∷ [])
 arg_goes_on literals tests target bounds values more value line e spells good = (
   (good.0, (good.1.0, (good.1.1.0, subst AreInts (sym e) (AreInts-++ values (value ∷ []) good.1.1.1 (spells.0, tt))))),
   ap (λ (l : List (List ℕ)). tests_lines tests ++ test_line target ∷ bounds_line bounds ∷ l)
@@ -43,12 +43,12 @@ pub test_goes_on : (literals : ℕ) (tests more : List Test) (test : Test) (line
     → more ≡ tests ++ test ∷ [] → IsTest literals test → AreTests literals tests → line ≡ end_line
     → IsFront literals (record { tests = more; open_test = Between })
     × (front_lines (record { tests = more; open_test = Between })
-    ≡ front_lines (record { tests = tests; open_test = Ended test.target test.bounds test.input.args test.ending }) ++ line ∷ [])
+    ≡ front_lines (record { tests = tests; open_test = Ended (record { target = test.target; bounds = test.bounds; args = test.input.args }) test.ending }) ++ line ∷ [])
 test_goes_on literals tests more test line e is good end = (
   (subst (AreTests literals) (sym e) (AreTests-++ literals tests (test ∷ []) good (is, tt)), tt),
   append-nil (tests_lines more) ∙ ap tests_lines e ∙ tests_lines-more tests test
       ∙ ap (λ (l : List (List ℕ)). tests_lines tests ++ test_line test.target ∷ bounds_line test.bounds ∷ l)
       (sym (append_assoc (map arg_line test.input.args) (ending_line test.ending ∷ []) (end_line ∷ [])))
       ∙ sym (append_assoc (tests_lines tests) (test_line test.target ∷ bounds_line test.bounds ∷ (map arg_line test.input.args ++ ending_line test.ending ∷ [])) (end_line ∷ []))
-      ∙ ap (λ (l : List ℕ). front_lines (record { tests = tests; open_test = Ended test.target test.bounds test.input.args test.ending }) ++ l ∷ []) (sym end),
+      ∙ ap (λ (l : List ℕ). front_lines (record { tests = tests; open_test = Ended (record { target = test.target; bounds = test.bounds; args = test.input.args }) test.ending }) ++ l ∷ []) (sym end),
 )

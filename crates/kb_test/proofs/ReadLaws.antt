@@ -52,13 +52,13 @@ ends literals tests Between good = ([], tests, good.0, sym (append-nil (tests_li
 ends literals tests (Named target) good =
     ends_with literals tests (ended_test literals target least_bounds [] (Past Steps)) (test_line target ∷ []) (bounds_line least_bounds ∷ ending_line (Past Steps) ∷ end_line ∷ [])
     good.0 (is_ended literals target least_bounds [] (Past Steps) good.1 are_least tt tt) refl
-ends literals tests (Args target bounds values) good =
-    ends_with literals tests (ended_test literals target bounds values (Past Steps)) (test_line target ∷ bounds_line bounds ∷ map arg_line values) (ending_line (Past Steps) ∷ end_line ∷ [])
-    good.0 (is_ended literals target bounds values (Past Steps) good.1.0 good.1.1.0 good.1.1.1 tt) refl
-ends literals tests (Ended target bounds values ending) good =
-    ends_with literals tests (ended_test literals target bounds values ending) (test_line target ∷ bounds_line bounds ∷ (map arg_line values ++ ending_line ending ∷ [])) (end_line ∷ [])
-    good.0 (is_ended literals target bounds values ending good.1.0 good.1.1.0 good.1.1.1.0 good.1.1.1.1)
-    (ap (λ (l : List (List ℕ)). test_line target ∷ bounds_line bounds ∷ l) (sym (append_assoc (map arg_line values) (ending_line ending ∷ []) (end_line ∷ []))))
+ends literals tests (Args begun) good =
+    ends_with literals tests (ended_test literals begun.target begun.bounds begun.args (Past Steps)) (test_line begun.target ∷ bounds_line begun.bounds ∷ map arg_line begun.args) (ending_line (Past Steps) ∷ end_line ∷ [])
+    good.0 (is_ended literals begun.target begun.bounds begun.args (Past Steps) good.1.0 good.1.1.0 good.1.1.1 tt) refl
+ends literals tests (Ended begun ending) good =
+    ends_with literals tests (ended_test literals begun.target begun.bounds begun.args ending) (test_line begun.target ∷ bounds_line begun.bounds ∷ (map arg_line begun.args ++ ending_line ending ∷ [])) (end_line ∷ [])
+    good.0 (is_ended literals begun.target begun.bounds begun.args ending good.1.0 good.1.1.0 good.1.1.1.0 good.1.1.1.1)
+    (ap (λ (l : List (List ℕ)). test_line begun.target ∷ bounds_line begun.bounds ∷ l) (sym (append_assoc (map arg_line begun.args) (ending_line ending ∷ []) (end_line ∷ []))))
 
 goes_on : (literals : ℕ) (front : Front) → IsFront literals front → (more : List ℕ) × IsTestsText literals (lines_text (front_lines front) ++ more)
 goes_on literals front good =

@@ -41,14 +41,14 @@ SpellsEnding ending line = IsEnding ending × (line ≡ ending_line ending)
 abbrev pub open_lines : Open → List (List ℕ)
 open_lines Between = []
 open_lines (Named target) = test_line target ∷ []
-open_lines (Args target bounds args) = test_line target ∷ bounds_line bounds ∷ map arg_line args
-open_lines (Ended target bounds args ending) = test_line target ∷ bounds_line bounds ∷ (map arg_line args ++ ending_line ending ∷ [])
+open_lines (Args begun) = test_line begun.target ∷ bounds_line begun.bounds ∷ map arg_line begun.args
+open_lines (Ended begun ending) = test_line begun.target ∷ bounds_line begun.bounds ∷ (map arg_line begun.args ++ ending_line ending ∷ [])
 
 abbrev pub IsOpen : Open → Type 0
 IsOpen Between = Unit {0}
 IsOpen (Named target) = IsTarget target
-IsOpen (Args target bounds args) = IsTarget target × (IsRunBounds bounds × AreInts args)
-IsOpen (Ended target bounds args ending) = IsTarget target × (IsRunBounds bounds × (AreInts args × IsEnding ending))
+IsOpen (Args begun) = IsTarget begun.target × (IsRunBounds begun.bounds × AreInts begun.args)
+IsOpen (Ended begun ending) = IsTarget begun.target × (IsRunBounds begun.bounds × (AreInts begun.args × IsEnding ending))
 
 -- all lines that are read
 abbrev pub front_lines : Front → List (List ℕ)
@@ -67,8 +67,8 @@ pub data Phase : Type 0 where
 abbrev pub phase_of : Open → Phase
 phase_of Between = between
 phase_of (Named target) = named
-phase_of (Args target bounds values) = args
-phase_of (Ended target bounds values ending) = ended
+phase_of (Args begun) = args
+phase_of (Ended begun ending) = ended
 
 -- a line may stand there
 abbrev pub FitsAt : Phase → List ℕ → Type 0

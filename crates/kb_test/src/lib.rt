@@ -12,4 +12,4 @@ mod writing;
 pub use memory::NoMemory;
 pub use reading::{TestRefusal, read_tests};
 pub use test_case::Test;
-pub use writing::write_test;
+pub use writing::{ending_text, write_test};

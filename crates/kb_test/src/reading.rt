@@ -23,6 +23,14 @@ pub enum TestRefusal {
     NoMemory,
 }
 
+// What is read of a test before its ending.
+#[derive(Drop)]
+pub(crate) struct BegunTest {
+    target: Target,
+    bounds: RunBounds,
+    args: Row<Value>,
+}
+
 // How far a test is read.
 #[derive(Drop)]
 pub(crate) enum Open {
@@ -30,9 +38,9 @@ pub(crate) enum Open {
     // Behind the line that names the method.
     Named(Target),
     // Behind the bounds and some arguments.
-    Args(Target, RunBounds, Row<Value>),
+    Args(BegunTest),
     // Behind the ending.
-    Ended(Target, RunBounds, Row<Value>, Ending),
+    Ended(BegunTest, Ending),
 }
 
 // The tests that are read, and how far the next one is.
@@ -142,11 +150,9 @@ impl Front {
         match open_test {
             Open::Between => after_tests(alloc, tests, line),
             Open::Named(target) => after_target(alloc, tests, target, line),
-            Open::Args(target, bounds, args) => {
-                after_args(alloc, tests, target, bounds, args, line)
-            }
-            Open::Ended(target, bounds, args, ending) => {
-                after_ending(alloc, literals, tests, target, bounds, args, ending, line)
+            Open::Args(begun) => after_args(alloc, tests, begun, line),
+            Open::Ended(begun, ending) => {
+                after_ending(alloc, literals, tests, begun, ending, line)
             }
         }
     }
@@ -175,7 +181,11 @@ fn after_target(
     match read_bounds(alloc, line)? {
         Some(bounds) => Ok(Some(Front {
             tests,
-            open_test: Open::Args(target, bounds, Row::new(alloc)),
+            open_test: Open::Args(BegunTest {
+                target,
+                bounds,
+                args: Row::new(alloc),
+            }),
         })),
         None => Ok(None),
     }
@@ -185,25 +195,31 @@ fn after_target(
 fn after_args(
     alloc: Global,
     tests: Row<Test>,
-    target: Target,
-    bounds: RunBounds,
-    args: Row<Value>,
+    begun: BegunTest,
     line: &[u8],
 ) -> Result<Option<Front>, NoMemory>
-    ensures { (literals : ℕ) → IfOk result (GoesOn literals (record { tests = tests; open_test = Open.Args target bounds args }) line.now) }
+    ensures { (literals : ℕ) → IfOk result (GoesOn literals (record { tests = tests; open_test = Open.Args begun }) line.now) }
 {
     if let Some(value) = read_int(alloc, line, b"arg ")? {
-        let mut args = args;
+        let BegunTest {
+            target,
+            bounds,
+            mut args,
+        } = begun;
         args.push(value)?;
         return Ok(Some(Front {
             tests,
-            open_test: Open::Args(target, bounds, args),
+            open_test: Open::Args(BegunTest {
+                target,
+                bounds,
+                args,
+            }),
         }));
     }
     match read_ending(alloc, line)? {
         Some(ending) => Ok(Some(Front {
             tests,
-            open_test: Open::Ended(target, bounds, args, ending),
+            open_test: Open::Ended(begun, ending),
         })),
         None => Ok(None),
     }
@@ -214,13 +230,11 @@ fn after_ending(
     alloc: Global,
     literals: u32,
     tests: Row<Test>,
-    target: Target,
-    bounds: RunBounds,
-    args: Row<Value>,
+    begun: BegunTest,
     ending: Ending,
     line: &[u8],
 ) -> Result<Option<Front>, NoMemory>
-    ensures { IfOk result (GoesOn literals (record { tests = tests; open_test = Open.Ended target bounds args ending }) line.now) }
+    ensures { IfOk result (GoesOn literals (record { tests = tests; open_test = Open.Ended begun ending }) line.now) }
 {
     if !is_line(line, b"end") {
         return Ok(None);
@@ -228,12 +242,12 @@ fn after_ending(
     let heap = literal_heap(alloc, literals)?;
     let input = Input {
         heap: Heap::new(alloc),
-        args,
+        args: begun.args,
     };
     let mut tests = tests;
     tests.push(Test {
-        target,
-        bounds,
+        target: begun.target,
+        bounds: begun.bounds,
         input,
         ending,
         heap,

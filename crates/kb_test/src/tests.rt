@@ -6,6 +6,10 @@ use std::test::Fail;
 const SUM: &[u8] =
     b"test A.f(II)I\nbounds alloc 16 loops 10 depth 16 steps 2000\narg 0\narg -7\nreturns 0\nend\ntest A.f(II)I\nbounds alloc 0 loops 0 depth 1 steps 1\npast steps\nend\n";
 
+/// One test, of two arguments, which returns.
+const ONE: &[u8] =
+    b"test A.f(II)I\nbounds alloc 16 loops 10 depth 16 steps 2000\narg 0\narg -7\nreturns 0\nend\n";
+
 #[test]
 fn tests_are_read(rt: HostRuntime) -> Result<(), Fail> {
     let alloc = rt.alloc();
@@ -41,10 +45,8 @@ fn written_again(alloc: Global, text: &[u8]) -> Option<Vec<u8>> {
 
 #[test]
 fn a_test_is_written_as_it_was(rt: HostRuntime) {
-    let text =
-        b"test A.f(II)I\nbounds alloc 16 loops 10 depth 16 steps 2000\narg 0\narg -7\nreturns 0\nend\n".as_slice();
-    match written_again(rt.alloc(), text) {
-        Some(again) => assert_eq!(rt; again.as_slice(), text),
+    match written_again(rt.alloc(), ONE) {
+        Some(again) => assert_eq!(rt; again.as_slice(), ONE),
         None => assert!(rt; false, "not written"),
     }
 }
@@ -107,4 +109,30 @@ fn other_texts_are_refused_at_their_first_bad_line(rt: HostRuntime) {
     for (text, want) in cases {
         assert_eq!(rt; refused_at(rt.alloc(), text), Some(want), "{text:?}");
     }
+}
+
+// How many tests are read.
+fn tests_in(alloc: Global, text: &[u8]) -> Result<usize, TestRefusal> {
+    match read_tests(alloc, text, 0) {
+        Ok(tests) => Ok(tests.as_slice().len()),
+        Err(refusal) => Err(refusal),
+    }
+}
+
+#[test]
+fn a_test_that_is_cut_is_refused_where_it_is_cut(rt: HostRuntime) {
+    let alloc = rt.alloc();
+    let mut line = 1;
+    for (end, byte) in ONE.iter().enumerate() {
+        let want = if end == 0 {
+            Ok(0)
+        } else {
+            Err(TestRefusal::TestLine(line))
+        };
+        assert_eq!(rt; tests_in(alloc, &ONE[..end]), want, "cut to {end} bytes");
+        if *byte == b'\n' {
+            line = line.saturating_add(1);
+        }
+    }
+    assert_eq!(rt; tests_in(alloc, ONE), Ok(1));
 }

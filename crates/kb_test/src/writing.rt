@@ -1,5 +1,5 @@
 // Tests are written.
-ghost use Rattle.std.specs.Prelude.{◌≡◌, ◌∷◌, [], ◌++◌, map, OnOk, OnErr};
+ghost use Rattle.std.specs.Prelude.{◌≡◌, ◌∷◌, [], ◌++◌, map, IfOk, OnOk, OnErr};
 ghost use Rattle.kb_test.specs.Texts.{lines_text, test_line, bounds_line, arg_line, ending_line, end_line, value_text, test_text, IsTest};
 
 use crate::{NoMemory, Test};
@@ -96,18 +96,28 @@ fn append_args(alloc: Global, args: &[Value], text: &mut Vec<u8>) -> Result<(), 
     Ok(())
 }
 
+/// The line of an ending, without its line feed. An ending that no test of this grammar has, as a throw, has none yet.
 #[tactic(auto, unfolding(crate::specs::Texts::ending_line))]
+pub fn ending_text(alloc: Global, ending: &Ending) -> Result<Vec<u8>, NoMemory>
+    ensures { IfOk result (λ text. text.items ≡ ending_line ending.now) }
+{
+    let mut text = Vec::new(alloc);
+    match ending {
+        Ending::Returned(Some(value)) => {
+            append(b"returns ", &mut text)?;
+            append_value(alloc, value, &mut text)?;
+        }
+        Ending::Past(Bound::Steps) => append(b"past steps", &mut text)?,
+        _ => {}
+    }
+    Ok(text)
+}
+
 fn append_ending(alloc: Global, ending: &Ending, text: &mut Vec<u8>) -> Result<(), NoMemory>
     ensures { OnOk result (text.new.items ≡ text.old.items ++ (ending_line ending.now ++ 10 ∷ [])) }
 {
-    match ending {
-        Ending::Returned(Some(value)) => {
-            append(b"returns ", text)?;
-            append_value(alloc, value, text)?;
-        }
-        Ending::Past(Bound::Steps) => append(b"past steps", text)?,
-        _ => {}
-    }
+    let line = ending_text(alloc, ending)?;
+    append(line.as_slice(), text)?;
     append(b"\n", text)
 }
 

@@ -1,159 +1,179 @@
--- What the program answers about a class, from what its parts answer.
-use Rattle.std.proofs.Common.{◌≡◌, ℕ, ◌<◌, ◌≤◌, List, [], ◌∷◌, length, map, replicate, ℤ, pos, Option, Some, Result, Ok, Err, IfOk, refl, sym, ◌∙◌, ap, subst, arith, true, false, inl, inr, string_bytes, unwrap_or}
-use Rattle.std.proofs.lemmas.List.{length-replicate}
-use Rattle.kb_classfile.specs.declared.file.ClassFile.{ClassFile}
-use Rattle.kb_classfile.specs.declared.file.Code.{Code}
-use Rattle.kb_terms.specs.declared.node.TermId.{TermId}
-use Rattle.kb_terms.specs.declared.node.Node.{Node}
-use Rattle.kb_terms.specs.Terms.{value_of}
+-- What is told of a method answers what was asked.
+use Rattle.std.proofs.Common.{◌≡◌, ◌⊎◌, ℕ, ℤ, pos, List, [], ◌∷◌, map, replicate, Option, Some, Result, Ok, Err, IfOk, refl, sym, ◌∙◌, ap, subst, inl, inr, zero, suc, rules, arith}
+use Rattle.std.specs.Int.RustNames.{FitsSigned}
+use mir.Syntax.{w32}
+use Rattle.std.proofs.lemmas.List.{append-nil, length-replicate}
+use Rattle.kb_heap.specs.declared.heap.Value.{Value}
+use Rattle.kb_heap.specs.declared.heap.Value.TheVariants.{Int}
+use Rattle.kb_heap.specs.declared.heap.Heap.{Heap}
+use Rattle.kb_heap.specs.declared.ending.Ending.TheVariants.{Returned}
+use Rattle.kb_names.specs.declared.types.Target.{Target}
+use Rattle.kb_names.specs.Targets.{IsTarget}
+use Rattle.kb_heap.specs.declared.bounds.RunBounds.{RunBounds}
+use Rattle.kb_test.specs.declared.test_case.Test.{Test}
+use Rattle.kb_semantics.specs.Machine.{Method}
 use Rattle.kb_terms.specs.Numbering.{numbering}
-use Rattle.kiasan.specs.declared.memory.NoMemory.{NoMemory}
-use Rattle.kiasan.specs.declared.answer.Answer.{Answer}
-use Rattle.kiasan.specs.declared.answer.Stop.{Stop}
-use Rattle.kiasan.specs.declared.status.Status.{Status}
-use Rattle.kiasan.specs.Words.{Asked, Asks, explore}
-use Rattle.kiasan.specs.declared.status.Status.TheVariants.{Complete, Outside}
-use Rattle.kiasan.specs.declared.explore.StraightCode.{StraightCode}
-use Rattle.kiasan.specs.declared.instruction.Instr.{Instr}
+use Rattle.kb_terms.specs.Terms.{value_of}
+use Rattle.kb_test.specs.Texts.{AreInts, IsTest, SpellsTests, test_lines, lines_text, test_text, literal_heap}
+use Rattle.kb_world.specs.declared.world.GivenClass.{GivenClass}
+use Rattle.kb_world.specs.declared.world.MethodId.{MethodId}
+use Rattle.kiasan.specs.declared.explore.Explored.{Explored}
 use Rattle.kiasan.specs.declared.path.Operand.{Operand}
 use Rattle.kiasan.specs.declared.path.Term.{Term}
-use Rattle.kiasan.specs.Answers.{Answers, AnswersAsked, AnswersFile, IsAnswer, AnswersClass, IsStraightMethod, States, code_of, most_instructions, refused_unbuilt}
-use Rattle.kiasan.specs.Listing.{Lists}
-use Rattle.kiasan.specs.Machine.{Method, Object, Int, Returned, run_of}
+use Rattle.kiasan.specs.declared.refusals.Answer.{Answer}
+use Rattle.kiasan.specs.declared.answer.Stop.{Stop}
+use Rattle.kiasan.specs.declared.classes.Opened.TheVariants.{World as Linked}
+use Rattle.kiasan.specs.declared.status.Status.{Status}
+use Rattle.kiasan.specs.declared.status.Status.TheVariants.{Complete, Link, Outside}
+use Rattle.kiasan.specs.declared.words.Task.{Task}
+use Rattle.kiasan.specs.declared.words.Task.TheVariants.{Explore, Tests}
+use Rattle.kiasan.specs.Answers.{Answers, AnswersAsked, AnswersTask, AnswersFile, AnswersTests, IsAnswer, SomeUnsound, IsPath, IsTextOf, Opens, fault_status, refused_method, refused_unbuilt}
+use Rattle.kiasan.specs.Explored.{IsExplored}
 use Rattle.kiasan.specs.Path.{path_value, terms_of, operand_of}
-use Rattle.kiasan.specs.Report.{report_text, straight_report}
-use Rattle.kiasan.specs.Straight.{HasCode, IsIllTyped, ends_by_return}
-use Rattle.kb_names.specs.declared.types.Target.{Target}
-use Rattle.kb_names.specs.Targets.{target_text}
-use Rattle.kiasan.specs.Target.{takes_ints, params_of}
+use Rattle.kiasan.specs.Straight.{IsStraight, most_instructions}
+use Rattle.kiasan.specs.declared.memory.NoMemory.{NoMemory}
+use Rattle.kb_world.specs.World.{IsTargetOf}
+use Rattle.kiasan.specs.Target.{params_of}
+use Rattle.kiasan.specs.Tests.{test_of, zeros, no_literals, default_run_bounds, EndsAsStated}
+use Rattle.kiasan.specs.declared.replay.TestFault.{TestFault}
+use Rattle.kiasan.specs.declared.replay.TestFault.TheVariants.{NoMethod, IllTypedInput, NotStraight}
+use Rattle.kiasan.specs.Words.{Asked, no_command, not_built, bad_target, about_method, replay, AreReplayWords, Asks}
 
--- what is not built is answered where no method is straight
-pub unbuilt_answers : (file : ClassFile) (target : Target) (r : Result Answer NoMemory) → IfOk r (λ a. a.status ≡ Outside) → IfOk r (λ a. string_bytes a.text ≡ refused_unbuilt) →
-    ((method : Method) → IsStraightMethod file target method → ⊥) → IfOk r (λ a. AnswersClass file target a.status (string_bytes a.text))
-unbuilt_answers file target (Ok a) status text none = inl (status, text, none)
-unbuilt_answers file target (Err e) status text none = tt
+-- ---- the test of a path
 
--- a straight method has the code that the target names
-same_code : (file : ClassFile) (target : Target) (code : Code) (method : Method) → code_of file target ≡ Some code → (s : IsStraightMethod file target method) → s.code ≡ code
-same_code file target code method found s = ap (λ (o : Option Code). unwrap_or o code) (sym s.has_code ∙ found)
+abbrev pub made : Target → RunBounds → Heap → Heap → List Value → ℤ → Test
+made target bounds heap last args value =
+    record { target = target; bounds = bounds; input = record { heap = heap; args = args }; ending = Returned (Some (Int value)); heap = last }
 
-pub no_listing : (file : ClassFile) (target : Target) (code : Code) → code_of file target ≡ Some code → ((listing : List (ℕ × Instr)) → Lists 0 listing code.bytes → ⊥) →
-    (method : Method) → IsStraightMethod file target method → ⊥
-no_listing file target code found none method s = none method.listing (subst (λ (c : Code). Lists 0 method.listing c.bytes) (same_code file target code method found s) s.listed)
+pub zero_values_are : (n : ℕ) → map Int (replicate n (pos 0)) ≡ replicate n (Int (pos 0))
+zero_values_are zero = refl
+zero_values_are (suc n) = ap (λ (vs : List Value). Int (pos 0) ∷ vs) (zero_values_are n)
 
--- the listing of a straight method is the one of its code
-same_listing : (file : ClassFile) (target : Target) (code : Code) (listing : List (ℕ × Instr)) (method : Method) → code_of file target ≡ Some code →
-    ((other : List (ℕ × Instr)) → Lists 0 other code.bytes → other ≡ listing) → (s : IsStraightMethod file target method) → method.listing ≡ listing
-same_listing file target code listing method found only s = only method.listing (subst (λ (c : Code). Lists 0 method.listing c.bytes) (same_code file target code method found s) s.listed)
+zeros_are_ints : (n : ℕ) → AreInts (map Int (replicate n (pos 0)))
+zeros_are_ints zero = tt
+zeros_are_ints (suc n) = (search rules, zeros_are_ints n)
 
-pub too_many : (file : ClassFile) (target : Target) (code : Code) (listing : List (ℕ × Instr)) → code_of file target ≡ Some code →
-    ((other : List (ℕ × Instr)) → Lists 0 other code.bytes → other ≡ listing) → most_instructions < length listing →
-    (method : Method) → IsStraightMethod file target method → ⊥
-too_many file target code listing found only many method s =
-    let same : length method.listing ≡ length listing = ap length (same_listing file target code listing method found only s) in omega (arith, s.few, same, many)
+-- a test that is made of these parts is the test of the path
+pub test_is : (target named : Target) (bounds : RunBounds) (heap last : Heap) (args : List Value) (value : ℤ) (terms : List Term) (returned : Operand) →
+    named ≡ target → bounds ≡ default_run_bounds → heap.objects ≡ [] → last.objects ≡ [] → args ≡ replicate (params_of target) (Int (pos 0)) →
+    value ≡ path_value terms returned (zeros target) →
+    made named bounds heap last args value ≡ test_of target terms returned
+test_is target named bounds heap last args value terms returned n b h l a v =
+    let heaps : heap ≡ literal_heap no_literals = ap (λ objects. record { objects = objects }) h in
+    let lasts : last ≡ literal_heap no_literals = ap (λ objects. record { objects = objects }) l in
+    rw (n, b, heaps, lasts, a, v, zero_values_are (params_of target)) refl
 
-pub no_return : (file : ClassFile) (target : Target) (code : Code) (listing : List (ℕ × Instr)) → code_of file target ≡ Some code →
-    ((other : List (ℕ × Instr)) → Lists 0 other code.bytes → other ≡ listing) → ends_by_return listing ≡ false →
-    (method : Method) → IsStraightMethod file target method → ⊥
-no_return file target code listing found only none method s =
-    let same : ends_by_return listing ≡ true = ap ends_by_return (sym (same_listing file target code listing method found only s)) ∙ s.ends in cc
+-- the test of a path has a text
+pub has_text : (target : Target) (terms : List Term) (returned : Operand) → IsTarget target → FitsSigned w32 (path_value terms returned (zeros target)) →
+    IsTest no_literals (test_of target terms returned)
+has_text target terms returned is fits = record {
+  target = is;
+  bounds = record { alloc = omega arith; loops = omega arith; some_depth = omega arith; depth = omega arith; some_steps = omega arith; steps = omega arith };
+  args = zeros_are_ints (params_of target);
+  input = refl;
+  ending = fits;
+  heap = refl;
+}
 
--- the code with its listing, as it is explored
-pub record IsTaken (code : Code) (listing : List (ℕ × Instr)) (straight : StraightCode) : Type 0 where
-  pub max_stack : straight.limits.stack ≡ code.max_stack
-  pub max_locals : straight.limits.locals ≡ code.max_locals
-  pub listing_is : straight.listing.now ≡ listing
-  pub size : straight.size ≡ length code.bytes
+-- a text of one test is a text of tests
+pub one_text : (target : Target) (terms : List Term) (returned : Operand) (text : List ℕ) → IsTest no_literals (test_of target terms returned) →
+    text ≡ test_text (test_of target terms returned) → SpellsTests no_literals (test_of target terms returned ∷ []) text
+one_text target terms returned text is e = ((is, tt), e ∙ ap lines_text (sym (append-nil (test_lines (test_of target terms returned)))))
 
-straight_has_code : (file : ClassFile) (target : Target) (code : Code) (listing : List (ℕ × Instr)) (straight : StraightCode) (method : Method) → code_of file target ≡ Some code →
-    ((other : List (ℕ × Instr)) → Lists 0 other code.bytes → other ≡ listing) → IsTaken code listing straight → IsStraightMethod file target method → HasCode method straight
-straight_has_code file target code listing straight method found only taken s =
-    let same = same_code file target code method found s in
-    record {
-      max_stack = s.max_stack ∙ ap (λ (c : Code). c.max_stack) same ∙ sym taken.max_stack;
-      max_locals = s.max_locals ∙ ap (λ (c : Code). c.max_locals) same ∙ sym taken.max_locals;
-      listing = same_listing file target code listing method found only s ∙ sym taken.listing_is;
-      size = s.size ∙ ap (λ (c : Code). length c.bytes) same ∙ sym taken.size;
-    }
+-- ---- the path of a method
 
--- a method whose runs are ill-typed is not straight
-pub ill_typed_is_none : (file : ClassFile) (target : Target) (code : Code) (listing : List (ℕ × Instr)) (straight : StraightCode) → code_of file target ≡ Some code →
-    ((other : List (ℕ × Instr)) → Lists 0 other code.bytes → other ≡ listing) → IsTaken code listing straight → length listing ≤ most_instructions →
-    ((steps : ℕ) (method : Method) (heap : List Object) (inputs : List ℤ) → HasCode method straight → length straight.listing.now ≤ steps → length inputs ≡ params_of target →
-    IsIllTyped (run_of steps method (map Int inputs) heap).ending) →
-    (method : Method) → IsStraightMethod file target method → ⊥
-ill_typed_is_none file target code listing straight found only taken few ill method s =
-    let inputs : List ℤ = replicate (params_of target) (pos 0) in
-    let has = straight_has_code file target code listing straight method found only taken s in
-    let long : length inputs ≡ params_of target = length-replicate (params_of target) (pos 0) in
-    let enough : length straight.listing.now ≤ most_instructions = rw taken.listing_is few in
-    s.typed [] inputs long (ill most_instructions method [] inputs has enough long)
+pub path_is : (world : List GivenClass) (target : Target) (id : MethodId) (explored : Explored) (terms : List Term) (returned : Operand) → IsExplored world target id explored →
+    terms ≡ terms_of explored.pool (numbering explored.pool (explored.result ∷ [])) →
+    returned ≡ operand_of explored.pool (numbering explored.pool (explored.result ∷ [])) explored.result →
+    ((inputs : List ℤ) → path_value terms returned inputs ≡ value_of explored.pool explored.result inputs) → IsPath world target terms returned
+path_is world target id explored terms returned is terms_are returned_is value = record {
+  id = id;
+  method = is.method;
+  straight = is.straight;
+  numbered = record { nodes = explored.pool; root = explored.result; terms_are = terms_are; returned_is = returned_is };
+  states = λ heap inputs long. rw (value inputs) (is.returns most_instructions heap inputs is.straight.few long);
+}
 
--- the method that the machine runs
-abbrev pub taken_method : Target → Code → List (ℕ × Instr) → Method
-taken_method target code listing =
-    record { name = target_text target; max_stack = code.max_stack; max_locals = code.max_locals; listing = listing; size = length code.bytes }
+test_ends : (world : List GivenClass) (target : Target) (terms : List Term) (returned : Operand) (path : IsPath world target terms returned) → EndsAsStated path.method (test_of target terms returned)
+test_ends world target terms returned path = path.states (literal_heap no_literals) (zeros target) (length-replicate (params_of target) (pos 0))
 
--- the report of a method that was explored
-pub explored_reports : (file : ClassFile) (target : Target) (code : Code) (listing : List (ℕ × Instr)) (straight : StraightCode) (nodes : List Node) (root : TermId)
-    (terms : List Term) (returned : Operand) (text : List ℕ) → takes_ints target.kind ≡ true → code_of file target ≡ Some code →
-    Lists 0 listing code.bytes → ends_by_return listing ≡ true → IsTaken code listing straight → length listing ≤ most_instructions →
-    ((steps : ℕ) (method : Method) (heap : List Object) (inputs : List ℤ) → HasCode method straight → length straight.listing.now ≤ steps → length inputs ≡ params_of target →
-    run_of steps method (map Int inputs) heap ≡ record { ending = Returned (Some (Int (value_of nodes root inputs))); heap = heap }) →
-    terms ≡ terms_of nodes (numbering nodes (root ∷ [])) → returned ≡ operand_of nodes (numbering nodes (root ∷ [])) root →
-    ((inputs : List ℤ) → path_value terms returned inputs ≡ value_of nodes root inputs) →
-    text ≡ report_text (straight_report target terms returned) →
-    AnswersClass file target Complete text
-explored_reports file target code listing straight nodes root terms returned text ints found listed ends taken few runs terms_are returned_is value text_is =
-    let has : HasCode (taken_method target code listing) straight = record { max_stack = sym taken.max_stack; max_locals = sym taken.max_locals; listing = sym taken.listing_is; size = sym taken.size } in
-    let enough : length straight.listing.now ≤ most_instructions = rw taken.listing_is few in
-    let states : States (taken_method target code listing) (params_of target) terms returned =
-    λ heap inputs long. rw (value inputs) (runs most_instructions (taken_method target code listing) heap inputs has enough long) in
-    inr (
-      refl,
-      record {
-        method = taken_method target code listing;
-        straight = record {
-          ints = ints;
-          code = code;
-          has_code = found;
-          listed = listed;
-          size = refl;
-          max_stack = refl;
-          max_locals = refl;
-          name = refl;
-          few = few;
-          ends = ends;
-          typed = λ heap inputs long ill. let wrong = rw (states heap inputs long) at ill in wrong;
-        };
-        terms = terms;
-        returned = returned;
-        numbered = record { nodes = nodes; root = root; terms_are = terms_are; returned_is = returned_is };
-        states = states;
-        text_is = text_is;
-      },
-    )
+pub told : (task : Task) (world : List GivenClass) (target : Target) (terms : List Term) (returned : Operand) (text : List ℕ) → IsPath world target terms returned →
+    IsTextOf task target terms returned text → AnswersTask task world target Complete text
+told Explore world target terms returned text path e = inr (inr (refl, record { terms = terms; returned = returned; path = path; text_is = e }))
+told Tests world target terms returned text path e =
+    inr (inr (refl, record { terms = terms; returned = returned; path = path; spelled = e; ends = test_ends world target terms returned path }))
 
--- an answer about a file has a status that comes with a text
-file_is_answer : (target : Target) (bytes : List ℕ) (status : Status) (text : List ℕ) → AnswersFile target bytes status text → IsAnswer status
+-- ---- refusals
+
+pub missing : (task : Task) (world : List GivenClass) (target : Target) (r : Result Answer NoMemory) → IfOk r (λ a. a.status ≡ Link) →
+    IfOk r (λ a. a.text.items ≡ refused_method target) → ((id : MethodId) → IsTargetOf world target id → ⊥) → IfOk r (λ a. AnswersTask task world target a.status a.text.items)
+missing task world target (Ok a) status text none = inl (status, text, none)
+missing task world target (Err e) status text none = tt
+
+pub unbuilt : (task : Task) (world : List GivenClass) (target : Target) (id : MethodId) (r : Result Answer NoMemory) → IfOk r (λ a. a.status ≡ Outside) →
+    IfOk r (λ a. a.text.items ≡ refused_unbuilt) → IsTargetOf world target id → ((other : MethodId) → IsTargetOf world target other → other ≡ id) →
+    ((method : Method) → IsStraight world target id method → ⊥) → IfOk r (λ a. AnswersTask task world target a.status a.text.items)
+unbuilt task world target id (Ok a) status text found alone none =
+    inr (inl (status, text, (id, found), λ other method s. none method (subst (λ i. IsStraight world target i method) (alone other s.found) s)))
+unbuilt task world target id (Err e) status text found alone none = tt
+
+-- ---- answers
+
+file_is_answer : (AnswersWorld : List GivenClass → Status → List ℕ → Type 0) (bytes : List ℕ) (status : Status) (text : List ℕ) → AnswersFile AnswersWorld bytes status text →
+    ((world : List GivenClass) → AnswersWorld world status text → IsAnswer status) → IsAnswer status
 unfolding AnswersFile
-file_is_answer target bytes status text (inl h) = rw h.0 tt
-file_is_answer target bytes status text (inr (inl h)) = rw h.0 tt
-file_is_answer target bytes status text (inr (inr (file, spelled, inl h))) = rw h.0 tt
-file_is_answer target bytes status text (inr (inr (file, spelled, inr h))) = rw h.0 tt
+file_is_answer AnswersWorld bytes status text (inl h) of = rw h.0 tt
+file_is_answer AnswersWorld bytes status text (inr (inl h)) of = rw h.0 tt
+file_is_answer AnswersWorld bytes status text (inr (inr (file, world, spelled, is, h))) of = of world h
 
-pub explore_is_answer : (target : Target) (file : List ℕ) (holds : List ℕ → Option (List ℕ)) (r : Result Answer Stop) →
-    IfOk r (λ a. AnswersAsked (explore target file) holds a.status (string_bytes a.text)) → IfOk r (λ a. IsAnswer a.status)
-explore_is_answer target file holds (Ok a) h = file_is_answer target h.0 a.status (string_bytes a.text) h.2
-explore_is_answer target file holds (Err e) h = tt
+task_is_answer : (task : Task) (world : List GivenClass) (target : Target) (status : Status) (text : List ℕ) → AnswersTask task world target status text → IsAnswer status
+task_is_answer task world target status text (inl h) = rw h.0 tt
+task_is_answer task world target status text (inr (inl h)) = rw h.0 tt
+task_is_answer task world target status text (inr (inr h)) = rw h.0 tt
 
--- a method that takes or gives anything but ints is not straight
-pub other_types : (file : ClassFile) (target : Target) → takes_ints target.kind ≡ false → (method : Method) → IsStraightMethod file target method → ⊥
-other_types file target other method s = let ints = s.ints in cc
+fault_is_answer : (fault : TestFault) → IsAnswer (fault_status fault)
+fault_is_answer NoMethod = tt
+fault_is_answer IllTypedInput = tt
+fault_is_answer NotStraight = tt
+
+tests_are_answer : (lines : List ℕ) (world : List GivenClass) (status : Status) (text : List ℕ) → AnswersTests lines world status text → IsAnswer status
+tests_are_answer lines world status text (inl h) = rw h.0 tt
+tests_are_answer lines world status text (inr (inl (short, number, is, e, bad))) = rw is tt
+tests_are_answer lines world status text (inr (inr (short, given, spelled, inl (number, fault, first, is, e)))) = rw is (fault_is_answer fault)
+tests_are_answer lines world status text (inr (inr (short, given, spelled, inr (verdicts, are, e, inl h)))) = rw h.1 tt
+tests_are_answer lines world status text (inr (inr (short, given, spelled, inr (verdicts, are, e, inr h)))) = rw h.1 tt
+
+asked_is_answer : (asked : Asked) (holds : List ℕ → Option (List ℕ)) (status : Status) (text : List ℕ) → AnswersAsked asked holds status text → IsAnswer status
+asked_is_answer no_command holds status text h = rw h.0 tt
+asked_is_answer (bad_target word) holds status text h = rw h.0 tt
+asked_is_answer not_built holds status text h = rw h.0 tt
+asked_is_answer (about_method task target file) holds status text h =
+    file_is_answer (λ world. AnswersTask task world target) h.0 status text h.2 (λ world. task_is_answer task world target status text)
+asked_is_answer (replay given file) holds status text h =
+    file_is_answer (AnswersTests h.0) h.1 status text h.4 (λ world. tests_are_answer h.0 world status text)
+
+-- an answer about the world of a class file is one about the file
+pub opened_answers : (AnswersWorld : List GivenClass → Status → List ℕ → Type 0) (bytes : List ℕ) (world : List GivenClass) (r : Result Answer NoMemory) →
+    Opens bytes (Linked world) → IfOk r (λ a. AnswersWorld world a.status a.text.items) → IfOk r (λ a. AnswersFile AnswersWorld bytes a.status a.text.items)
+unfolding AnswersFile
+opened_answers AnswersWorld bytes world (Ok a) opens h = inr (inr (opens.0, world, opens.1, opens.2, h))
+opened_answers AnswersWorld bytes world (Err e) opens h = tt
+
+-- an answer to what was asked has a status that comes with a text
+pub is_answer : (asked : Asked) (holds : List ℕ → Option (List ℕ)) (r : Result Answer Stop) → IfOk r (λ a. AnswersAsked asked holds a.status a.text.items) →
+    IfOk r (λ a. IsAnswer a.status)
+is_answer asked holds (Ok a) h = asked_is_answer asked holds a.status a.text.items h
+is_answer asked holds (Err e) h = tt
 
 -- an answer to what the words ask for is one to the words
 pub answers_asked : (words : List (List ℕ)) (asked : Asked) (holds : List ℕ → Option (List ℕ)) (r : Result Answer Stop) → Asks words asked →
-    IfOk r (λ a. AnswersAsked asked holds a.status (string_bytes a.text)) → IfOk r (λ a. Answers words holds a.status (string_bytes a.text))
+    IfOk r (λ a. AnswersAsked asked holds a.status a.text.items) → IfOk r (λ a. Answers words holds a.status a.text.items)
 unfolding Answers
 answers_asked words asked holds (Ok a) asks h = (asked, asks, h)
 answers_asked words asked holds (Err e) asks h = tt
+
+-- a file of a replay is not sound
+pub replay_unsound : (words : List (List ℕ)) (given file : List ℕ) (sound : List ℕ → Type 0) → AreReplayWords words given file →
+    (sound given → ⊥) ⊎ (sound file → ⊥) → SomeUnsound words sound
+replay_unsound words given file sound asked (inl not) = record { file = given; asked = inr (inl (file, asked)); unsound = not }
+replay_unsound words given file sound asked (inr not) = record { file = file; asked = inr (inr (given, asked)); unsound = not }

@@ -1,72 +1,40 @@
 -- How an exploration follows the run of a straight method.
-use Rattle.std.proofs.Common.{◌≡◌, ℕ, ◌+◌, ◌-◌, ◌<◌, ◌≤◌, List, [], ◌∷◌, length, map, drop, get_or, ℤ, Option, Some, None, Result, Ok, IfSome, IfNone, refl, sym, ◌∙◌, ap, arith, zero, suc, nat_eq, true, false, drop-cons, eq-eqb, ne_eqb}
+use Rattle.std.proofs.Common.{◌≡◌, ℕ, ◌+◌, ◌-◌, ◌<◌, ◌≤◌, List, [], ◌∷◌, length, drop, get_or, ℤ, Option, Some, None, Result, Ok, IfSome, IfNone, refl, sym, ◌∙◌, ap, arith, zero, suc, true, false}
 use Rattle.std.proofs.Math.Nat.{sub-zero}
 use Rattle.std.proofs.Math.ListN.{drop_of_length-le}
 use Rattle.kb_terms.specs.Terms.{value_of}
 use Rattle.kiasan.specs.declared.memory.NoMemory.{NoMemory}
 use Rattle.kiasan.specs.declared.explore.Explored.{Explored}
 use Rattle.kiasan.specs.declared.state.State.{State}
-use Rattle.kiasan.specs.declared.instruction.Instr.{Instr}
-use Rattle.kiasan.specs.declared.instruction.Instr.TheVariants.{Nop, PushInt, LoadInt, StoreInt, Pop, Dup, Int2, Neg, Inc, Narrow, ReturnInt}
+use Rattle.kb_code.specs.declared.instruction.Instr.{Instr}
+use Rattle.kb_code.specs.declared.instruction.Instr.TheVariants.{Nop, PushInt, LoadInt, StoreInt, Pop, Dup, Int2, Neg, Inc, Narrow, ReturnInt}
 use Rattle.kiasan.specs.declared.explore.StraightCode.{StraightCode}
-use Rattle.kiasan.specs.Listing.{offset_of, IsRising, IsLaidOut}
-use Rattle.kiasan.specs.Machine.{Int, Object, Method, Config, Outcome, Goes, Ends, Returned, effect, step, follow, run, run_of, start_of, instruction_at, ill_typed}
+use Rattle.kb_code.specs.Listing.{offset_of, IsLaidOut}
+use Rattle.kb_semantics.proofs.Runs.{StandsAt, step_at, run_on, item_at, item_is}
+use Rattle.kb_heap.specs.declared.heap.Heap.{Heap}
+use Rattle.kb_heap.specs.declared.heap.Value.TheVariants.{Int}
+use Rattle.kb_heap.specs.declared.ending.Ending.TheVariants.{Returned}
+use Rattle.kb_semantics.specs.Machine.{Method, Outcome, Goes, Ends, effect, step, follow, run, start_of, ill_typed}
+use Rattle.kiasan.specs.Straight.{ints_input, run_over}
 use Rattle.kiasan.specs.Straight.{HasCode, IsIllTyped, is_return, ends_by_return}
 use Rattle.kiasan.specs.Symbolic.{config_of, IsSound, HasLimits, Follows, Returns, ReturnsNone}
 use Rattle.kiasan.specs.declared.state.Step.TheVariants.{Goes as StepGoes, IllTyped as StepIllTyped}
 
--- ---- the instruction at an offset
-
-rising_from : (at : ℕ) (listing : List (ℕ × Instr)) (size i : ℕ) (item : ℕ × Instr) → IsRising at listing size → i < length listing → item ≡ get_or listing i item → at ≤ item.0
-rising_from at [] size i item rising inside e = absurd (omega arith)
-rising_from at (x ∷ rest) size zero item rising inside e = let same : item.0 ≡ x.0 = ap (λ (y : ℕ × Instr). y.0) e in omega (arith, same, rising.0)
-rising_from at (x ∷ rest) size (suc i) item rising inside e =
-    let later : x.0 + 1 ≤ item.0 = rising_from (x.0 + 1) rest size i item rising.1 (omega arith) e in omega (arith, later, rising.0)
-
-offset_at : (listing : List (ℕ × Instr)) (size i : ℕ) (item : ℕ × Instr) → i < length listing → item ≡ get_or listing i item → offset_of (drop i listing) size ≡ item.0
-offset_at listing size i item inside e = rw (drop-cons listing i item inside, ← e) refl
-
-found_at : (at : ℕ) (listing : List (ℕ × Instr)) (size i : ℕ) (item : ℕ × Instr) → IsRising at listing size → i < length listing → item ≡ get_or listing i item →
-    instruction_at listing size item.0 ≡ Some (item.1, offset_of (drop (i + 1) listing) size)
-found_at at [] size i item rising inside e = absurd (omega arith)
-found_at at (x ∷ rest) size zero item rising inside e =
-    let same : nat_eq x.0 item.0 ≡ true = eq-eqb x.0 item.0 (ap (λ (y : ℕ × Instr). y.0) (sym e)) in
-    rw (same, ap (λ (y : ℕ × Instr). y.1) e) refl
-found_at at (x ∷ rest) size (suc i) item rising inside e =
-    let later : x.0 + 1 ≤ item.0 = rising_from (x.0 + 1) rest size i item rising.1 (omega arith) e in
-    let other : nat_eq x.0 item.0 ≡ false = ne_eqb x.0 item.0 (omega arith) in
-    let next : suc i + 1 ≡ suc (i + 1) = omega arith in
-    rw (other, next) (found_at (x.0 + 1) rest size i item rising.1 (omega arith) e)
-
--- the item of an index
-abbrev pub item_at : List (ℕ × Instr) → ℕ → ℕ × Instr
-item_at listing i = get_or listing i (0, Nop)
-
-item_is : (listing : List (ℕ × Instr)) (i : ℕ) (d : ℕ × Instr) → i < length listing → get_or listing i d ≡ get_or listing i (get_or listing i d)
-item_is [] i d inside = absurd (omega arith)
-item_is (x ∷ rest) zero d inside = refl
-item_is (x ∷ rest) (suc i) d inside = item_is rest i d (omega arith)
-
 -- ---- runs
-
--- one more instruction
-run_on : (left : ℕ) (c : Config) (o : Outcome) → step c ≡ o → run (suc left) c ≡ follow o (λ d. run left d)
-unfolding run
-run_on left c o e = rw e refl
 
 -- the exploration has carried out so many instructions, and the run goes on from what the state stands for
 pub record IsRun (code : StraightCode) (params i : ℕ) (s : State) : Type 0 where
   pub sound : IsSound s
   pub limits : s.limits ≡ code.limits
-  pub goes_on : (steps : ℕ) (method : Method) (heap : List Object) (inputs : List ℤ) → HasCode method code → length code.listing.now ≤ steps → length inputs ≡ params →
-      run_of steps method (map Int inputs) heap ≡ run (steps - i) (config_of method (offset_of (drop i code.listing.now) code.size) i heap inputs s)
+  pub goes_on : (steps : ℕ) (method : Method) (heap : Heap) (inputs : List ℤ) → HasCode method code → length code.listing.now ≤ steps → length inputs ≡ params →
+      run_over steps method heap inputs ≡ run (steps - i) (config_of method (offset_of (drop i code.listing.now) code.size) i heap inputs s)
 
 has_limits : (code : StraightCode) (params i : ℕ) (s : State) (method : Method) → IsRun code params i s → HasCode method code → HasLimits method s
 has_limits code params i s method is has = record { stack = has.max_stack ∙ ap (λ l. l.stack) (sym is.limits); locals = has.max_locals ∙ ap (λ l. l.locals) (sym is.limits) }
 
 -- the beginning
 pub run_begins : (code : StraightCode) (params : ℕ) (s : State) → IsLaidOut code.listing.now code.size → IsSound s → s.limits ≡ code.limits →
-    ((method : Method) (heap : List Object) (inputs : List ℤ) → HasLimits method s → length inputs ≡ params → config_of method 0 0 heap inputs s ≡ start_of method (map Int inputs) heap) →
+    ((method : Method) (heap : Heap) (inputs : List ℤ) → HasLimits method s → length inputs ≡ params → config_of method 0 0 heap inputs s ≡ start_of method (ints_input heap inputs)) →
     IsRun code params 0 s
 run_begins code params s laid_out sound limits start = record {
   sound = sound;
@@ -76,23 +44,26 @@ run_begins code params s laid_out sound limits start = record {
       rw (laid_out.first, start method heap inputs limited long, sub-zero) refl;
 }
 
+-- what the state stands for stands at the instruction
+stands : (code : StraightCode) (i : ℕ) (s : State) (method : Method) (heap : Heap) (inputs : List ℤ) → HasCode method code →
+    StandsAt (config_of method (offset_of (drop i code.listing.now) code.size) i heap inputs s) code.listing.now code.size i
+stands code i s method heap inputs has = record { listing_is = has.listing; size_is = has.size; at_is = refl }
+
 -- the instruction that is taken up after so many
-taken_up : (code : StraightCode) (params i : ℕ) (s : State) (item : ℕ × Instr) (method : Method) (heap : List Object) (inputs : List ℤ) →
+taken_up : (code : StraightCode) (params i : ℕ) (s : State) (item : ℕ × Instr) (method : Method) (heap : Heap) (inputs : List ℤ) →
     IsLaidOut code.listing.now code.size → i < length code.listing.now → item ≡ get_or code.listing.now i item → HasCode method code →
     step (config_of method (offset_of (drop i code.listing.now) code.size) i heap inputs s)
     ≡ effect item.1 (offset_of (drop (i + 1) code.listing.now) code.size) (config_of method (offset_of (drop i code.listing.now) code.size) i heap inputs s)
-unfolding step
 taken_up code params i s item method heap inputs laid_out inside e has =
-    let at = offset_at code.listing.now code.size i item inside e in
-    let found = found_at 0 code.listing.now code.size i item laid_out.rising inside e in
-    rw (has.listing, has.size, at, found) refl
+    step_at (config_of method (offset_of (drop i code.listing.now) code.size) i heap inputs s) code.listing.now code.size i item laid_out
+    (stands code i s method heap inputs has) inside e
 
 -- what the step gives decides the run
-run_of_step : (code : StraightCode) (params i : ℕ) (s : State) (item : ℕ × Instr) (o : Outcome) (steps : ℕ) (method : Method) (heap : List Object) (inputs : List ℤ) →
+run_of_step : (code : StraightCode) (params i : ℕ) (s : State) (item : ℕ × Instr) (o : Outcome) (steps : ℕ) (method : Method) (heap : Heap) (inputs : List ℤ) →
     IsLaidOut code.listing.now code.size → IsRun code params i s → i < length code.listing.now → item ≡ get_or code.listing.now i item → HasCode method code →
     length code.listing.now ≤ steps → length inputs ≡ params →
     effect item.1 (offset_of (drop (i + 1) code.listing.now) code.size) (config_of method (offset_of (drop i code.listing.now) code.size) i heap inputs s) ≡ o →
-    run_of steps method (map Int inputs) heap ≡ follow o (λ d. run (steps - (i + 1)) d)
+    run_over steps method heap inputs ≡ follow o (λ d. run (steps - (i + 1)) d)
 run_of_step code params i s item o steps method heap inputs laid_out is inside e has enough long given =
     let left : steps - i ≡ suc (steps - (i + 1)) = omega arith in
     let taken = taken_up code params i s item method heap inputs laid_out inside e has in
@@ -116,8 +87,8 @@ run_goes_on code params i s new laid_out is inside sound limits follows = record
 pub run_is_ill_typed : (code : StraightCode) (params i : ℕ) (s new : State) →
     IsLaidOut code.listing.now code.size → IsRun code params i s → i < length code.listing.now →
     Follows StepIllTyped s new (λ inputs. effect (item_at code.listing.now i).1) →
-    (steps : ℕ) (method : Method) (heap : List Object) (inputs : List ℤ) → HasCode method code → length code.listing.now ≤ steps → length inputs ≡ params →
-    IsIllTyped (run_of steps method (map Int inputs) heap).ending
+    (steps : ℕ) (method : Method) (heap : Heap) (inputs : List ℤ) → HasCode method code → length code.listing.now ≤ steps → length inputs ≡ params →
+    IsIllTyped (run_over steps method heap inputs).ending
 run_is_ill_typed code params i s new laid_out is inside follows steps method heap inputs has enough long =
     rw (run_of_step code params i s (item_at code.listing.now i) (ill_typed (config_of method (offset_of (drop i code.listing.now) code.size) i heap inputs s)) steps method heap inputs
     laid_out is inside (item_is code.listing.now i (0, Nop) inside) has enough long
@@ -126,8 +97,8 @@ run_is_ill_typed code params i s new laid_out is inside follows steps method hea
 -- the run returns what a return gives
 pub run_returns : (code : StraightCode) (params i : ℕ) (s : State) (value : List ℤ → ℤ) →
     IsLaidOut code.listing.now code.size → IsRun code params i s → i < length code.listing.now → (item_at code.listing.now i).1 ≡ ReturnInt → Returns s value →
-    (steps : ℕ) (method : Method) (heap : List Object) (inputs : List ℤ) → HasCode method code → length code.listing.now ≤ steps → length inputs ≡ params →
-    run_of steps method (map Int inputs) heap ≡ record { ending = Returned (Some (Int (value inputs))); heap = heap }
+    (steps : ℕ) (method : Method) (heap : Heap) (inputs : List ℤ) → HasCode method code → length code.listing.now ≤ steps → length inputs ≡ params →
+    run_over steps method heap inputs ≡ record { ending = Returned (Some (Int (value inputs))); heap = heap }
 run_returns code params i s value laid_out is inside return returns steps method heap inputs has enough long =
     run_of_step code params i s (item_at code.listing.now i) (Ends (record { ending = Returned (Some (Int (value inputs))); heap = heap })) steps method heap inputs laid_out is inside (item_is code.listing.now i (0, Nop) inside) has enough long
     (rw return (returns method (offset_of (drop i code.listing.now) code.size) (offset_of (drop (i + 1) code.listing.now) code.size) i heap inputs))
@@ -135,8 +106,8 @@ run_returns code params i s value laid_out is inside return returns steps method
 -- a return without an int is ill-typed
 pub run_returns_none : (code : StraightCode) (params i : ℕ) (s : State) →
     IsLaidOut code.listing.now code.size → IsRun code params i s → i < length code.listing.now → (item_at code.listing.now i).1 ≡ ReturnInt → ReturnsNone s →
-    (steps : ℕ) (method : Method) (heap : List Object) (inputs : List ℤ) → HasCode method code → length code.listing.now ≤ steps → length inputs ≡ params →
-    IsIllTyped (run_of steps method (map Int inputs) heap).ending
+    (steps : ℕ) (method : Method) (heap : Heap) (inputs : List ℤ) → HasCode method code → length code.listing.now ≤ steps → length inputs ≡ params →
+    IsIllTyped (run_over steps method heap inputs).ending
 run_returns_none code params i s laid_out is inside return none steps method heap inputs has enough long =
     rw (run_of_step code params i s (item_at code.listing.now i) (ill_typed (config_of method (offset_of (drop i code.listing.now) code.size) i heap inputs s)) steps method heap inputs laid_out is inside (item_is code.listing.now i (0, Nop) inside) has enough long
     (rw return (none method (offset_of (drop i code.listing.now) code.size) (offset_of (drop (i + 1) code.listing.now) code.size) i heap inputs))) tt
@@ -173,8 +144,8 @@ never_ends listing i ends passed = let none : drop i listing ≡ [] = drop_of_le
 pub return_some : (r : Option Explored) (code : StraightCode) (params i : ℕ) (s : State) →
     IsLaidOut code.listing.now code.size → IsRun code params i s → i < length code.listing.now → (item_at code.listing.now i).1 ≡ ReturnInt →
     IfSome r (λ e. Returns s (value_of e.pool e.result)) →
-    IfSome r (λ e. (steps : ℕ) (method : Method) (heap : List Object) (inputs : List ℤ) → HasCode method code → length code.listing.now ≤ steps → length inputs ≡ params →
-    run_of steps method (map Int inputs) heap ≡ record { ending = Returned (Some (Int (value_of e.pool e.result inputs))); heap = heap })
+    IfSome r (λ e. (steps : ℕ) (method : Method) (heap : Heap) (inputs : List ℤ) → HasCode method code → length code.listing.now ≤ steps → length inputs ≡ params →
+    run_over steps method heap inputs ≡ record { ending = Returned (Some (Int (value_of e.pool e.result inputs))); heap = heap })
 return_some None code params i s laid_out is inside return h = tt
 return_some (Some e) code params i s laid_out is inside return h = run_returns code params i s (value_of e.pool e.result) laid_out is inside return h
 
@@ -185,7 +156,7 @@ IsNothing r = let given : Result (Option Explored) NoMemory = Ok r in given ≡ 
 pub return_none : (r : Option Explored) (code : StraightCode) (params i : ℕ) (s : State) →
     IsLaidOut code.listing.now code.size → IsRun code params i s → i < length code.listing.now → (item_at code.listing.now i).1 ≡ ReturnInt →
     IfNone r (ReturnsNone s) → IsNothing r →
-    (steps : ℕ) (method : Method) (heap : List Object) (inputs : List ℤ) → HasCode method code → length code.listing.now ≤ steps → length inputs ≡ params →
-    IsIllTyped (run_of steps method (map Int inputs) heap).ending
+    (steps : ℕ) (method : Method) (heap : Heap) (inputs : List ℤ) → HasCode method code → length code.listing.now ≤ steps → length inputs ≡ params →
+    IsIllTyped (run_over steps method heap inputs).ending
 return_none None code params i s laid_out is inside return h nothing = run_returns_none code params i s laid_out is inside return h
 return_none (Some e) code params i s laid_out is inside return h nothing = cc

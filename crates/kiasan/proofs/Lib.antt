@@ -1,7 +1,9 @@
 pub mod AnswerLaws
 pub mod Arguments
+pub mod ClassLaws
 pub mod Exploring
-pub mod Listings
 pub mod PathLaws
+pub mod ReplayLaws
 pub mod Stepping
+pub mod StraightLaws
 pub mod WordsLaws

@@ -18,14 +18,15 @@ use Rattle.kiasan.specs.declared.memory.NoMemory.{NoMemory}
 use Rattle.kiasan.specs.declared.state.State.{State}
 use Rattle.kiasan.specs.declared.state.Step.{Step}
 use Rattle.kiasan.specs.declared.state.Step.TheVariants.{Goes as StepGoes, IllTyped as StepIllTyped}
-use Rattle.kiasan.specs.declared.instruction.IntOp.{IntOp}
-use Rattle.kiasan.specs.declared.instruction.IntOp.TheVariants.{Add, Sub, Mul, Shl, Shr, Ushr, And, Or, Xor}
-use Rattle.kiasan.specs.declared.instruction.IntCut.{IntCut}
-use Rattle.kiasan.specs.declared.instruction.IntCut.TheVariants.{Byte, Char, Short}
+use Rattle.kb_code.specs.declared.instruction.IntOp.{IntOp}
+use Rattle.kb_code.specs.declared.instruction.IntOp.TheVariants.{Add, Sub, Mul, Shl, Shr, Ushr, And, Or, Xor}
+use Rattle.kb_code.specs.declared.instruction.IntCut.{IntCut}
+use Rattle.kb_code.specs.declared.instruction.IntCut.TheVariants.{Byte, Char, Short}
 use Rattle.kiasan.specs.Operations.{term_op_of, narrowing_op_of}
 use Rattle.kb_terms.specs.declared.op.Op.TheVariants.{Neg as TermNeg}
-use Rattle.kiasan.specs.declared.instruction.Instr.TheVariants.{PushInt, StoreInt, Dup, Int2, Neg, Inc, Narrow}
-use Rattle.kiasan.specs.Machine.{Object, Method, effect}
+use Rattle.kb_code.specs.declared.instruction.Instr.TheVariants.{PushInt, StoreInt, Dup, Int2, Neg, Inc, Narrow}
+use Rattle.kb_heap.specs.declared.heap.Heap.{Heap}
+use Rattle.kb_semantics.specs.Machine.{Method, effect}
 use Rattle.kiasan.specs.Symbolic.{int_value, config_of, IsLocalTerm, IsSound, HasLimits, Effect, Follows, Returns, ReturnsNone, popped, local_term, pushing, setting, computing_one, computing_two}
 
 -- a term that stands on the top
@@ -40,7 +41,7 @@ no_top (x ∷ xs) h = cc
 -- Two effects that are the same at the configurations of the old state and of one between.
 pub record IsSame (old between : State) (f g : Effect) : Type 0 where
   pub limits : between.limits ≡ old.limits
-  pub same : (method : Method) (at next carried : ℕ) (heap : List Object) (inputs : List ℤ) → HasLimits method old →
+  pub same : (method : Method) (at next carried : ℕ) (heap : Heap) (inputs : List ℤ) → HasLimits method old →
       g inputs next (config_of method at carried heap inputs old) ≡ f inputs next (config_of method at carried heap inputs between)
 
 has_limits : (method : Method) (old between : State) → between.limits ≡ old.limits → HasLimits method old → HasLimits method between

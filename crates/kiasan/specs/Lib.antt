@@ -1,6 +1,5 @@
 pub mod Answers
-pub mod Listing
-pub mod Machine
+pub mod Explored
 pub mod Operations
 pub mod Path
 pub mod Report
@@ -8,4 +7,5 @@ pub mod StatusNumber
 pub mod Straight
 pub mod Symbolic
 pub mod Target
+pub mod Tests
 pub mod Words

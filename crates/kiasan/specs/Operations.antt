@@ -1,10 +1,10 @@
 -- The operation on terms that an instruction on ints makes.
 use Rattle.kb_terms.specs.declared.op.Op.{Op}
 use Rattle.kb_terms.specs.declared.op.Op.TheVariants.{Add as TermAdd, Sub as TermSub, Mul as TermMul, Shl as TermShl, Shr as TermShr, Ushr as TermUshr, And as TermAnd, Or as TermOr, Xor as TermXor, Byte as TermByte, Char as TermChar, Short as TermShort}
-use Rattle.kiasan.specs.declared.instruction.IntOp.{IntOp}
-use Rattle.kiasan.specs.declared.instruction.IntOp.TheVariants.{Add, Sub, Mul, Shl, Shr, Ushr, And, Or, Xor}
-use Rattle.kiasan.specs.declared.instruction.IntCut.{IntCut}
-use Rattle.kiasan.specs.declared.instruction.IntCut.TheVariants.{Byte, Char, Short}
+use Rattle.kb_code.specs.declared.instruction.IntOp.{IntOp}
+use Rattle.kb_code.specs.declared.instruction.IntOp.TheVariants.{Add, Sub, Mul, Shl, Shr, Ushr, And, Or, Xor}
+use Rattle.kb_code.specs.declared.instruction.IntCut.{IntCut}
+use Rattle.kb_code.specs.declared.instruction.IntCut.TheVariants.{Byte, Char, Short}
 
 abbrev pub term_op_of : IntOp → Op
 term_op_of Add = TermAdd

@@ -1,9 +1,28 @@
 -- Straight methods.
-use Rattle.std.specs.Prelude.{◌≡◌, ℕ, List, [], ◌∷◌, length, Bool, true, false, ◌==◌, if◌then◌else◌}
-use Rattle.kiasan.specs.declared.instruction.Instr.{Instr}
-use Rattle.kiasan.specs.declared.instruction.Instr.TheVariants.{ReturnInt}
+use Rattle.std.specs.Prelude.{◌≡◌, ℕ, ◌≤◌, ℤ, List, [], ◌∷◌, length, map, Bool, true, false, ◌==◌, if◌then◌else◌}
+use Rattle.kb_code.specs.declared.instruction.Instr.{Instr}
+use Rattle.kb_code.specs.declared.instruction.Instr.TheVariants.{ReturnInt}
+use Rattle.kb_heap.specs.declared.heap.Value.TheVariants.{Int}
+use Rattle.kb_heap.specs.declared.heap.Heap.{Heap}
+use Rattle.kb_heap.specs.declared.heap.Input.{Input}
+use Rattle.kb_heap.specs.declared.ending.Ending.{Ending}
+use Rattle.kb_heap.specs.declared.ending.Ending.TheVariants.{Returned, Threw, IllTyped, Past}
+use Rattle.kb_names.specs.declared.types.Target.{Target}
+use Rattle.kb_semantics.specs.Machine.{Method, Ended, run, start_of}
+use Rattle.kb_semantics.specs.Types.{IsMethod}
+use Rattle.kb_world.specs.declared.world.GivenClass.{GivenClass}
+use Rattle.kb_world.specs.declared.world.MethodId.{MethodId}
+use Rattle.kb_world.specs.World.{IsTargetOf, is_static}
 use Rattle.kiasan.specs.declared.explore.StraightCode.{StraightCode}
-use Rattle.kiasan.specs.Machine.{Method, Ending, Returned, Threw, IllTyped, Past}
+use Rattle.kiasan.specs.Target.{takes_ints, params_of}
+
+-- the input of these ints, over whatever heap
+abbrev pub ints_input : Heap → List ℤ → Input
+ints_input heap inputs = record { heap = heap; args = map Int inputs }
+
+-- the run of a method over ints and a heap, up to so many instructions
+abbrev pub run_over : ℕ → Method → Heap → List ℤ → Ended
+run_over steps method heap inputs = run steps (start_of method (ints_input heap inputs))
 
 -- the method has this code
 pub record HasCode (method : Method) (code : StraightCode) : Type 0 where
@@ -27,3 +46,20 @@ is_return _ = false
 abbrev pub ends_by_return : List (ℕ × Instr) → Bool
 ends_by_return [] = false
 ends_by_return (item ∷ rest) = if is_return item.1 then length rest == 0 else ends_by_return rest
+
+-- the most instructions of a straight method
+abbrev pub most_instructions : ℕ
+most_instructions = 2000
+
+-- The target names a straight method of the world, which the machine runs as this method: it takes ints alone and gives an
+-- int, is static, has code that is a list of whole instructions of those that are built, not too many of them, a return at
+-- the end alone, and no run that is ill-typed.
+pub record IsStraight (world : List GivenClass) (target : Target) (id : MethodId) (method : Method) : Type 0 where
+  pub found : IsTargetOf world target id
+  pub runs : IsMethod world id method
+  pub named : method.target ≡ target
+  pub static : is_static runs.declared.names.method ≡ true
+  pub ints : takes_ints target.kind ≡ true
+  pub few : length method.listing ≤ most_instructions
+  pub ends : ends_by_return method.listing ≡ true
+  pub typed : (heap : Heap) (inputs : List ℤ) → length inputs ≡ params_of target → IsIllTyped (run_over most_instructions method heap inputs).ending → ⊥

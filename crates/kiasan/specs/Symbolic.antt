@@ -9,8 +9,12 @@ use Rattle.kb_terms.specs.Terms.{IsTerm, value_of}
 use Rattle.kiasan.specs.declared.state.State.{State}
 use Rattle.kiasan.specs.declared.state.Step.{Step}
 use Rattle.kiasan.specs.declared.state.Step.TheVariants.{Goes as StepGoes, IllTyped as StepIllTyped}
-use Rattle.kiasan.specs.Machine.{Value, Int, Object, Method, Config, Outcome, Goes, Ends, ill_typed, goes_on, with_local, pops_int, effect, Returned}
-use Rattle.kiasan.specs.declared.instruction.Instr.TheVariants.{ReturnInt}
+use Rattle.kb_heap.specs.declared.heap.Value.{Value}
+use Rattle.kb_heap.specs.declared.heap.Heap.{Heap}
+use Rattle.kb_heap.specs.declared.heap.Value.TheVariants.{Int}
+use Rattle.kb_heap.specs.declared.ending.Ending.TheVariants.{Returned}
+use Rattle.kb_semantics.specs.Machine.{Method, Config, Outcome, Goes, Ends, ill_typed, goes_on, with_local, pops_int, effect}
+use Rattle.kb_code.specs.declared.instruction.Instr.TheVariants.{ReturnInt}
 
 -- the int that a term stands for
 abbrev pub int_value : List Node → List ℤ → TermId → Value
@@ -21,7 +25,7 @@ abbrev pub local_values : List Node → List ℤ → List (Option TermId) → Li
 local_values nodes inputs locals = map (λ local. option_map (int_value nodes inputs) local) locals
 
 -- the configuration that a state stands for, in the frame of a method, at an offset
-abbrev pub config_of : Method → ℕ → ℕ → List Object → List ℤ → State → Config
+abbrev pub config_of : Method → ℕ → ℕ → Heap → List ℤ → State → Config
 config_of method at carried heap inputs s =
     record {
       frame = record {
@@ -68,10 +72,10 @@ Effect = List ℤ → ℕ → Config → Outcome
 -- The step from the old state to the new one is that of the effect, for all inputs.
 abbrev pub Follows : Step → State → State → Effect → Type 0
 Follows StepGoes old new effect =
-    (method : Method) (at next carried : ℕ) (heap : List Object) (inputs : List ℤ) → HasLimits method old →
+    (method : Method) (at next carried : ℕ) (heap : Heap) (inputs : List ℤ) → HasLimits method old →
     effect inputs next (config_of method at carried heap inputs old) ≡ Goes (config_of method next (carried + 1) heap inputs new)
 Follows StepIllTyped old new effect =
-    (method : Method) (at next carried : ℕ) (heap : List Object) (inputs : List ℤ) → HasLimits method old →
+    (method : Method) (at next carried : ℕ) (heap : Heap) (inputs : List ℤ) → HasLimits method old →
     effect inputs next (config_of method at carried heap inputs old) ≡ ill_typed (config_of method at carried heap inputs old)
 
 -- the effect of pushing a term's value
@@ -93,11 +97,11 @@ computing_two op inputs next c =
 -- At a return the run ends with an int, which depends on the inputs.
 abbrev pub Returns : State → (List ℤ → ℤ) → Type 0
 Returns s value =
-    (method : Method) (at next carried : ℕ) (heap : List Object) (inputs : List ℤ) →
+    (method : Method) (at next carried : ℕ) (heap : Heap) (inputs : List ℤ) →
     effect ReturnInt next (config_of method at carried heap inputs s) ≡ Ends (record { ending = Returned (Some (Int (value inputs))); heap = heap })
 
 -- A return is ill-typed.
 abbrev pub ReturnsNone : State → Type 0
 ReturnsNone s =
-    (method : Method) (at next carried : ℕ) (heap : List Object) (inputs : List ℤ) →
+    (method : Method) (at next carried : ℕ) (heap : Heap) (inputs : List ℤ) →
     effect ReturnInt next (config_of method at carried heap inputs s) ≡ ill_typed (config_of method at carried heap inputs s)

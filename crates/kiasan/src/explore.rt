@@ -2,14 +2,18 @@
 
 ghost use Rattle.std.specs.Prelude.{◌≡◌, ℕ, ◌≤◌, ℤ, List, length, map, IfOk, IfSome, IfNone, IsTrue, Some, Ok, None};
 ghost use Rattle.kb_terms.specs.Terms.{IsTerm, value_of};
-ghost use Rattle.kiasan.specs.Listing.{IsLaidOut};
-ghost use Rattle.kiasan.specs.Machine.{Int, Method, Object, Returned, run_of};
+ghost use Rattle.kb_code.specs.Listing.{IsLaidOut};
+ghost use Rattle.kb_heap.specs.declared.heap.Heap.{Heap};
+ghost use Rattle.kb_heap.specs.declared.heap.Value.TheVariants.{Int};
+ghost use Rattle.kb_heap.specs.declared.ending.Ending.TheVariants.{Returned};
+ghost use Rattle.kb_semantics.specs.Machine.{Method};
+ghost use Rattle.kiasan.specs.Straight.{run_over};
 ghost use Rattle.kiasan.specs.Symbolic.{IsSound, Returns, ReturnsNone};
 ghost use Rattle.kiasan.specs.Straight.{HasCode, IsIllTyped, ends_by_return};
 
-use crate::instruction::Instr;
 use crate::memory::NoMemory;
 use crate::state::{Limits, State, Step};
+use kb_code::Instr;
 use kb_terms::{Pool, TermId};
 use std::alloc::Global;
 
@@ -37,8 +41,8 @@ pub fn explore(
     requires laid_out { IsLaidOut code.now.listing.now code.now.size }
     requires ends { IsTrue (ends_by_return code.now.listing.now) }
     ensures term { IfOk result (λ r. IfSome r (λ e. IsTerm e.pool e.result)) }
-    ensures returns { IfOk result (λ r. IfSome r (λ e. (steps : ℕ) (method : Method) (heap : List Object) (inputs : List ℤ) → HasCode method code.now → length code.now.listing.now ≤ steps → length inputs ≡ params → run_of steps method (map Int inputs) heap ≡ record { ending = Returned (Some (Int (value_of e.pool e.result inputs))); heap = heap })) }
-    ensures ill_typed { result ≡ Ok None → (steps : ℕ) (method : Method) (heap : List Object) (inputs : List ℤ) → HasCode method code.now → length code.now.listing.now ≤ steps → length inputs ≡ params → IsIllTyped (run_of steps method (map Int inputs) heap).ending }
+    ensures returns { IfOk result (λ r. IfSome r (λ e. (steps : ℕ) (method : Method) (heap : Heap) (inputs : List ℤ) → HasCode method code.now → length code.now.listing.now ≤ steps → length inputs ≡ params → run_over steps method heap inputs ≡ record { ending = Returned (Some (Int (value_of e.pool e.result inputs))); heap = heap })) }
+    ensures ill_typed { result ≡ Ok None → (steps : ℕ) (method : Method) (heap : Heap) (inputs : List ℤ) → HasCode method code.now → length code.now.listing.now ≤ steps → length inputs ≡ params → IsIllTyped (run_over steps method heap inputs).ending }
 {
     let mut state = State::start(alloc, params, code.limits)?;
     for &(_, instr) in code.listing {

@@ -2,14 +2,18 @@
 #![tactic(auto)]
 
 mod answer;
-mod code;
+mod classes;
 mod explore;
-mod instruction;
 mod memory;
+mod methods;
+mod operations;
 mod path;
+mod refusals;
+mod replay;
 mod report;
 mod state;
 mod status;
+mod straight;
 mod target;
 mod term_stack;
 #[cfg(test)]

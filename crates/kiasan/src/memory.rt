@@ -27,3 +27,15 @@ impl From<kb_names::NoMemory> for NoMemory {
         NoMemory
     }
 }
+
+impl From<kb_test::NoMemory> for NoMemory {
+    fn from(_refusal: kb_test::NoMemory) -> NoMemory {
+        NoMemory
+    }
+}
+
+impl From<kb_machine::NoMemory> for NoMemory {
+    fn from(_refusal: kb_machine::NoMemory) -> NoMemory {
+        NoMemory
+    }
+}

@@ -1,8 +1,8 @@
 //! The paths that an exploration lists.
 ghost use Rattle.std.specs.Prelude.{◌≡◌, ◌∷◌, [], ℤ, List, Some, IfOk};
-ghost use Rattle.kb_terms.specs.Terms.{IsTerm, IsWellFormed, value_of};
+ghost use Rattle.kb_terms.specs.Terms.{IsTerm, IsWellFormed, value_of, int_at};
 ghost use Rattle.kb_terms.specs.Numbering.{numbering};
-ghost use Rattle.kiasan.specs.Path.{operand_of, term_of, terms_of, path_value, HasName, IsStated};
+ghost use Rattle.kiasan.specs.Path.{operand_of, term_of, terms_of, path_value, stated_value, second_stated, term_value, term_values, HasName, IsStated};
 
 use crate::memory::NoMemory;
 use kb_terms::{Node, Numbering, Op, Pool, TermId};
@@ -86,6 +86,71 @@ fn operand_of(pool: &Pool, numbering: &Numbering, term: TermId) -> Operand
             None => unreachable!(),
         },
     }
+}
+
+/// The value that a path states for one int a variable, by its own terms.
+#[tactic(auto, unfolding(crate::specs::Path::path_value))]
+pub fn path_value(
+    alloc: Global,
+    terms: &[Term],
+    returned: Operand,
+    inputs: &[i32],
+) -> Result<i32, NoMemory>
+    ensures { IfOk result (λ v. v ≡ path_value terms.now returned inputs.now) }
+{
+    let values = term_values(alloc, terms, inputs)?;
+    Ok(stated_value(inputs, values.as_slice(), returned))
+}
+
+/// The values of the terms, in order.
+#[tactic(auto, unfolding(crate::specs::Path::term_values))]
+fn term_values(alloc: Global, terms: &[Term], inputs: &[i32]) -> Result<Vec<i32>, NoMemory>
+    ensures { IfOk result (λ values. values.items ≡ term_values inputs.now terms.now) }
+{
+    let mut done = Vec::new(alloc);
+    let mut rest = terms;
+    while let [term, others @ ..] = rest {
+        let value = term_value(inputs, done.as_slice(), term);
+        done.push(value)?;
+        rest = others;
+    }
+    Ok(done)
+}
+
+/// The value of a term, where `done` are the values of the terms before it.
+fn term_value(inputs: &[i32], done: &[i32], term: &Term) -> i32
+    ensures { result ≡ term_value inputs.now done.now term.now }
+{
+    let left = stated_value(inputs, done, term.left);
+    let right = second_value(inputs, done, term.right);
+    term.op.apply(left, right)
+}
+
+/// The value of a second operand, where there is one.
+fn second_value(inputs: &[i32], done: &[i32], operand: Option<Operand>) -> i32
+    ensures { result ≡ second_stated inputs.now done.now operand }
+{
+    match operand {
+        Some(operand) => stated_value(inputs, done, operand),
+        None => 0,
+    }
+}
+
+/// The value of an operand, where `done` are the values of the terms before it.
+fn stated_value(inputs: &[i32], done: &[i32], operand: Operand) -> i32
+    ensures { result ≡ stated_value inputs.now done.now operand }
+{
+    match operand {
+        Operand::Const(value) => value,
+        Operand::Var(number) => int_at(inputs, number),
+        Operand::Term(number) => int_at(done, number),
+    }
+}
+
+fn int_at(ints: &[i32], number: u32) -> i32
+    ensures { result ≡ int_at ints.now number }
+{
+    ints.get(number as usize).copied().unwrap_or(0)
 }
 
 #[cfg(test)]

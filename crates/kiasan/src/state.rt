@@ -3,12 +3,16 @@
 ghost use Rattle.std.specs.Prelude.{◌≡◌, ◌≢◌, ℕ, ◌-◌, ◌++◌, List, [], length, map, replicate, All, OnOk, ℤ, IfOk, IfSome, IfNone, IsTrue, IsFalse, slice_get};
 ghost use Rattle.kb_terms.specs.Op.{is_binary, op_value};
 ghost use Rattle.kb_terms.specs.Terms.{IsTerm, AreOperands, Extends, value_of, operand_value};
-ghost use Rattle.kiasan.specs.Machine.{effect, Int, Method, Object, start_of};
+ghost use Rattle.kb_heap.specs.declared.heap.Heap.{Heap};
+ghost use Rattle.kb_heap.specs.declared.heap.Value.TheVariants.{Int};
+ghost use Rattle.kb_semantics.specs.Machine.{effect, Method, start_of};
+ghost use Rattle.kiasan.specs.Straight.{ints_input};
 ghost use Rattle.kiasan.specs.Symbolic.{IsSound, Follows, HasLimits, Returns, ReturnsNone, IsLocalTerm, config_of, local_term, local_values, popped, pushing, setting, computing_one, computing_two};
 
-use crate::instruction::Instr;
 use crate::memory::NoMemory;
+use crate::operations::{narrowing_op, term_op};
 use crate::term_stack::TermStack;
+use kb_code::Instr;
 use kb_terms::{Op, Pool, TermId, VarKind};
 use std::alloc::Global;
 
@@ -35,15 +39,15 @@ pub struct State {
     pub limits: Limits,
 }
 
-#[tactic(auto, unfolding(crate::specs::Machine::effect))]
+#[tactic(auto, unfolding(kb_semantics::specs::Machine::effect))]
 impl State {
     /// The beginning of a method that takes so many ints: the arguments are variables, and hold the first locals,
     /// also where they are more than the limit.
-    #[tactic(auto, unfolding(crate::specs::Machine::effect))]
+    #[tactic(auto, unfolding(kb_semantics::specs::Machine::effect))]
     pub fn start(alloc: Global, params: usize, limits: Limits) -> Result<State, NoMemory>
         ensures sound { IfOk result IsSound }
         ensures limits { IfOk result (λ s. s.limits ≡ limits) }
-        ensures start { IfOk result (λ s. (method : Method) (heap : List Object) (inputs : List ℤ) → HasLimits method s → length inputs ≡ params → config_of method 0 0 heap inputs s ≡ start_of method (map Int inputs) heap) }
+        ensures start { IfOk result (λ s. (method : Method) (heap : Heap) (inputs : List ℤ) → HasLimits method s → length inputs ≡ params → config_of method 0 0 heap inputs s ≡ start_of method (ints_input heap inputs)) }
     {
         let mut pool = Pool::new(alloc);
         let mut locals = arguments(alloc, &mut pool, params)?;
@@ -286,10 +290,10 @@ impl State {
             Instr::StoreInt(local) => Ok(self.store(local)),
             Instr::Pop => Ok(self.pop()),
             Instr::Dup => self.duplicate(),
-            Instr::Int2(op) => self.apply_two(op.term_op()),
+            Instr::Int2(op) => self.apply_two(term_op(op)),
             Instr::Neg => self.apply_one(Op::Neg),
             Instr::Inc(local, by) => self.increase(local, by),
-            Instr::Narrow(cut) => self.apply_one(cut.term_op()),
+            Instr::Narrow(cut) => self.apply_one(narrowing_op(cut)),
             Instr::ReturnInt => unreachable!(),
         }
     }

@@ -6,12 +6,14 @@ ghost use Rattle.kiasan.specs.StatusNumber.{status_number};
 /// How the program ends. Each comes exactly where the contract of the top call says; want of memory is free.
 #[derive(Clone, Copy, Debug, PartialEq, Eq)]
 pub enum Status {
-    /// The report was written whole.
+    /// What was asked for was written whole; of a replay, each test passes.
     Complete,
     /// The words have a fault.
     Words,
     /// A class file was refused.
     Class,
+    /// A method is not there.
+    Link,
     /// Something that is not built was met.
     Outside,
     /// A file could not be read.
@@ -20,6 +22,10 @@ pub enum Status {
     WriteFault,
     /// Memory ran out.
     Memory,
+    /// A file of tests, or a test, was refused.
+    Text,
+    /// A test's run is not as the test says.
+    Differs,
 }
 
 impl Status {
@@ -31,10 +37,13 @@ impl Status {
             Status::Complete => 0,
             Status::Words => 2,
             Status::Class => 3,
+            Status::Link => 4,
             Status::Outside => 5,
             Status::ReadFault => 6,
             Status::WriteFault => 7,
             Status::Memory => 8,
+            Status::Text => 9,
+            Status::Differs => 10,
         }
     }
 }

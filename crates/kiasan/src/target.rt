@@ -1,13 +1,11 @@
 //! Targets as the words spell them.
 ghost use Rattle.std.specs.Prelude.{◌≡◌, IfOk, IfSome, IfNone};
 ghost use Rattle.std.specs.List.{list_all};
-ghost use Rattle.kb_names.specs.Descriptors.{method_text};
-ghost use Rattle.kb_names.specs.Targets.{SpellsTarget, IsTargetText, target_text};
-ghost use Rattle.kb_names.specs.declared.class_names.Spelling.TheVariants.{Raw};
+ghost use Rattle.kb_names.specs.Targets.{SpellsTarget, IsTarget, IsTargetText, target_text};
 ghost use Rattle.kiasan.specs.Target.{takes_ints, is_int, gives_int, params_of};
 
 use crate::memory::NoMemory;
-use kb_names::{JType, Spelling, Target, TargetRefusal, write_method_type};
+use kb_names::{JType, MethodType, Target, TargetRefusal};
 use std::alloc::Global;
 use std::marker::Model;
 
@@ -19,15 +17,14 @@ pub struct SpelledTarget<'a> {
 }
 
 impl<'a> Model for SpelledTarget<'a> {
-    ghost use Rattle.std.specs.Prelude.{◌≡◌};
-    ghost use Rattle.kb_names.specs.Targets.{target_text};
+    ghost use Rattle.kb_names.specs.Targets.{SpellsTarget};
     ghost use Rattle.kb_names.specs.declared.types.Target.{Target};
 
     ghost Value = { Target };
 
     ghost view = { λ t. t.target };
 
-    ghost invariant = { λ t. t.text.now ≡ target_text t.target };
+    ghost invariant = { λ t. SpellsTarget t.target t.text.now };
 }
 
 impl<'a> SpelledTarget<'a> {
@@ -38,29 +35,6 @@ impl<'a> SpelledTarget<'a> {
         self.text
     }
 
-    /// The name of the class, as class files have it: with `/` between the packages.
-    pub fn class(&self) -> &[u8]
-        ensures { result.now ≡ self.now.class }
-    {
-        self.target.class.as_slice()
-    }
-
-    /// The name of the method.
-    pub fn name(&self) -> &[u8]
-        ensures { result.now ≡ self.now.name }
-    {
-        self.target.name.as_slice()
-    }
-
-    /// The descriptor of the method, as class files have it (JVMS 8 section 4.3.3).
-    pub fn descriptor(&self, alloc: Global) -> Result<Vec<u8>, NoMemory>
-        ensures { IfOk result (λ bytes. bytes.items ≡ method_text Raw self.now.kind) }
-    {
-        let mut bytes = Vec::new(alloc);
-        write_method_type(&self.target.kind, Spelling::Raw, &mut bytes)?;
-        Ok(bytes)
-    }
-
     /// How many arguments a static method of this target takes.
     pub fn params(&self) -> usize
         ensures { result ≡ params_of self.now }
@@ -68,12 +42,21 @@ impl<'a> SpelledTarget<'a> {
         self.target.kind.params.as_slice().len()
     }
 
-    /// Whether the method takes ints alone and gives an int.
-    pub fn takes_ints(&self) -> bool
-        ensures { result ≡ takes_ints self.now.kind }
+    /// The target.
+    pub fn target(&self) -> &Target
+        ensures target { result.now ≡ self.now }
+        ensures is_target { IsTarget self.now }
     {
-        are_ints(self.target.kind.params.as_slice()) && gives_int(&self.target.kind.result)
+        let _spelled = self.text;
+        &self.target
     }
+}
+
+/// Whether a method takes ints alone and gives an int.
+pub fn takes_ints(kind: &MethodType) -> bool
+    ensures { result ≡ takes_ints kind.now }
+{
+    are_ints(kind.params.as_slice()) && gives_int(&kind.result)
 }
 
 fn are_ints(types: &[JType]) -> bool

@@ -58,6 +58,19 @@ arg 0
 total 1 ended 1 cut 0 undecided 0 open 0
 ";
 
+const TESTS_A: &str = "tests --method A.f(II)I A.class";
+
+const REPLAY_A: &str = "replay --tests A.tests A.class";
+
+/// The tests of class A.
+const TEST_A: &str = "test A.f(II)I
+bounds alloc 16 loops 10 depth 16 steps 2000
+arg 0
+arg 0
+returns 0
+end
+";
+
 /// A method of class A, and what its report says of its path, or why it is refused.
 #[derive(Clone, Copy)]
 struct CodeRow<'a> {
@@ -91,6 +104,36 @@ fn shelf_with(alloc: Global, bytes: &[u8]) -> Result<MemoryShelf, AllocError> {
     let name = String::from_str(alloc, "A.class")?;
     files.push((name, bytes.to_vec(alloc)?))?;
     Ok(MemoryShelf::new(files, Vec::new(alloc)))
+}
+
+/// Asserts that the tests of class A replay with this status and this text.
+fn assert_replay<A: Abort + AllocGlobal>(
+    rt: &A,
+    tests: &str,
+    status: Status,
+    text: &str,
+) -> Result<(), Fail> {
+    let alloc = rt.alloc();
+    let mut files = Vec::new(alloc);
+    let name = String::from_str(alloc, "A.class")?;
+    files.push((name, CLASS_A.to_vec(alloc)?))?;
+    let name = String::from_str(alloc, "A.tests")?;
+    files.push((name, tests.as_bytes().to_vec(alloc)?))?;
+    let mut shelf = MemoryShelf::new(files, Vec::new(alloc));
+    let mut sink = sink_failing_at(alloc, Vec::new(alloc))?;
+    let found = answer_to(alloc, REPLAY_A, &mut shelf, &mut sink)?;
+    assert_eq!(rt; found, status, "{text}");
+    assert_eq!(rt; sink.bytes(), text.as_bytes(), "{text}");
+    Ok(())
+}
+
+/// The test of class A with these bounds and what follows them.
+fn test_a(alloc: Global, steps: u32, lines: &str) -> Result<String, AllocError> {
+    let mut text = String::from_str(alloc, "test A.f(II)I\nbounds alloc 16 loops 10 depth 16")?;
+    writeln!(text, " steps {steps}")?;
+    text.push_str(lines)?;
+    text.push_str("end\n")?;
+    Ok(text)
 }
 
 /// A sink that takes 10 bytes in a call.
@@ -214,6 +257,70 @@ fn class_a_has_its_report(rt: HostRuntime) -> Result<(), Fail> {
 }
 
 #[test]
+fn class_a_has_its_test(rt: HostRuntime) -> Result<(), Fail> {
+    assert_answer(&rt, TESTS_A, &CLASS_A, Status::Complete, TEST_A)
+}
+
+#[test]
+fn the_test_of_class_a_passes(rt: HostRuntime) -> Result<(), Fail> {
+    let text = "test 0 passes\ntests 1 passed 1 differed 0\n";
+    assert_replay(&rt, TEST_A, Status::Complete, text)
+}
+
+/// Three of the four instructions have been carried out; with one step more the method returns.
+#[test]
+fn a_test_of_three_steps_is_past_them(rt: HostRuntime) -> Result<(), Fail> {
+    let lines = "arg 0\narg 0\nreturns 0\n";
+    let three = test_a(rt.alloc(), 3, lines)?;
+    let differs = "test 0 differs\npast steps\ntests 1 passed 0 differed 1\n";
+    assert_replay(&rt, three.as_str(), Status::Differs, differs)?;
+    let four = test_a(rt.alloc(), 4, lines)?;
+    let passes = "test 0 passes\ntests 1 passed 1 differed 0\n";
+    assert_replay(&rt, four.as_str(), Status::Complete, passes)
+}
+
+/// Sums wrap at 32 bits.
+#[test]
+fn tests_are_told_apart(rt: HostRuntime) -> Result<(), Fail> {
+    let mut tests = test_a(
+        rt.alloc(),
+        2000,
+        "arg 2147483647\narg 1\nreturns -2147483648\n",
+    )?;
+    let second = test_a(rt.alloc(), 2000, "arg 2\narg 3\nreturns 6\n")?;
+    tests.push_str(second.as_str())?;
+    let text = "test 0 passes\ntest 1 differs\nreturns 5\ntests 2 passed 1 differed 1\n";
+    assert_replay(&rt, tests.as_str(), Status::Differs, text)
+}
+
+#[test]
+fn no_tests_pass(rt: HostRuntime) -> Result<(), Fail> {
+    let text = "tests 0 passed 0 differed 0\n";
+    assert_replay(&rt, "", Status::Complete, text)
+}
+
+#[test]
+fn tests_are_refused(rt: HostRuntime) -> Result<(), Fail> {
+    let missing = TEST_A.replace(rt.alloc(), "A.f", "A.g")?;
+    assert_replay(&rt, missing.as_str(), Status::Text, "refused 61 test 0\n")?;
+    let short = test_a(rt.alloc(), 2000, "arg 0\nreturns 0\n")?;
+    assert_replay(&rt, short.as_str(), Status::Text, "refused 62 test 0\n")?;
+    let cut = &TEST_A[..TEST_A.len() - 1];
+    assert_replay(&rt, cut, Status::Text, "refused 60 line 6\n")?;
+    let second = test_a(rt.alloc(), 0, "arg 0\narg 0\nreturns 0\n")?;
+    assert_replay(&rt, second.as_str(), Status::Text, "refused 60 line 2\n")
+}
+
+/// The method is looked at before the second test's input, and nothing is run.
+#[test]
+fn the_first_test_that_is_refused_is_told(rt: HostRuntime) -> Result<(), Fail> {
+    let mut tests = String::from_str(rt.alloc(), TEST_A)?;
+    let short = test_a(rt.alloc(), 2000, "returns 0\n")?;
+    tests.push_str(short.as_str())?;
+    assert_replay(&rt, tests.as_str(), Status::Text, "refused 62 test 1\n")
+}
+
+#[test]
 fn a_file_that_is_not_there_is_a_fault_of_reading(rt: HostRuntime) -> Result<(), Fail> {
     let alloc = rt.alloc();
     let mut shelf = MemoryShelf::new(Vec::new(alloc), Vec::new(alloc));
@@ -242,7 +349,10 @@ fn words_and_files_are_refused(rt: HostRuntime) -> Result<(), Fail> {
     let more = "explore --method A.f(II)I A.class B.class";
     assert_answer(&rt, more, &CLASS_A, Status::Outside, unbuilt)?;
     let other_method = "explore --method A.g()I A.class";
-    assert_answer(&rt, other_method, &CLASS_A, Status::Outside, unbuilt)?;
+    let missing = "refused 45 A.g()I\n";
+    assert_answer(&rt, other_method, &CLASS_A, Status::Link, missing)?;
+    let other_tests = "tests --method A.g()I A.class";
+    assert_answer(&rt, other_tests, &CLASS_A, Status::Link, missing)?;
     let no_target = "explore --method A.f(II A.class";
     let bad_target = "refused 98 word 2\n";
     assert_answer(&rt, no_target, &CLASS_A, Status::Words, bad_target)?;

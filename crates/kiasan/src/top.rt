@@ -40,7 +40,7 @@ pub fn kiasan<S: Shelf, K: Sink>(
         Err(Stop::ReadFault) => return Status::ReadFault,
         Err(Stop::NoMemory) => return Status::Memory,
     };
-    match send_all(out, answer.text.as_bytes()) {
+    match send_all(out, answer.text.as_slice()) {
         Ok(()) => answer.status,
         Err(SinkFailed) => Status::WriteFault,
     }

@@ -1,10 +1,18 @@
 //! The words of the command line.
-ghost use Rattle.std.specs.Prelude.{◌≡◌, ℕ, List, [], ◌∷◌, map, string_bytes, IsTrue, IfOk, ◌↔◌};
-ghost use Rattle.kiasan.specs.Words.{Asked, Asks, IsOption, asked_by};
+ghost use Rattle.std.specs.Prelude.{◌≡◌, ℕ, List, [], ◌∷◌, map, string_bytes, IsTrue, IfOk, IfSome, IfNone, ◌↔◌};
+ghost use Rattle.kiasan.specs.Words.{Asked, Asks, IsOption, command_of, asked_by};
+ghost use Rattle.kiasan.specs.declared.words.Task.{Task};
 
 use crate::memory::NoMemory;
 use crate::target::{SpelledTarget, read_target};
 use std::alloc::Global;
+
+/// What is done with a method: its report is written, or the tests of its paths.
+#[derive(Clone, Copy, Debug, PartialEq, Eq)]
+pub enum Task {
+    Explore,
+    Tests,
+}
 
 /// What the words of the command line ask for.
 #[derive(Drop)]
@@ -13,10 +21,12 @@ pub enum Order<'a> {
     NoCommand,
     /// Something that is not built.
     NotBuilt,
-    /// To explore what is no target: the number of the word, from 0.
+    /// A task on what is no target: the number of the word, from 0.
     BadTarget(usize),
-    /// To explore a method of a class file.
-    Explore(SpelledTarget<'a>, &'a str),
+    /// A task on a method of a class file.
+    Method(Task, SpelledTarget<'a>, &'a str),
+    /// To run the tests of a file, whose methods are those of a class file.
+    Replay(&'a str, &'a str),
 }
 
 /// What the words after the program's name ask for. Refused for want of memory alone.
@@ -26,40 +36,79 @@ pub fn read_words(alloc: Global, words: &[String]) -> Result<Order<'_>, NoMemory
 {
     match words {
         [] => Ok(Order::NoCommand),
-        [command, option, method, file] => read_explore(
+        [command, option, value, file] => read_command(
             alloc,
             command.as_str(),
             option.as_str(),
-            method.as_str(),
+            value.as_str(),
             file.as_str(),
         ),
         _ => Ok(Order::NotBuilt),
     }
 }
 
-fn read_explore<'a>(
+fn read_command<'a>(
     alloc: Global,
     command: &str,
+    option: &str,
+    value: &'a str,
+    file: &'a str,
+) -> Result<Order<'a>, NoMemory>
+    ensures { IfOk result (λ order. Asks (command.now ∷ option.now ∷ value.now ∷ file.now ∷ []) (asked_by order)) }
+{
+    if is_option(file) {
+        return Ok(Order::NotBuilt);
+    }
+    match task_of(command) {
+        Some(task) => read_task(alloc, task, option, value, file),
+        None => Ok(read_replay(command, option, value, file)),
+    }
+}
+
+/// The task of a command that takes a method.
+fn task_of(command: &str) -> Option<Task>
+    ensures some { IfSome result (λ task. command.now ≡ command_of task) }
+    ensures none { IfNone result ((task : Task) → command.now ≡ command_of task → ⊥) }
+{
+    match command {
+        "explore" => Some(Task::Explore),
+        "tests" => Some(Task::Tests),
+        _ => None,
+    }
+}
+
+fn read_task<'a>(
+    alloc: Global,
+    task: Task,
     option: &str,
     method: &'a str,
     file: &'a str,
 ) -> Result<Order<'a>, NoMemory>
-    ensures { IfOk result (λ order. Asks (command.now ∷ option.now ∷ method.now ∷ file.now ∷ []) (asked_by order)) }
+    requires { IsOption file.now → ⊥ }
+    ensures { IfOk result (λ order. Asks (command_of task ∷ option.now ∷ method.now ∷ file.now ∷ []) (asked_by order)) }
 {
-    if command != "explore" {
-        return Ok(Order::NotBuilt);
-    }
     if option != "--method" {
         return Ok(Order::NotBuilt);
     }
-    if is_option(file) {
-        return Ok(Order::NotBuilt);
-    }
     match read_target(alloc, method) {
-        Ok(Some(target)) => Ok(Order::Explore(target, file)),
+        Ok(Some(target)) => Ok(Order::Method(task, target, file)),
         Ok(None) => Ok(Order::BadTarget(2)),
         Err(NoMemory) => Err(NoMemory),
     }
+}
+
+fn read_replay<'a>(command: &str, option: &str, tests: &'a str, file: &'a str) -> Order<'a>
+    requires file { IsOption file.now → ⊥ }
+    requires other { (task : Task) → command.now ≡ command_of task → ⊥ }
+    ensures { Asks (command.now ∷ option.now ∷ tests.now ∷ file.now ∷ []) (asked_by result) }
+{
+    if command != "replay" {
+        return Order::NotBuilt;
+    }
+    if option != "--tests" {
+        return Order::NotBuilt;
+    }
+    Order::Replay(tests, file)
 }
 
 fn is_option(word: &str) -> bool
@@ -86,12 +135,23 @@ mod tests {
     fn words_ask_for_a_method_of_a_file(rt: HostRuntime) -> Result<(), Fail> {
         let words = words_of(rt.alloc(), "explore --method A.f(II)I A.class")?;
         match read_words(rt.alloc(), words.as_slice())? {
-            Order::Explore(target, file) => {
+            Order::Method(Task::Explore, target, file) => {
                 assert_eq!(rt; target.text(), "A.f(II)I");
                 assert_eq!(rt; file, "A.class");
             }
             _ => assert!(rt; false, "the words are of a built form"),
         }
+        Ok(())
+    }
+
+    #[test]
+    fn words_ask_for_tests_and_their_replay(rt: HostRuntime) -> Result<(), Fail> {
+        let words = words_of(rt.alloc(), "tests --method A.f(II)I A.class")?;
+        let order = read_words(rt.alloc(), words.as_slice())?;
+        assert!(rt; matches!(order, Order::Method(Task::Tests, _, "A.class")));
+        let words = words_of(rt.alloc(), "replay --tests --x A.class")?;
+        let order = read_words(rt.alloc(), words.as_slice())?;
+        assert!(rt; matches!(order, Order::Replay("--x", "A.class")));
         Ok(())
     }
 
@@ -104,7 +164,9 @@ mod tests {
             "explore --method A.f(II)I --k",
             "explore --method A.f(II)I A.class B.class",
             "explore --target A.f(II)I A.class",
-            "tests --method A.f(II)I A.class",
+            "tests --tests A.f(II)I A.class",
+            "replay --method A.f(II)I A.class",
+            "replay --tests A.tests --class",
         ] {
             let words = words_of(rt.alloc(), line)?;
             assert!(rt;

@@ -16,4 +16,4 @@ returns-in-Neg-clause-step c = rw c.in-Neg.is (neg_follows c.apply_one.result c.
 
 pub returns-in-Narrow-clause-step : goal.returns-in-Narrow-clause-step
 returns-in-Narrow-clause-step c =
-    rw c.in-Narrow.is (narrow_follows c.apply_one-in-Narrow.result c.args.self.now _ c.in-Narrow.cut (rw (← c.term_op-in-Narrow.ensures) c.apply_one-in-Narrow.ensures.step))
+    rw c.in-Narrow.is (narrow_follows c.apply_one-in-Narrow.result c.args.self.now _ c.in-Narrow.cut (rw (← c.narrowing_op.ensures) c.apply_one-in-Narrow.ensures.step))

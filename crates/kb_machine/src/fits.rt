@@ -1,0 +1,60 @@
+// Inputs that are type-correct.
+ghost use Rattle.std.specs.Prelude.{◌≡◌, ◌↔◌, IsTrue};
+ghost use Rattle.kb_semantics.specs.Types.{Agrees, AgreeEach, IsTypeCorrect};
+
+use kb_heap::{Input, Value};
+use kb_names::JType;
+use kb_world::{MethodId, World};
+
+// The bit of a static method's access flags (JVMS 8 table 4.6-A).
+const STATIC: u16 = 0x0008;
+
+/// Whether the input is type-correct for the method: as many arguments as parameters, each a value of its parameter's type,
+/// and no objects. By now methods that are not static have no such input, nor do parameters of other types than int, boolean,
+/// classes and arrays, of which null alone is a value. A number that is no method's has none either.
+///
+/// Source: JVMS 8 sections 2.3, 2.4 and 4.3.3.
+pub fn fits_types(world: &World, target: MethodId, input: &Input) -> bool
+    ensures { IsTrue result ↔ IsTypeCorrect world.now target input.now }
+{
+    let Some(info) = world.method_of(target) else {
+        return false;
+    };
+    if info.access & STATIC == 0 {
+        return false;
+    }
+    if !input.heap.objects.as_slice().is_empty() {
+        return false;
+    }
+    agree_each(info.target.kind.params.as_slice(), input.args.as_slice())
+}
+
+pub(crate) fn agree_each(params: &[JType], args: &[Value]) -> bool
+    ensures { IsTrue result ↔ AgreeEach params.now args.now }
+{
+    let mut types = params;
+    let mut values = args;
+    while let [of, others @ ..] = types {
+        let [value, rest @ ..] = values else {
+            return false;
+        };
+        if !agrees(of, value) {
+            return false;
+        }
+        types = others;
+        values = rest;
+    }
+    values.is_empty()
+}
+
+fn agrees(of: &JType, value: &Value) -> bool
+    ensures { IsTrue result ↔ Agrees of.now value.now }
+{
+    match (of, value) {
+        (JType::Int, Value::Int(_)) => true,
+        (JType::Bool, Value::Int(number)) => *number == 0 || *number == 1,
+        (JType::Class(_), Value::Null) => true,
+        (JType::Array(_), Value::Null) => true,
+        _ => false,
+    }
+}

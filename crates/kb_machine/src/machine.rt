@@ -1,0 +1,113 @@
+// Runs of methods.
+ghost use Rattle.std.specs.Prelude.{◌≡◌, IfOk};
+ghost use Rattle.kb_code.specs.Listing.{IsLaidOut};
+ghost use Rattle.kb_heap.specs.declared.heap.Heap.{Heap};
+ghost use Rattle.kb_semantics.specs.Machine.{Method, run, run_of, start_of};
+ghost use Rattle.kb_semantics.specs.Types.{IsMethod};
+ghost use Rattle.kb_machine.specs.Frames.{HasCode, ended_of};
+
+use crate::NoMemory;
+use crate::frame::{Frame, Limits, Step};
+use kb_code::Instr;
+use kb_heap::{Bound, Ending, Heap, Input, Place, RunBounds, Value};
+use kb_names::Target;
+use kb_world::{MethodId, World};
+use std::alloc::Global;
+
+// The code of a method: its limits, its instructions by offset, and its length in bytes.
+#[derive(Clone, Copy, Debug)]
+pub(crate) struct MethodCode<'a> {
+    pub(crate) limits: Limits,
+    pub(crate) listing: &'a [(u32, Instr)],
+    pub(crate) size: u32,
+}
+
+// How a run of straight code ends.
+#[derive(Clone, Copy, Debug, PartialEq, Eq)]
+pub(crate) enum Stop {
+    Returned(Value),
+    // At the instruction of that offset, or at the end of the code.
+    IllTyped(u32),
+    Past(Bound),
+}
+
+/// The run of the method over the input within the bounds: how it ends, and the heap then.
+///
+/// By now `steps` is the one bound that a run meets. An operand of another kind than the instruction takes, an operand
+/// stack or a local beyond its limit, and code that runs off its end are ill-typed. Code that is so long that no `u32`
+/// has its length is want of memory.
+///
+/// Source: JVMS 8 sections 2.6, 2.11 and 6.5.
+pub fn run(
+    alloc: Global,
+    world: &World,
+    target: MethodId,
+    input: &Input,
+    bounds: &RunBounds,
+) -> Result<(Ending, Heap), NoMemory>
+    requires runs { (method : Method) × IsMethod world.now target method }
+    ensures { IfOk result (λ ended. (method : Method) → IsMethod world.now target method → run_of bounds.now method input.now ≡ record { ending = ended.0; heap = ended.1 }) }
+{
+    let Some(info) = world.method_of(target) else {
+        unreachable!()
+    };
+    let (Some(code), Some(listing)) = (info.code, info.listing) else {
+        unreachable!()
+    };
+    let Ok(size) = u32::try_from(code.bytes.as_slice().len()) else {
+        return Err(NoMemory);
+    };
+    let code = MethodCode {
+        limits: Limits {
+            stack: code.max_stack,
+            locals: code.max_locals,
+        },
+        listing: listing.items.as_slice(),
+        size,
+    };
+    let Ok(heap) = input.heap.copied(alloc) else {
+        return Err(NoMemory);
+    };
+    let stop = run_code(alloc, &code, input.args.as_slice(), bounds.steps)?;
+    Ok((ending_of(alloc, stop, info.target)?, heap))
+}
+
+// The run of code over arguments, up to so many instructions.
+pub(crate) fn run_code(
+    alloc: Global,
+    code: &MethodCode<'_>,
+    args: &[Value],
+    steps: u32,
+) -> Result<Stop, NoMemory>
+    requires { IsLaidOut code.now.listing.now code.now.size }
+    ensures { IfOk result (λ stop. (method : Method) (heap : Heap) → HasCode method code.now → run steps (start_of method (record { heap = heap; args = args.now })) ≡ ended_of stop method.target heap) }
+{
+    let mut frame = Frame::begin(alloc, args, code.limits)?;
+    let mut index = 0;
+    for _ in 0..steps {
+        let Some((at, instr)) = code.listing.get(index) else {
+            return Ok(Stop::IllTyped(code.size));
+        };
+        match frame.take(*instr)? {
+            Step::Goes => {}
+            Step::Returned(value) => return Ok(Stop::Returned(value)),
+            Step::IllTyped => return Ok(Stop::IllTyped(*at)),
+        }
+        index += 1;
+    }
+    Ok(Stop::Past(Bound::Steps))
+}
+
+// The ending of a run of that method.
+fn ending_of(alloc: Global, stop: Stop, method: &Target) -> Result<Ending, NoMemory>
+    ensures { IfOk result (λ ending. (heap : Heap) → ended_of stop method.now heap ≡ record { ending = ending; heap = heap }) }
+{
+    match stop {
+        Stop::Returned(value) => Ok(Ending::Returned(Some(value))),
+        Stop::IllTyped(at) => match method.copied(alloc) {
+            Ok(method) => Ok(Ending::IllTyped(Place { method, at })),
+            Err(_) => Err(NoMemory),
+        },
+        Stop::Past(bound) => Ok(Ending::Past(bound)),
+    }
+}

@@ -1,0 +1,149 @@
+-- How tests are run one after another.
+use Rattle.std.proofs.Common.{◌≡◌, ◌⊎◌, ◌↔◌, ℕ, ◌+◌, ◌<◌, ◌≤◌, List, [], ◌∷◌, ◌++◌, length, take, drop, get_or, Result, Ok, Err, IfOk, refl, sym, ◌∙◌, ap, subst, arith, inl, inr, true, false, length-append, drop-cons, zero, suc}
+use Rattle.std.specs.Prelude.{slice_index_or}
+use Rattle.std.proofs.lemmas.List.{take_all, take-append-drop}
+use Rattle.std.proofs.Math.Seq.{take-suc}
+use Rattle.kb_semantics.specs.Machine.{Method}
+use Rattle.kb_test.specs.declared.test_case.Test.{Test}
+use Rattle.kb_world.specs.declared.world.GivenClass.{GivenClass}
+use Rattle.kb_world.specs.declared.world.MethodId.{MethodId}
+use Rattle.kiasan.specs.declared.memory.NoMemory.{NoMemory}
+use Rattle.kiasan.specs.declared.refusals.Answer.{Answer}
+use Rattle.kiasan.specs.declared.replay.Replayed.{Replayed}
+use Rattle.kiasan.specs.declared.replay.Replayed.TheVariants.{Passes, Differs as DiffersFrom}
+use Rattle.kiasan.specs.declared.replay.TestFault.{TestFault}
+use Rattle.kiasan.specs.declared.status.Status.{Status}
+use Rattle.kiasan.specs.declared.status.Status.TheVariants.{Complete, Differs}
+use Rattle.kiasan.specs.Answers.{Replays, fault_status, refused_test}
+use Rattle.kiasan.specs.Tests.{AreRunnable, AreVerdicts, FirstFault, HasFault, IsRunnable, IsVerdict, passes, count_passes, count_differs, replay_text}
+
+-- ---- the tests are found fit
+
+pub runnable_more : (world : List GivenClass) (tests : List Test) (ids : List MethodId) (test : Test) (id : MethodId) → AreRunnable world tests ids →
+    (method : Method) × IsRunnable world test id method → AreRunnable world (tests ++ test ∷ []) (ids ++ id ∷ [])
+runnable_more world [] [] test id are is = (is, tt)
+runnable_more world (x ∷ tests) (i ∷ ids) test id are is = (are.0, runnable_more world tests ids test id are.1 is)
+runnable_more world [] (i ∷ ids) test id are is = absurd are
+runnable_more world (x ∷ tests) [] test id are is = absurd are
+
+as_many : (world : List GivenClass) (tests : List Test) (ids : List MethodId) → AreRunnable world tests ids → length tests ≡ length ids
+as_many world [] [] are = refl
+as_many world (x ∷ tests) (i ∷ ids) are = ap suc (as_many world tests ids are.1)
+as_many world [] (i ∷ ids) are = absurd are
+as_many world (x ∷ tests) [] are = absurd are
+
+pub runnable_next : (world : List GivenClass) (tests : List Test) (ids : List MethodId) (i : ℕ) (test : Test) (id : MethodId) → i < length tests → test ≡ get_or tests i test →
+    AreRunnable world (take i tests) ids → (method : Method) × IsRunnable world test id method → AreRunnable world (take (i + 1) tests) (ids ++ id ∷ [])
+runnable_next world tests ids i test id inside at are is =
+    let next : i + 1 ≡ suc i = omega arith in
+    rw (next, take-suc tests i test inside, ← at) (runnable_more world (take i tests) ids test id are is)
+
+pub first_fault : (world : List GivenClass) (tests : List Test) (ids : List MethodId) (i : ℕ) (test : Test) (number : ℕ) (fault : TestFault) → i < length tests → test ≡ get_or tests i test →
+    AreRunnable world (take i tests) ids → HasFault world test fault → number ≡ length ids → FirstFault world tests number fault
+first_fault world tests ids i test number fault inside at are bad n =
+    let next : suc i ≡ i + 1 = omega arith in
+    let behind : drop i tests ≡ test ∷ drop (i + 1) tests =
+    drop-cons tests i test inside ∙ ap (λ (x : Test). x ∷ drop (suc i) tests) (sym at) ∙ ap (λ (n : ℕ). test ∷ drop n tests) next in
+    record {
+      before = take i tests;
+      test = test;
+      after = drop (i + 1) tests;
+      tests_are = sym (take-append-drop i tests) ∙ ap (λ (rest : List Test). take i tests ++ rest) behind;
+      number_is = n ∙ sym (as_many world (take i tests) ids are);
+      ids = ids;
+      good = are;
+      bad = bad;
+    }
+
+-- ---- the tests are run
+
+-- the test of an index is run by the method of that index
+runnable_at : (world : List GivenClass) (tests : List Test) (ids : List MethodId) (i : ℕ) (test : Test) (d : MethodId) → AreRunnable world tests ids → i < length tests →
+    test ≡ get_or tests i test → (method : Method) × IsRunnable world test (slice_index_or ids i d) method
+runnable_at world [] ids i test d are inside at = absurd (omega (arith, inside))
+runnable_at world (x ∷ tests) [] i test d are inside at = absurd are
+runnable_at world (x ∷ tests) (y ∷ ids) zero test d are inside at = subst (λ t. (method : Method) × IsRunnable world t y method) (sym at) are.0
+runnable_at world (x ∷ tests) (y ∷ ids) (suc i) test d are inside at = runnable_at world tests ids i test d are.1 (omega arith) at
+
+pub runnable_named : (world : List GivenClass) (tests : List Test) (ids : List MethodId) (i n : ℕ) (test : Test) (d : MethodId) → AreRunnable world tests ids → i < length tests →
+    test ≡ get_or tests i test → n ≡ i → (method : Method) × IsRunnable world test (slice_index_or ids n d) method
+runnable_named world tests ids i n test d are inside at e = rw e (runnable_at world tests ids i test d are inside at)
+
+pub method_there : (world : List GivenClass) (tests : List Test) (ids : List MethodId) (i : ℕ) → AreRunnable world tests ids → i < length tests → i < length ids
+method_there world tests ids i are inside = omega (arith, as_many world tests ids are)
+
+verdicts_more : (world : List GivenClass) (tests : List Test) (verdicts : List Replayed) (test : Test) (verdict : Replayed) → AreVerdicts world tests verdicts →
+    (id : MethodId) × (method : Method) × IsRunnable world test id method × IsVerdict method test verdict → AreVerdicts world (tests ++ test ∷ []) (verdicts ++ verdict ∷ [])
+verdicts_more world [] [] test verdict are is = (is, tt)
+verdicts_more world (x ∷ tests) (v ∷ verdicts) test verdict are is = (are.0, verdicts_more world tests verdicts test verdict are.1 is)
+verdicts_more world [] (v ∷ verdicts) test verdict are is = absurd are
+verdicts_more world (x ∷ tests) [] test verdict are is = absurd are
+
+-- the tests up to an index were run
+pub record AreRun (world : List GivenClass) (tests : List Test) (i : ℕ) (verdicts : List Replayed) : Type 0 where
+  pub count : length verdicts ≡ i
+  pub verdicts_are : AreVerdicts world (take i tests) verdicts
+
+pub one_run : (world : List GivenClass) (tests : List Test) (ids : List MethodId) (i : ℕ) (test : Test) (id : MethodId) (verdicts now : List Replayed) (verdict : Replayed) →
+    AreRun world tests i verdicts → i < length tests → test ≡ get_or tests i test → (method : Method) × IsRunnable world test id method →
+    ((method : Method) → IsRunnable world test id method → IsVerdict method test verdict) → now ≡ verdicts ++ verdict ∷ [] → AreRun world tests (i + 1) now
+one_run world tests ids i test id verdicts now verdict run inside at runs is e =
+    let next : i + 1 ≡ suc i = omega arith in
+    let more : AreVerdicts world (take (i + 1) tests) (verdicts ++ verdict ∷ []) =
+    rw (next, take-suc tests i test inside, ← at)
+    (verdicts_more world (take i tests) verdicts test verdict run.verdicts_are (id, runs.0, runs.1, is runs.0 runs.1)) in
+    record {
+      count = ap length e ∙ length-append verdicts (verdict ∷ []) ∙ ap (λ (n : ℕ). n + 1) run.count;
+      verdicts_are = subst (λ vs. AreVerdicts world (take (i + 1) tests) vs) (sym e) more;
+    }
+
+pub all_run : (world : List GivenClass) (tests : List Test) (i : ℕ) (verdicts : List Replayed) → AreRun world tests i verdicts → length tests ≤ i → AreVerdicts world tests verdicts
+all_run world tests i verdicts run end = subst (λ ts. AreVerdicts world ts verdicts) (take_all i tests end) run.verdicts_are
+
+-- ---- counting
+
+-- so many of the verdicts before the rest differ
+pub record AreCounted (rest all : List Replayed) (count : ℕ) : Type 0 where
+  pub counted : count + count_differs rest ≡ count_differs all
+  pub within : count + length rest ≤ length all
+
+pub passes_and_differs : (verdicts : List Replayed) → count_passes verdicts + count_differs verdicts ≡ length verdicts
+passes_and_differs [] = refl
+passes_and_differs (Passes ∷ verdicts) = omega (arith, passes_and_differs verdicts)
+passes_and_differs (DiffersFrom ending heap ∷ verdicts) = omega (arith, passes_and_differs verdicts)
+
+pub none_counted : (verdicts : List Replayed) → AreCounted verdicts verdicts 0
+none_counted verdicts = record { counted = omega arith; within = omega arith }
+
+pub pass_counted : (verdict : Replayed) (rest all : List Replayed) (count : ℕ) → AreCounted (verdict ∷ rest) all count → passes verdict ≡ true → AreCounted rest all count
+pass_counted verdict rest all count so_far pass =
+    let counted : count + (0 + count_differs rest) ≡ count_differs all = rw pass at so_far.counted in
+    record { counted = omega (arith, counted); within = omega (arith, so_far.within) }
+
+pub differ_counted : (verdict : Replayed) (rest all : List Replayed) (count : ℕ) → AreCounted (verdict ∷ rest) all count → passes verdict ≡ false → AreCounted rest all (count + 1)
+differ_counted verdict rest all count so_far fail =
+    let counted : count + (1 + count_differs rest) ≡ count_differs all = rw fail at so_far.counted in
+    record { counted = omega (arith, counted); within = omega (arith, so_far.within) }
+
+-- ---- answers
+
+pub replays : (world : List GivenClass) (tests : List Test) (verdicts : List Replayed) (status : Status) (text : List ℕ) → AreVerdicts world tests verdicts →
+    text ≡ replay_text verdicts → status ≡ Complete ↔ (count_differs verdicts ≡ 0) → (status ≡ Complete) ⊎ (status ≡ Differs) → Replays world tests status text
+replays world tests verdicts status text are e passed (inl complete) = inr (verdicts, are, e, inl (passed.0 complete, complete))
+replays world tests verdicts status text are e passed (inr differs) = inr (verdicts, are, e, inr (some, differs))
+  where
+    not_zero : (n : ℕ) → (n ≡ 0 → ⊥) → 0 < n
+    not_zero zero none = absurd (none refl)
+    not_zero (suc n) none = omega arith
+
+    some : 0 < count_differs verdicts
+    some = not_zero (count_differs verdicts) (λ none. let wrong = passed.1 none in cc)
+
+pub refuses : (world : List GivenClass) (tests : List Test) (number : ℕ) (fault : TestFault) (r : Result Answer NoMemory) → FirstFault world tests number fault →
+    IfOk r (λ a. a.status ≡ fault_status fault) → IfOk r (λ a. a.text.items ≡ refused_test fault number) → IfOk r (λ a. Replays world tests a.status a.text.items)
+refuses world tests number fault (Ok a) first status text = inl (number, fault, first, status, text)
+refuses world tests number fault (Err e) first status text = tt
+
+pub others_pass : (rest all : List Replayed) (count : ℕ) → AreCounted rest all count → length rest ≡ 0 → count_passes all + count ≡ length all
+others_pass [] all count so_far end = omega (arith, so_far.counted, passes_and_differs all)
+others_pass (verdict ∷ rest) all count so_far end = absurd (omega (arith, end))
