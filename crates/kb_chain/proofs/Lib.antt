@@ -8,5 +8,6 @@ pub mod LogLaws
 pub mod TrailLaws
 pub mod IndexLaws
 pub mod PropagationLaws
+pub mod LeastSets
 pub mod SignLaws
 pub mod FreshnessLaws

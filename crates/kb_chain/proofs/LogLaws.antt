@@ -1,8 +1,9 @@
 -- Logs, entry by entry.
-use Rattle.std.proofs.Common.{◌≡◌, ℕ, ◌+◌, ◌<◌, List, [], ◌∷◌, ◌++◌, arith, refl, ap, sym, ◌∙◌, subst, Option, Some, None, length, take, get_or, length-take, Bool, true, false, ◌==◌, suc}
+use Rattle.std.proofs.Common.{◌≡◌, ℕ, ◌+◌, ◌<◌, List, [], ◌∷◌, ◌++◌, arith, refl, ap, sym, ◌∙◌, subst, Option, Some, None, length, take, get_or, length-take, Bool, true, false, ◌==◌, zero, suc}
 use Rattle.std.proofs.lemmas.Bool.{false≢true, ne_eqb}
 use Rattle.std.specs.Prelude.{option_and_then, IsSomeAnd}
 use Rattle.std.proofs.lemmas.List.{take_more}
+use Rattle.std.proofs.lemmas.Option.{option_and_then_some}
 use Rattle.kb_chain.specs.Literal.{Literal}
 use Rattle.kb_chain.specs.Chains.{entry_of, derived, EachEntry, IsFirstBad, IsRefutation}
 use Rattle.kb_chain.specs.declared.log.Chain.{Chain}
@@ -117,3 +118,15 @@ empty_from b (x ∷ xs) ys e s t = absurd (false≢true (sym (ne_eqb (suc (lengt
 pub not_empty_from : (b : Bool) (xs ys : List Literal) → b ≡ (length xs == 0) → xs ≡ ys → b ≡ false → ys ≡ [] → ⊥
 not_empty_from b [] ys e s t n = false≢true (sym t ∙ e)
 not_empty_from b (x ∷ xs) ys e s t n = let k : (x ∷ xs) ≡ [] = s ∙ n in cc
+
+-- entries of which one does not derive
+pub derived_stops : (entries : List Chain) (clauses all : List (List Literal)) (i : ℕ) (d : Chain) → i < length entries
+    → derived clauses (take i entries) ≡ Some all → entry_of all (get_or entries i d) ≡ None → derived clauses entries ≡ None
+derived_stops [] clauses all i d lt h k = absurd (omega arith)
+derived_stops (e ∷ es) clauses all zero d lt h k =
+    let s : clauses ≡ all = cc in
+    ap (λ o. option_and_then (λ clause. derived (clauses ++ clause ∷ []) es) o) (ap (λ z. entry_of z e) s ∙ k)
+derived_stops (e ∷ es) clauses all (suc i) d lt h k =
+    option_and_then_some (λ clause. derived (clauses ++ clause ∷ []) (take i es)) (entry_of clauses e) all h
+    (λ clause f g. ap (λ o. option_and_then (λ clause. derived (clauses ++ clause ∷ []) es) o) f
+    ∙ derived_stops es (clauses ++ clause ∷ []) all i d (omega arith) g k)

@@ -21,6 +21,7 @@ mod trail;
 mod working;
 
 pub use clause::Clause;
+pub use derivation::derive_all;
 pub use formula::Formula;
 pub use freshness::check_fresh;
 pub use literal::Lit;
@@ -28,3 +29,4 @@ pub use log::{Chain, Log, Row, Verdict};
 pub use memory::NoMemory;
 pub use refutation::check_refutation;
 pub use resolution::{ResolveStop, resolve};
+pub use store::Store;

@@ -10,7 +10,7 @@ use std::marker::Model;
 
 /// The clauses of a formula and, behind them, those of the entries of a log.
 #[derive(Drop)]
-pub(crate) struct Store<'a> {
+pub struct Store<'a> {
     formula: &'a Formula,
     entries: Vec<Clause>,
 }
@@ -46,7 +46,7 @@ impl<'a> Store<'a> {
     }
 
     /// The clause of this number.
-    pub(crate) fn get(&self, number: u32) -> Option<&Clause>
+    pub fn get(&self, number: u32) -> Option<&Clause>
         ensures value { option_copied result ≡ slice_get self.now.clauses number }
         ensures within { IfSome result (λ clause. IsWithin self.now.vars clause.now) }
         ensures all_within { AllWithin self.now.vars self.now.clauses }

@@ -1,0 +1,15 @@
+pub mod Places
+pub mod TrailLaws
+pub mod WatchLaws
+pub mod JustifyLaws
+pub mod BeginLaws
+pub mod SearchLaws
+pub mod MarkLaws
+pub mod HeldLaws
+pub mod MarkedLaws
+pub mod ReasonLaws
+pub mod LevelLaws
+pub mod MinimiseLaws
+pub mod AnalysisLaws
+pub mod RefuteLaws
+pub mod LearnLaws

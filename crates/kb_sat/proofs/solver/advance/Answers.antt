@@ -1,0 +1,50 @@
+use Rattle.std.proofs.Common.{◌≡◌, ◌+◌, ◌<◌, ◌∙◌, ap, sym, subst, length, arith}
+use Rattle.std.proofs.lemmas.List.{nil_from_length}
+use Rattle.kb_chain.specs.Cnf.{Cnf}
+use Rattle.kb_chain.specs.Propagation.{UnitRefutes}
+use Rattle.kb_sat.specs.Search.{IsConflict}
+use Rattle.kb_sat.proofs.SearchLaws.{doomed_from, not_refuted}
+use Rattle.kb_sat.proofs.WatchLaws.{at_some}
+use Rattle.kb_sat.proofs.solver.advance.Goals as goal
+
+pub returns-then-level-eq0-clause-advance : goal.returns-then-level-eq0-clause-advance
+returns-then-level-eq0-clause-advance c =
+    let s = c.run.new.self in
+    let h = c.in_ok-number.ensures.searches in
+    let conflict : IsConflict s.clauses s.trail c.in-Some.number =
+    at_some c.in_ok-number.field-0 c.in-Some.number (IsConflict s.clauses s.trail) c.in-Some.is c.in_ok-number.ensures.conflict in
+    let d = doomed_from s.formula.now s.entries s.clauses s.watches.pairs.items s.watches.lists.items s.trail c.in-Some.number h conflict in (
+      record {
+        level = nil_from_length s.trail.starts (sym c.level.ensures ∙ c.if-level-eq0.true);
+        clauses = h.clauses;
+        derives = h.derives;
+        reasons = d.0;
+        conflict = d.1;
+      },
+      c.in_ok-number.ensures.entries,
+    )
+
+pub returns-then-not-is_due-clause-advance : goal.returns-then-not-is_due-clause-advance
+returns-then-not-is_due-clause-advance c =
+    let s = c.run.new.self in
+    let more : length c.learn.new.self.entries ≡ length s.entries + 1 = c.in_ok-learn.ensures.entries in
+    let same : length s.entries ≡ length c.args.search.now.entries = ap length c.in_ok-number.ensures.entries in
+    let lt : 0 < length s.trail.starts = omega (arith, c.if-level-eq0.false, c.level.ensures) in (
+      c.in_ok-learn.ensures.ready,
+      omega (arith, more, same),
+      subst (λ (z : Cnf). UnitRefutes z.clauses → ⊥) (sym c.in_ok-learn.ensures.formula)
+          (not_refuted s.formula.now s.entries s.clauses s.watches.pairs.items s.watches.lists.items s.trail c.in_ok-number.ensures.searches c.facts.ensures lt),
+    )
+
+pub returns-clause-advance : goal.returns-clause-advance
+returns-clause-advance c =
+    let s = c.run.new.self in
+    let kept : length c.restart.new.self.entries ≡ length c.learn.new.self.entries = ap length c.in_ok-restart.ensures.entries in
+    let more : length c.learn.new.self.entries ≡ length s.entries + 1 = c.in_ok-learn.ensures.entries in
+    let same : length s.entries ≡ length c.args.search.now.entries = ap length c.in_ok-number.ensures.entries in
+    let lt : 0 < length s.trail.starts = omega (arith, c.if-level-eq0.false, c.level.ensures) in (
+      c.in_ok-restart.ensures.ready,
+      omega (arith, kept, more, same),
+      subst (λ (z : Cnf). UnitRefutes z.clauses → ⊥) (sym (c.in_ok-restart.ensures.formula ∙ c.in_ok-learn.ensures.formula))
+          (not_refuted s.formula.now s.entries s.clauses s.watches.pairs.items s.watches.lists.items s.trail c.in_ok-number.ensures.searches c.facts.ensures lt),
+    )

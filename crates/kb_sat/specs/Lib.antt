@@ -1,0 +1,10 @@
+pub mod Trail
+pub mod Order
+pub mod Analysis
+pub mod Tables
+pub mod Store
+pub mod Rows
+pub mod Solver
+pub mod Answer
+pub mod Watches
+pub mod Search

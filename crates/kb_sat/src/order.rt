@@ -1,0 +1,262 @@
+ghost use Rattle.std.specs.Prelude.{◌≡◌, ◌+◌, ◌<◌, ◌≤◌, length, IfOk, IfSome};
+ghost use Rattle.kb_sat.specs.Order.{AreVariables};
+
+use crate::memory::NoMemory;
+use std::alloc::Global;
+use std::marker::Model;
+
+/// The place of a variable that is not in the heap.
+const ABSENT: usize = usize::MAX;
+
+/// Where activities are scaled down: far enough below the greatest number that no sum wraps.
+const GREATEST: u64 = 1 << 62;
+
+/// By how many bits they are scaled down.
+const SCALE: u32 = 32;
+
+/// Variables by activity, the most active first: how often they took part in a conflict, where later conflicts count for more
+/// (the decaying sums of Chaff, in MiniSat's form with a growing increment). A binary heap with the place of each variable.
+/// Contracts see the number of variables.
+#[derive(Drop)]
+pub(crate) struct Order {
+    limit: u32,
+    heap: Vec<u32>,
+    places: Vec<usize>,
+    activities: Vec<u64>,
+    increment: u64,
+}
+
+impl Model for Order {
+    ghost use Rattle.std.specs.Prelude.{ℕ, ◌≡◌, ◌+◌, length};
+    ghost use Rattle.kb_sat.specs.Order.{AreVariables};
+
+    ghost Value = { ℕ };
+
+    ghost view = { λ o. o.limit };
+
+    ghost invariant = { λ o. record {
+      variables : AreVariables (o.limit + 1) o.heap.items;
+      places : length o.places.items ≡ o.limit + 1;
+      activities : length o.activities.items ≡ o.limit + 1;
+    } };
+}
+
+impl Order {
+    /// All variables from 1 to `vars`, by rising number.
+    pub(crate) fn new(alloc: Global, vars: u32) -> Result<Order, NoMemory>
+        ensures { IfOk result (λ order. order ≡ vars) }
+    {
+        let heap = first_variables(alloc, vars)?;
+        let mut places = vec![in alloc; ABSENT; vars as usize + 1]?;
+        for variable in 1..=vars {
+            places[variable as usize] = variable as usize - 1;
+        }
+        let activities = vec![in alloc; 0; vars as usize + 1]?;
+        Ok(Order {
+            limit: vars,
+            heap,
+            places,
+            activities,
+            increment: 1 << 20,
+        })
+    }
+
+    /// Takes out the most active variable.
+    pub(crate) fn pop(&mut self) -> Option<u32>
+        ensures variable { IfSome result (λ v. (0 < v) × (v ≤ self.old)) }
+        ensures vars { self.new ≡ self.old }
+    {
+        let last = self.heap.pop()?;
+        self.places[last as usize] = ABSENT;
+        if self.heap.is_empty() {
+            return Some(last);
+        }
+        let top = self.heap[0];
+        self.places[top as usize] = ABSENT;
+        sift_down(
+            self.heap.as_mut_slice(),
+            self.places.as_mut_slice(),
+            self.activities.as_slice(),
+            last,
+        );
+        Some(top)
+    }
+
+    /// Puts a variable in, if it is not there.
+    pub(crate) fn insert(&mut self, variable: u32) -> Result<(), NoMemory>
+        requires above { 0 < variable }
+        requires below { variable ≤ self.old }
+        ensures { self.new ≡ self.old }
+    {
+        if self.places[variable as usize] != ABSENT {
+            return Ok(());
+        }
+        let place = self.heap.len();
+        self.heap.push(variable)?;
+        sift_up(
+            self.heap.as_mut_slice(),
+            self.places.as_mut_slice(),
+            self.activities.as_slice(),
+            place,
+        );
+        Ok(())
+    }
+
+    /// Raises the activity of a variable.
+    pub(crate) fn bump(&mut self, variable: u32)
+        requires { variable ≤ self.old }
+        ensures { self.new ≡ self.old }
+    {
+        let raised = self.activities[variable as usize].saturating_add(self.increment);
+        self.activities[variable as usize] = raised;
+        if raised > GREATEST {
+            self.rescale();
+        }
+        let place = self.places[variable as usize];
+        if place < self.heap.len() {
+            sift_up(
+                self.heap.as_mut_slice(),
+                self.places.as_mut_slice(),
+                self.activities.as_slice(),
+                place,
+            );
+        }
+    }
+
+    /// Makes later conflicts count for more, by a sixteenth.
+    pub(crate) fn decay(&mut self)
+        ensures { self.new ≡ self.old }
+    {
+        self.increment = self.increment.saturating_add(self.increment / 16);
+        if self.increment > GREATEST {
+            self.rescale();
+        }
+    }
+
+    /// Scales all activities down alike, which keeps their order but for what becomes equal.
+    fn rescale(&mut self)
+        ensures { self.new ≡ self.old }
+    {
+        for activity in self.activities.iter_mut() {
+            *activity >>= SCALE;
+        }
+        self.increment = (self.increment >> SCALE).max(1 << 10);
+    }
+}
+
+fn first_variables(alloc: Global, vars: u32) -> Result<Vec<u32>, NoMemory>
+    ensures { IfOk result (λ heap. AreVariables (vars + 1) heap.items) }
+{
+    let mut heap = Vec::with_capacity(alloc, vars as usize)?;
+    for variable in 1..=vars {
+        heap.push(variable)?;
+    }
+    Ok(heap)
+}
+
+/// Moves the variable at a place towards the front, past those that are less active.
+fn sift_up(heap: &mut [u32], places: &mut [usize], activities: &[u64], start: usize)
+    requires inside { start < length heap.old }
+    requires variables { AreVariables (length activities.now) heap.old }
+    requires places { length places.old ≡ length activities.now }
+    ensures { AreVariables (length activities.now) heap.new }
+{
+    let variable = heap[start];
+    let activity = activities[variable as usize];
+    let mut place = start;
+    while place > 0 {
+        let parent = (place - 1) / 2;
+        let above = heap[parent];
+        if activities[above as usize] >= activity {
+            break;
+        }
+        heap[place] = above;
+        places[above as usize] = place;
+        place = parent;
+    }
+    heap[place] = variable;
+    places[variable as usize] = place;
+}
+
+/// Puts a variable in front, in place of the one there, and moves it towards the end, past those that are more active.
+fn sift_down(heap: &mut [u32], places: &mut [usize], activities: &[u64], variable: u32)
+    requires inside { 0 < length heap.old }
+    requires above { 0 < variable }
+    requires below { variable < length activities.now }
+    requires variables { AreVariables (length activities.now) heap.old }
+    requires places { length places.old ≡ length activities.now }
+    ensures { AreVariables (length activities.now) heap.new }
+{
+    let activity = activities[variable as usize];
+    let mut place = 0;
+    while let Some(child) = more_active_child(heap, activities, place) {
+        let below = heap[child];
+        if activities[below as usize] <= activity {
+            break;
+        }
+        heap[place] = below;
+        places[below as usize] = place;
+        place = child;
+    }
+    heap[place] = variable;
+    places[variable as usize] = place;
+}
+
+/// The place of the more active one of the two variables below a place.
+fn more_active_child(heap: &[u32], activities: &[u64], place: usize) -> Option<usize>
+    requires inside { place < length heap.now }
+    requires variables { AreVariables (length activities.now) heap.now }
+    ensures { IfSome result (λ child. (place < child) × (child < length heap.now)) }
+{
+    let left = 2 * place + 1;
+    if left >= heap.len() {
+        return None;
+    }
+    let right = left + 1;
+    if right >= heap.len() {
+        return Some(left);
+    }
+    let is_right = activities[heap[right] as usize] > activities[heap[left] as usize];
+    Some(if is_right { right } else { left })
+}
+
+#[cfg(test)]
+mod tests {
+    use super::*;
+    use std::test::Fail;
+
+    #[test]
+    fn pops_by_activity(rt: HostRuntime) -> Result<(), Fail> {
+        let mut order = Order::new(rt.alloc(), 4)?;
+        order.bump(2);
+        order.decay();
+        order.bump(3);
+        order.bump(4);
+        order.bump(4);
+        assert_eq!(rt; order.pop(), Some(4));
+        assert_eq!(rt; order.pop(), Some(3));
+        order.insert(4)?;
+        order.insert(4)?;
+        assert_eq!(rt; order.pop(), Some(4));
+        assert_eq!(rt; order.pop(), Some(2));
+        assert_eq!(rt; order.pop(), Some(1));
+        assert_eq!(rt; order.pop(), None);
+        Ok(())
+    }
+
+    #[test]
+    fn scales_without_loss_of_order(rt: HostRuntime) -> Result<(), Fail> {
+        let mut order = Order::new(rt.alloc(), 3)?;
+        order.bump(3);
+        for _ in 0..2000 {
+            order.decay();
+            order.bump(1);
+            order.bump(2);
+        }
+        order.bump(2);
+        assert_eq!(rt; order.pop(), Some(2));
+        assert_eq!(rt; order.pop(), Some(1));
+        assert_eq!(rt; order.pop(), Some(3));
+        Ok(())
+    }
+}

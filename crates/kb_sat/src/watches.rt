@@ -1,0 +1,116 @@
+ghost use Rattle.std.specs.Prelude.{◌≡◌, ℕ, ◌+◌, ◌*◌, ◌<◌, true, [], ◌∷◌, ◌++◌, length, slice_set, OnOk, IfOk};
+ghost use Rattle.kb_chain.specs.Literal.{place_of};
+ghost use Rattle.kb_sat.specs.Watches.{at_literal, AreEmpty};
+
+use crate::memory::NoMemory;
+use crate::watch::{Pair, Watch};
+use kb_chain::Lit;
+use std::alloc::Global;
+use std::marker::Model;
+
+/// The watches at one literal.
+#[derive(Drop)]
+pub(crate) struct WatchList {
+    inner: Vec<Watch>,
+}
+
+impl Model for WatchList {
+    ghost use Rattle.std.specs.Prelude.{List};
+    ghost use Rattle.kb_sat.specs.declared.watch.Watch.{Watch};
+
+    ghost Value = { List Watch };
+
+    ghost view = { λ w. w.inner.items };
+}
+
+impl WatchList {
+    pub(crate) fn new(alloc: Global) -> WatchList
+        ensures { result ≡ [] }
+    {
+        WatchList {
+            inner: Vec::new(alloc),
+        }
+    }
+
+    pub(crate) fn as_slice(&self) -> &[Watch]
+        ensures { result.now ≡ self.now }
+    {
+        self.inner.as_slice()
+    }
+
+    pub(crate) fn push(&mut self, watch: Watch) -> Result<(), NoMemory>
+        ensures { OnOk result (self.new ≡ self.old ++ watch ∷ []) }
+    {
+        self.inner.push(watch)?;
+        Ok(())
+    }
+
+    pub(crate) fn extend(&mut self, watches: &[Watch]) -> Result<(), NoMemory>
+        ensures { OnOk result (self.new ≡ self.old ++ watches.now) }
+    {
+        self.inner.extend_from_slice(watches)?;
+        Ok(())
+    }
+
+    pub(crate) fn clear(&mut self)
+        ensures { self.new ≡ [] }
+    {
+        self.inner.clear();
+    }
+}
+
+/// The watched literals by clause number, and the watches by the place of the literal that is watched.
+#[derive(Drop)]
+pub(crate) struct Watches {
+    pub(crate) pairs: Vec<Pair>,
+    pub(crate) lists: Vec<WatchList>,
+    /// Room for the watches that are being taken up.
+    pub(crate) waiting: WatchList,
+}
+
+impl Watches {
+    /// No watches at the literals of the variables up to `vars`.
+    pub(crate) fn new(alloc: Global, vars: u32) -> Result<Watches, NoMemory>
+        ensures pairs { IfOk result (λ w. w.pairs.items ≡ []) }
+        ensures places { IfOk result (λ w. length w.lists.items ≡ 2 * vars + 2) }
+        ensures lists { IfOk result (λ w. AreEmpty w.lists.items) }
+    {
+        let mut lists = Vec::new(alloc);
+        for _place in 0..2 * vars as usize + 2 {
+            lists.push(WatchList::new(alloc))?;
+        }
+        Ok(Watches {
+            pairs: Vec::new(alloc),
+            lists,
+            waiting: WatchList::new(alloc),
+        })
+    }
+}
+
+/// Puts a watch into the list of a literal.
+pub(crate) fn put_watch(
+    lists: &mut Vec<WatchList>,
+    literal: Lit,
+    watch: Watch,
+) -> Result<(), NoMemory>
+    requires { place_of literal < length lists.old.items }
+    ensures ok { OnOk result (lists.new.items ≡ slice_set lists.old.items (place_of literal) (at_literal lists.old.items literal ++ watch ∷ [])) }
+{
+    let list = &mut lists[literal.place()];
+    list.push(watch)?;
+    Ok(())
+}
+
+/// Puts watches into the list of a literal.
+pub(crate) fn put_back(
+    lists: &mut Vec<WatchList>,
+    literal: Lit,
+    watches: &[Watch],
+) -> Result<(), NoMemory>
+    requires { place_of literal < length lists.old.items }
+    ensures ok { OnOk result (lists.new.items ≡ slice_set lists.old.items (place_of literal) (at_literal lists.old.items literal ++ watches.now)) }
+{
+    let list = &mut lists[literal.place()];
+    list.extend(watches)?;
+    Ok(())
+}
