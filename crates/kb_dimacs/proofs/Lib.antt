@@ -1,0 +1,9 @@
+pub mod PieceLaws
+pub mod ClauseLaws
+pub mod NumberLaws
+pub mod WordLaws
+pub mod FrontLaws
+pub mod LineLaws
+pub mod LogLaws
+pub mod TextLaws
+pub mod AnswerLaws

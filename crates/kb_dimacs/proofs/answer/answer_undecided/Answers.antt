@@ -1,0 +1,17 @@
+use Rattle.std.proofs.Common.{◌≡◌, ◌∙◌, ap, sym, length, ℕ, Option, Some}
+use Rattle.kb_chain.specs.declared.log.Verdict.{Verdict}
+use Rattle.kb_dimacs.specs.Texts.{unknown_text}
+use Rattle.kb_dimacs.specs.Answers.{check_answer}
+use Rattle.kb_dimacs.proofs.LogLaws.{good_log}
+use Rattle.kb_dimacs.proofs.answer.answer_undecided.Goals as goal
+use Rattle.kb_dimacs.proofs.answer.answer_undecided.Goals.{then-check+in_ok-check_fresh, else-check}
+
+pub returns-clause-text : goal.returns-clause-text
+returns-clause-text c =
+    let checked : c.if-check.checked ≡ check_answer c.args.check = elim c.if-check.branch [
+      | then-check+in_ok-check_fresh w ↦ w.checked-is ∙ (ap Some (good_log c.args.formula.now.clauses c.args.log.now.entries w.in_ok-check_fresh.field-0 c.requires w.in_ok-check_fresh.ensures)
+          ∙ ap check_answer (sym w.if-check.true))
+      | else-check w ↦ w.checked-is ∙ ap check_answer (sym w.if-check.false)
+    ] in
+    c.in_ok-unknown_text.ensures ∙ (ap (λ (n : ℕ). unknown_text n c.if-check.checked) (ap length c.as_slice.ensures)
+    ∙ ap (λ (o : Option Verdict). unknown_text (length c.args.log.now.entries) o) checked)

@@ -1,0 +1,10 @@
+use Rattle.std.proofs.Common.{◌≡◌, ◌++◌, ℕ, List, map, take}
+use Rattle.kb_dimacs.specs.Fronts.{Holds}
+use Rattle.kb_dimacs.proofs.body.Body.read_words.Given as goal
+
+abbrev pub invariant-loop-word : goal.invariant-loop-word
+invariant-loop-word l = record {
+  vars : l.self.formula.vars ≡ l.initial.self.formula.vars;
+  count : l.self.count ≡ l.initial.self.count;
+  held : (read : List (List ℕ)) → Holds l.initial.self read → Holds l.self (read ++ map (λ w. w.now) (take l.word-index l.words));
+}

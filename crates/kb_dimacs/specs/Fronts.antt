@@ -1,0 +1,99 @@
+-- Where a reader of DIMACS stands.
+use Rattle.std.specs.Prelude.{◌≡◌, ◌≢◌, ℕ, ◌<◌, ◌≤◌, ◌^◌, ℤ, List, [], ◌∷◌, ◌++◌, length, map}
+use Rattle.std.specs.List.{flat_map}
+use Rattle.std.specs.Int.RustNames.{FitsSigned}
+use mir.Syntax.{w32}
+use Rattle.kb_chain.specs.Literal.{literal_of}
+use Rattle.kb_chain.specs.Cnf.{Cnf}
+use Rattle.kb_dimacs.specs.Lines.{line_words}
+use Rattle.kb_dimacs.specs.Numbers.{SpellsNumber, SpellNumbers}
+use Rattle.kb_dimacs.specs.Dimacs.{AreLiterals, AreClauses, all_written, clause_from, SpellsHeader, SpellClauses, AreDimacs}
+use Rattle.kb_dimacs.specs.declared.body.Body.{Body}
+use Rattle.kb_dimacs.specs.declared.refusal.Cause.{Cause}
+use Rattle.kb_dimacs.specs.declared.refusal.Cause.TheVariants.{Header, NoNumber, HighVariable, MoreClauses, EarlyEnd}
+use Rattle.kb_dimacs.specs.declared.refusal.Stop.{Stop}
+use Rattle.kb_dimacs.specs.declared.refusal.Stop.TheVariants.{Bad, NoMemory as no_memory}
+use Rattle.kb_dimacs.specs.declared.front.Front.{Front}
+use Rattle.kb_dimacs.specs.declared.front.Front.TheVariants.{Start, Behind}
+
+-- these words stand behind the header: those of whole clauses, and the literals of one that is open
+pub record Holds (body : Body) (words : List (List ℕ)) : Type 0 where
+  pub clauses : List (List ℤ)
+  pub numbers : List ℤ
+  pub words_are : SpellNumbers (all_written clauses ++ numbers) words
+  pub count_fits : body.count < 2 ^ 31
+  pub are_clauses : AreClauses body.formula.vars clauses
+  pub are_literals : AreLiterals body.formula.vars numbers
+  pub formula_is : body.formula.clauses ≡ map clause_from clauses
+  pub literals_are : body.literals.items ≡ map literal_of numbers
+  pub few : length clauses ≤ body.count
+  pub full : length clauses ≡ body.count → numbers ≡ []
+
+-- what is wrong with a word behind the header and these words: it is no number; its variable is above the announced ones; or
+-- the announced clauses are all there
+abbrev pub IsWordCause : ℕ → ℕ → List (List ℕ) → List ℕ → Cause → Type 0
+IsWordCause vars count read word NoNumber = (number : ℤ) → FitsSigned w32 number → SpellsNumber number word → ⊥
+IsWordCause vars count read word HighVariable = (number : ℤ) × SpellsNumber number word × (vars < (literal_of number).variable)
+IsWordCause vars count read word MoreClauses = (clauses : List (List ℤ)) × SpellClauses vars count clauses read
+IsWordCause vars count read word Header = ⊥
+IsWordCause vars count read word EarlyEnd = ⊥
+
+-- one of the words is wrong
+pub record HasBadWord (vars count : ℕ) (read words : List (List ℕ)) (cause : Cause) : Type 0 where
+  pub before : List (List ℕ)
+  pub word : List ℕ
+  pub behind : List (List ℕ)
+  pub words_are : words ≡ before ++ word ∷ behind
+  pub is : IsWordCause vars count (read ++ before) word cause
+
+-- no clauses of that body go on with these words, one of which is wrong
+abbrev pub StopsAt : Body → List (List ℕ) → Stop → Type 0
+StopsAt body words (Bad cause) =
+    (read : List (List ℕ)) → Holds body read → HasBadWord body.formula.vars body.count read words cause
+    × ((more : List (List ℕ)) (clauses : List (List ℤ)) → SpellClauses body.formula.vars body.count clauses (read ++ (words ++ more)) → ⊥)
+StopsAt body words no_memory = Unit {0}
+
+-- these lines were read
+pub record StandsBehind (body : Body) (ls : List (List ℕ)) : Type 0 where
+  pub before : List (List ℕ)
+  pub header : List ℕ
+  pub behind : List (List ℕ)
+  pub lines_are : ls ≡ before ++ header ∷ behind
+  pub blank : flat_map line_words before ≡ []
+  pub header_is : SpellsHeader body.formula.vars body.count (line_words header)
+  pub holds : Holds body (flat_map line_words behind)
+
+abbrev pub Stands : Front → List (List ℕ) → Type 0
+Stands Start ls = flat_map line_words ls ≡ []
+Stands (Behind body) ls = StandsBehind body ls
+
+-- a line behind lines with a header has a wrong word
+pub record HasBadLine (ls : List (List ℕ)) (line : List ℕ) (cause : Cause) : Type 0 where
+  pub before : List (List ℕ)
+  pub header : List ℕ
+  pub behind : List (List ℕ)
+  pub vars : ℕ
+  pub count : ℕ
+  pub lines_are : ls ≡ before ++ header ∷ behind
+  pub blank : flat_map line_words before ≡ []
+  pub header_is : SpellsHeader vars count (line_words header)
+  pub bad : HasBadWord vars count (flat_map line_words behind) (line_words line) cause
+
+-- what is wrong with a line behind these lines: it is the first that has words, and no header; or a word of it is wrong
+abbrev pub IsLineCause : List (List ℕ) → List ℕ → Cause → Type 0
+IsLineCause ls line Header =
+    (flat_map line_words ls ≡ []) × (line_words line ≢ []) × ((vars count : ℕ) → SpellsHeader vars count (line_words line) → ⊥)
+IsLineCause ls line NoNumber = HasBadLine ls line NoNumber
+IsLineCause ls line HighVariable = HasBadLine ls line HighVariable
+IsLineCause ls line MoreClauses = HasBadLine ls line MoreClauses
+IsLineCause ls line EarlyEnd = ⊥
+
+-- no DIMACS text goes on with this line, and what is wrong with it
+abbrev pub StopsAtLine : Front → List ℕ → Stop → Type 0
+StopsAtLine front line (Bad cause) =
+    (ls : List (List ℕ)) → Stands front ls → IsLineCause ls line cause × ((more : List (List ℕ)) (formula : Cnf) → AreDimacs formula (ls ++ line ∷ more) → ⊥)
+StopsAtLine front line no_memory = Unit {0}
+
+-- a DIMACS text may begin with these lines
+abbrev pub GoesOn : List (List ℕ) → Type 0
+GoesOn ls = (more : List (List ℕ)) × (formula : Cnf) × AreDimacs formula (ls ++ more)

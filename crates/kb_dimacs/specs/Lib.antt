@@ -1,0 +1,10 @@
+pub mod Lines
+pub mod Pieces
+pub mod Numbers
+pub mod Dimacs
+pub mod Fronts
+pub mod Refusals
+pub mod Orders
+pub mod Texts
+pub mod Answers
+pub mod StatusNumber

@@ -1,0 +1,61 @@
+//! Why an input was not read.
+ghost use Rattle.std.specs.Prelude.{◌≡◌};
+ghost use Rattle.kb_dimacs.specs.Texts.{cause_text};
+
+use crate::memory::NoMemory;
+
+/// What is wrong with a line.
+#[derive(Clone, Copy, Debug, PartialEq, Eq)]
+pub enum Cause {
+    /// The first line that has words is no header.
+    Header,
+    /// A word is no number of 32 bits.
+    NoNumber,
+    /// A variable is above the announced ones.
+    HighVariable,
+    /// There is a number behind the last announced clause.
+    MoreClauses,
+    /// The text ends before the header, in a clause, or before the last announced clause.
+    EarlyEnd,
+}
+
+impl Cause {
+    /// What it says to a reader.
+    pub fn text(self) -> &'static str
+        ensures { result.now ≡ cause_text self }
+    {
+        match self {
+            Cause::Header => "the first line of words is not p cnf VARIABLES CLAUSES",
+            Cause::NoNumber => "a word is no number of 32 bits",
+            Cause::HighVariable => "a variable is above the announced ones",
+            Cause::MoreClauses => "there are more clauses than announced",
+            Cause::EarlyEnd => "the text ends before the announced clauses do",
+        }
+    }
+}
+
+/// Why a line or a word was not read.
+#[derive(Clone, Copy, Debug, PartialEq, Eq)]
+pub enum Stop {
+    Bad(Cause),
+    NoMemory,
+}
+
+impl From<NoMemory> for Stop {
+    ghost use Rattle.std.specs.Prelude.{◌≡◌};
+    ghost use Rattle.kb_dimacs.specs.declared.refusal.Stop.TheVariants.{NoMemory};
+
+    ghost from_gives = { λ _ e. e ≡ NoMemory };
+
+    fn from(_want: NoMemory) -> Stop {
+        Stop::NoMemory
+    }
+}
+
+/// Why a text was not read.
+#[derive(Clone, Copy, Debug, PartialEq, Eq)]
+pub enum Refusal {
+    /// The number of the line, from 1, at which the text stops being DIMACS.
+    Line(usize, Cause),
+    NoMemory,
+}
