@@ -2,9 +2,12 @@
 """Runs kb_dimacs and MiniSat side by side on formulas about ints of 32 bits.
 
 For each family of bench/formulas.py and each of its sizes: what both say, how many clauses each learned (MiniSat's
-conflicts and the entries of our log), the processor time of each, their ratio in total and by learned clause, and the time
-of the check of our log beside that of the solving. A run fails where the two disagree, or where the values of a
-satisfiable formula do not satisfy it.
+conflicts, and the entries of our log that are not the resolvent of two clauses), the processor time of each, their ratio in
+total and by learned clause, and the time of the check of our log beside that of the solving. A run fails where the two
+disagree, or where the values of a satisfiable formula do not satisfy it.
+
+Resolvents come from the elimination of variables. A clause that was learned in one step is one too, so the count of what we
+learned is a little low.
 
 A run over the time limit counts as unknown.
 
@@ -85,13 +88,26 @@ def timed(words, text, limit):
     return processor_seconds() - before, status, out
 
 
-def least(words, text, pattern, options):
-    """The run that took least time; the pattern finds how many clauses it learned."""
+def number(pattern, out):
+    """The number that the pattern finds, or 0."""
+    found = re.search(pattern, out, re.MULTILINE)
+    return int(found.group(1)) if found else 0
+
+
+def we_learned(out):
+    return number(r"^c entries (\d+)", out) - number(r"^c resolvents (\d+)", out)
+
+
+def minisat_learned(out):
+    return number(r"^conflicts\s*:\s*(\d+)", out)
+
+
+def least(words, text, learned, options):
+    """The run that took least time; `learned` reads from its output how many clauses it learned."""
     took, status, out = min(timed(words, text, options.limit) for _ in range(options.runs))
     if status not in ANSWERS:
         sys.exit(f"{words[0]}: status {status}: {out}")
-    found = re.search(pattern, out, re.MULTILINE)
-    return Run(ANSWERS[status], int(found.group(1)) if found else 0, took, out)
+    return Run(ANSWERS[status], learned(out), took, out)
 
 
 def satisfies(formula, text):
@@ -103,7 +119,7 @@ def satisfies(formula, text):
 
 
 def per_clause(ours, theirs):
-    """The ratio of the times by learned clause; a satisfiable formula tells no entries."""
+    """The ratio of the times by learned clause; for a satisfiable formula we tell no entries."""
     if ours.answer == "sat" or not ours.learned or not theirs.learned:
         return "-"
     return f"{ours.seconds / ours.learned / max(theirs.seconds / theirs.learned, 1e-9):.2f}"
@@ -113,12 +129,12 @@ def compare(formula, options):
     """Our run, MiniSat's, and the seconds of the check of our log."""
     text = formula.dimacs()
     words = [str(options.program), str(options.budget)]
-    ours = least(words, text, r"^c entries (\d+)", options)
-    checked = least(words + ["check"], text, r"^c entries (\d+)", options)
+    ours = least(words, text, we_learned, options)
+    checked = least(words + ["check"], text, we_learned, options)
     with tempfile.NamedTemporaryFile("w", suffix=".cnf") as file:
         file.write(text)
         file.flush()
-        theirs = least(["minisat", *options.minisat, file.name], None, r"^conflicts\s*:\s*(\d+)", options)
+        theirs = least(["minisat", *options.minisat, file.name], None, minisat_learned, options)
     if "unknown" not in (ours.answer, theirs.answer) and ours.answer != theirs.answer:
         sys.exit(f"the answers are not the same: {ours.answer}, and MiniSat's {theirs.answer}")
     if ours.answer == "sat" and not satisfies(formula, ours.text):
@@ -130,9 +146,9 @@ def compare(formula, options):
 
 def print_line(name, size, ours, theirs, check):
     ratio = ours.seconds / max(theirs.seconds, 1e-4)
-    entries = "-" if ours.answer == "sat" else ours.learned
+    learned = "-" if ours.answer == "sat" else ours.learned
     print(
-        f"{name:<22} {size:>4} {ours.answer:>7} {theirs.learned:>9} {entries:>8} {theirs.seconds:>9.3f}"
+        f"{name:<22} {size:>4} {ours.answer:>7} {theirs.learned:>9} {learned:>8} {theirs.seconds:>9.3f}"
         f" {ours.seconds:>9.3f} {ratio:>7.2f} {per_clause(ours, theirs):>11} {check:>8.3f} {check / max(ours.seconds, 1e-4):>6.2f}",
         flush=True,
     )
@@ -155,7 +171,7 @@ def main():
             build(PROGRAM)
         options.program = PROGRAM
     print(
-        f"{'family':<22} {'size':>4} {'answer':>7} {'conflicts':>9} {'entries':>8} {'minisat s':>9}"
+        f"{'family':<22} {'size':>4} {'answer':>7} {'conflicts':>9} {'learned':>8} {'minisat s':>9}"
         f" {'ours s':>9} {'ratio':>7} {'per clause':>11} {'check s':>8} {'/ours':>6}"
     )
     total_ours = total_theirs = 0

@@ -5,6 +5,7 @@ pub mod Soundness
 pub mod WorkingLaws
 pub mod ChainLaws
 pub mod LogLaws
+pub mod NeededLaws
 pub mod TrailLaws
 pub mod IndexLaws
 pub mod PropagationLaws

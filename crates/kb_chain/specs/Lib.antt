@@ -1,4 +1,5 @@
 pub mod Literal
+pub mod Places
 pub mod Clause
 pub mod Cnf
 pub mod Chains
@@ -8,3 +9,4 @@ pub mod Working
 pub mod Trail
 pub mod Index
 pub mod Signs
+pub mod Needed

@@ -1,5 +1,5 @@
 -- Literals of propositional logic. The numbers are those of the DIMACS format: n is the variable n, -n its negation.
-use Rattle.std.specs.Prelude.{ℕ, ◌+◌, ◌*◌, ◌==◌, pred, suc, ℤ, pos, negsuc, Bool, true, false, not, cond, List}
+use Rattle.std.specs.Prelude.{ℕ, ◌+◌, ◌*◌, ◌/◌, ◌%◌, ◌==◌, pred, suc, ℤ, pos, negsuc, Bool, true, false, not, cond, List}
 use Rattle.std.specs.List.{list_any}
 
 -- a variable, or its negation
@@ -24,6 +24,10 @@ negated l = record { variable = l.variable; positive = not l.positive }
 -- the place of a literal in the order of literals: by rising variable, the positive one first
 abbrev pub place_of : Literal → ℕ
 place_of l = 2 * l.variable + cond l.positive 0 1
+
+-- the literal at a place
+abbrev pub literal_at : ℕ → Literal
+literal_at place = record { variable = place / 2; positive = place % 2 == 0 }
 
 abbrev pub same : Literal → Literal → Bool
 same a b = place_of a == place_of b

@@ -1,4 +1,4 @@
-ghost use Rattle.std.specs.Prelude.{◌≡◌, ◌≤◌, [], true, IfOk};
+ghost use Rattle.std.specs.Prelude.{◌≡◌, ◌≤◌, [], true, OnOk, IfOk};
 ghost use Rattle.kb_chain.specs.Literal.{Literal, has, place_of};
 ghost use Rattle.kb_chain.specs.Clause.{IsOrdered, IsRising, clause_of};
 ghost use Rattle.kb_chain.specs.Cnf.{is_within};
@@ -53,7 +53,7 @@ impl Clause {
         requires { IsRising sorted.now }
         ensures { IfOk result (λ clause. clause ≡ clause_of sorted.now) }
     {
-        let mut kept = SmallVec::new(alloc);
+        let mut kept = SmallVec::with_capacity(alloc, sorted.len())?;
         for literal in sorted {
             if !ends_with(kept.as_slice(), *literal) {
                 kept.push(*literal)?;
@@ -97,15 +97,17 @@ fn sorted_by_place(alloc: Global, literals: &[Lit]) -> Result<Vec<Lit>, NoMemory
     ensures rising { IfOk result (λ sorted. IsRising sorted.items) }
 {
     let mut sorted = literals.to_vec(alloc)?;
-    sort_by_place(sorted.as_mut_slice());
+    sort_by_place(alloc, sorted.as_mut_slice())?;
     Ok(sorted)
 }
 
-fn sort_by_place(literals: &mut [Lit])
-    ensures same { (l : Literal) → has literals.new l ≡ has literals.old l }
-    ensures rising { IsRising literals.new }
+/// Sorts by place. The literals of a clause stand in runs that rise, one for each clause that it was resolved from.
+fn sort_by_place(alloc: Global, literals: &mut [Lit]) -> Result<(), NoMemory>
+    ensures same { OnOk result ((l : Literal) → has literals.new l ≡ has literals.old l) }
+    ensures rising { OnOk result (IsRising literals.new) }
 {
-    literals.sort_unstable_by_key(|l| l.place());
+    literals.sort_by_key(alloc, |l| l.place())?;
+    Ok(())
 }
 
 /// Whether ordered literals, none of which comes after this one, end with it.

@@ -3,27 +3,31 @@ ghost use Rattle.kb_chain.specs.Literal.{negated, place_of, literal, literal_of,
 
 use std::marker::Model;
 
-/// A variable or its negation, as in the DIMACS format: n is the variable n and -n its negation.
-/// The variables are 1 to 2^31 - 1, so each literal has a negation.
+/// A variable or its negation, kept as its place in the order of literals. The variables are 1 to 2^31 - 1, as in the DIMACS
+/// format, whose number n is the variable n and -n its negation.
 #[derive(Clone, Copy, Debug, PartialEq, Eq)]
-pub struct Lit(i32);
+pub struct Lit(u32);
 
 impl Model for Lit {
     ghost use Rattle.std.specs.Prelude.{◌<◌, ◌^◌};
-    ghost use Rattle.kb_chain.specs.Literal.{Literal, literal_of, number_of};
+    ghost use Rattle.std.proofs.Common.{ap};
+    ghost use Rattle.kb_chain.specs.Literal.{Literal, literal_at, place_of};
+    ghost use Rattle.kb_chain.specs.Places.{place_of-literal_at};
 
     ghost Value = { Literal };
 
-    ghost view = { λ s. literal_of s.0 };
+    ghost view = { λ s. literal_at s.0 };
 
-    ghost invariant = { λ s. (0 < (literal_of s.0).variable) × ((literal_of s.0).variable < 2 ^ 31) };
+    ghost invariant = { λ s. (0 < (literal_at s.0).variable) × ((literal_at s.0).variable < 2 ^ 31) };
 
-    ghost inverse = { λ l. record { 0 = number_of l } };
+    ghost inverse = { λ l. record { 0 = place_of l } };
+
+    ghost inverse_ok = { λ s h. ap (λ p. record { 0 = p }) (place_of-literal_at s.0) };
 }
 
 impl Default for Lit {
     fn default() -> Lit {
-        Lit(1)
+        Lit(2)
     }
 }
 
@@ -36,7 +40,7 @@ impl Lit {
         if number == 0 || number == i32::MIN {
             return None;
         }
-        Some(Lit(number))
+        Some(Lit::new(number.unsigned_abs(), number > 0))
     }
 
     pub fn new(variable: u32, positive: bool) -> Lit
@@ -44,15 +48,15 @@ impl Lit {
         requires below { variable < 2 ^ 31 }
         ensures { result ≡ literal variable positive }
     {
-        let number = variable as i32;
-        if positive { Lit(number) } else { Lit(-number) }
+        Lit(place_of(variable, positive) as u32)
     }
 
     /// The DIMACS number.
     pub fn number(self) -> i32
         ensures { result ≡ number_of self }
     {
-        self.0
+        let number = self.variable() as i32;
+        if self.is_positive() { number } else { -number }
     }
 
     pub fn variable(self) -> u32
@@ -60,19 +64,19 @@ impl Lit {
         ensures positive { 0 < result }
         ensures bound { result < 2 ^ 31 }
     {
-        self.0.unsigned_abs()
+        self.0 / 2
     }
 
     pub fn is_positive(self) -> bool
         ensures { result ≡ self.positive }
     {
-        self.0 > 0
+        self.0 % 2 == 0
     }
 
     pub fn negated(self) -> Lit
         ensures { result ≡ negated self }
     {
-        Lit(-self.0)
+        Lit(self.0 ^ 1)
     }
 
     /// The place in the order of literals: by rising variable, the positive one first. A table by literal of the variables
@@ -81,7 +85,7 @@ impl Lit {
         ensures value { result ≡ place_of self }
         ensures bound { result < 2 ^ 32 }
     {
-        place_of(self.variable(), self.is_positive())
+        self.0 as usize
     }
 }
 

@@ -1,7 +1,7 @@
 //! Each public call once, and refutations of small formulas, whose answers were worked out by hand.
 use crate::{
     Chain, Clause, Formula, Lit, Log, NoMemory, ResolveStop, Row, Verdict, check_fresh,
-    check_refutation, derive_all, resolve,
+    check_refutation, derive_all, derive_needed, resolve,
 };
 use std::alloc::Global;
 use std::process::Abort;
@@ -272,5 +272,24 @@ fn entries_derive_clauses(rt: HostRuntime) -> Result<(), Fail> {
         None => panic!(&rt; "the clause is there"),
     }
     assert!(rt; store.get(3).is_none());
+    Ok(())
+}
+
+#[test]
+fn needed_entries_derive_clauses(rt: HostRuntime) -> Result<(), Fail> {
+    let clauses = [&[1, 2][..], &[-1, 3], &[-2, 3], &[-3, 4]];
+    let formula = formula(rt.alloc(), 4, &clauses)?;
+    let log = log(rt.alloc(), &[&[0, 1, 1], &[1, 3, 3], &[4, 2, 2]])?;
+    let entries = log.entries.as_slice();
+    let Some(store) = derive_needed(rt.alloc(), &formula, entries, &[3, 6])? else {
+        panic!(&rt; "the entries derive");
+    };
+    for (number, expected) in [(3, &[-3, 4][..]), (4, &[2, 3]), (5, &[]), (6, &[3])] {
+        match store.get(number) {
+            Some(clause) => has_numbers(&rt, clause, expected),
+            None => panic!(&rt; "the clause is there"),
+        }
+    }
+    assert!(rt; store.get(7).is_none());
     Ok(())
 }

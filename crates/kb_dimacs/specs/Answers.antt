@@ -45,8 +45,8 @@ check_answer true = Some Good
 -- the status and the text of what a solver answered
 abbrev pub Tells : Bool → Solved → Status → List ℕ → Type 0
 Tells check (Sat bits) status text = (status ≡ Satisfiable) × (text ≡ satisfiable_text bits)
-Tells check (Unsat log) status text = (status ≡ Unsatisfiable) × (text ≡ unsatisfiable_text (length log.entries) (check_answer check))
-Tells check (Undecided log) status text = (status ≡ Unknown) × (text ≡ unknown_text (length log.entries) (check_answer check))
+Tells check (Unsat log) status text = (status ≡ Unsatisfiable) × (text ≡ unsatisfiable_text log.entries (check_answer check))
+Tells check (Undecided log) status text = (status ≡ Unknown) × (text ≡ unknown_text log.entries (check_answer check))
 
 -- what the program answers to a formula
 abbrev pub AnswersFormula : Order → Cnf → Status → List ℕ → Type 0

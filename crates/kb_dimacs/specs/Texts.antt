@@ -1,7 +1,8 @@
 -- What the program writes, in the output format of the SAT competitions.
-use Rattle.std.specs.Prelude.{ℕ, ◌+◌, nat_le, Bool, List, [], ◌∷◌, ◌++◌, length, Option, Some, None, codes, if◌then◌else◌}
+use Rattle.std.specs.Prelude.{ℕ, ◌+◌, ◌==◌, nat_le, Bool, List, [], ◌∷◌, ◌++◌, length, count_by, Option, Some, None, codes, if◌then◌else◌}
 use Rattle.std.specs.Fmt.{decimal, signed_decimal}
 use Rattle.kb_chain.specs.Literal.{literal, number_of}
+use Rattle.kb_chain.specs.declared.log.Chain.{Chain}
 use Rattle.kb_chain.specs.declared.log.Verdict.{Verdict}
 use Rattle.kb_chain.specs.declared.log.Verdict.TheVariants.{Good, Bad}
 use Rattle.kb_dimacs.specs.declared.refusal.Cause.{Cause}
@@ -27,19 +28,28 @@ value_words variable (bit ∷ bits) = signed_decimal (number_of (literal variabl
 unfoldable pub satisfiable_text : List Bool → List ℕ
 satisfiable_text bits = codes "s SATISFIABLE\nv" ++ all_placed 1 (value_words 1 bits)
 
--- how many entries the log has, and what its check said, if it was asked for
+-- an entry of exactly one step is the resolvent of two clauses
+abbrev pub is_resolvent : Chain → Bool
+is_resolvent entry = length entry.steps == 1
+
+abbrev pub resolvents : List Chain → ℕ
+resolvents entries = count_by is_resolvent entries
+
+-- what the check of a log said, if it was asked for
 abbrev pub check_text : Option Verdict → List ℕ
 check_text None = []
 check_text (Some Good) = codes "c log good\n"
 check_text (Some (Bad entry)) = codes "c log bad at entry " ++ (decimal entry ++ codes "\n")
 
-unfoldable pub log_text : ℕ → Option Verdict → List ℕ
-log_text entries checked = codes "c entries " ++ (decimal entries ++ (codes "\n" ++ check_text checked))
+-- how many entries the log has, how many of them are resolvents, and what its check said
+unfoldable pub log_text : List Chain → Option Verdict → List ℕ
+log_text entries checked =
+    codes "c entries " ++ (decimal (length entries) ++ (codes "\nc resolvents " ++ (decimal (resolvents entries) ++ (codes "\n" ++ check_text checked))))
 
-unfoldable pub unsatisfiable_text : ℕ → Option Verdict → List ℕ
+unfoldable pub unsatisfiable_text : List Chain → Option Verdict → List ℕ
 unsatisfiable_text entries checked = log_text entries checked ++ codes "s UNSATISFIABLE\n"
 
-unfoldable pub unknown_text : ℕ → Option Verdict → List ℕ
+unfoldable pub unknown_text : List Chain → Option Verdict → List ℕ
 unknown_text entries checked = log_text entries checked ++ codes "s UNKNOWN\n"
 
 unfoldable pub usage_text : List ℕ

@@ -1,5 +1,5 @@
 //! What the program answers to what the solver said.
-ghost use Rattle.std.specs.Prelude.{◌≡◌, ◌<◌, ◌≤◌, ◌^◌, ℕ, IfOk, string_bytes, length};
+ghost use Rattle.std.specs.Prelude.{◌≡◌, ◌<◌, ◌≤◌, ◌^◌, ℕ, IfOk, string_bytes};
 ghost use Rattle.kb_chain.specs.Chains.{IsRefutation};
 ghost use Rattle.kb_chain.specs.Propagation.{IsFresh};
 ghost use Rattle.kb_dimacs.specs.Texts.{unsatisfiable_text, unknown_text};
@@ -48,7 +48,7 @@ fn answer_unsatisfiable(
 ) -> Result<Answer, NoMemory>
     requires { IsRefutation formula.now.clauses log.now.entries }
     ensures status { IfOk result (λ a. a.status ≡ Status.Unsatisfiable) }
-    ensures text { IfOk result (λ a. string_bytes a.text ≡ unsatisfiable_text (length log.now.entries) (check_answer check)) }
+    ensures text { IfOk result (λ a. string_bytes a.text ≡ unsatisfiable_text log.now.entries (check_answer check)) }
 {
     let checked = if check {
         Some(check_refutation(alloc, formula, log)?)
@@ -57,7 +57,7 @@ fn answer_unsatisfiable(
     };
     Ok(Answer {
         status: Status::Unsatisfiable,
-        text: unsatisfiable_text(alloc, log.entries.as_slice().len(), checked)?,
+        text: unsatisfiable_text(alloc, log.entries.as_slice(), checked)?,
     })
 }
 
@@ -69,7 +69,7 @@ fn answer_undecided(
 ) -> Result<Answer, NoMemory>
     requires { IsFresh formula.now.clauses log.now.entries }
     ensures status { IfOk result (λ a. a.status ≡ Status.Unknown) }
-    ensures text { IfOk result (λ a. string_bytes a.text ≡ unknown_text (length log.now.entries) (check_answer check)) }
+    ensures text { IfOk result (λ a. string_bytes a.text ≡ unknown_text log.now.entries (check_answer check)) }
 {
     let checked = if check {
         Some(check_fresh(alloc, formula, log)?)
@@ -78,6 +78,6 @@ fn answer_undecided(
     };
     Ok(Answer {
         status: Status::Unknown,
-        text: unknown_text(alloc, log.entries.as_slice().len(), checked)?,
+        text: unknown_text(alloc, log.entries.as_slice(), checked)?,
     })
 }

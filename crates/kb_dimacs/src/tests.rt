@@ -155,12 +155,14 @@ v 24 -25 -26 27 -28 -29 30 0
     Ok(())
 }
 
-/// The log of these chains, each a start and one step.
-fn log(alloc: Global, chains: &[(u32, u32, u32)]) -> Result<Log, NoMemory> {
+/// The log of these chains, each a start and its steps.
+fn log(alloc: Global, chains: &[(u32, &[(u32, u32)])]) -> Result<Log, NoMemory> {
     let mut entries = Row::new(alloc);
-    for (start, pivot, side) in chains {
+    for (start, resolutions) in chains {
         let mut steps = Row::new(alloc);
-        steps.push((*pivot, *side))?;
+        for step in *resolutions {
+            steps.push(*step)?;
+        }
         entries.push(Chain {
             start: *start,
             steps,
@@ -169,27 +171,66 @@ fn log(alloc: Global, chains: &[(u32, u32, u32)]) -> Result<Log, NoMemory> {
     Ok(Log { entries })
 }
 
+/// The clauses that two variables have together.
+const SQUARE: &str = "p cnf 2 4\n1 2 0 1 -2 0 -1 2 0 -1 -2 0\n";
+
 #[test]
-fn logs_are_counted_and_checked(rt: HostRuntime) -> Result<(), Fail> {
-    let square = read(&rt, rt.alloc(), "p cnf 2 4\n1 2 0 1 -2 0 -1 2 0 -1 -2 0\n");
-    let refutation = log(rt.alloc(), &[(0, 2, 1), (2, 2, 3), (4, 1, 5)])?;
+fn refutations_are_counted_and_checked(rt: HostRuntime) -> Result<(), Fail> {
+    let square = read(&rt, rt.alloc(), SQUARE);
+    let refutation = log(
+        rt.alloc(),
+        &[(0, &[(2, 1)]), (2, &[(2, 3)]), (4, &[(1, 5)])],
+    )?;
     assert!(rt; check_refutation(rt.alloc(), &square, &refutation)? == Verdict::Good);
     let unsatisfiable = Solved::Unsat(refutation);
     let answer = answer_solved(rt.alloc(), &square, &unsatisfiable, true)?;
     assert_eq!(rt; answer.status.number(), 20);
     assert_eq!(rt;
         answer.text.as_str(),
-        "c entries 3\nc log good\ns UNSATISFIABLE\n"
+        "c entries 3\nc resolvents 3\nc log good\ns UNSATISFIABLE\n"
     );
     let answer = answer_solved(rt.alloc(), &square, &unsatisfiable, false)?;
-    assert_eq!(rt; answer.text.as_str(), "c entries 3\ns UNSATISFIABLE\n");
-    let fresh = log(rt.alloc(), &[(0, 2, 1)])?;
+    assert_eq!(rt;
+        answer.text.as_str(),
+        "c entries 3\nc resolvents 3\ns UNSATISFIABLE\n"
+    );
+    Ok(())
+}
+
+#[test]
+fn entries_of_no_or_more_steps_are_no_resolvents(rt: HostRuntime) -> Result<(), Fail> {
+    let square = read(&rt, rt.alloc(), SQUARE);
+    let refutation = log(
+        rt.alloc(),
+        &[(3, &[]), (0, &[(2, 1)]), (2, &[(2, 4), (1, 5)])],
+    )?;
+    assert!(rt; check_refutation(rt.alloc(), &square, &refutation)? == Verdict::Good);
+    let answer = answer_solved(rt.alloc(), &square, &Solved::Unsat(refutation), true)?;
+    assert_eq!(rt;
+        answer.text.as_str(),
+        "c entries 3\nc resolvents 1\nc log good\ns UNSATISFIABLE\n"
+    );
+    Ok(())
+}
+
+#[test]
+fn fresh_logs_are_counted_and_checked(rt: HostRuntime) -> Result<(), Fail> {
+    let square = read(&rt, rt.alloc(), SQUARE);
+    let fresh = log(rt.alloc(), &[(0, &[(2, 1)])])?;
     assert!(rt; check_fresh(rt.alloc(), &square, &fresh)? == Verdict::Good);
     let answer = answer_solved(rt.alloc(), &square, &Solved::Undecided(fresh), true)?;
     assert_eq!(rt; answer.status.number(), 0);
     assert_eq!(rt;
         answer.text.as_str(),
-        "c entries 1\nc log good\ns UNKNOWN\n"
+        "c entries 1\nc resolvents 1\nc log good\ns UNKNOWN\n"
+    );
+    let implied = read(&rt, rt.alloc(), "p cnf 3 3\n1 2 3 0 1 -2 0 1 -3 0\n");
+    let fresh = log(rt.alloc(), &[(0, &[(2, 1), (3, 2)])])?;
+    assert!(rt; check_fresh(rt.alloc(), &implied, &fresh)? == Verdict::Good);
+    let answer = answer_solved(rt.alloc(), &implied, &Solved::Undecided(fresh), false)?;
+    assert_eq!(rt;
+        answer.text.as_str(),
+        "c entries 1\nc resolvents 0\ns UNKNOWN\n"
     );
     Ok(())
 }

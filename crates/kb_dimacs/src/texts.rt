@@ -1,11 +1,11 @@
 //! What the program writes.
 ghost use Rattle.std.specs.Prelude.{◌≡◌, ◌<◌, ◌≤◌, ◌^◌, ◌++◌, ℕ, length, string_bytes, Some, None, Option, IfOk, OnOk};
 ghost use Rattle.std.specs.Fmt.{signed_decimal};
-ghost use Rattle.kb_dimacs.specs.Texts.{placed, column_behind, all_placed, value_words, satisfiable_text, check_text, log_text, unsatisfiable_text, unknown_text, usage_text, refusal_text};
+ghost use Rattle.kb_dimacs.specs.Texts.{placed, column_behind, all_placed, value_words, satisfiable_text, resolvents, check_text, log_text, unsatisfiable_text, unknown_text, usage_text, refusal_text};
 
 use crate::memory::NoMemory;
 use crate::refusal::Cause;
-use kb_chain::{Lit, Verdict};
+use kb_chain::{Chain, Lit, Verdict};
 use std::alloc::{AllocError, Global};
 
 /// The most bytes of a line of values.
@@ -61,14 +61,14 @@ fn write_word(
     Ok(2 + word.len())
 }
 
-/// The text of an unsatisfiable formula, with what the check of the log said, if it was asked for.
+/// The text of an unsatisfiable formula with a log of these entries, and what its check said, if it was asked for.
 #[tactic(auto, unfolding(crate::specs::Texts::unsatisfiable_text))]
 pub fn unsatisfiable_text(
     alloc: Global,
-    entries: usize,
+    entries: &[Chain],
     checked: Option<Verdict>,
 ) -> Result<String, NoMemory>
-    ensures { IfOk result (λ text. string_bytes text ≡ unsatisfiable_text entries checked) }
+    ensures { IfOk result (λ text. string_bytes text ≡ unsatisfiable_text entries.now checked) }
 {
     let mut text = String::new(alloc);
     write_log(&mut text, entries, checked)?;
@@ -76,14 +76,14 @@ pub fn unsatisfiable_text(
     Ok(text)
 }
 
-/// The text where the budget was spent, with what the check of the log said, if it was asked for.
+/// The text where the budget was spent on these entries, with what the check of the log said, if it was asked for.
 #[tactic(auto, unfolding(crate::specs::Texts::unknown_text))]
 pub fn unknown_text(
     alloc: Global,
-    entries: usize,
+    entries: &[Chain],
     checked: Option<Verdict>,
 ) -> Result<String, NoMemory>
-    ensures { IfOk result (λ text. string_bytes text ≡ unknown_text entries checked) }
+    ensures { IfOk result (λ text. string_bytes text ≡ unknown_text entries.now checked) }
 {
     let mut text = String::new(alloc);
     write_log(&mut text, entries, checked)?;
@@ -92,11 +92,28 @@ pub fn unknown_text(
 }
 
 #[tactic(auto, unfolding(crate::specs::Texts::log_text))]
-fn write_log(text: &mut String, entries: usize, checked: Option<Verdict>) -> Result<(), AllocError>
-    ensures { OnOk result (string_bytes text.new ≡ string_bytes text.old ++ log_text entries checked) }
+fn write_log(
+    text: &mut String,
+    entries: &[Chain],
+    checked: Option<Verdict>,
+) -> Result<(), AllocError>
+    ensures { OnOk result (string_bytes text.new ≡ string_bytes text.old ++ log_text entries.now checked) }
 {
-    writeln!(text, "c entries {entries}")?;
+    let count = entries.len();
+    let resolvents = count_resolvents(entries);
+    writeln!(text, "c entries {count}")?;
+    writeln!(text, "c resolvents {resolvents}")?;
     write_check(text, checked)
+}
+
+/// How many entries resolve two clauses and go no further, as the elimination of a variable does.
+fn count_resolvents(entries: &[Chain]) -> usize
+    ensures { result ≡ resolvents entries.now }
+{
+    entries
+        .iter()
+        .filter(|entry| entry.steps.as_slice().len() == 1)
+        .count()
 }
 
 fn write_check(text: &mut String, checked: Option<Verdict>) -> Result<(), AllocError>

@@ -21,7 +21,7 @@ use Rattle.kb_sat.specs.declared.watch.Pair.{Pair}
 use Rattle.kb_sat.specs.declared.watch.Watch.{Watch}
 use Rattle.kb_sat.proofs.Places.{at_get_or, at_inside, at_same}
 use Rattle.kb_sat.proofs.TrailLaws.{length_taken}
-use Rattle.kb_sat.proofs.WatchLaws.{IsWatching-push, AllListed-push, Quiet-push, Quiet_more}
+use Rattle.kb_sat.proofs.WatchLaws.{IsWatching-push, AllListed-push, AllAwake-push, Quiet-push, Quiet_more}
 
 -- one more clause
 pub IsBegun-push : (rows : List (List Literal)) (n : ℕ) (row : List Literal) (pairs : List Pair) (lists : List (List Watch)) (t later : Assigned) (a b : Literal)
@@ -38,6 +38,7 @@ IsBegun-push rows n row pairs lists t later a b is h has_a has_b within single p
     subst (λ z. IsBegun z (pairs ++ paired a b ∷ []) (put_pair lists a b n) later) (sym more) (record {
       watching = subst (λ v. IsWatching (take n rows ++ row ∷ []) (pairs ++ paired a b ∷ []) (put_pair lists a b n) v) (sym vars)
           (IsWatching-push (take n rows) pairs lists t.vars row a b n h.watching (sym size) has_a has_b within);
+      awake = AllAwake-push pairs a b h.awake;
       listed = AllListed-push pairs lists a b n h.listed (sym (count ∙ size))
           (let low : place_of a < 2 * t.vars + 2 = within a has_a in omega (arith, low, places))
           (let low : place_of b < 2 * t.vars + 2 = within b has_b in omega (arith, low, places));
@@ -56,8 +57,9 @@ IsBegun-none lists t empty places = record {
     blocked = none_blocked lists empty;
     within = λ k row e l i. cc;
   };
-  listed = λ k pair e. cc;
-  quiet = λ k row pair e f. cc;
+  awake = λ k pair e. cc;
+  listed = λ k pair e aw. cc;
+  quiet = λ k row pair e f aw. cc;
 }
   where
     none_blocked : (lists : List (List Watch)) → AreEmpty lists → list_all (all_blocked []) lists ≡ true
@@ -95,11 +97,11 @@ clause_places formula rows e h k row f =
 pub IsSearch-begin : (formula : Cnf) (entries : List Chain) (rows : List (List Literal)) (pairs : List Pair) (lists : List (List Watch)) (first t : Assigned)
     → entries ≡ [] → rows ≡ formula.clauses → first ≡ record { vars = formula.vars; literals = []; reasons = []; starts = [] }
     → IsBegun rows pairs lists t → Grows first t → ((all : List (List Literal)) → IsJustified all rows first → IsJustified all rows t)
-    → IsSearch formula entries rows pairs lists t
+    → IsSearch formula entries rows pairs lists t true
 IsSearch-begin formula entries rows pairs lists first t none e start h grows justified = record {
   clauses = formula.clauses;
   derives = ap (λ z. derived formula.clauses z) none;
-  fresh = subst (λ z. IsFresh formula.clauses z) (sym none) tt;
+  fresh = λ w. (h.awake, subst (λ z. IsFresh formula.clauses z) (sym none) tt);
   vars = grows.vars ∙ ap (λ (z : Assigned). z.vars) start;
   justified = justified formula.clauses (subst (λ z. IsJustified formula.clauses rows z) (sym start) (IsJustified-start formula.clauses rows formula.vars e));
   watching = h.watching;

@@ -20,7 +20,7 @@ use Rattle.kb_sat.specs.declared.watch.Pair.{Pair}
 use Rattle.kb_sat.specs.declared.watch.Watch.{Watch}
 use Rattle.kb_sat.proofs.Places.{at_pushed, at_kept, at_last, at_inside, at_has}
 use Rattle.kb_sat.proofs.TrailLaws.{length_taken, has_pushed, IsTrail-cut, start_taken}
-use Rattle.kb_sat.proofs.WatchLaws.{is_met-from, IsWatching-push, AllListed-push, Quiet-push, Quiet_more}
+use Rattle.kb_sat.proofs.WatchLaws.{is_met-from, IsWatching-push, AllListed-push, AllAwake-push, Quiet-push, Quiet_more}
 use Rattle.kb_sat.proofs.JustifyLaws.{pushed, IsJustified-push, IsJustified-cut, level_zero-cut, push_part}
 use Rattle.kb_sat.proofs.SearchLaws.{before_part, before_cut, cut_settled, closed_from, IsSearch-cut}
 
@@ -84,6 +84,14 @@ pub record IsAsserting (t : Assigned) (row : List Literal) (level : ℕ) (a b : 
   pub forced : (m : Literal) → has row m ≡ true → same m a ≡ false → has (before_level t level) (negated m) ≡ true
   pub false_row : (m : Literal) → has row m ≡ true → has t.literals (negated m) ≡ true
 
+-- all literals of a learned clause are false
+pub learned_false : (clauses : List (List Literal)) (t : Assigned) (chain : Chain) (row : List Literal) (level : ℕ) → IsLearned clauses t chain row level
+    → (m : Literal) → has row m ≡ true → has t.literals (negated m) ≡ true
+learned_false clauses t chain row level k m e = elim (or_cases (same m k.asserting) (has k.rest m) (ap (λ z. has z m) (sym k.shape) ∙ e)) [
+  | inl q ↦ ap (λ z. has t.literals (negated z)) (same-true m k.asserting q) ∙ k.false_now
+  | inr q ↦ taken_part t.literals (start_of t.starts level) (negated m) (all_negated-at (has (before_level t level)) k.rest k.returns m q)
+]
+
 row_second : (x : Literal) (rest : List Literal) (y : Literal) → slice_get (x ∷ rest) 1 ≡ Some y → has rest y ≡ true
 row_second x [] y e = cc
 row_second x (z ∷ zs) y e = at_has (z ∷ zs) 0 y e
@@ -114,10 +122,7 @@ IsAsserting-from clauses t chain row level a b h k at_a at_b =
         | inl q ↦ absurd (false≢true (sym n ∙ (ap (same m) is_a ∙ q)))
         | inr q ↦ rest_false m q
       ];
-      false_row = λ m e. elim (or_cases (same m k.asserting) (has k.rest m) (ap (λ z. has z m) (sym k.shape) ∙ e)) [
-        | inl q ↦ ap (λ z. has t.literals (negated z)) (same-true m k.asserting q) ∙ k.false_now
-        | inr q ↦ taken_part t.literals (start_of t.starts level) (negated m) (rest_false m q)
-      ];
+      false_row = learned_false clauses t chain row level k;
     }
   where
     second_is : (row : List Literal) (y : Literal) → slice_get row 1 ≡ Some y → IsSecond row b → b ≡ y
@@ -133,13 +138,13 @@ abbrev pub learned_trail : Assigned → ℕ → Literal → ℕ → Assigned
 learned_trail t level a n = pushed (cut_back t level) a (Some n) (take level t.starts)
 
 pub IsSearch-learn : (formula : Cnf) (entries : List Chain) (rows : List (List Literal)) (pairs : List Pair) (lists : List (List Watch)) (t : Assigned)
-    (s : IsSearch formula entries rows pairs lists t) (chain : Chain) (row : List Literal) (level : ℕ) (a b : Literal) (n : ℕ)
+    (whole : Bool) (s : IsSearch formula entries rows pairs lists t whole) (chain : Chain) (row : List Literal) (level : ℕ) (a b : Literal) (n : ℕ)
     → IsTrail t → IsLearned s.clauses t chain row level → IsAsserting t row level a b → n ≡ length rows
-    → IsSearch formula (entries ++ chain ∷ []) (rows ++ row ∷ []) (pairs ++ paired a b ∷ []) (put_pair lists a b n) (learned_trail t level a n)
-IsSearch-learn formula entries rows pairs lists t s chain row level a b n h k p at =
+    → IsSearch formula (entries ++ chain ∷ []) (rows ++ row ∷ []) (pairs ++ paired a b ∷ []) (put_pair lists a b n) (learned_trail t level a n) whole
+IsSearch-learn formula entries rows pairs lists t whole s chain row level a b n h k p at =
     let lt : level < length t.starts = k.below in
     let inside : length t.starts - 1 < length t.starts = omega (arith, lt) in
-    let cut = IsSearch-cut formula entries rows pairs lists t level s h lt in
+    let cut = IsSearch-cut formula entries rows pairs lists t level whole s h lt in
     let zero_same = level_zero-cut t level h lt in
     let row_cut : IsRow (has (level_zero (cut_back t level))) row k.clause = subst (λ z. IsRow (has z) row k.clause) (sym zero_same) k.stored in
     let justified = IsJustified-grow s.clauses rows (cut_back t level) k.clause row (IsJustified-cut s.clauses rows t level h s.justified lt) row_cut in
@@ -152,11 +157,14 @@ IsSearch-learn formula entries rows pairs lists t s chain row level a b n h k p 
     record {
       clauses = s.clauses ++ k.clause ∷ [];
       derives = derived-push entries formula.clauses s.clauses chain k.clause s.derives k.derives;
-      fresh = EachEntry-push IsNew entries formula.clauses s.clauses chain k.clause s.derives s.fresh k.derives
-          (IsNew-from s.clauses k.clause k.asserting (has t.literals) (has (before_level t (length t.starts - 1))) h.consistent
-          (taken_part t.literals (start_of t.starts (length t.starts - 1)))
-          (k.stored.part k.asserting (ap (λ z. has z k.asserting) k.shape ∙ has_head k.asserting k.rest)) k.false_now k.earlier
-          (cut_settled formula entries rows pairs lists t s h (length t.starts - 1) inside));
+      fresh = λ w. (
+        AllAwake-push pairs a b (s.fresh w).0,
+        EachEntry-push IsNew entries formula.clauses s.clauses chain k.clause s.derives (s.fresh w).1 k.derives
+            (IsNew-from s.clauses k.clause k.asserting (has t.literals) (has (before_level t (length t.starts - 1))) h.consistent
+            (taken_part t.literals (start_of t.starts (length t.starts - 1)))
+            (k.stored.part k.asserting (ap (λ z. has z k.asserting) k.shape ∙ has_head k.asserting k.rest)) k.false_now k.earlier
+            (cut_settled formula entries rows pairs lists t whole s h (s.fresh w).0 (length t.starts - 1) inside)),
+      );
       vars = s.vars;
       justified = IsJustified-push (s.clauses ++ k.clause ∷ []) (rows ++ row ∷ []) (cut_back t level) a n row (IsTrail-cut t level h lt) justified
           (ap (slice_get (rows ++ row ∷ [])) at ∙ at_last rows row) p.first p.forced;
@@ -179,11 +187,11 @@ IsSearch-learn formula entries rows pairs lists t s chain row level a b n h k p 
           })));
     }
 
-pub ready-learn : (formula : Cnf) (entries : List Chain) (rows : List (List Literal)) (pairs : List Pair) (lists : List (List Watch)) (t : Assigned)
-    → IsSearch formula entries rows pairs lists t → (row : List Literal) (level : ℕ) (a b : Literal) → IsTrail t → level < length t.starts → IsAsserting t row level a b
+pub ready-learn : (formula : Cnf) (entries : List Chain) (rows : List (List Literal)) (pairs : List Pair) (lists : List (List Watch)) (t : Assigned) (whole : Bool)
+    → IsSearch formula entries rows pairs lists t whole → (row : List Literal) (level : ℕ) (a b : Literal) → IsTrail t → level < length t.starts → IsAsserting t row level a b
     → (start_of t.starts level ≤ length (before_level t level ++ a ∷ []))
     × Quiet (rows ++ row ∷ []) (pairs ++ paired a b ∷ []) (has (take (start_of t.starts level) (before_level t level ++ a ∷ []))) (has (before_level t level ++ a ∷ []))
-ready-learn formula entries rows pairs lists t s row level a b h lt p =
+ready-learn formula entries rows pairs lists t whole s row level a b h lt p =
     let in_cut : start_of t.starts level < length t.literals = h.inside level lt in
     let size : length (before_level t level) ≡ start_of t.starts level = length_taken (start_of t.starts level) t.literals (omega (arith, in_cut)) in
     let more : length (before_level t level ++ a ∷ []) ≡ length (before_level t level) + 1 = length_push (before_level t level) a in

@@ -1,4 +1,5 @@
 pub mod Places
+pub mod ClausesLaws
 pub mod TrailLaws
 pub mod WatchLaws
 pub mod JustifyLaws
@@ -13,3 +14,5 @@ pub mod MinimiseLaws
 pub mod AnalysisLaws
 pub mod RefuteLaws
 pub mod LearnLaws
+pub mod ResolventLaws
+pub mod ForgetLaws

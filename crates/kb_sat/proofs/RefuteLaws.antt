@@ -1,18 +1,23 @@
 -- Resolution down level 0 to the empty clause.
-use Rattle.std.proofs.Common.{◌≡◌, ℕ, ◌+◌, ◌<◌, ◌==◌, List, [], ◌∷◌, ◌++◌, Bool, true, false, not, ◌&&◌, ◌||◌, arith, refl, ap, sym, ◌∙◌, inl, inr, subst, length, get_or, set, replicate, take, Option, Some, slice_get}
+use Rattle.std.proofs.Common.{◌≡◌, ℕ, ◌+◌, ◌<◌, ◌==◌, List, [], ◌∷◌, ◌++◌, Bool, true, false, not, ◌&&◌, ◌||◌, arith, refl, ap, sym, ◌∙◌, inl, inr, subst, length, get_or, set, replicate, take, Option, Some, None, Result, Ok, Err, slice_get}
+use Rattle.std.specs.Prelude.{IfOk, IsSomeAnd}
 use Rattle.std.proofs.lemmas.Bool.{false≢true, cases_eq, cases_lt, cases_Bool, or_cases, or_left, or_right, eqb-true, eq-eqb, ne_eqb, and_from, false_from_ne_true}
 use Rattle.std.proofs.lemmas.List.{take_more, get_or-replicate, get_or_past, length-replicate}
 use Rattle.std.proofs.lemmas.List.Folds.{list_any-append}
 use Rattle.std.specs.List.{list_any}
 use Rattle.kb_chain.specs.Literal.{Literal, has, same, negated}
 use Rattle.kb_chain.specs.Propagation.{all_negated, others}
+use Rattle.kb_chain.specs.Cnf.{Cnf}
+use Rattle.kb_chain.specs.Index.{has_number}
+use Rattle.kb_chain.specs.Needed.{cites}
 use Rattle.kb_chain.specs.declared.log.Chain.{Chain}
+use Rattle.kb_chain.proofs.NeededLaws.{entry_of_same}
 use Rattle.kb_chain.proofs.LiteralLaws.{same-true, has_head}
 use Rattle.kb_chain.proofs.PropagationLaws.{all_negated-at, has-others, taken_part}
 use Rattle.kb_sat.specs.Trail.{Assigned, IsTrail, HasReasons}
 use Rattle.kb_sat.specs.Store.{IsRow, IsStored}
 use Rattle.kb_sat.specs.Search.{IsConflict, IsRefuting}
-use Rattle.kb_sat.specs.Analysis.{is_seen, is_pivot, IsReached, IsLastSeen, NoneSeen}
+use Rattle.kb_sat.specs.Analysis.{is_seen, is_pivot, IsReached, IsLastSeen, NoneSeen, MayCite}
 use Rattle.kb_sat.proofs.Places.{at_has, at_inside, at_same}
 use Rattle.kb_sat.proofs.TrailLaws.{same_variable}
 use Rattle.kb_sat.proofs.MarkLaws.{IsOnce, seen_set, seen_other}
@@ -208,3 +213,53 @@ blank_table n v = elim (cases_lt v n) [
   | inl lt ↦ get_or-replicate n v false false lt
   | inr ge ↦ get_or_past (replicate n false) v false (omega (arith, ge, length-replicate n false))
 ]
+
+-- whether a step cites the clause of a number
+abbrev pub cites_step : ℕ → List (ℕ × ℕ) → Bool
+cites_step k steps = list_any (λ (s : ℕ × ℕ). s.1 == k) steps
+
+-- one more step, which cites the reason at a position
+pub cited_more : (reasons : List (Option ℕ)) (steps : List (ℕ × ℕ)) (v c p : ℕ)
+    → ((k : ℕ) → cites_step k steps ≡ true → (q : ℕ) × (slice_get reasons q ≡ Some (Some k))) → slice_get reasons p ≡ Some (Some c)
+    → (k : ℕ) → cites_step k (steps ++ (v, c) ∷ []) ≡ true → (q : ℕ) × (slice_get reasons q ≡ Some (Some k))
+cited_more reasons steps v c p h at k e =
+    elim (or_cases (cites_step k steps) (cites_step k ((v, c) ∷ [])) (sym (list_any-append (λ (s : ℕ × ℕ). s.1 == k) steps ((v, c) ∷ [])) ∙ e)) [
+      | inl s ↦ h k s
+      | inr s ↦ elim (or_cases (c == k) false s) [
+        | inl same ↦ (p, at ∙ ap (λ z. Some (Some z)) (eqb-true c k same))
+        | inr no_step ↦ absurd (false≢true no_step)
+      ]
+    ]
+
+-- clauses that are the same at the numbers that a refutation cites serve it as well
+pub reasons_same : (all clauses : List (List Literal)) (t : Assigned) (number : ℕ) → ((k : ℕ) → MayCite t number k → slice_get clauses k ≡ slice_get all k)
+    → HasReasons all t → HasReasons clauses t
+reasons_same all clauses t number same h i c l at reason =
+    let why = h i c l at reason in
+    record { clause = why.clause; numbered = same c (inr (i, reason)) ∙ why.numbered; member = why.member; forced = why.forced }
+
+pub conflict_same : (all clauses : List (List Literal)) (t : Assigned) (number : ℕ) → ((k : ℕ) → MayCite t number k → slice_get clauses k ≡ slice_get all k)
+    → IsConflict all t number → IsConflict clauses t number
+conflict_same all clauses t number same h = record { row = h.row; numbered = same number (inl refl) ∙ h.numbered; false_all = h.false_all }
+
+pub refuting_same : (all clauses : List (List Literal)) (t : Assigned) (number : ℕ) (chain : Chain) → ((k : ℕ) → MayCite t number k → slice_get clauses k ≡ slice_get all k)
+    → IsRefuting clauses chain → ((k : ℕ) → cites chain k ≡ true → MayCite t number k) → IsRefuting all chain
+refuting_same all clauses t number chain same h cited = entry_of_same all clauses chain (λ k e. sym (same k (cited k e))) ∙ h
+
+pub if_ok_both : {X E : Type 0} (r : Result X E) (P Q R : X → Type 0) → ((x : X) → P x → Q x → R x) → IfOk r P → IfOk r Q → IfOk r R
+if_ok_both (Ok x) P Q R f p q = f x p q
+if_ok_both (Err e) P Q R f p q = tt
+
+-- a store that was found with the clauses of these numbers
+pub store_same : (t : Assigned) (number : ℕ) (found : Option Cnf) (store : Cnf) (numbers read : List ℕ) (all : List (List Literal)) → found ≡ Some store → read ≡ numbers
+    → ((k : ℕ) → MayCite t number k → has_number numbers k ≡ true)
+    → IsSomeAnd found (λ s. (k : ℕ) → has_number read k ≡ true → slice_get s.clauses k ≡ slice_get all k)
+    → (k : ℕ) → MayCite t number k → slice_get store.clauses k ≡ slice_get all k
+store_same t number None store numbers read all e f h same k cited = absurd same
+store_same t number (Some s) store numbers read all e f h same k cited =
+    let is : s ≡ store = cc in
+    sym (ap (λ (z : Cnf). slice_get z.clauses k) is) ∙ same k (ap (λ z. has_number z k) f ∙ h k cited)
+
+pub none_found : {X : Type 0} (o : Option X) (P : X → Type 0) → o ≡ None → IsSomeAnd o P → ⊥
+none_found None P e h = h
+none_found (Some y) P e h = cc

@@ -16,7 +16,7 @@ use Rattle.kb_sat.specs.Trail.{Assigned, IsTrail, HasReasons, level_zero, start_
 use Rattle.kb_sat.specs.Store.{IsRow, IsStored, IsJustified}
 use Rattle.kb_sat.specs.Rows.{AreNamed}
 use Rattle.kb_sat.specs.Search.{IsConflict}
-use Rattle.kb_sat.specs.Watches.{is_met, IsQuiet, Quiet, IsWatching, AllListed, StaysQuiet}
+use Rattle.kb_sat.specs.Watches.{is_met, IsQuiet, Quiet, IsAwake, AllAwake, IsWatching, AllListed, StaysQuiet}
 use Rattle.kb_sat.specs.Solver.{IsSearch, AllAssigned, IsModelOf}
 use Rattle.kb_sat.specs.declared.watch.Pair.{Pair}
 use Rattle.kb_sat.specs.declared.watch.Watch.{Watch}
@@ -85,25 +85,25 @@ quiet_settled set low row clause pair h q own r = record {
 
 -- a set that is quiet is closed, and negates no clause
 pub quiet_all : (set low : Literal → Bool) (clauses rows : List (List Literal)) (pairs : List Pair) (lists : List (List Watch)) (vars : ℕ) → IsConsistent set → IsStored low clauses rows
-    → IsWatching rows pairs lists vars → Quiet rows pairs set set → (k : ℕ) (clause : List Literal) → slice_get clauses k ≡ Some clause → IsSettled set set clause
-quiet_all set low clauses rows pairs lists vars h stored w q k clause e =
+    → IsWatching rows pairs lists vars → AllAwake pairs → Quiet rows pairs set set → (k : ℕ) (clause : List Literal) → slice_get clauses k ≡ Some clause → IsSettled set set clause
+quiet_all set low clauses rows pairs lists vars h stored w awake q k clause e =
     let count : length rows ≡ length clauses = stored.count in
     let inside : k < length clauses = at_inside clauses k clause e in
     let row = at_within rows k (omega (arith, count, inside)) in
     let both : length pairs ≡ length rows = w.count in
     let pair = at_within pairs k (omega (arith, count, inside, both)) in
-    quiet_settled set low row.0 clause pair.0 h (q k row.0 pair.0 row.1 pair.1) (w.own k row.0 pair.0 row.1 pair.1) (stored.each k clause row.0 e row.1)
+    quiet_settled set low row.0 clause pair.0 h (q k row.0 pair.0 row.1 pair.1 (awake k pair.0 pair.1)) (w.own k row.0 pair.0 row.1 pair.1) (stored.each k clause row.0 e row.1)
 
 pub closed_from : (clauses : List (List Literal)) (set : Literal → Bool)
     → ((k : ℕ) (clause : List Literal) → slice_get clauses k ≡ Some clause → IsSettled set set clause) → IsClosed clauses set × (NegatesSome clauses set → ⊥)
 closed_from clauses set f = (λ k clause e l i o. (f k clause e).reached l i o, λ n. false≢true (sym (f n.0 n.1 n.2).consistent ∙ n.3))
 
 -- what was there when a level began
-pub cut_settled : (formula : Cnf) (entries : List Chain) (rows : List (List Literal)) (pairs : List Pair) (lists : List (List Watch)) (t : Assigned)
-    → (s : IsSearch formula entries rows pairs lists t) → IsTrail t → (j : ℕ) → j < length t.starts
+pub cut_settled : (formula : Cnf) (entries : List Chain) (rows : List (List Literal)) (pairs : List Pair) (lists : List (List Watch)) (t : Assigned) (whole : Bool)
+    → (s : IsSearch formula entries rows pairs lists t whole) → IsTrail t → AllAwake pairs → (j : ℕ) → j < length t.starts
     → (k : ℕ) (clause : List Literal) → slice_get s.clauses k ≡ Some clause → IsSettled (has (before_level t j)) (has (before_level t j)) clause
-cut_settled formula entries rows pairs lists t s h j lt =
-    quiet_all (has (before_level t j)) (has (level_zero t)) s.clauses rows pairs lists t.vars (taken_consistent t (start_of t.starts j) h) s.justified.stored s.watching (s.cuts j lt)
+cut_settled formula entries rows pairs lists t whole s h awake j lt =
+    quiet_all (has (before_level t j)) (has (level_zero t)) s.clauses rows pairs lists t.vars (taken_consistent t (start_of t.starts j) h) s.justified.stored s.watching awake (s.cuts j lt)
 
 -- the clauses of the formula come first among those that a log derives
 pub derived_kept : (clauses all : List (List Literal)) (entries : List Chain) (k : ℕ) (clause : List Literal) → derived clauses entries ≡ Some all
@@ -118,22 +118,22 @@ derived_kept clauses all (x ∷ xs) k clause e f = go (entry_of clauses x) e (λ
     go (Some c) g rec = rec c g (at_kept clauses (c ∷ []) k clause f)
 
 -- once a level began, unit propagation alone does not refute the formula
-pub not_refuted : (formula : Cnf) (entries : List Chain) (rows : List (List Literal)) (pairs : List Pair) (lists : List (List Watch)) (t : Assigned)
-    → IsSearch formula entries rows pairs lists t → IsTrail t → 0 < length t.starts → UnitRefutes formula.clauses → ⊥
-not_refuted formula entries rows pairs lists t s h lt =
-    let settled = cut_settled formula entries rows pairs lists t s h 0 lt in
+pub not_refuted : (formula : Cnf) (entries : List Chain) (rows : List (List Literal)) (pairs : List Pair) (lists : List (List Watch)) (t : Assigned) (whole : Bool)
+    → IsSearch formula entries rows pairs lists t whole → IsTrail t → AllAwake pairs → 0 < length t.starts → UnitRefutes formula.clauses → ⊥
+not_refuted formula entries rows pairs lists t whole s h awake lt =
+    let settled = cut_settled formula entries rows pairs lists t whole s h awake 0 lt in
     let both = closed_from formula.clauses (has (before_level t 0)) (λ k clause e. settled k clause (derived_kept formula.clauses s.clauses entries k clause s.derives e)) in
     not_unit_refuted formula.clauses (has (before_level t 0)) both.0 both.1
 
 -- a false row was not false before the last level
-pub not_false_before : (formula : Cnf) (entries : List Chain) (rows : List (List Literal)) (pairs : List Pair) (lists : List (List Watch)) (t : Assigned)
-    → IsSearch formula entries rows pairs lists t → IsTrail t → (j : ℕ) → j < length t.starts → (k : ℕ) (row : List Literal) → slice_get rows k ≡ Some row
+pub not_false_before : (formula : Cnf) (entries : List Chain) (rows : List (List Literal)) (pairs : List Pair) (lists : List (List Watch)) (t : Assigned) (whole : Bool)
+    → IsSearch formula entries rows pairs lists t whole → IsTrail t → (j : ℕ) → j < length t.starts → (k : ℕ) (row : List Literal) → slice_get rows k ≡ Some row → IsAwake pairs k
     → all_negated (has (before_level t j)) row ≡ false
-not_false_before formula entries rows pairs lists t s h j lt k row e =
+not_false_before formula entries rows pairs lists t whole s h j lt k row e awake =
     let both : length pairs ≡ length rows = s.watching.count in
     let inside : k < length rows = at_inside rows k row e in
     let pair = at_within pairs k (omega (arith, both, inside)) in
-    false_from_ne_true _ (quiet_row (has (before_level t j)) row pair.0 (taken_consistent t (start_of t.starts j) h) (s.cuts j lt k row pair.0 e pair.1) (s.watching.own k row pair.0 e pair.1).0)
+    false_from_ne_true _ (quiet_row (has (before_level t j)) row pair.0 (taken_consistent t (start_of t.starts j) h) (s.cuts j lt k row pair.0 e pair.1 (awake pair.0 pair.1)) (s.watching.own k row pair.0 e pair.1).0)
 
 -- a conflict of a row is one of its clause
 pub conflict_clause : (clauses rows : List (List Literal)) (t : Assigned) (k : ℕ) → IsJustified clauses rows t → IsConflict rows t k → IsConflict clauses t k
@@ -151,13 +151,13 @@ conflict_clause clauses rows t k j c =
     }
 
 -- propagation
-pub IsSearch-propagated : (formula : Cnf) (entries : List Chain) (rows : List (List Literal)) (pairs pairs' : List Pair) (lists lists' : List (List Watch)) (t t' : Assigned)
-    → IsSearch formula entries rows pairs lists t → IsTrail t → IsWatching rows pairs' lists' t'.vars → AllListed lists' pairs' → StaysQuiet rows pairs pairs' (has t.literals) → Grows t t'
-    → ((all : List (List Literal)) → IsJustified all rows t → IsJustified all rows t') → IsSearch formula entries rows pairs' lists' t'
-IsSearch-propagated formula entries rows pairs pairs' lists lists' t t' s h watching listed stays grows justified = record {
+pub IsSearch-propagated : (formula : Cnf) (entries : List Chain) (rows : List (List Literal)) (pairs pairs' : List Pair) (lists lists' : List (List Watch)) (t t' : Assigned) (whole : Bool)
+    → IsSearch formula entries rows pairs lists t whole → IsTrail t → IsWatching rows pairs' lists' t'.vars → AllListed lists' pairs' → StaysQuiet rows pairs pairs' (has t.literals) → Grows t t'
+    → ((all : List (List Literal)) → IsJustified all rows t → IsJustified all rows t') → IsSearch formula entries rows pairs' lists' t' whole
+IsSearch-propagated formula entries rows pairs pairs' lists lists' t t' whole s h watching listed stays grows justified = record {
   clauses = s.clauses;
   derives = s.derives;
-  fresh = s.fresh;
+  fresh = λ w. (stays.0 (s.fresh w).0, (s.fresh w).1);
   vars = grows.vars ∙ s.vars;
   justified = justified s.clauses s.justified;
   watching = watching;
@@ -166,14 +166,14 @@ IsSearch-propagated formula entries rows pairs pairs' lists lists' t t' s h watc
       let inside : start_of t.starts j < length t.literals = h.inside j old in
       let e : before_level t' j ≡ before_level t j =
       ap (λ (z : List ℕ). take (start_of z j) t'.literals) grows.starts ∙ Extends-take t.literals t'.literals (start_of t.starts j) grows.literals (omega (arith, inside)) in
-      subst (λ z. Quiet rows pairs' (has z) (has z)) (sym e) (stays (has (before_level t j)) (taken_part t.literals (start_of t.starts j)) (s.cuts j old)));
+      subst (λ z. Quiet rows pairs' (has z) (has z)) (sym e) (stays.1 (has (before_level t j)) (taken_part t.literals (start_of t.starts j)) (s.cuts j old)));
 }
 
 -- a decision
-pub IsSearch-decided : (formula : Cnf) (entries : List Chain) (rows : List (List Literal)) (pairs : List Pair) (lists : List (List Watch)) (t : Assigned) (l : Literal)
-    → IsSearch formula entries rows pairs lists t → IsTrail t → Quiet rows pairs (has t.literals) (has t.literals)
-    → IsSearch formula entries rows pairs lists (pushed t l None (t.starts ++ length t.literals ∷ []))
-IsSearch-decided formula entries rows pairs lists t l s h quiet = record {
+pub IsSearch-decided : (formula : Cnf) (entries : List Chain) (rows : List (List Literal)) (pairs : List Pair) (lists : List (List Watch)) (t : Assigned) (l : Literal) (whole : Bool)
+    → IsSearch formula entries rows pairs lists t whole → IsTrail t → Quiet rows pairs (has t.literals) (has t.literals)
+    → IsSearch formula entries rows pairs lists (pushed t l None (t.starts ++ length t.literals ∷ [])) whole
+IsSearch-decided formula entries rows pairs lists t l whole s h quiet = record {
   clauses = s.clauses;
   derives = s.derives;
   fresh = s.fresh;
@@ -204,9 +204,9 @@ before_cut t level j h lt below =
     ap (λ n. take n (before_level t level)) (start_taken level t.starts j below) ∙ take-take (start_of t.starts j) (start_of t.starts level) t.literals (omega (arith, s))
 
 -- back to a level
-pub IsSearch-cut : (formula : Cnf) (entries : List Chain) (rows : List (List Literal)) (pairs : List Pair) (lists : List (List Watch)) (t : Assigned) (level : ℕ)
-    → IsSearch formula entries rows pairs lists t → IsTrail t → level < length t.starts → IsSearch formula entries rows pairs lists (cut_back t level)
-IsSearch-cut formula entries rows pairs lists t level s h lt = record {
+pub IsSearch-cut : (formula : Cnf) (entries : List Chain) (rows : List (List Literal)) (pairs : List Pair) (lists : List (List Watch)) (t : Assigned) (level : ℕ) (whole : Bool)
+    → IsSearch formula entries rows pairs lists t whole → IsTrail t → level < length t.starts → IsSearch formula entries rows pairs lists (cut_back t level) whole
+IsSearch-cut formula entries rows pairs lists t level whole s h lt = record {
   clauses = s.clauses;
   derives = s.derives;
   fresh = s.fresh;
@@ -219,32 +219,33 @@ IsSearch-cut formula entries rows pairs lists t level s h lt = record {
       subst (λ z. Quiet rows pairs (has z) (has z)) (sym (before_cut t level j h lt below)) (s.cuts j (omega (arith, below, lt))));
 }
 
-pub quiet-cut : (formula : Cnf) (entries : List Chain) (rows : List (List Literal)) (pairs : List Pair) (lists : List (List Watch)) (t : Assigned) (level : ℕ)
-    → IsSearch formula entries rows pairs lists t → IsTrail t → level < length t.starts
+pub quiet-cut : (formula : Cnf) (entries : List Chain) (rows : List (List Literal)) (pairs : List Pair) (lists : List (List Watch)) (t : Assigned) (whole : Bool) (level : ℕ)
+    → IsSearch formula entries rows pairs lists t whole → IsTrail t → level < length t.starts
     → (start_of t.starts level ≤ length (before_level t level)) × Quiet rows pairs (has (take (start_of t.starts level) (before_level t level))) (has (before_level t level))
-quiet-cut formula entries rows pairs lists t level s h lt =
+quiet-cut formula entries rows pairs lists t whole level s h lt =
     let inside : start_of t.starts level < length t.literals = h.inside level lt in
     let size : length (before_level t level) ≡ start_of t.starts level = length_taken (start_of t.starts level) t.literals (omega (arith, inside)) in (
       (omega (arith, size)),
       subst (λ z. Quiet rows pairs (has z) (has (before_level t level))) (sym (take_all (start_of t.starts level) (before_level t level) (omega (arith, size)))) (s.cuts level lt),
     )
 
-pub IsSearch_same : (f f' : Cnf) (e e' : List Chain) (r r' : List (List Literal)) (p p' : List Pair) (l l' : List (List Watch)) (t t' : Assigned)
-    → f ≡ f' → e ≡ e' → r ≡ r' → p ≡ p' → l ≡ l' → t ≡ t' → IsSearch f' e' r' p' l' t' → IsSearch f e r p l t
-IsSearch_same f f' e e' r r' p p' l l' t t' ef ee er ep el et h =
-    subst (λ z. IsSearch z e r p l t) (sym ef)
-    (subst (λ z. IsSearch f' z r p l t) (sym ee)
-    (subst (λ z. IsSearch f' e' z p l t) (sym er)
-    (subst (λ z. IsSearch f' e' r' z l t) (sym ep)
-    (subst (λ z. IsSearch f' e' r' p' z t) (sym el)
-    (subst (λ z. IsSearch f' e' r' p' l' z) (sym et) h)))))
+pub IsSearch_same : (f f' : Cnf) (e e' : List Chain) (r r' : List (List Literal)) (p p' : List Pair) (l l' : List (List Watch)) (t t' : Assigned) (w w' : Bool)
+    → f ≡ f' → e ≡ e' → r ≡ r' → p ≡ p' → l ≡ l' → t ≡ t' → w ≡ w' → IsSearch f' e' r' p' l' t' w' → IsSearch f e r p l t w
+IsSearch_same f f' e e' r r' p p' l l' t t' w w' ef ee er ep el et ew h =
+    subst (λ z. IsSearch z e r p l t w) (sym ef)
+    (subst (λ z. IsSearch f' z r p l t w) (sym ee)
+    (subst (λ z. IsSearch f' e' z p l t w) (sym er)
+    (subst (λ z. IsSearch f' e' r' z l t w) (sym ep)
+    (subst (λ z. IsSearch f' e' r' p' z t w) (sym el)
+    (subst (λ z. IsSearch f' e' r' p' l' z w) (sym et)
+    (subst (λ z. IsSearch f' e' r' p' l' t' z) (sym ew) h))))))
 
 -- a model
-formula_clause : (formula : Cnf) (entries : List Chain) (rows : List (List Literal)) (pairs : List Pair) (lists : List (List Watch)) (t : Assigned)
-    → (s : IsSearch formula entries rows pairs lists t) → IsTrail t → AreNamed rows → AllAssigned t → Quiet rows pairs (has t.literals) (has t.literals)
+formula_clause : (formula : Cnf) (entries : List Chain) (rows : List (List Literal)) (pairs : List Pair) (lists : List (List Watch)) (t : Assigned) (whole : Bool)
+    → (s : IsSearch formula entries rows pairs lists t whole) → IsTrail t → AllAwake pairs → AreNamed rows → AllAssigned t → Quiet rows pairs (has t.literals) (has t.literals)
     → (k : ℕ) (clause : List Literal) → slice_get formula.clauses k ≡ Some clause
     → (m : Literal) × (has clause m ≡ true) × (has t.literals m ≡ true) × (0 < m.variable) × (m.variable < 2 ^ 31) × (m.variable ≤ t.vars)
-formula_clause formula entries rows pairs lists t s h named assigned quiet k clause e =
+formula_clause formula entries rows pairs lists t whole s h awake named assigned quiet k clause e =
     let there = derived_kept formula.clauses s.clauses entries k clause s.derives e in
     let count : length rows ≡ length s.clauses = s.justified.stored.count in
     let both : length pairs ≡ length rows = s.watching.count in
@@ -254,7 +255,7 @@ formula_clause formula entries rows pairs lists t s h named assigned quiet k cla
     let x = pair.0.first in
     let own = (s.watching.own k row.0 pair.0 row.1 pair.1).0 in
     let r = s.justified.stored.each k clause row.0 there row.1 in
-    let found = is_met-some (has t.literals) row.0 (meets row.0 x (quiet k row.0 pair.0 row.1 pair.1).first own (low x (s.watching.within k row.0 row.1 x own)) (named k row.0 row.1 x own)) in
+    let found = is_met-some (has t.literals) row.0 (meets row.0 x (quiet k row.0 pair.0 row.1 pair.1 (awake k pair.0 pair.1)).first own (low x (s.watching.within k row.0 row.1 x own)) (named k row.0 row.1 x own)) in
     let bounds = named k row.0 row.1 found.0 found.1 in
     (found.0, r.part found.0 found.1, found.2, bounds.0, bounds.1, low found.0 (s.watching.within k row.0 row.1 found.0 found.1))
   where
@@ -286,12 +287,12 @@ clause_true-from a (x ∷ xs) m e h = elim (or_cases (same m x) (has xs m) e) [
   | inr s ↦ or_right _ _ (clause_true-from a xs m s h)
 ]
 
-pub model_satisfies : (formula : Cnf) (entries : List Chain) (rows : List (List Literal)) (pairs : List Pair) (lists : List (List Watch)) (t : Assigned) (bits : List Bool)
-    → IsSearch formula entries rows pairs lists t → IsTrail t → AreNamed rows → AllAssigned t → Quiet rows pairs (has t.literals) (has t.literals)
+pub model_satisfies : (formula : Cnf) (entries : List Chain) (rows : List (List Literal)) (pairs : List Pair) (lists : List (List Watch)) (t : Assigned) (bits : List Bool) (whole : Bool)
+    → IsSearch formula entries rows pairs lists t whole → IsTrail t → AllAwake pairs → AreNamed rows → AllAssigned t → Quiet rows pairs (has t.literals) (has t.literals)
     → length bits ≡ t.vars → IsModelOf bits t → Satisfies (assignment_of bits) formula.clauses
-model_satisfies formula entries rows pairs lists t bits s h named assigned quiet size values =
+model_satisfies formula entries rows pairs lists t bits whole s h awake named assigned quiet size values =
     Satisfies-from (assignment_of bits) formula.clauses (λ k c e.
-    (let m = formula_clause formula entries rows pairs lists t s h named assigned quiet k c e in
+    (let m = formula_clause formula entries rows pairs lists t whole s h awake named assigned quiet k c e in
     clause_true-from (assignment_of bits) c m.0 m.1 (holds m.0 m.2 m.3 m.4 m.5)))
   where
     value : (v : ℕ) → 0 < v → v < 2 ^ 31 → v ≤ t.vars → assignment_of bits v ≡ has t.literals (literal v true)
@@ -309,7 +310,7 @@ model_satisfies formula entries rows pairs lists t bits s h named assigned quiet
             ∙ ap not (value m.variable low high le ∙ (ap (λ z. has t.literals (literal m.variable (not z))) (sym f) ∙ h.consistent m e))
 
 -- a row that is false at level 0 dooms the search
-pub doomed_from : (formula : Cnf) (entries : List Chain) (rows : List (List Literal)) (pairs : List Pair) (lists : List (List Watch)) (t : Assigned) (number : ℕ)
-    → (s : IsSearch formula entries rows pairs lists t) → IsConflict rows t number
+pub doomed_from : (formula : Cnf) (entries : List Chain) (rows : List (List Literal)) (pairs : List Pair) (lists : List (List Watch)) (t : Assigned) (whole : Bool) (number : ℕ)
+    → (s : IsSearch formula entries rows pairs lists t whole) → IsConflict rows t number
     → HasReasons s.clauses t × IsConflict s.clauses t number
-doomed_from formula entries rows pairs lists t number s c = (s.justified.reasons, conflict_clause s.clauses rows t number s.justified c)
+doomed_from formula entries rows pairs lists t whole number s c = (s.justified.reasons, conflict_clause s.clauses rows t number s.justified c)

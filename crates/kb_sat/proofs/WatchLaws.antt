@@ -11,7 +11,7 @@ use Rattle.kb_chain.proofs.OrderLaws.{has_take-suc, has_get_or}
 use Rattle.kb_chain.proofs.PropagationLaws.{IsPart, place_of-negated}
 use Rattle.kb_sat.specs.declared.watch.Pair.{Pair}
 use Rattle.kb_sat.specs.declared.watch.Watch.{Watch}
-use Rattle.kb_sat.specs.Watches.{is_met, IsQuiet, Quiet, watches_clause, at_literal, IsListed, is_blocked, all_blocked, AreOwn, IsWatching, IsSettledOrWaiting, IsPending, Walks, AllListed, StaysQuiet, IsOther, put, paired, put_pair}
+use Rattle.kb_sat.specs.Watches.{is_met, IsQuiet, Quiet, AllAwake, watches_clause, at_literal, IsListed, is_blocked, all_blocked, AreOwn, IsWatching, IsSettledOrWaiting, IsPending, Walks, AllListed, StaysQuiet, IsOther, put, paired, put_pair}
 use Rattle.kb_sat.proofs.Places.{at_pushed, at_last, at_inside, at_set, at_get_or, at_same}
 
 pub listed_more : (lists : List (List Watch)) (l : Literal) (w : Watch) (m : Literal) (k : ℕ) → watches_clause (at_literal lists m) k ≡ true
@@ -89,23 +89,24 @@ pub Walks-step : (early late later : Literal → Bool) (rows : List (List Litera
     → Walks early late rows pairs lists (w ∷ rest) f → IsPart late later
     → ((m : Literal) (k : ℕ) → watches_clause (at_literal lists m) k ≡ true → watches_clause (at_literal lists' m) k ≡ true)
     → ((k : ℕ) (pair : Pair) → slice_get pairs' k ≡ Some pair → (w.clause ≡ k → ⊥) → slice_get pairs k ≡ Some pair)
-    → ((pair : Pair) → slice_get pairs' w.clause ≡ Some pair → IsListed lists' rest f w.clause pair.first × IsListed lists' rest f w.clause pair.second)
-    → ((row : List Literal) (pair : Pair) → slice_get rows w.clause ≡ Some row → slice_get pairs' w.clause ≡ Some pair → IsPending early later row pair rest f w.clause)
+    → ((pair : Pair) → slice_get pairs' w.clause ≡ Some pair → pair.awake ≡ true → IsListed lists' rest f w.clause pair.first × IsListed lists' rest f w.clause pair.second)
+    → ((row : List Literal) (pair : Pair) → slice_get rows w.clause ≡ Some row → slice_get pairs' w.clause ≡ Some pair → pair.awake ≡ true
+    → IsPending early later row pair rest f w.clause)
     → Walks early later rows pairs' lists' rest f
 Walks-step early late later rows pairs pairs' lists lists' w rest f h grown more kept listed pending = record {
   listed = record {
-    first = λ k pair e. elim (cases_eq w.clause k) [
-      | inl s ↦ subst (λ z. IsListed lists' rest f z pair.first) s (listed pair (ap (slice_get pairs') s ∙ e)).0
-      | inr n ↦ still k pair.first n (h.listed.first k pair (kept k pair e n))
+    first = λ k pair e aw. elim (cases_eq w.clause k) [
+      | inl s ↦ subst (λ z. IsListed lists' rest f z pair.first) s (listed pair (ap (slice_get pairs') s ∙ e) aw).0
+      | inr n ↦ still k pair.first n (h.listed.first k pair (kept k pair e n) aw)
     ];
-    second = λ k pair e. elim (cases_eq w.clause k) [
-      | inl s ↦ subst (λ z. IsListed lists' rest f z pair.second) s (listed pair (ap (slice_get pairs') s ∙ e)).1
-      | inr n ↦ still k pair.second n (h.listed.second k pair (kept k pair e n))
+    second = λ k pair e aw. elim (cases_eq w.clause k) [
+      | inl s ↦ subst (λ z. IsListed lists' rest f z pair.second) s (listed pair (ap (slice_get pairs') s ∙ e) aw).1
+      | inr n ↦ still k pair.second n (h.listed.second k pair (kept k pair e n) aw)
     ];
   };
-  pending = λ k row pair r e. elim (cases_eq w.clause k) [
-    | inl s ↦ subst (λ z. IsPending early later row pair rest f z) s (pending row pair (ap (slice_get rows) s ∙ r) (ap (slice_get pairs') s ∙ e))
-    | inr n ↦ (let p = h.pending k row pair r (kept k pair e n) in record {
+  pending = λ k row pair r e aw. elim (cases_eq w.clause k) [
+    | inl s ↦ subst (λ z. IsPending early later row pair rest f z) s (pending row pair (ap (slice_get rows) s ∙ r) (ap (slice_get pairs') s ∙ e) aw)
+    | inr n ↦ (let p = h.pending k row pair r (kept k pair e n) aw in record {
       first = λ g. waits k row pair.first n (p.first g);
       second = λ g. waits k row pair.second n (p.second g);
       single = λ g. grown pair.first (p.single g);
@@ -132,11 +133,11 @@ pub Walks-keep : (early late later : Literal → Bool) (rows : List (List Litera
     → Walks early later rows pairs (put lists f w') rest f
 Walks-keep early late later rows pairs lists w w' rest f h grown lt same_clause met =
     Walks-step early late later rows pairs pairs lists (put lists f w') w rest f h grown (listed_more lists f w') (λ k pair e n. e)
-    (λ pair e. (here pair.first (h.listed.first w.clause pair e), here pair.second (h.listed.second w.clause pair e)))
-    (λ row pair r e. record {
+    (λ pair e aw. (here pair.first (h.listed.first w.clause pair e aw), here pair.second (h.listed.second w.clause pair e aw)))
+    (λ row pair r e aw. record {
       first = λ g. inl (met row r);
       second = λ g. inl (met row r);
-      single = λ g. grown pair.first ((h.pending w.clause row pair r e).single g);
+      single = λ g. grown pair.first ((h.pending w.clause row pair r e aw).single g);
     })
   where
     here : (m : Literal) → IsListed lists (w ∷ rest) f w.clause m → IsListed (put lists f w') rest f w.clause m
@@ -149,14 +150,14 @@ not_same a b e s = false≢true (sym e ∙ (ap (same a) (sym s) ∙ same_refl a)
 -- the clause does not watch the literal
 pub Walks-drop : (early late : Literal → Bool) (rows : List (List Literal)) (pairs : List Pair) (lists : List (List Watch)) (w : Watch) (rest : List Watch) (f : Literal)
     → Walks early late rows pairs lists (w ∷ rest) f
-    → ((pair : Pair) → slice_get pairs w.clause ≡ Some pair → (same pair.first f ≡ false) × (same pair.second f ≡ false))
+    → ((pair : Pair) → slice_get pairs w.clause ≡ Some pair → pair.awake ≡ true → (same pair.first f ≡ false) × (same pair.second f ≡ false))
     → Walks early late rows pairs lists rest f
 Walks-drop early late rows pairs lists w rest f h apart =
     Walks-step early late late rows pairs pairs lists lists w rest f h (λ l e. e) (λ m k e. e) (λ k pair e n. e)
-    (λ pair e. (here pair.first (apart pair e).0 (h.listed.first w.clause pair e), here pair.second (apart pair e).1 (h.listed.second w.clause pair e)))
-    (λ row pair r e. (let p = h.pending w.clause row pair r e in record {
-      first = λ g. waits row pair.first (apart pair e).0 (p.first g);
-      second = λ g. waits row pair.second (apart pair e).1 (p.second g);
+    (λ pair e aw. (here pair.first (apart pair e aw).0 (h.listed.first w.clause pair e aw), here pair.second (apart pair e aw).1 (h.listed.second w.clause pair e aw)))
+    (λ row pair r e aw. (let p = h.pending w.clause row pair r e aw in record {
+      first = λ g. waits row pair.first (apart pair e aw).0 (p.first g);
+      second = λ g. waits row pair.second (apart pair e aw).1 (p.second g);
       single = p.single;
     }))
   where
@@ -173,15 +174,15 @@ Walks-drop early late rows pairs lists w rest f h apart =
 pub Walks-move : (early late : Literal → Bool) (rows : List (List Literal)) (pairs : List Pair) (lists : List (List Watch)) (w w' : Watch) (rest : List Watch) (f : Literal)
     (pair : Pair) (other next : Literal)
     → Walks early late rows pairs lists (w ∷ rest) f → IsPart early late → place_of next < length lists → w'.clause ≡ w.clause
-    → slice_get pairs w.clause ≡ Some pair → IsOther pair f other → late f ≡ false → late (negated next) ≡ false → same next other ≡ false
+    → slice_get pairs w.clause ≡ Some pair → pair.awake ≡ true → IsOther pair f other → late f ≡ false → late (negated next) ≡ false → same next other ≡ false
     → (row : List Literal) → slice_get rows w.clause ≡ Some row
     → Walks early late rows (set pairs w.clause (paired other next)) (put lists next w') rest f
-Walks-move early late rows pairs lists w w' rest f pair other next h part lt same_clause was is_other lacks free apart row is_row =
+Walks-move early late rows pairs lists w w' rest f pair other next h part lt same_clause was awake is_other lacks free apart row is_row =
     Walks-step early late late rows pairs (set pairs w.clause (paired other next)) lists (put lists next w') w rest f h (λ l e. e) (listed_more lists next w')
     (λ k p e n. elim (at_set pairs w.clause (paired other next) k p e) [ inl s ↦ s.0 | inr s ↦ absurd (n (sym s.0)) ])
-    (λ p e. subst (λ z. IsListed (put lists next w') rest f w.clause z.first × IsListed (put lists next w') rest f w.clause z.second) (is_new p e)
+    (λ p e aw. subst (λ z. IsListed (put lists next w') rest f w.clause z.first × IsListed (put lists next w') rest f w.clause z.second) (is_new p e)
     (still (listed_other is_other), inl (listed_new lists next w' w.clause lt same_clause)))
-    (λ r p g e. subst (λ z. IsPending early late r z rest f w.clause) (is_new p e) (record {
+    (λ r p g e aw. subst (λ z. IsPending early late r z rest f w.clause) (is_new p e) (record {
       first = λ n. waits r (pending_other r g is_other n);
       second = λ n. absurd (false≢true (sym free ∙ part (negated next) n));
       single = λ s. absurd (false≢true (sym apart ∙ (ap (λ z. same z other) (sym (same-true other next s)) ∙ same_refl other)));
@@ -191,23 +192,23 @@ Walks-move early late rows pairs lists w w' rest f pair other next h part lt sam
     is_new p e = elim (at_set pairs w.clause (paired other next) w.clause p e) [ inl s ↦ absurd (s.1 refl) | inr s ↦ s.1 ]
 
     single : pair.first ≡ f → pair.second ≡ f → ⊥
-    single a b = false≢true (sym lacks ∙ (ap late (sym a) ∙ (h.pending w.clause row pair is_row was).single (ap (λ z. same z pair.second) (a ∙ sym b) ∙ same_refl pair.second)))
+    single a b = false≢true (sym lacks ∙ (ap late (sym a) ∙ (h.pending w.clause row pair is_row was awake).single (ap (λ z. same z pair.second) (a ∙ sym b) ∙ same_refl pair.second)))
 
     other_apart : IsOther pair f other → other ≡ f → ⊥
     other_apart (inl e) s = single (sym e.0) (sym e.1 ∙ s)
     other_apart (inr e) s = single (sym e.1 ∙ s) (sym e.0)
 
     listed_other : IsOther pair f other → IsListed lists (w ∷ rest) f w.clause other
-    listed_other (inl e) = subst (λ z. IsListed lists (w ∷ rest) f w.clause z) (sym e.1) (h.listed.second w.clause pair was)
-    listed_other (inr e) = subst (λ z. IsListed lists (w ∷ rest) f w.clause z) (sym e.1) (h.listed.first w.clause pair was)
+    listed_other (inl e) = subst (λ z. IsListed lists (w ∷ rest) f w.clause z) (sym e.1) (h.listed.second w.clause pair was awake)
+    listed_other (inr e) = subst (λ z. IsListed lists (w ∷ rest) f w.clause z) (sym e.1) (h.listed.first w.clause pair was awake)
 
     still : IsListed lists (w ∷ rest) f w.clause other → IsListed (put lists next w') rest f w.clause other
     still (inl e) = inl (listed_more lists next w' other w.clause e)
     still (inr e) = absurd (other_apart is_other e.0)
 
     pending_other : (r : List Literal) → slice_get rows w.clause ≡ Some r → IsOther pair f other → IsSettledOrWaiting early late r (w ∷ rest) f w.clause other
-    pending_other r g (inl e) = subst (λ z. IsSettledOrWaiting early late r (w ∷ rest) f w.clause z) (sym e.1) (h.pending w.clause r pair g was).second
-    pending_other r g (inr e) = subst (λ z. IsSettledOrWaiting early late r (w ∷ rest) f w.clause z) (sym e.1) (h.pending w.clause r pair g was).first
+    pending_other r g (inl e) = subst (λ z. IsSettledOrWaiting early late r (w ∷ rest) f w.clause z) (sym e.1) (h.pending w.clause r pair g was awake).second
+    pending_other r g (inr e) = subst (λ z. IsSettledOrWaiting early late r (w ∷ rest) f w.clause z) (sym e.1) (h.pending w.clause r pair g was awake).first
 
     waits : (r : List Literal) → (is_met late r ≡ true) ⊎ ((other ≡ f) × (watches_clause (w ∷ rest) w.clause ≡ true))
         → (is_met late r ≡ true) ⊎ ((other ≡ f) × (watches_clause rest w.clause ≡ true))
@@ -216,21 +217,26 @@ Walks-move early late rows pairs lists w w' rest f pair other next h part lt sam
 
 -- sets within the trail stay quiet as a watch moves to a literal that is not false
 pub StaysQuiet-move : (rows : List (List Literal)) (pairs : List Pair) (k : ℕ) (trail : Literal → Bool) (pair : Pair) (f other next : Literal)
-    → slice_get pairs k ≡ Some pair → IsOther pair f other → trail (negated next) ≡ false → same next other ≡ false
+    → slice_get pairs k ≡ Some pair → pair.awake ≡ true → IsOther pair f other → trail (negated next) ≡ false → same next other ≡ false
     → StaysQuiet rows pairs (set pairs k (paired other next)) trail
-StaysQuiet-move rows pairs k trail pair f other next was is_other free apart set' part quiet j row p r e =
-    elim (at_set pairs k (paired other next) j p e) [
-      | inl s ↦ quiet j row p r s.0
-      | inr s ↦ subst (λ z. IsQuiet set' set' row z) s.1 (record {
-        first = λ n. met (quiet j row pair r (ap (slice_get pairs) s.0 ∙ was)) is_other n;
-        second = λ n. absurd (false≢true (sym free ∙ part (negated next) n));
-        single = λ n. absurd (false≢true (sym apart ∙ (ap (λ z. same z other) (sym (same-true other next n)) ∙ same_refl other)));
-      })
-    ]
+StaysQuiet-move rows pairs k trail pair f other next was awake is_other free apart = (
+  λ all j p e. elim (at_set pairs k (paired other next) j p e) [
+    | inl s ↦ all j p s.0
+    | inr s ↦ ap (λ z. z.awake) (sym s.1)
+  ],
+  λ set' part quiet j row p r e aw. elim (at_set pairs k (paired other next) j p e) [
+    | inl s ↦ quiet j row p r s.0 aw
+    | inr s ↦ subst (λ z. IsQuiet set' set' row z) s.1 (record {
+      first = λ n. met set' row (quiet j row pair r (ap (slice_get pairs) s.0 ∙ was) awake) is_other n;
+      second = λ n. absurd (false≢true (sym free ∙ part (negated next) n));
+      single = λ n. absurd (false≢true (sym apart ∙ (ap (λ z. same z other) (sym (same-true other next n)) ∙ same_refl other)));
+    })
+  ],
+)
   where
-    met : IsQuiet set' set' row pair → IsOther pair f other → set' (negated other) ≡ true → is_met set' row ≡ true
-    met q (inl o) n = q.second (ap (λ z. set' (negated z)) (sym o.1) ∙ n)
-    met q (inr o) n = q.first (ap (λ z. set' (negated z)) (sym o.1) ∙ n)
+    met : (set' : Literal → Bool) (row : List Literal) → IsQuiet set' set' row pair → IsOther pair f other → set' (negated other) ≡ true → is_met set' row ≡ true
+    met set' row q (inl o) n = q.second (ap (λ z. set' (negated z)) (sym o.1) ∙ n)
+    met set' row q (inr o) n = q.first (ap (λ z. set' (negated z)) (sym o.1) ∙ n)
 
 -- the tables
 pub IsWatching-put : (rows : List (List Literal)) (pairs : List Pair) (lists : List (List Watch)) (vars : ℕ) (l : Literal) (w : Watch) → IsWatching rows pairs lists vars
@@ -263,8 +269,8 @@ IsWatching-move rows pairs lists vars k row a b h is has_a has_b = record {
 pub Walks-end : (early late : Literal → Bool) (rows : List (List Literal)) (pairs : List Pair) (lists : List (List Watch)) (f : Literal)
     → Walks early late rows pairs lists [] f → AllListed lists pairs × Quiet rows pairs early late
 Walks-end early late rows pairs lists f h = (
-  λ k pair e. (stands k pair.first (h.listed.first k pair e), stands k pair.second (h.listed.second k pair e)),
-  λ k row pair r e. (let p = h.pending k row pair r e in record {
+  λ k pair e aw. (stands k pair.first (h.listed.first k pair e aw), stands k pair.second (h.listed.second k pair e aw)),
+  λ k row pair r e aw. (let p = h.pending k row pair r e aw in record {
     first = λ g. met row pair.first k (p.first g);
     second = λ g. met row pair.second k (p.second g);
     single = p.single;
@@ -307,7 +313,7 @@ listed_among lists l ws k lt e =
 -- what is still to be taken up goes back into the list
 pub AllListed-back : (early late : Literal → Bool) (rows : List (List Literal)) (pairs : List Pair) (lists : List (List Watch)) (rest : List Watch) (f : Literal)
     → Walks early late rows pairs lists rest f → place_of f < length lists → AllListed (put_all lists f rest) pairs
-AllListed-back early late rows pairs lists rest f h lt k pair e = (stands pair.first (h.listed.first k pair e), stands pair.second (h.listed.second k pair e))
+AllListed-back early late rows pairs lists rest f h lt k pair e aw = (stands pair.first (h.listed.first k pair e aw), stands pair.second (h.listed.second k pair e aw))
   where
     stands : (m : Literal) → IsListed lists rest f k m → watches_clause (at_literal (put_all lists f rest) m) k ≡ true
     stands m (inl e) = listed_more_all lists f rest m k lt e
@@ -330,12 +336,12 @@ pub Walks-start : (late : Literal → Bool) (before now : Literal → Bool) (row
     → Walks now late rows pairs (set lists (place_of f) []) (at_literal lists f) f
 Walks-start late before now rows pairs lists f listed quiet more = record {
   listed = record {
-    first = λ k pair e. stands k pair.first (listed k pair e).0;
-    second = λ k pair e. stands k pair.second (listed k pair e).1;
+    first = λ k pair e aw. stands k pair.first (listed k pair e aw).0;
+    second = λ k pair e aw. stands k pair.second (listed k pair e aw).1;
   };
-  pending = λ k row pair r e. (let q = quiet k row pair r e in record {
-    first = λ n. settled k row pair.first (listed k pair e).0 q.first (more (negated pair.first) n);
-    second = λ n. settled k row pair.second (listed k pair e).1 q.second (more (negated pair.second) n);
+  pending = λ k row pair r e aw. (let q = quiet k row pair r e aw in record {
+    first = λ n. settled k row pair.first (listed k pair e aw).0 q.first (more (negated pair.first) n);
+    second = λ n. settled k row pair.second (listed k pair e aw).1 q.second (more (negated pair.second) n);
     single = q.single;
   });
 }
@@ -368,7 +374,10 @@ IsWatching-out rows pairs lists vars f h = (
 
 pub StaysQuiet-trans : (rows : List (List Literal)) (a b c : List Pair) (early late : Literal → Bool) → IsPart early late → StaysQuiet rows a b early → StaysQuiet rows b c late
     → StaysQuiet rows a c early
-StaysQuiet-trans rows a b c early late part f g set' inside q = g set' (λ l e. part l (inside l e)) (f set' inside q)
+StaysQuiet-trans rows a b c early late part f g = (
+  λ all. g.0 (f.0 all),
+  λ set' inside q. g.1 set' (λ l e. part l (inside l e)) (f.1 set' inside q),
+)
 
 -- the watches at the negation of the literal at a position are taken out
 pub Walks-visit : (rows : List (List Literal)) (pairs : List Pair) (lists : List (List Watch)) (trail : List Literal) (position : ℕ) (x : Literal)
@@ -461,9 +470,9 @@ IsWatching-push rows pairs lists vars row a b n h e has_a has_b within =
 
 pub AllListed-push : (pairs : List Pair) (lists : List (List Watch)) (a b : Literal) (n : ℕ) → AllListed lists pairs → n ≡ length pairs
     → place_of a < length lists → place_of b < length lists → AllListed (put_pair lists a b n) (pairs ++ paired a b ∷ [])
-AllListed-push pairs lists a b n h e lt_a lt_b k p f =
+AllListed-push pairs lists a b n h e lt_a lt_b k p f aw =
     elim (at_pushed pairs (paired a b) k p f) [
-      | inl i ↦ (kept p.first k (h k p i).0, kept p.second k (h k p i).1)
+      | inl i ↦ (kept p.first k (h k p i aw).0, kept p.second k (h k p i aw).1)
       | inr i ↦ subst (λ (z : Pair). (watches_clause (at_literal (put_pair lists a b n) z.first) k ≡ true) × (watches_clause (at_literal (put_pair lists a b n) z.second) k ≡ true)) i.1 (
         listed_more (put lists a (record { clause = n; blocker = b })) b (record { clause = n; blocker = a }) a k
             (listed_new lists a (record { clause = n; blocker = b }) k lt_a (e ∙ sym i.0)),
@@ -475,12 +484,18 @@ AllListed-push pairs lists a b n h e lt_a lt_b k p f =
     kept : (m : Literal) (k : ℕ) → watches_clause (at_literal lists m) k ≡ true → watches_clause (at_literal (put_pair lists a b n) m) k ≡ true
     kept m k g = listed_more (put lists a (record { clause = n; blocker = b })) b (record { clause = n; blocker = a }) m k (listed_more lists a (record { clause = n; blocker = b }) m k g)
 
+pub AllAwake-push : (pairs : List Pair) (a b : Literal) → AllAwake pairs → AllAwake (pairs ++ paired a b ∷ [])
+AllAwake-push pairs a b h k p f = elim (at_pushed pairs (paired a b) k p f) [
+  | inl i ↦ h k p i
+  | inr i ↦ ap (λ z. z.awake) (sym i.1)
+]
+
 pub Quiet-push : (rows : List (List Literal)) (pairs : List Pair) (early late : Literal → Bool) (row : List Literal) (pair : Pair) → length pairs ≡ length rows
     → Quiet rows pairs early late → IsQuiet early late row pair → Quiet (rows ++ row ∷ []) (pairs ++ pair ∷ []) early late
-Quiet-push rows pairs early late row pair count h new k r p f g =
+Quiet-push rows pairs early late row pair count h new k r p f g aw =
     elim (at_pushed rows row k r f) [
       | inl i ↦ elim (at_pushed pairs pair k p g) [
-        | inl j ↦ h k r p i j
+        | inl j ↦ h k r p i j aw
         | inr j ↦ absurd (let lt : k < length rows = at_inside rows k r i in let at : k ≡ length pairs = j.0 in omega (arith, lt, at, count))
       ]
       | inr i ↦ elim (at_pushed pairs pair k p g) [
@@ -490,7 +505,7 @@ Quiet-push rows pairs early late row pair count h new k r p f g =
     ]
 
 pub Quiet_more : (rows : List (List Literal)) (pairs : List Pair) (early late later : Literal → Bool) → IsPart late later → Quiet rows pairs early late → Quiet rows pairs early later
-Quiet_more rows pairs early late later f h k r p e g = let q = h k r p e g in record {
+Quiet_more rows pairs early late later f h k r p e g aw = let q = h k r p e g aw in record {
   first = λ n. is_met_more late later r f (q.first n);
   second = λ n. is_met_more late later r f (q.second n);
   single = λ n. f p.first (q.single n);

@@ -103,3 +103,7 @@ pub record IsPut (literals : List Literal) (levels : Levels) (old new : List Lit
 abbrev pub ArePut : List Literal → Levels → List Literal → List Literal → Option ℕ → Type 0
 ArePut literals levels old new None = new ≡ old
 ArePut literals levels old new (Some p) = IsPut literals levels old new p
+
+-- the number is that of a conflict or of a reason
+abbrev pub MayCite : Assigned → ℕ → ℕ → Type 0
+MayCite t conflict number = (number ≡ conflict) ⊎ ((p : ℕ) × (slice_get t.reasons p ≡ Some (Some number)))

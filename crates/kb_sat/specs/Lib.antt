@@ -8,3 +8,6 @@ pub mod Solver
 pub mod Answer
 pub mod Watches
 pub mod Search
+pub mod Resolvents
+pub mod Forgetting
+pub mod Elimination

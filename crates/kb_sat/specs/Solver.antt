@@ -7,7 +7,7 @@ use Rattle.kb_chain.specs.Propagation.{IsFresh}
 use Rattle.kb_chain.specs.declared.log.Chain.{Chain}
 use Rattle.kb_sat.specs.Trail.{Assigned, before_level, HasReasons}
 use Rattle.kb_sat.specs.Store.{IsJustified}
-use Rattle.kb_sat.specs.Watches.{IsWatching, AllListed, Quiet}
+use Rattle.kb_sat.specs.Watches.{IsWatching, AllListed, AllAwake, IsAwake, Quiet}
 use Rattle.kb_sat.specs.Analysis.{IsClean}
 use Rattle.kb_sat.specs.declared.watch.Pair.{Pair}
 use Rattle.kb_sat.specs.declared.watch.Watch.{Watch}
@@ -17,19 +17,20 @@ use Rattle.kb_sat.specs.declared.search.Search.{Search}
 use Rattle.kb_sat.specs.declared.search.Step.{Step}
 use Rattle.kb_sat.specs.declared.search.Step.TheVariants.{Conflict, Complete, Decided}
 
--- the log derives the clauses that the rows store; they are the reasons of the trail, watched, and quiet where each level began
-pub record IsSearch (formula : Cnf) (entries : List Chain) (rows : List (List Literal)) (pairs : List Pair) (lists : List (List Watch)) (t : Assigned) : Type 0 where
+-- the log derives the clauses that the rows store; they are the reasons of the trail, watched as long as they are awake, and quiet where
+-- each level began; as long as none was let go, each entry is fresh
+pub record IsSearch (formula : Cnf) (entries : List Chain) (rows : List (List Literal)) (pairs : List Pair) (lists : List (List Watch)) (t : Assigned) (whole : Bool) : Type 0 where
   pub clauses : List (List Literal)
   pub derives : derived formula.clauses entries ≡ Some clauses
-  pub fresh : IsFresh formula.clauses entries
   pub vars : t.vars ≡ formula.vars
   pub justified : IsJustified clauses rows t
   pub watching : IsWatching rows pairs lists t.vars
   pub listed : AllListed lists pairs
+  pub fresh : whole ≡ true → AllAwake pairs × IsFresh formula.clauses entries
   pub cuts : (j : ℕ) → j < length t.starts → Quiet rows pairs (has (before_level t j)) (has (before_level t j))
 
 abbrev pub Searches : Search → Type 0
-Searches s = IsSearch s.formula.now s.entries s.clauses s.watches.pairs.items s.watches.lists.items s.trail
+Searches s = IsSearch s.formula.now s.entries s.clauses s.watches.pairs.items s.watches.lists.items s.trail s.whole
 
 -- the tables of the heuristics
 pub record IsEquipped (vars heap : ℕ) (signs : List Bool) (marks : Marks) : Type 0 where
@@ -63,9 +64,14 @@ pub record IsComplete (s : Search) : Type 0 where
   pub assigned : AllAssigned s.trail
   pub quiet : Quiet s.clauses s.watches.pairs.items (has s.trail.literals) (has s.trail.literals)
 
+-- all true literals were taken up
+pub record IsSettledSearch (s : Search) : Type 0 where
+  pub head : s.head ≡ length s.trail.literals
+  pub quiet : Quiet s.clauses s.watches.pairs.items (has s.trail.literals) (has s.trail.literals)
+
 -- what a step of the search came to
 abbrev pub StepIs : Search → Search → Step → Type 0
-StepIs old new (Conflict number) = IsConflict new.clauses new.trail number
+StepIs old new (Conflict number) = IsConflict new.clauses new.trail number × IsAwake new.watches.pairs.items number
 StepIs old new Complete = IsComplete new
 StepIs old new Decided =
     IsReady new × (length old.trail.literals < length new.trail.literals) × (length new.trail.literals ≤ 2 * new.trail.vars + 2)

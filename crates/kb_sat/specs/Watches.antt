@@ -18,7 +18,16 @@ pub record IsQuiet (early late : Literal → Bool) (row : List Literal) (pair : 
 
 abbrev pub Quiet : List (List Literal) → List Pair → (Literal → Bool) → (Literal → Bool) → Type 0
 Quiet rows pairs early late =
-    (k : ℕ) (row : List Literal) (pair : Pair) → slice_get rows k ≡ Some row → slice_get pairs k ≡ Some pair → IsQuiet early late row pair
+    (k : ℕ) (row : List Literal) (pair : Pair) → slice_get rows k ≡ Some row → slice_get pairs k ≡ Some pair → pair.awake ≡ true
+    → IsQuiet early late row pair
+
+-- the clause of this number is one that is watched
+abbrev pub IsAwake : List Pair → ℕ → Type 0
+IsAwake pairs k = (pair : Pair) → slice_get pairs k ≡ Some pair → pair.awake ≡ true
+
+-- no clause was let go
+abbrev pub AllAwake : List Pair → Type 0
+AllAwake pairs = (k : ℕ) → IsAwake pairs k
 
 -- a list of watches has one of this clause
 abbrev pub watches_clause : List Watch → ℕ → Bool
@@ -34,8 +43,8 @@ IsListed lists rest falsified k l =
     (watches_clause (at_literal lists l) k ≡ true) ⊎ ((l ≡ falsified) × (watches_clause rest k ≡ true))
 
 pub record AreListed (lists : List (List Watch)) (rest : List Watch) (falsified : Literal) (pairs : List Pair) : Type 0 where
-  pub first : (k : ℕ) (pair : Pair) → slice_get pairs k ≡ Some pair → IsListed lists rest falsified k pair.first
-  pub second : (k : ℕ) (pair : Pair) → slice_get pairs k ≡ Some pair → IsListed lists rest falsified k pair.second
+  pub first : (k : ℕ) (pair : Pair) → slice_get pairs k ≡ Some pair → pair.awake ≡ true → IsListed lists rest falsified k pair.first
+  pub second : (k : ℕ) (pair : Pair) → slice_get pairs k ≡ Some pair → pair.awake ≡ true → IsListed lists rest falsified k pair.second
 
 -- the blocking literal is one of the clause's
 abbrev pub is_blocked : List (List Literal) → Watch → Bool
@@ -75,19 +84,20 @@ pub record IsPending (early late : Literal → Bool) (row : List Literal) (pair 
 pub record Walks (early late : Literal → Bool) (rows : List (List Literal)) (pairs : List Pair) (lists : List (List Watch)) (rest : List Watch)
     (falsified : Literal) : Type 0 where
   pub listed : AreListed lists rest falsified pairs
-  pub pending : (k : ℕ) (row : List Literal) (pair : Pair) → slice_get rows k ≡ Some row → slice_get pairs k ≡ Some pair
+  pub pending : (k : ℕ) (row : List Literal) (pair : Pair) → slice_get rows k ≡ Some row → slice_get pairs k ≡ Some pair → pair.awake ≡ true
       → IsPending early late row pair rest falsified k
 
--- each watch is in its list
+-- each watch of an awake clause is in its list
 abbrev pub AllListed : List (List Watch) → List Pair → Type 0
 AllListed lists pairs =
-    (k : ℕ) (pair : Pair) → slice_get pairs k ≡ Some pair
+    (k : ℕ) (pair : Pair) → slice_get pairs k ≡ Some pair → pair.awake ≡ true
     → (watches_clause (at_literal lists pair.first) k ≡ true) × (watches_clause (at_literal lists pair.second) k ≡ true)
 
--- what stays quiet as the watches move: each set within the trail
+-- what stays as the watches move: all clauses awake, and each set within the trail quiet
 abbrev pub StaysQuiet : List (List Literal) → List Pair → List Pair → (Literal → Bool) → Type 0
 StaysQuiet rows old new trail =
-    (set : Literal → Bool) → ((l : Literal) → set l ≡ true → trail l ≡ true) → Quiet rows old set set → Quiet rows new set set
+    (AllAwake old → AllAwake new)
+    × ((set : Literal → Bool) → ((l : Literal) → set l ≡ true → trail l ≡ true) → Quiet rows old set set → Quiet rows new set set)
 
 -- one of two watched literals, and the other one
 abbrev pub IsOther : Pair → Literal → Literal → Type 0
@@ -98,7 +108,7 @@ abbrev pub put : List (List Watch) → Literal → Watch → List (List Watch)
 put lists l w = slice_set lists (place_of l) (at_literal lists l ++ w ∷ [])
 
 abbrev pub paired : Literal → Literal → Pair
-paired a b = record { first = a; second = b }
+paired a b = record { first = a; second = b; awake = true }
 
 -- the table with the two watches of a clause
 abbrev pub put_pair : List (List Watch) → Literal → Literal → ℕ → List (List Watch)
@@ -107,5 +117,6 @@ put_pair lists a b number = put (put lists a (record { clause = number; blocker 
 -- these clauses are watched, and the literals of the units among them are true
 pub record IsBegun (rows : List (List Literal)) (pairs : List Pair) (lists : List (List Watch)) (t : Assigned) : Type 0 where
   pub watching : IsWatching rows pairs lists t.vars
+  pub awake : AllAwake pairs
   pub listed : AllListed lists pairs
   pub quiet : Quiet rows pairs (has []) (has t.literals)

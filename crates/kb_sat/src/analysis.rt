@@ -6,16 +6,17 @@ ghost use Rattle.kb_chain.specs.Literal.{Literal, has, negated};
 ghost use Rattle.kb_chain.specs.Propagation.{all_negated};
 ghost use Rattle.kb_chain.specs.Index.{has_number};
 ghost use Rattle.kb_chain.specs.Chains.{derived};
+ghost use Rattle.kb_chain.specs.Needed.{cites};
 ghost use Rattle.kb_sat.specs.Trail.{start_of, before_level, HasReasons};
 ghost use Rattle.kb_sat.specs.Store.{IsJustified};
 ghost use Rattle.kb_sat.specs.Search.{IsConflict, IsLearned, IsRefuting};
-ghost use Rattle.kb_sat.specs.Analysis.{is_seen, is_pivot, AreFalseBefore, AreMarked, IsClean, MarksOthers, IsLevels, AreCovered, IsReached, IsLastSeen, NoneSeen, ArePut, literal_at};
+ghost use Rattle.kb_sat.specs.Analysis.{is_seen, is_pivot, AreFalseBefore, AreMarked, IsClean, MarksOthers, IsLevels, AreCovered, IsReached, IsLastSeen, NoneSeen, ArePut, MayCite, literal_at};
 
 use crate::clauses::Clauses;
 use crate::memory::NoMemory;
 use crate::order::Order;
 use crate::trail::Trail;
-use kb_chain::{Chain, Formula, Lit, Row, Store, derive_all};
+use kb_chain::{Chain, Formula, Lit, Row, Store, derive_needed};
 use std::alloc::Global;
 
 /// What a conflict teaches: a clause by its chain, without the literals that are false at level 0. The first one becomes true as
@@ -294,8 +295,8 @@ fn minimise(
     Ok(highest)
 }
 
-/// Refutes the formula by a conflict at level 0: resolves on all its literals, from late to early. The clauses are derived again,
-/// with what was false at level 0 when they were learned.
+/// Refutes the formula by a conflict at level 0: resolves on all its literals, from late to early. The clauses that this can
+/// need are derived again, with what was false at level 0 when they were learned.
 pub(crate) fn refute(
     alloc: Global,
     formula: &Formula,
@@ -308,10 +309,26 @@ pub(crate) fn refute(
         × IsConflict all trail.now number }
     ensures { IfOk result (λ chain. (all : List (List Literal)) → derived formula.now.clauses entries.now ≡ Some all → IsRefuting all chain) }
 {
-    let Some(clauses) = derive_all(alloc, formula, entries)? else {
+    let numbers = cited_numbers(alloc, trail, number)?;
+    let Some(clauses) = derive_needed(alloc, formula, entries, numbers.as_slice())? else {
         unreachable!()
     };
     resolve_all(alloc, &clauses, trail, number)
+}
+
+/// The numbers of a false clause and of all reasons.
+fn cited_numbers(alloc: Global, trail: &Trail, number: u32) -> Result<Vec<u32>, NoMemory>
+    ensures { IfOk result (λ numbers. (k : ℕ) → MayCite trail.now number k → has_number numbers.items k ≡ true) }
+{
+    trail.facts();
+    let mut numbers = Vec::new(alloc);
+    numbers.push(number)?;
+    for position in 0..trail.literals().len() {
+        if let Some(reason) = trail.reason(position) {
+            numbers.push(reason)?;
+        }
+    }
+    Ok(numbers)
 }
 
 /// Resolves on all literals of a false clause at level 0, from late to early.
@@ -324,7 +341,8 @@ fn resolve_all(
     requires level { trail.now.starts ≡ [] }
     requires reasons { HasReasons clauses.now.clauses trail.now }
     requires conflict { IsConflict clauses.now.clauses trail.now number }
-    ensures { IfOk result (IsRefuting clauses.now.clauses) }
+    ensures refuting { IfOk result (IsRefuting clauses.now.clauses) }
+    ensures cited { IfOk result (λ chain. (k : ℕ) → cites chain k ≡ true → MayCite trail.now number k) }
 {
     trail.facts();
     trail.stands_once();
@@ -405,7 +423,7 @@ fn adds_nothing(
 }
 
 /// The level of a position above level 0 and below the last level.
-fn level_of(trail: &Trail, position: usize) -> usize
+pub(crate) fn level_of(trail: &Trail, position: usize) -> usize
     requires above { 0 < length trail.now.starts }
     requires below { position < start_of trail.now.starts (length trail.now.starts - 1) }
     ensures below { position < start_of trail.now.starts result }

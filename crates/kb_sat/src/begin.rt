@@ -105,6 +105,10 @@ pub(crate) fn watch_pair(
         blocker: first,
     };
     put_watch(&mut watches.lists, second, at_second)?;
-    watches.pairs.push(Pair { first, second })?;
+    watches.pairs.push(Pair {
+        first,
+        second,
+        awake: true,
+    })?;
     Ok(())
 }

@@ -1,29 +1,39 @@
-ghost use Rattle.std.specs.Prelude.{◌≡◌, ◌<◌, [], ◌∷◌, ◌++◌, length, slice_get, Some, OnOk, IfOk};
+ghost use Rattle.std.specs.Prelude.{◌≡◌, ◌<◌, [], ◌∷◌, ◌++◌, length, slice_get, Some, OnOk};
 ghost use Rattle.kb_sat.specs.Rows.{IsNamed, AreNamed};
 
 use crate::memory::NoMemory;
-use kb_chain::{Lit, Row};
+use kb_chain::Lit;
 use std::alloc::Global;
 use std::marker::Model;
 
-/// The stored literals of the clauses of the formula and, behind them, of the learned ones, by the numbers that a log gives them.
+/// Where the literals of a clause stand: from `start` up to `end`, which is not of them.
+#[derive(Clone, Copy, Drop)]
+struct Span {
+    start: u32,
+    end: u32,
+}
+
+/// The stored literals of the clauses of the formula and, behind them, of the learned ones, by the numbers that a log gives
+/// them. The literals of all clauses stand in one table, one clause after the other.
 #[derive(Drop)]
 pub(crate) struct Clauses {
-    rows: Vec<Row<Lit>>,
+    flat: Vec<Lit>,
+    spans: Vec<Span>,
 }
 
 impl Model for Clauses {
     ghost use Rattle.std.specs.Prelude.{List, ◌<◌, ◌^◌, length};
     ghost use Rattle.kb_chain.specs.Literal.{Literal};
-    ghost use Rattle.kb_sat.specs.Rows.{AreNamed};
+    ghost use Rattle.kb_sat.specs.Rows.{AreNamed, AreWithin, rows_of};
 
     ghost Value = { List (List Literal) };
 
-    ghost view = { λ c. c.rows.items };
+    ghost view = { λ c. rows_of c.flat.items c.spans.items };
 
     ghost invariant = { λ c. record {
-      few : length c.rows.items < 2 ^ 32;
-      named : AreNamed c.rows.items;
+      few : length c.spans.items < 2 ^ 32;
+      within : AreWithin c.flat.items c.spans.items;
+      named : AreNamed (rows_of c.flat.items c.spans.items);
     } };
 }
 
@@ -32,7 +42,8 @@ impl Clauses {
         ensures { result ≡ [] }
     {
         Clauses {
-            rows: Vec::new(alloc),
+            flat: Vec::new(alloc),
+            spans: Vec::new(alloc),
         }
     }
 
@@ -40,43 +51,47 @@ impl Clauses {
     pub(crate) fn facts(&self)
         ensures { AreNamed self.now }
     {
-        let _rows = &self.rows;
+        let _spans = &self.spans;
     }
 
     pub(crate) fn len(&self) -> u32
         ensures { result ≡ length self.now }
     {
-        self.rows.len() as u32
+        self.spans.len() as u32
     }
 
     pub(crate) fn literals(&self, number: u32) -> &[Lit]
         requires { number < length self.now }
         ensures { slice_get self.now number ≡ Some result.now }
     {
-        self.rows[number as usize].as_slice()
+        let span = self.spans[number as usize];
+        &self.flat[span.start as usize..span.end as usize]
     }
 
-    /// Puts a clause behind the others, if numbers of 32 bits can count one more.
-    pub(crate) fn push(&mut self, alloc: Global, literals: &[Lit]) -> Result<(), NoMemory>
+    /// Puts a clause behind the others, if numbers of 32 bits can count one more, and its literals.
+    pub(crate) fn push(&mut self, literals: &[Lit]) -> Result<(), NoMemory>
         ensures { OnOk result (self.new ≡ self.old ++ literals.now ∷ []) }
     {
-        let row = copied(alloc, literals)?;
-        if self.rows.len() >= u32::MAX as usize {
+        named(literals);
+        let start = self.flat.len();
+        let end = start + literals.len();
+        if end > u32::MAX as usize || self.spans.len() >= u32::MAX as usize {
             return Err(NoMemory);
         }
-        self.rows.push(row)?;
+        self.flat.extend_from_slice(literals)?;
+        self.spans.push(Span {
+            start: start as u32,
+            end: end as u32,
+        })?;
         Ok(())
     }
 }
 
-fn copied(alloc: Global, literals: &[Lit]) -> Result<Row<Lit>, NoMemory>
-    ensures copy { IfOk result (λ row. row ≡ literals.now) }
-    ensures named { IfOk result (λ row. IsNamed row) }
+/// Nothing: it tells a proof which variables literals have.
+fn named(literals: &[Lit])
+    ensures { IsNamed literals.now }
 {
-    let mut row = Vec::with_capacity(alloc, literals.len())?;
     for literal in literals {
         let _variable = literal.variable();
-        row.push(*literal)?;
     }
-    Ok(Row::from_vec(row))
 }

@@ -5,12 +5,18 @@
 mod analysis;
 mod begin;
 mod clauses;
+mod elimination;
+mod forgetting;
 mod memory;
 mod model;
+mod occurrences;
 mod order;
 mod pace;
 mod pick;
 mod propagation;
+mod ranks;
+mod resolvents;
+mod restoring;
 mod search;
 mod solver;
 #[cfg(test)]

@@ -1,20 +1,21 @@
-/// After how many conflicts a search goes back to level 0: rounds of growing intervals (as in PicoSAT: Biere, 2008).
+/// After how many conflicts a search goes back to level 0: Luby's sequence, in hundreds (Luby, Sinclair and Zuckerman, 1993), by
+/// Knuth's reluctant doubling.
 #[derive(Clone, Copy, Drop)]
 pub(crate) struct Pace {
     left: u32,
-    interval: u32,
-    greatest: u32,
+    turn: u32,
+    factor: u32,
 }
 
-/// The interval that each round begins with.
-const FIRST: u32 = 100;
+/// The shortest interval.
+const UNIT: u32 = 100;
 
 impl Pace {
     pub(crate) fn new() -> Pace {
         Pace {
-            left: FIRST,
-            interval: FIRST,
-            greatest: FIRST,
+            left: UNIT,
+            turn: 1,
+            factor: 1,
         }
     }
 
@@ -24,12 +25,82 @@ impl Pace {
             self.left -= 1;
             return false;
         }
-        self.interval = self.interval.saturating_add(self.interval / 10);
-        if self.interval > self.greatest {
-            self.interval = FIRST;
-            self.greatest = self.greatest.saturating_add(self.greatest / 10);
+        self.step();
+        self.left = UNIT.saturating_mul(self.factor);
+        true
+    }
+
+    /// Goes on to the next number of Luby's sequence.
+    fn step(&mut self) {
+        if self.turn & self.turn.wrapping_neg() == self.factor {
+            self.turn = self.turn.wrapping_add(1);
+            self.factor = 1;
+        } else {
+            self.factor = self.factor.wrapping_mul(2);
         }
+    }
+}
+
+/// After how many learned clauses some are let go: intervals that grow by the same number (as in Glucose: Audemard and Simon, 2009).
+#[derive(Clone, Copy, Drop)]
+pub(crate) struct Crowding {
+    left: u32,
+    interval: u32,
+}
+
+/// How many clauses are learned before some are let go for the first time.
+const FIRST: u32 = 1000;
+
+/// By how much each interval is longer than the one before.
+const GROWTH: u32 = 200;
+
+impl Crowding {
+    pub(crate) fn new() -> Crowding {
+        Crowding {
+            left: FIRST,
+            interval: FIRST,
+        }
+    }
+
+    /// Counts one learned clause, and says whether it is time to let some go.
+    pub(crate) fn is_due(&mut self) -> bool {
+        if self.left > 1 {
+            self.left -= 1;
+            return false;
+        }
+        self.interval = self.interval.saturating_add(GROWTH);
         self.left = self.interval;
         true
+    }
+}
+
+#[cfg(test)]
+mod tests {
+    use super::*;
+    use std::test::Fail;
+
+    #[test]
+    fn goes_back_by_lubys_sequence(rt: HostRuntime) -> Result<(), Fail> {
+        let luby = [1u32, 1, 2, 1, 1, 2, 4, 1, 1, 2, 1, 1, 2, 4, 8];
+        let mut pace = Pace::new();
+        for term in luby {
+            for _ in 1..100 * term {
+                assert!(rt; !pace.is_due());
+            }
+            assert!(rt; pace.is_due());
+        }
+        Ok(())
+    }
+
+    #[test]
+    fn lets_go_at_growing_intervals(rt: HostRuntime) -> Result<(), Fail> {
+        let mut crowding = Crowding::new();
+        for interval in [1000u32, 1200, 1400] {
+            for _ in 1..interval {
+                assert!(rt; !crowding.is_due());
+            }
+            assert!(rt; crowding.is_due());
+        }
+        Ok(())
     }
 }

@@ -4,7 +4,7 @@ ghost use Rattle.kb_chain.specs.Literal.{Literal, has, negated, same, place_of};
 ghost use Rattle.kb_sat.specs.Trail.{Grows};
 ghost use Rattle.kb_sat.specs.Store.{IsJustified};
 ghost use Rattle.kb_sat.specs.Search.{IsConflict};
-ghost use Rattle.kb_sat.specs.Watches.{Quiet, IsWatching, Walks, AllListed, StaysQuiet, is_blocked, all_blocked, IsOther};
+ghost use Rattle.kb_sat.specs.Watches.{Quiet, IsWatching, IsAwake, Walks, AllListed, StaysQuiet, is_blocked, all_blocked, IsOther};
 ghost use Rattle.kb_sat.specs.declared.watch.Watch.{Watch};
 
 use crate::clauses::Clauses;
@@ -31,7 +31,7 @@ pub(crate) fn propagate(
     ensures listed { OnOk result (AllListed watches.new.lists.items watches.new.pairs.items) }
     ensures quiet { IfOk result (λ conflict. IfNone conflict
         (Quiet clauses.now watches.new.pairs.items (has trail.new.literals) (has trail.new.literals))) }
-    ensures conflict { IfOk result (λ conflict. IfSome conflict (λ number. IsConflict clauses.now trail.new number)) }
+    ensures conflict { IfOk result (λ conflict. IfSome conflict (λ number. IsConflict clauses.now trail.new number × IsAwake watches.new.pairs.items number)) }
     ensures stays { OnOk result (StaysQuiet clauses.now watches.old.pairs.items watches.new.pairs.items (has trail.old.literals)) }
     ensures grows { OnOk result (Grows trail.old trail.new) }
     ensures justified { OnOk result ((all : List (List Literal)) → IsJustified all clauses.now trail.old → IsJustified all clauses.now trail.new) }
@@ -61,7 +61,7 @@ fn visit(
     ensures listed { OnOk result (AllListed watches.new.lists.items watches.new.pairs.items) }
     ensures quiet { IfOk result (λ conflict. IfNone conflict
         (Quiet clauses.now watches.new.pairs.items (has (take (position + 1) trail.new.literals)) (has trail.new.literals))) }
-    ensures conflict { IfOk result (λ conflict. IfSome conflict (λ number. IsConflict clauses.now trail.new number)) }
+    ensures conflict { IfOk result (λ conflict. IfSome conflict (λ number. IsConflict clauses.now trail.new number × IsAwake watches.new.pairs.items number)) }
     ensures stays { OnOk result (StaysQuiet clauses.now watches.old.pairs.items watches.new.pairs.items (has trail.old.literals)) }
     ensures grows { OnOk result (Grows trail.old trail.new) }
     ensures justified { OnOk result ((all : List (List Literal)) → IsJustified all clauses.now trail.old → IsJustified all clauses.now trail.new) }
@@ -100,7 +100,7 @@ fn walk(
     ensures quiet { IfOk result (λ conflict. IfNone conflict ((early : Literal → Bool) → ((l : Literal) → early l ≡ true → has trail.old.literals l ≡ true)
         → Walks early (has trail.old.literals) clauses.now pairs.old.items lists.old.items waiting.now falsified
         → Quiet clauses.now pairs.new.items early (has trail.new.literals))) }
-    ensures conflict { IfOk result (λ conflict. IfSome conflict (λ number. IsConflict clauses.now trail.new number)) }
+    ensures conflict { IfOk result (λ conflict. IfSome conflict (λ number. IsConflict clauses.now trail.new number × IsAwake pairs.new.items number)) }
     ensures stays { OnOk result (StaysQuiet clauses.now pairs.old.items pairs.new.items (has trail.old.literals)) }
     ensures grows { OnOk result (Grows trail.old trail.new) }
     ensures justified { OnOk result ((all : List (List Literal)) → IsJustified all clauses.now trail.old → IsJustified all clauses.now trail.new) }
@@ -134,7 +134,7 @@ fn examine(
         → ((l : Literal) → early l ≡ true → has trail.old.literals l ≡ true)
         → Walks early (has trail.old.literals) clauses.now pairs.old.items lists.old.items (watch ∷ others) falsified
         → Walks early (has trail.new.literals) clauses.now pairs.new.items lists.new.items others falsified)) }
-    ensures conflict { IfOk result (λ goes. OnFalse goes (IsConflict clauses.now trail.new watch.clause)) }
+    ensures conflict { IfOk result (λ goes. OnFalse goes (IsConflict clauses.now trail.new watch.clause × IsAwake pairs.new.items watch.clause)) }
     ensures unchanged { IfOk result (λ goes. OnFalse goes ((pairs.new.items ≡ pairs.old.items) × (lists.new.items ≡ lists.old.items) × (trail.new ≡ trail.old))) }
     ensures stays { OnOk result (StaysQuiet clauses.now pairs.old.items pairs.new.items (has trail.old.literals)) }
     ensures grows { OnOk result (Grows trail.old trail.new) }
@@ -145,7 +145,11 @@ fn examine(
         put_watch(lists, falsified, watch)?;
         return Ok(true);
     }
-    let Some(other) = other_watched(pairs[watch.clause as usize], falsified) else {
+    let pair = pairs[watch.clause as usize];
+    if !pair.awake {
+        return Ok(true);
+    }
+    let Some(other) = other_watched(pair, falsified) else {
         return Ok(true);
     };
     let kept = Watch {
@@ -161,6 +165,7 @@ fn examine(
         pairs[watch.clause as usize] = Pair {
             first: other,
             second: next,
+            awake: true,
         };
         return Ok(true);
     }

@@ -1,8 +1,9 @@
 ghost use Rattle.std.specs.Prelude.{◌≡◌, ℕ, ◌+◌, ◌*◌, ◌<◌, ◌≤◌, ◌^◌, true, false, List, [], ◌∷◌, ◌++◌, length, take, Some, OnOk, IfOk, IfSome, IfNone};
 ghost use Rattle.kb_chain.specs.Literal.{Literal, has, negated, place_of, literal};
-ghost use Rattle.kb_sat.specs.Trail.{Assigned, start_of, cut_back};
+ghost use Rattle.kb_sat.specs.Trail.{Assigned, Grows, start_of, cut_back};
 ghost use Rattle.kb_sat.specs.Search.{IsConflict};
-ghost use Rattle.kb_sat.specs.Solver.{Searches, Equipped, IsReady, IsComplete, StepIs, IsSecond, IsDoomed};
+ghost use Rattle.kb_sat.specs.Watches.{IsAwake};
+ghost use Rattle.kb_sat.specs.Solver.{Searches, Equipped, IsReady, IsComplete, IsSettledSearch, StepIs, IsSecond, IsDoomed};
 
 use crate::analysis::{Marks, analyse};
 use crate::begin::{watch_all, watch_pair};
@@ -11,6 +12,7 @@ use crate::memory::NoMemory;
 use crate::order::Order;
 use crate::pick::pick;
 use crate::propagation::propagate;
+use crate::ranks::{Ranks, levels_of};
 use crate::trail::Trail;
 use crate::watches::Watches;
 use kb_chain::{Chain, Formula, Lit, Row};
@@ -30,6 +32,10 @@ pub(crate) struct Search<'a> {
     /// The sign that each variable had last.
     pub(crate) phases: Vec<bool>,
     pub(crate) marks: Marks,
+    /// How much the learned clauses were of use.
+    pub(crate) ranks: Ranks,
+    /// Whether every clause is watched still.
+    pub(crate) whole: bool,
 }
 
 impl<'a> Search<'a> {
@@ -44,11 +50,13 @@ impl<'a> Search<'a> {
         ensures equipped { IfOk result (λ begun. Equipped begun.0) }
         ensures ready { IfOk result (λ begun. IfNone begun.1 (IsReady begun.0)) }
         ensures conflict { IfOk result (λ begun. IfSome begun.1 (IsDoomed begun.0)) }
+        ensures whole { IfOk result (λ begun. begun.0.whole ≡ true) }
+        ensures level { IfOk result (λ begun. begun.0.trail.starts ≡ []) }
     {
         let vars = formula.vars();
         let mut clauses = Clauses::new(alloc);
         for clause in formula.clauses() {
-            clauses.push(alloc, clause.literals())?;
+            clauses.push(clause.literals())?;
         }
         let mut watches = Watches::new(alloc, vars)?;
         let mut trail = Trail::new(alloc, vars)?;
@@ -63,6 +71,8 @@ impl<'a> Search<'a> {
             order: Order::new(alloc, vars)?,
             phases: vec![in alloc; false; vars as usize + 1]?,
             marks: Marks::new(alloc, vars)?,
+            ranks: Ranks::new(alloc),
+            whole: true,
         };
         Ok((search, conflict))
     }
@@ -74,10 +84,11 @@ impl<'a> Search<'a> {
         requires ready { IsReady self.old }
         ensures searches { OnOk result (Searches self.new) }
         ensures equipped { OnOk result (Equipped self.new) }
-        ensures conflict { IfOk result (λ conflict. IfSome conflict (IsConflict self.new.clauses self.new.trail)) }
+        ensures conflict { IfOk result (λ conflict. IfSome conflict (λ number. IsConflict self.new.clauses self.new.trail number × IsAwake self.new.watches.pairs.items number)) }
         ensures complete { IfOk result (λ conflict. IfNone conflict (IsComplete self.new)) }
         ensures entries { OnOk result (self.new.entries ≡ self.old.entries) }
         ensures formula { OnOk result (self.new.formula.now ≡ self.old.formula.now) }
+        ensures whole { OnOk result (self.new.whole ≡ self.old.whole) }
     {
         loop {
             match self.step()? {
@@ -86,6 +97,30 @@ impl<'a> Search<'a> {
                 Step::Decided => {}
             }
         }
+    }
+
+    /// Propagates; the number of a clause that is false, where it meets one.
+    pub(crate) fn settle(&mut self) -> Result<Option<u32>, NoMemory>
+        requires searches { Searches self.old }
+        requires equipped { Equipped self.old }
+        requires ready { IsReady self.old }
+        ensures searches { OnOk result (Searches self.new) }
+        ensures equipped { OnOk result (Equipped self.new) }
+        ensures conflict { IfOk result (λ conflict. IfSome conflict (λ number. IsConflict self.new.clauses self.new.trail number × IsAwake self.new.watches.pairs.items number)) }
+        ensures settled { IfOk result (λ conflict. IfNone conflict (IsSettledSearch self.new)) }
+        ensures grows { OnOk result (Grows self.old.trail self.new.trail) }
+        ensures entries { OnOk result (self.new.entries ≡ self.old.entries) }
+        ensures formula { OnOk result (self.new.formula.now ≡ self.old.formula.now) }
+        ensures whole { OnOk result (self.new.whole ≡ self.old.whole) }
+    {
+        self.trail.facts();
+        let conflict = propagate(&self.clauses, &mut self.watches, &mut self.trail, self.head)?;
+        if let Some(number) = conflict {
+            return Ok(Some(number));
+        }
+        self.trail.facts();
+        self.head = self.trail.literals().len();
+        Ok(None)
     }
 
     /// Propagates, and decides one literal.
@@ -99,13 +134,13 @@ impl<'a> Search<'a> {
         ensures vars { OnOk result (self.new.trail.vars ≡ self.old.trail.vars) }
         ensures entries { OnOk result (self.new.entries ≡ self.old.entries) }
         ensures formula { OnOk result (self.new.formula.now ≡ self.old.formula.now) }
+        ensures whole { OnOk result (self.new.whole ≡ self.old.whole) }
     {
         self.trail.facts();
-        let conflict = propagate(&self.clauses, &mut self.watches, &mut self.trail, self.head)?;
-        if let Some(number) = conflict {
+        if let Some(number) = self.settle()? {
             return Ok(Step::Conflict(number));
         }
-        self.head = self.trail.literals().len();
+        self.trail.facts();
         let Some(literal) = pick(&mut self.order, self.phases.as_slice(), &self.trail) else {
             return Ok(Step::Complete);
         };
@@ -119,12 +154,14 @@ impl<'a> Search<'a> {
         requires searches { Searches self.old }
         requires equipped { Equipped self.old }
         requires conflict { IsConflict self.old.clauses self.old.trail conflict }
+        requires awake { IsAwake self.old.watches.pairs.items conflict }
         requires level { 0 < length self.old.trail.starts }
         ensures searches { OnOk result (Searches self.new) }
         ensures equipped { OnOk result (Equipped self.new) }
         ensures ready { OnOk result (IsReady self.new) }
         ensures entries { OnOk result (length self.new.entries ≡ length self.old.entries + 1) }
         ensures formula { OnOk result (self.new.formula.now ≡ self.old.formula.now) }
+        ensures whole { OnOk result (self.new.whole ≡ self.old.whole) }
     {
         self.trail.facts();
         let learned = analyse(
@@ -137,14 +174,17 @@ impl<'a> Search<'a> {
         )?;
         let level = learned.level;
         let literals = learned.literals;
+        let levels = levels_of(&self.trail, literals.as_slice());
+        self.ranks.note(&learned.chain);
         self.entries.push(learned.chain)?;
         self.go_back(level)?;
         let number = self.clauses.len();
         let row = literals.as_slice();
         let first = row[0];
         let second = second_of(row);
-        self.clauses.push(alloc, row)?;
+        self.clauses.push(row)?;
         watch_pair(&mut self.watches, number, first, second)?;
+        self.ranks.set(number, levels)?;
         self.trail.assign(first, number);
         Ok(())
     }
@@ -159,6 +199,7 @@ impl<'a> Search<'a> {
         ensures ready { OnOk result (IsReady self.new) }
         ensures entries { OnOk result (self.new.entries ≡ self.old.entries) }
         ensures formula { OnOk result (self.new.formula.now ≡ self.old.formula.now) }
+        ensures whole { OnOk result (self.new.whole ≡ self.old.whole) }
     {
         self.trail.facts();
         if self.trail.level() == 0 {
@@ -178,6 +219,7 @@ impl<'a> Search<'a> {
         ensures watches { OnOk result (self.new.watches ≡ self.old.watches) }
         ensures entries { OnOk result (self.new.entries ≡ self.old.entries) }
         ensures formula { OnOk result (self.new.formula.now ≡ self.old.formula.now) }
+        ensures whole { OnOk result (self.new.whole ≡ self.old.whole) }
         ensures equipped { OnOk result (Equipped self.new) }
     {
         let start = self.trail.start(level);

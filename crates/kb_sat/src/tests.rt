@@ -1,4 +1,6 @@
 //! Small formulas whose answers are known by hand, pigeonhole formulas, and formulas against a count by all assignments.
+ghost use Rattle.std.specs.Prelude.{◌<◌};
+
 use crate::{NoMemory, Solved, solve};
 use kb_chain::{Clause, Formula, Lit, Log, Row, Verdict, check_fresh, check_refutation};
 use std::alloc::Global;
@@ -129,13 +131,25 @@ fn pigeons(alloc: Global, count: u8, holes: u8) -> Result<Formula, NoMemory> {
 #[test]
 fn pigeonholes(rt: HostRuntime) -> Result<(), Fail> {
     let alloc = rt.alloc();
-    for holes in 1..6u8 {
+    for holes in 1..8u8 {
         let crowded = pigeons(alloc, holes + 1, holes)?;
         let solved = solve(alloc, &crowded, 100_000)?;
         assert!(rt; refutes(&rt, alloc, &crowded, solved)? > 0);
     }
     let fitting = pigeons(alloc, 5, 5)?;
     assert_eq!(rt; model_bits(solve(alloc, &fitting, 100_000)?), 1000);
+    Ok(())
+}
+
+#[test]
+fn a_spent_budget_is_searched_anew(rt: HostRuntime) -> Result<(), Fail> {
+    let alloc = rt.alloc();
+    let crowded = pigeons(alloc, 11, 10)?;
+    let Solved::Undecided(log) = solve(alloc, &crowded, 5_000)? else {
+        assert!(rt; false);
+        return Ok(());
+    };
+    assert_eq!(rt; log.entries.as_slice().len(), 5_000);
     Ok(())
 }
 
@@ -255,10 +269,13 @@ fn values_of(bits: &[bool]) -> u32 {
     values
 }
 
-/// Checks a refutation, and that its entries before the last one are fresh.
-fn check_log(rt: &impl Abort, alloc: Global, formula: &Formula, log: Log) -> Result<(), NoMemory> {
-    let whole = check_refutation(alloc, formula, &log)?;
-    assert!(rt; whole == Verdict::Good);
+/// Checks that the entries of a log before the last one are fresh.
+fn check_front(
+    rt: &impl Abort,
+    alloc: Global,
+    formula: &Formula,
+    log: Log,
+) -> Result<(), NoMemory> {
     let mut entries = log.entries.into_vec();
     let _last = entries.pop();
     let front = Log {
@@ -269,13 +286,23 @@ fn check_log(rt: &impl Abort, alloc: Global, formula: &Formula, log: Log) -> Res
     Ok(())
 }
 
-/// Checks that the formula is decided, as the count of its models says and by a model or a log that is good; whether it has a model.
+/// With this budget a search keeps all clauses.
+const SMALL_BUDGET: u32 = 4_000;
+
+/// With this one it eliminates variables and lets clauses go.
+const GREAT_BUDGET: u32 = 100_000;
+
+/// Checks that the formula is decided within the budget, as the count of its models says and by a model or a log that is good;
+/// whether it has a model.
 fn check_decided(
     rt: &impl Abort,
     alloc: Global,
     formula: &Formula,
-    solved: Solved,
-) -> Result<bool, NoMemory> {
+    budget: u32,
+) -> Result<bool, NoMemory>
+    requires { 0 < budget }
+{
+    let solved = solve(alloc, formula, budget)?;
     let clauses = all_signs(alloc, formula)?;
     let models = count_models(clauses.as_slice());
     match solved {
@@ -287,7 +314,11 @@ fn check_decided(
         }
         Solved::Unsat(log) => {
             assert_eq!(rt; models, 0);
-            check_log(rt, alloc, formula, log)?;
+            let verdict = check_refutation(alloc, formula, &log)?;
+            assert!(rt; verdict == Verdict::Good);
+            if budget <= SMALL_BUDGET {
+                check_front(rt, alloc, formula, log)?;
+            }
             Ok(false)
         }
         Solved::Undecided(_) => {
@@ -304,8 +335,10 @@ fn random_formulas(rt: HostRuntime) -> Result<(), Fail> {
     for seed in 1..9u64 {
         let made = random(alloc, seed, 88)?;
         assert_eq!(rt; made.clauses().len(), 88);
-        let solved = solve(alloc, &made, 100_000)?;
-        if check_decided(&rt, alloc, &made, solved)? {
+        let kept_all = check_decided(&rt, alloc, &made, SMALL_BUDGET)?;
+        let let_go = check_decided(&rt, alloc, &made, GREAT_BUDGET)?;
+        assert_eq!(rt; kept_all, let_go);
+        if let_go {
             satisfiable = satisfiable.wrapping_add(1);
         }
     }

@@ -1,6 +1,7 @@
-ghost use Rattle.std.specs.Prelude.{◌≡◌, ℕ, ◌+◌, ◌*◌, ◌<◌, true, [], ◌∷◌, ◌++◌, length, slice_set, OnOk, IfOk};
+ghost use Rattle.std.specs.Prelude.{◌≡◌, ℕ, ◌+◌, ◌*◌, ◌<◌, true, [], ◌∷◌, ◌++◌, length, map, filter, slice_set, OnOk, IfOk};
 ghost use Rattle.kb_chain.specs.Literal.{place_of};
 ghost use Rattle.kb_sat.specs.Watches.{at_literal, AreEmpty};
+ghost use Rattle.kb_sat.specs.Forgetting.{is_kept, only_awake, asleep};
 
 use crate::memory::NoMemory;
 use crate::watch::{Pair, Watch};
@@ -57,6 +58,23 @@ impl WatchList {
     {
         self.inner.clear();
     }
+
+    /// Keeps only the watches of clauses that are awake.
+    fn keep_awake(&mut self, pairs: &[Pair])
+        ensures { self.new ≡ filter (is_kept pairs.now) self.old }
+    {
+        self.inner.retain(|watch| is_kept(pairs, watch));
+    }
+}
+
+/// Whether a watch is of a clause that is awake.
+fn is_kept(pairs: &[Pair], watch: &Watch) -> bool
+    ensures { result ≡ is_kept pairs.now watch.now }
+{
+    match pairs.get(watch.clause as usize) {
+        Some(pair) => pair.awake,
+        None => false,
+    }
 }
 
 /// The watched literals by clause number, and the watches by the place of the literal that is watched.
@@ -84,6 +102,27 @@ impl Watches {
             lists,
             waiting: WatchList::new(alloc),
         })
+    }
+
+    /// Notes that a clause is watched no longer.
+    pub(crate) fn let_go(&mut self, number: u32)
+        ensures pairs { self.new.pairs.items ≡ asleep self.old.pairs.items number }
+        ensures lists { self.new.lists ≡ self.old.lists }
+    {
+        if let Some(pair) = self.pairs.get_mut(number as usize) {
+            pair.awake = false;
+        }
+    }
+
+    /// Takes the watches of clauses that are watched no longer out of the lists.
+    pub(crate) fn purge(&mut self)
+        ensures pairs { self.new.pairs ≡ self.old.pairs }
+        ensures lists { self.new.lists.items ≡ map (only_awake self.old.pairs.items) self.old.lists.items }
+    {
+        let pairs = self.pairs.as_slice();
+        for list in self.lists.iter_mut() {
+            list.keep_awake(pairs);
+        }
     }
 }
 

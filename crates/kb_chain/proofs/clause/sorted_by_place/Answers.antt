@@ -6,4 +6,4 @@ pub returns-clause-rising : goal.returns-clause-rising
 returns-clause-rising c =
     let k : c.in_ok-sorted.sorted.len ≡ length c.sort_by_place.new.literals = omega (arith, c.sort_by_place.auto.literals) in
     rw (take_front c.in_ok-sorted.sorted.len c.sort_by_place.new.literals (drop (length c.sort_by_place.new.literals) c.in_ok-sorted.sorted.items) k)
-    c.sort_by_place.ensures.rising
+    c.in_ok-sort_by_place.ensures.rising

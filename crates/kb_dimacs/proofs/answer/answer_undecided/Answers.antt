@@ -1,4 +1,5 @@
-use Rattle.std.proofs.Common.{◌≡◌, ◌∙◌, ap, sym, length, ℕ, Option, Some}
+use Rattle.std.proofs.Common.{◌≡◌, ◌∙◌, ap, sym, List, Option, Some}
+use Rattle.kb_chain.specs.declared.log.Chain.{Chain}
 use Rattle.kb_chain.specs.declared.log.Verdict.{Verdict}
 use Rattle.kb_dimacs.specs.Texts.{unknown_text}
 use Rattle.kb_dimacs.specs.Answers.{check_answer}
@@ -13,5 +14,5 @@ returns-clause-text c =
           ∙ ap check_answer (sym w.if-check.true))
       | else-check w ↦ w.checked-is ∙ ap check_answer (sym w.if-check.false)
     ] in
-    c.in_ok-unknown_text.ensures ∙ (ap (λ (n : ℕ). unknown_text n c.if-check.checked) (ap length c.as_slice.ensures)
-    ∙ ap (λ (o : Option Verdict). unknown_text (length c.args.log.now.entries) o) checked)
+    c.in_ok-unknown_text.ensures ∙ (ap (λ (entries : List Chain). unknown_text entries c.if-check.checked) c.as_slice.ensures
+    ∙ ap (λ (o : Option Verdict). unknown_text c.args.log.now.entries o) checked)

@@ -1,10 +1,11 @@
-use Rattle.std.proofs.Common.{◌≡◌, ◌+◌, ◌<◌, ◌∙◌, ◌++◌, sym, ap, subst, false, replicate, length, take, drop, Some, arith, ℕ, List, [], Bool, not, ◌&&◌, ◌||◌, rules}
+use Rattle.std.proofs.Common.{◌≡◌, ◌+◌, ◌<◌, ◌∙◌, ◌++◌, sym, ap, subst, false, replicate, length, take, drop, Some, arith, ℕ, List, [], Bool, not, ◌&&◌, ◌||◌, ◌==◌, inl, inr, rules}
+use Rattle.std.proofs.lemmas.Bool.{false≢true, or_cases, eqb-true}
 use Rattle.kb_chain.specs.Literal.{Literal}
 use Rattle.kb_chain.specs.declared.log.Chain.{Chain}
 use Rattle.kb_sat.specs.Analysis.{is_seen, is_pivot, IsReached, IsLastSeen, NoneSeen}
 use Rattle.kb_sat.proofs.MarkedLaws.{once_of, read_at}
 use Rattle.kb_sat.proofs.ReasonLaws.{front}
-use Rattle.kb_sat.proofs.RefuteLaws.{has_variable, blank_table, conflict_inside, reason_row_inside, reason_number_inside, refuted_start, refuted_step, refuted_end}
+use Rattle.kb_sat.proofs.RefuteLaws.{has_variable, blank_table, conflict_inside, reason_row_inside, reason_number_inside, cites_step, cited_more, refuted_start, refuted_step, refuted_end}
 use Rattle.kb_sat.proofs.analysis.resolve_all.Goals as goal
 
 pub see_others-requires : goal.see_others-requires
@@ -33,6 +34,7 @@ loop-position-init c =
           (sym c.new-steps.ensures.items)
           (refuted_start c.args.clauses.now.clauses c.args.trail.now c.args.number c.literals_of.result.now c.as_mut_slice.result.now c.see_others.new.seen c.facts.ensures
           (once_of c.args.trail.now c.facts.ensures c.stands_once.ensures) c.requires.conflict c.literals_of.ensures blank c.see_others.ensures)));
+      cited = λ k e. absurd (false≢true (ap (cites_step k) (sym c.new-steps.ensures.items) ∙ e));
     }
 
 pub literals_of-row-requires : goal.literals_of-row-requires
@@ -76,12 +78,20 @@ loop-position-preserved c =
           (λ w. c.see_others-in-Some.ensures w ∙ ap (λ (z : List Bool). is_seen z w || (has_variable c.literals_of-row.result.now w && not (is_pivot (Some c.variable-variable.result) w)))
           c.as_mut_slice-in-Some.ensures.value)
           c.loop-position.invariant.reached));
+      cited = λ k e. cited_more c.args.trail.now.reasons c.loop-position.steps.items c.variable-variable.result c.in-Some-reason.reason c.in-Some.position
+          c.loop-position.invariant.cited c.in-Some-reason.ensures k (ap (cites_step k) (sym c.in_ok-push.ensures.items) ∙ e);
     }
 
-pub returns : goal.returns
-returns c =
+pub returns-clause-refuting : goal.returns-clause-refuting
+returns-clause-refuting c =
     let chain : Chain = record { start = c.args.number; steps = c.from_vec.result } in
     refuted_end c.args.clauses.now.clauses c.args.trail.now chain c.loop-position.end c.loop-position.seen.items
     (subst (λ (z : List Bool). NoneSeen c.args.trail.now.literals z c.loop-position.end) c.as_slice.ensures.value c.in_default.ensures)
     (subst (λ (z : List (ℕ × ℕ)). IsReached c.args.clauses.now.clauses c.args.number z c.args.trail.now.literals 0 c.loop-position.end c.loop-position.seen.items [])
     (sym c.from_vec.ensures) c.loop-position.invariant.reached)
+
+pub returns-clause-cited : goal.returns-clause-cited
+returns-clause-cited c k e = elim (or_cases (c.args.number == k) (cites_step k c.from_vec.result) e) [
+  | inl s ↦ inl (sym (eqb-true c.args.number k s))
+  | inr s ↦ inr (c.loop-position.invariant.cited k (ap (cites_step k) (sym c.from_vec.ensures) ∙ s))
+]

@@ -1,5 +1,5 @@
 use Rattle.std.proofs.Common.{◌≡◌, ℕ, ◌+◌, ◌*◌, ◌<◌, ◌∙◌, ap, sym, subst, refl, inl, inr, true, false, length, get_or, arith, slice_get, Some, List, Bool, [], ◌∷◌, ◌++◌}
-use Rattle.std.proofs.lemmas.Bool.{cases_Bool, or_right}
+use Rattle.std.proofs.lemmas.Bool.{cases_Bool, false≢true, not-true, not-false, or_right}
 use Rattle.std.proofs.lemmas.Option.{slice_get_read}
 use Rattle.kb_chain.specs.Literal.{Literal, has, same, negated, place_of}
 use Rattle.kb_chain.proofs.LiteralLaws.{same-true, same_refl, negated-negated}
@@ -51,12 +51,21 @@ pair_there rows pairs lists vars w p h e is =
     let count : length pairs ≡ length rows = h.count in
     slice_get_read pairs (length pairs) w.clause p refl (omega (arith, inside, count)) is
 
+-- a clause that was let go is watched no longer
+pub returns-then-not-pair-clause-walked : goal.returns-then-not-pair-clause-walked
+returns-then-not-pair-clause-walked c early others part h =
+    Walks-drop early (has c.args.trail.now.literals) c.args.clauses.now c.args.pairs.now.items c.args.lists.now.items c.args.watch others c.args.falsified h
+    (λ pair e aw. (let was : slice_get c.args.pairs.now.items c.args.watch.clause ≡ Some c.index-pair.result.now =
+    pair_there c.args.clauses.now c.args.pairs.now.items c.args.lists.now.items c.args.trail.now.vars c.args.watch c.index-pair.result.now c.requires.watching c.requires.watch c.index-pair.ensures in
+    let s : pair ≡ c.index-pair.result.now = at_same c.args.pairs.now.items c.args.watch.clause pair c.index-pair.result.now e was in
+    absurd (false≢true (sym (not-true c.index-pair.result.now.awake c.if-not-pair.true) ∙ (ap (λ (z : Pair). z.awake) (sym s) ∙ aw)))))
+
 pub returns-in_default-clause-walked : goal.returns-in_default-clause-walked
 returns-in_default-clause-walked c early others part h =
     Walks-drop early (has c.args.trail.now.literals) c.args.clauses.now c.args.pairs.now.items c.args.lists.now.items c.args.watch others c.args.falsified h
-    (λ pair e. (let was : slice_get c.args.pairs.now.items c.args.watch.clause ≡ Some c.index.result.now =
-    pair_there c.args.clauses.now c.args.pairs.now.items c.args.lists.now.items c.args.trail.now.vars c.args.watch c.index.result.now c.requires.watching c.requires.watch c.index.ensures in
-    let s : pair ≡ c.index.result.now = at_same c.args.pairs.now.items c.args.watch.clause pair c.index.result.now e was in
+    (λ pair e aw. (let was : slice_get c.args.pairs.now.items c.args.watch.clause ≡ Some c.index-pair.result.now =
+    pair_there c.args.clauses.now c.args.pairs.now.items c.args.lists.now.items c.args.trail.now.vars c.args.watch c.index-pair.result.now c.requires.watching c.requires.watch c.index-pair.ensures in
+    let s : pair ≡ c.index-pair.result.now = at_same c.args.pairs.now.items c.args.watch.clause pair c.index-pair.result.now e was in
     (ap (λ (z : Pair). same z.first c.args.falsified) s ∙ c.in_default.ensures.none.0, ap (λ (z : Pair). same z.second c.args.falsified) s ∙ c.in_default.ensures.none.1)))
 
 pub put_watch-requires-then-is_true-2 : goal.put_watch-requires-then-is_true-2
@@ -74,16 +83,16 @@ other_blocks rows pairs lists vars w p f other h e is o =
 
 pub returns-then-is_true-2-clause-watching : goal.returns-then-is_true-2-clause-watching
 returns-then-is_true-2-clause-watching c =
-    let o = other_blocks c.args.clauses.now c.args.pairs.now.items c.args.lists.now.items c.args.trail.now.vars c.args.watch c.index.result.now c.args.falsified c.in-Some.other
-    c.requires.watching c.requires.watch c.index.ensures c.in-Some.ensures.some in
+    let o = other_blocks c.args.clauses.now c.args.pairs.now.items c.args.lists.now.items c.args.trail.now.vars c.args.watch c.index-pair.result.now c.args.falsified c.in-Some.other
+    c.requires.watching c.requires.watch c.index-pair.ensures c.in-Some.ensures.some in
     rw c.in_ok-put_watch-2.ensures.ok
     (IsWatching-put c.args.clauses.now c.args.pairs.now.items c.args.lists.now.items c.args.trail.now.vars c.args.falsified
     (record { clause = c.args.watch.clause; blocker = c.in-Some.other }) c.requires.watching o.3)
 
 pub returns-then-is_true-2-clause-walked : goal.returns-then-is_true-2-clause-walked
 returns-then-is_true-2-clause-walked c early others part h =
-    let o = other_blocks c.args.clauses.now c.args.pairs.now.items c.args.lists.now.items c.args.trail.now.vars c.args.watch c.index.result.now c.args.falsified c.in-Some.other
-    c.requires.watching c.requires.watch c.index.ensures c.in-Some.ensures.some in
+    let o = other_blocks c.args.clauses.now c.args.pairs.now.items c.args.lists.now.items c.args.trail.now.vars c.args.watch c.index-pair.result.now c.args.falsified c.in-Some.other
+    c.requires.watching c.requires.watch c.index-pair.ensures c.in-Some.ensures.some in
     rw c.in_ok-put_watch-2.ensures.ok
     (Walks-keep early (has c.args.trail.now.literals) (has c.args.trail.now.literals) c.args.clauses.now c.args.pairs.now.items c.args.lists.now.items c.args.watch
     (record { clause = c.args.watch.clause; blocker = c.in-Some.other }) others c.args.falsified h (λ l e. e)
@@ -92,8 +101,8 @@ returns-then-is_true-2-clause-walked c early others part h =
 
 pub returns-in-Some-open_literal-clause-watching : goal.returns-in-Some-open_literal-clause-watching
 returns-in-Some-open_literal-clause-watching c =
-    let o = other_blocks c.args.clauses.now c.args.pairs.now.items c.args.lists.now.items c.args.trail.now.vars c.args.watch c.index.result.now c.args.falsified c.in-Some.other
-    c.requires.watching c.requires.watch c.index.ensures c.in-Some.ensures.some in
+    let o = other_blocks c.args.clauses.now c.args.pairs.now.items c.args.lists.now.items c.args.trail.now.vars c.args.watch c.index-pair.result.now c.args.falsified c.in-Some.other
+    c.requires.watching c.requires.watch c.index-pair.ensures c.in-Some.ensures.some in
     let next = c.in-Some-open_literal.next in
     let inside : has o.0 next ≡ true = ap (λ z. has z next) (at_same c.args.clauses.now c.args.watch.clause o.0 c.literals.result.now o.1 c.literals.ensures) ∙ c.in-Some-open_literal.ensures.some.0 in
     rw c.in_ok-put_watch-3.ensures.ok
@@ -104,8 +113,8 @@ returns-in-Some-open_literal-clause-watching c =
 
 pub returns-in-Some-open_literal-clause-walked : goal.returns-in-Some-open_literal-clause-walked
 returns-in-Some-open_literal-clause-walked c early others part h =
-    let o = other_blocks c.args.clauses.now c.args.pairs.now.items c.args.lists.now.items c.args.trail.now.vars c.args.watch c.index.result.now c.args.falsified c.in-Some.other
-    c.requires.watching c.requires.watch c.index.ensures c.in-Some.ensures.some in
+    let o = other_blocks c.args.clauses.now c.args.pairs.now.items c.args.lists.now.items c.args.trail.now.vars c.args.watch c.index-pair.result.now c.args.falsified c.in-Some.other
+    c.requires.watching c.requires.watch c.index-pair.ensures c.in-Some.ensures.some in
     let next = c.in-Some-open_literal.next in
     let inside : has o.0 next ≡ true = ap (λ z. has z next) (at_same c.args.clauses.now c.args.watch.clause o.0 c.literals.result.now o.1 c.literals.ensures) ∙ c.in-Some-open_literal.ensures.some.0 in
     let place : place_of next < length c.args.lists.now.items =
@@ -113,17 +122,17 @@ returns-in-Some-open_literal-clause-walked c early others part h =
     (c.requires.watching.within c.args.watch.clause o.0 o.1 next inside) in
     rw c.in_ok-put_watch-3.ensures.ok
     (Walks-move early (has c.args.trail.now.literals) c.args.clauses.now c.args.pairs.now.items c.args.lists.now.items c.args.watch
-    (record { clause = c.args.watch.clause; blocker = c.in-Some.other }) others c.args.falsified c.index.result.now c.in-Some.other next h part place refl
-    (pair_there c.args.clauses.now c.args.pairs.now.items c.args.lists.now.items c.args.trail.now.vars c.args.watch c.index.result.now c.requires.watching c.requires.watch c.index.ensures)
-    c.in-Some.ensures.some
+    (record { clause = c.args.watch.clause; blocker = c.in-Some.other }) others c.args.falsified c.index-pair.result.now c.in-Some.other next h part place refl
+    (pair_there c.args.clauses.now c.args.pairs.now.items c.args.lists.now.items c.args.trail.now.vars c.args.watch c.index-pair.result.now c.requires.watching c.requires.watch c.index-pair.ensures)
+    (not-false c.index-pair.result.now.awake c.if-not-pair.false) c.in-Some.ensures.some
     (sym (ap (has c.args.trail.now.literals) (negated-negated c.args.falsified)) ∙ c.facts.ensures.consistent (negated c.args.falsified) c.requires.falsified)
     c.in-Some-open_literal.ensures.some.1 c.in-Some-open_literal.ensures.some.2 o.0 o.1)
 
 pub returns-in-Some-open_literal-clause-stays : goal.returns-in-Some-open_literal-clause-stays
 returns-in-Some-open_literal-clause-stays c =
-    StaysQuiet-move c.args.clauses.now c.args.pairs.now.items c.args.watch.clause (has c.args.trail.now.literals) c.index.result.now c.args.falsified c.in-Some.other c.in-Some-open_literal.next
-    (pair_there c.args.clauses.now c.args.pairs.now.items c.args.lists.now.items c.args.trail.now.vars c.args.watch c.index.result.now c.requires.watching c.requires.watch c.index.ensures)
-    c.in-Some.ensures.some c.in-Some-open_literal.ensures.some.1 c.in-Some-open_literal.ensures.some.2
+    StaysQuiet-move c.args.clauses.now c.args.pairs.now.items c.args.watch.clause (has c.args.trail.now.literals) c.index-pair.result.now c.args.falsified c.in-Some.other c.in-Some-open_literal.next
+    (pair_there c.args.clauses.now c.args.pairs.now.items c.args.lists.now.items c.args.trail.now.vars c.args.watch c.index-pair.result.now c.requires.watching c.requires.watch c.index-pair.ensures)
+    (not-false c.index-pair.result.now.awake c.if-not-pair.false) c.in-Some.ensures.some c.in-Some-open_literal.ensures.some.1 c.in-Some-open_literal.ensures.some.2
 
 -- a row all of whose literals but one are false, and that one too
 conflict : (rows : List (List Literal)) (t : Assigned) (k : ℕ) (row : List Literal) (other : Literal) → slice_get rows k ≡ Some row
@@ -138,14 +147,18 @@ conflict rows t k row other is f e = record {
 }
 
 pub returns-then-is_false-clause-conflict : goal.returns-then-is_false-clause-conflict
-returns-then-is_false-clause-conflict c =
-    conflict c.args.clauses.now c.args.trail.now c.args.watch.clause c.literals.result.now c.in-Some.other c.literals.ensures c.in_default-open_literal.ensures.none
-    (sym c.is_false.ensures ∙ c.if-is_false.true)
+returns-then-is_false-clause-conflict c = (
+  conflict c.args.clauses.now c.args.trail.now c.args.watch.clause c.literals.result.now c.in-Some.other c.literals.ensures c.in_default-open_literal.ensures.none
+      (sym c.is_false.ensures ∙ c.if-is_false.true),
+  λ pair e. (let was : slice_get c.args.pairs.now.items c.args.watch.clause ≡ Some c.index-pair.result.now =
+      pair_there c.args.clauses.now c.args.pairs.now.items c.args.lists.now.items c.args.trail.now.vars c.args.watch c.index-pair.result.now c.requires.watching c.requires.watch c.index-pair.ensures in
+      ap (λ (z : Pair). z.awake) (at_same c.args.pairs.now.items c.args.watch.clause pair c.index-pair.result.now e was) ∙ (not-false c.index-pair.result.now.awake c.if-not-pair.false)),
+)
 
 pub assign-requires-clause-place : goal.assign-requires-clause-place
 assign-requires-clause-place c =
-    let o = other_blocks c.args.clauses.now c.args.pairs.now.items c.args.lists.now.items c.args.trail.now.vars c.args.watch c.index.result.now c.args.falsified c.in-Some.other
-    c.requires.watching c.requires.watch c.index.ensures c.in-Some.ensures.some in
+    let o = other_blocks c.args.clauses.now c.args.pairs.now.items c.args.lists.now.items c.args.trail.now.vars c.args.watch c.index-pair.result.now c.args.falsified c.in-Some.other
+    c.requires.watching c.requires.watch c.index-pair.ensures c.in-Some.ensures.some in
     c.requires.watching.within c.args.watch.clause o.0 o.1 c.in-Some.other o.2
 
 pub put_watch-requires-2 : goal.put_watch-requires-2
@@ -154,16 +167,16 @@ put_watch-requires-2 c =
 
 pub returns-clause-watching : goal.returns-clause-watching
 returns-clause-watching c =
-    let o = other_blocks c.args.clauses.now c.args.pairs.now.items c.args.lists.now.items c.args.trail.now.vars c.args.watch c.index.result.now c.args.falsified c.in-Some.other
-    c.requires.watching c.requires.watch c.index.ensures c.in-Some.ensures.some in
+    let o = other_blocks c.args.clauses.now c.args.pairs.now.items c.args.lists.now.items c.args.trail.now.vars c.args.watch c.index-pair.result.now c.args.falsified c.in-Some.other
+    c.requires.watching c.requires.watch c.index-pair.ensures c.in-Some.ensures.some in
     rw (c.in_ok-put_watch-4.ensures.ok, ap (λ (z : Assigned). z.vars) c.assign.ensures)
     (IsWatching-put c.args.clauses.now c.args.pairs.now.items c.args.lists.now.items c.args.trail.now.vars c.args.falsified
     (record { clause = c.args.watch.clause; blocker = c.in-Some.other }) c.requires.watching o.3)
 
 pub returns-clause-walked : goal.returns-clause-walked
 returns-clause-walked c early others part h =
-    let o = other_blocks c.args.clauses.now c.args.pairs.now.items c.args.lists.now.items c.args.trail.now.vars c.args.watch c.index.result.now c.args.falsified c.in-Some.other
-    c.requires.watching c.requires.watch c.index.ensures c.in-Some.ensures.some in
+    let o = other_blocks c.args.clauses.now c.args.pairs.now.items c.args.lists.now.items c.args.trail.now.vars c.args.watch c.index-pair.result.now c.args.falsified c.in-Some.other
+    c.requires.watching c.requires.watch c.index-pair.ensures c.in-Some.ensures.some in
     let xs = c.args.trail.now.literals in
     let l = c.in-Some.other in
     rw (c.in_ok-put_watch-4.ensures.ok, ap (λ (z : Assigned). z.literals) c.assign.ensures)
@@ -174,8 +187,8 @@ returns-clause-walked c early others part h =
 
 pub returns-clause-justified : goal.returns-clause-justified
 returns-clause-justified c all j =
-    let o = other_blocks c.args.clauses.now c.args.pairs.now.items c.args.lists.now.items c.args.trail.now.vars c.args.watch c.index.result.now c.args.falsified c.in-Some.other
-    c.requires.watching c.requires.watch c.index.ensures c.in-Some.ensures.some in
+    let o = other_blocks c.args.clauses.now c.args.pairs.now.items c.args.lists.now.items c.args.trail.now.vars c.args.watch c.index-pair.result.now c.args.falsified c.in-Some.other
+    c.requires.watching c.requires.watch c.index-pair.ensures c.in-Some.ensures.some in
     let s : o.0 ≡ c.literals.result.now = at_same c.args.clauses.now c.args.watch.clause o.0 c.literals.result.now o.1 c.literals.ensures in
     rw c.assign.ensures
     (IsJustified-push all c.args.clauses.now c.args.trail.now c.in-Some.other c.args.watch.clause c.literals.result.now c.facts.ensures j c.literals.ensures

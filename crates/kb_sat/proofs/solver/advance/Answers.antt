@@ -1,8 +1,9 @@
-use Rattle.std.proofs.Common.{◌≡◌, ◌+◌, ◌<◌, ◌∙◌, ap, sym, subst, length, arith}
+use Rattle.std.proofs.Common.{◌≡◌, ◌+◌, ◌<◌, ◌∙◌, ap, sym, subst, true, length, arith}
 use Rattle.std.proofs.lemmas.List.{nil_from_length}
 use Rattle.kb_chain.specs.Cnf.{Cnf}
 use Rattle.kb_chain.specs.Propagation.{UnitRefutes}
 use Rattle.kb_sat.specs.Search.{IsConflict}
+use Rattle.kb_sat.specs.Watches.{IsAwake}
 use Rattle.kb_sat.proofs.SearchLaws.{doomed_from, not_refuted}
 use Rattle.kb_sat.proofs.WatchLaws.{at_some}
 use Rattle.kb_sat.proofs.solver.advance.Goals as goal
@@ -12,8 +13,8 @@ returns-then-level-eq0-clause-advance c =
     let s = c.run.new.self in
     let h = c.in_ok-number.ensures.searches in
     let conflict : IsConflict s.clauses s.trail c.in-Some.number =
-    at_some c.in_ok-number.field-0 c.in-Some.number (IsConflict s.clauses s.trail) c.in-Some.is c.in_ok-number.ensures.conflict in
-    let d = doomed_from s.formula.now s.entries s.clauses s.watches.pairs.items s.watches.lists.items s.trail c.in-Some.number h conflict in (
+    (at_some c.in_ok-number.field-0 c.in-Some.number (λ n. IsConflict s.clauses s.trail n × IsAwake s.watches.pairs.items n) c.in-Some.is c.in_ok-number.ensures.conflict).0 in
+    let d = doomed_from s.formula.now s.entries s.clauses s.watches.pairs.items s.watches.lists.items s.trail s.whole c.in-Some.number h conflict in (
       record {
         level = nil_from_length s.trail.starts (sym c.level.ensures ∙ c.if-level-eq0.true);
         clauses = h.clauses;
@@ -32,8 +33,10 @@ returns-then-not-is_due-clause-advance c =
     let lt : 0 < length s.trail.starts = omega (arith, c.if-level-eq0.false, c.level.ensures) in (
       c.in_ok-learn.ensures.ready,
       omega (arith, more, same),
-      subst (λ (z : Cnf). UnitRefutes z.clauses → ⊥) (sym c.in_ok-learn.ensures.formula)
-          (not_refuted s.formula.now s.entries s.clauses s.watches.pairs.items s.watches.lists.items s.trail c.in_ok-number.ensures.searches c.facts.ensures lt),
+      λ w. (let whole : s.whole ≡ true = sym c.in_ok-learn.ensures.whole ∙ w in
+          subst (λ (z : Cnf). UnitRefutes z.clauses → ⊥) (sym c.in_ok-learn.ensures.formula)
+          (not_refuted s.formula.now s.entries s.clauses s.watches.pairs.items s.watches.lists.items s.trail s.whole c.in_ok-number.ensures.searches c.facts.ensures
+          (c.in_ok-number.ensures.searches.fresh whole).0 lt)),
     )
 
 pub returns-clause-advance : goal.returns-clause-advance
@@ -45,6 +48,8 @@ returns-clause-advance c =
     let lt : 0 < length s.trail.starts = omega (arith, c.if-level-eq0.false, c.level.ensures) in (
       c.in_ok-restart.ensures.ready,
       omega (arith, kept, more, same),
-      subst (λ (z : Cnf). UnitRefutes z.clauses → ⊥) (sym (c.in_ok-restart.ensures.formula ∙ c.in_ok-learn.ensures.formula))
-          (not_refuted s.formula.now s.entries s.clauses s.watches.pairs.items s.watches.lists.items s.trail c.in_ok-number.ensures.searches c.facts.ensures lt),
+      λ w. (let whole : s.whole ≡ true = sym (c.in_ok-restart.ensures.whole ∙ c.in_ok-learn.ensures.whole) ∙ w in
+          subst (λ (z : Cnf). UnitRefutes z.clauses → ⊥) (sym (c.in_ok-restart.ensures.formula ∙ c.in_ok-learn.ensures.formula))
+          (not_refuted s.formula.now s.entries s.clauses s.watches.pairs.items s.watches.lists.items s.trail s.whole c.in_ok-number.ensures.searches c.facts.ensures
+          (c.in_ok-number.ensures.searches.fresh whole).0 lt)),
     )

@@ -6,14 +6,20 @@ use Rattle.kb_sat.specs.Solver.{IsSecond}
 use Rattle.kb_sat.specs.declared.watches.Watches.{Watches}
 use Rattle.kb_sat.proofs.JustifyLaws.{pushed}
 use Rattle.kb_sat.proofs.SearchLaws.{not_false_before, IsSearch_same}
-use Rattle.kb_sat.proofs.LearnLaws.{IsAsserting-from, IsSearch-learn, ready-learn, learned_trail, asserting_place, asserting_absent}
+use Rattle.kb_sat.proofs.LearnLaws.{learned_false, IsAsserting-from, IsSearch-learn, ready-learn, learned_trail, asserting_place, asserting_absent}
 use Rattle.kb_sat.proofs.search.Search.learn.Goals as goal
 
 pub analyse-requires-clause-last : goal.analyse-requires-clause-last
 analyse-requires-clause-last c row e =
     let s = c.args.self.now in
     let lt : length s.trail.starts - 1 < length s.trail.starts = (let n : 0 < length s.trail.starts = c.requires.level in omega (arith, n)) in
-    not_false_before s.formula.now s.entries s.clauses s.watches.pairs.items s.watches.lists.items s.trail c.requires.searches c.facts.ensures (length s.trail.starts - 1) lt c.args.conflict row e
+    not_false_before s.formula.now s.entries s.clauses s.watches.pairs.items s.watches.lists.items s.trail s.whole c.requires.searches c.facts.ensures (length s.trail.starts - 1) lt c.args.conflict row e c.requires.awake
+
+pub levels_of-levels-requires : goal.levels_of-levels-requires
+levels_of-levels-requires c m e =
+    let l = c.in_ok-learned.learned in
+    let k = c.in_ok-learned.ensures.learned c.requires.searches.clauses c.requires.searches.justified in
+    learned_false c.requires.searches.clauses c.args.self.now.trail l.chain l.literals l.level k m (ap (λ z. has z m) (sym c.as_slice.ensures) ∙ e)
 
 pub watch_pair-requires-clause-first : goal.watch_pair-requires-clause-first
 watch_pair-requires-clause-first c =
@@ -94,13 +100,13 @@ returns-clause-searches c =
     let number : n ≡ length s.clauses = c.len-number.ensures ∙ ap length g.clauses in
     IsSearch_same c.go_back.new.self.formula.now s.formula.now c.go_back.new.self.entries (s.entries ++ l.chain ∷ []) c.push-2.new.self (s.clauses ++ l.literals ∷ [])
     c.watch_pair.new.watches.pairs.items (s.watches.pairs.items ++ paired a b ∷ []) c.watch_pair.new.watches.lists.items (put_pair s.watches.lists.items a b n)
-    c.assign.new.self (learned_trail t l.level a n)
+    c.assign.new.self (learned_trail t l.level a n) c.go_back.new.self.whole s.whole
     g.formula (g.entries ∙ c.in_ok-push.ensures.ok)
     (c.in_ok-push-2.ensures ∙ (ap (λ z. z ++ c.as_slice-row.result.now ∷ []) g.clauses ∙ ap (λ z. s.clauses ++ z ∷ []) c.as_slice-row.ensures))
     (c.in_ok-watch_pair.ensures.pairs ∙ ap (λ (w : Watches). w.pairs.items ++ paired a b ∷ []) g.watches)
     (c.in_ok-watch_pair.ensures.lists ∙ ap (λ (w : Watches). put_pair w.lists.items a b n) g.watches)
-    (c.assign.ensures ∙ ap (λ (z : Assigned). pushed z a (Some n) z.starts) g.trail)
-    (IsSearch-learn s.formula.now s.entries s.clauses s.watches.pairs.items s.watches.lists.items t c.requires.searches l.chain l.literals l.level a b n c.facts.ensures k p number)
+    (c.assign.ensures ∙ ap (λ (z : Assigned). pushed z a (Some n) z.starts) g.trail) g.whole
+    (IsSearch-learn s.formula.now s.entries s.clauses s.watches.pairs.items s.watches.lists.items t s.whole c.requires.searches l.chain l.literals l.level a b n c.facts.ensures k p number)
 
 pub returns-clause-ready : goal.returns-clause-ready
 returns-clause-ready c =
@@ -114,7 +120,7 @@ returns-clause-ready c =
     (c.index-row-0.is ∙ ap (λ z. get_or z 0 a) c.as_slice-row.ensures) (subst (λ z. IsSecond z b) c.as_slice-row.ensures c.second_of-second.ensures) in
     let n = c.len-number.result in
     let g = c.in_ok-go_back.ensures in
-    let r = ready-learn s.formula.now s.entries s.clauses s.watches.pairs.items s.watches.lists.items t c.requires.searches l.literals l.level a b c.facts.ensures k.below p in
+    let r = ready-learn s.formula.now s.entries s.clauses s.watches.pairs.items s.watches.lists.items t s.whole c.requires.searches l.literals l.level a b c.facts.ensures k.below p in
     let rows : c.push-2.new.self ≡ s.clauses ++ l.literals ∷ [] =
     c.in_ok-push-2.ensures ∙ (ap (λ z. z ++ c.as_slice-row.result.now ∷ []) g.clauses ∙ ap (λ z. s.clauses ++ z ∷ []) c.as_slice-row.ensures) in
     let pairs : c.watch_pair.new.watches.pairs.items ≡ s.watches.pairs.items ++ paired a b ∷ [] =

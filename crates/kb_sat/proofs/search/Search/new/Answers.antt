@@ -1,7 +1,8 @@
-use Rattle.std.proofs.Common.{◌≡◌, ◌+◌, ◌*◌, ◌<◌, ◌∙◌, ap, sym, subst, refl, length, [], ℕ, arith}
+use Rattle.std.proofs.Common.{◌≡◌, ◌+◌, ◌*◌, ◌<◌, ◌∙◌, ap, sym, subst, refl, length, true, [], ℕ, arith}
 use Rattle.std.proofs.lemmas.List.{take_all}
 use Rattle.kb_chain.specs.Cnf.{AllWithin}
 use Rattle.kb_chain.specs.Literal.{has, place_of}
+use Rattle.kb_sat.specs.contracts.clauses.Clauses.{the_view as clauses_view}
 use Rattle.kb_sat.specs.contracts.trail.Trail.{the_view}
 use Rattle.kb_sat.specs.Search.{IsConflict}
 use Rattle.kb_sat.specs.Solver.{IsSearch}
@@ -45,9 +46,9 @@ returns-clause-searches c =
     let w = c.watch_all.new.watches in
     if_none c.in_ok-conflict.conflict
     (IsBegun c.loop-clause.clauses w.pairs.items w.lists.items c.watch_all.new.trail)
-    (IsSearch f c.new-3.result c.clauses-2.inside.rows.items w.pairs.items w.lists.items (the_view c.trail.inside))
-    (λ h. IsSearch_same f f c.new-3.result [] c.clauses-2.inside.rows.items c.loop-clause.clauses w.pairs.items w.pairs.items w.lists.items w.lists.items
-    (the_view c.trail.inside) c.watch_all.new.trail refl c.new-3.ensures c.clauses-2.view_is refl refl c.trail.view_is
+    (IsSearch f c.new-3.result (clauses_view c.clauses-2.inside) w.pairs.items w.lists.items (the_view c.trail.inside) true)
+    (λ h. IsSearch_same f f c.new-3.result [] (clauses_view c.clauses-2.inside) c.loop-clause.clauses w.pairs.items w.pairs.items w.lists.items w.lists.items
+    (the_view c.trail.inside) c.watch_all.new.trail true true refl c.new-3.ensures c.clauses-2.view_is refl refl c.trail.view_is refl
     (IsSearch-begin f [] c.loop-clause.clauses w.pairs.items w.lists.items c.in_ok-trail.trail c.watch_all.new.trail refl rows start h c.in_ok-conflict.ensures.grows c.in_ok-conflict.ensures.justified))
     c.in_ok-conflict.ensures.begun
 
@@ -58,7 +59,7 @@ returns-clause-ready c =
     (IsBegun c.loop-clause.clauses w.pairs.items w.lists.items c.watch_all.new.trail) _
     (λ h. record {
       head = omega arith;
-      quiet = subst (λ (z : Assigned). Quiet c.clauses-2.inside.rows.items w.pairs.items (has []) (has z.literals)) (sym c.trail.view_is)
+      quiet = subst (λ (z : Assigned). Quiet (clauses_view c.clauses-2.inside) w.pairs.items (has []) (has z.literals)) (sym c.trail.view_is)
           (subst (λ z. Quiet z w.pairs.items (has []) (has c.watch_all.new.trail.literals)) (sym c.clauses-2.view_is) h.quiet);
     })
     c.in_ok-conflict.ensures.begun

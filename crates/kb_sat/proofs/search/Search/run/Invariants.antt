@@ -9,6 +9,7 @@ invariant-loop-number l = record {
   ready : IsReady l.self;
   entries : l.self.entries ≡ l.fn.self.entries;
   formula : l.self.formula.now ≡ l.fn.self.formula.now;
+  whole : l.self.whole ≡ l.fn.self.whole;
 }
 
 abbrev pub decreases-loop-number : goal.decreases-loop-number

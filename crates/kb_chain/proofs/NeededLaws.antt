@@ -1,0 +1,181 @@
+-- Entries that are needed, and the clauses that they derive.
+use Rattle.std.proofs.Common.{◌≡◌, ℕ, ◌+◌, ◌-◌, ◌<◌, ◌≤◌, ◌==◌, nat_lt, List, [], ◌∷◌, ◌++◌, Bool, true, false, arith, refl, ap, sym, ◌∙◌, inl, inr, ◌⊎◌, subst, Option, Some, None, option_and_then, slice_get, fold, zero, suc, length, get_or}
+use Rattle.std.proofs.lemmas.Bool.{or_cases, or_left, or_right, false≢true, eq-eqb, cases_eq, cases_lt, ltb-true}
+use Rattle.std.proofs.lemmas.Option.{option_and_then_some}
+use Rattle.std.proofs.lemmas.List.{length_push}
+use Rattle.std.specs.Prelude.{IsSomeAnd}
+use Rattle.std.specs.List.{list_any}
+use Rattle.kb_chain.specs.Literal.{Literal}
+use Rattle.kb_chain.specs.Clause.{resolvent_of}
+use Rattle.kb_chain.specs.Chains.{resolved, entry_of, derived}
+use Rattle.kb_chain.specs.Needed.{cites, is_kept, AreClosed}
+use Rattle.kb_chain.specs.declared.log.Chain.{Chain}
+
+resolved_same : (xs ys : List (List Literal)) (o : Option (List Literal)) (s : ℕ × ℕ) → slice_get xs s.1 ≡ slice_get ys s.1 → resolved xs o s ≡ resolved ys o s
+unfolding resolved
+resolved_same xs ys o s e = ap (λ (z : Option (List Literal)). option_and_then (λ clause. option_and_then (λ side. resolvent_of clause side s.0) z) o) e
+
+fold_same : (xs ys : List (List Literal)) (steps : List (ℕ × ℕ)) (o : Option (List Literal))
+    → ((k : ℕ) → list_any (λ (s : ℕ × ℕ). s.1 == k) steps ≡ true → slice_get xs k ≡ slice_get ys k) → fold (resolved xs) o steps ≡ fold (resolved ys) o steps
+fold_same xs ys [] o h = refl
+fold_same xs ys (s ∷ ss) o h =
+    ap (λ (z : Option (List Literal)). fold (resolved xs) z ss) (resolved_same xs ys o s (h s.1 (or_left _ _ (eq-eqb s.1 s.1 refl))))
+    ∙ fold_same xs ys ss (resolved ys o s) (λ k e. h k (or_right _ _ e))
+
+-- a chain gives the same from lists that have the same clauses at the numbers that it cites
+pub entry_of_same : (xs ys : List (List Literal)) (chain : Chain) → ((k : ℕ) → cites chain k ≡ true → slice_get xs k ≡ slice_get ys k)
+    → entry_of xs chain ≡ entry_of ys chain
+entry_of_same xs ys chain h =
+    ap (λ (z : Option (List Literal)). fold (resolved xs) z chain.steps) (h chain.start (or_left _ _ (eq-eqb chain.start chain.start refl)))
+    ∙ fold_same xs ys chain.steps (slice_get ys chain.start) (λ k e. h k (or_right _ _ e))
+
+pub get_past : (xs : List (List Literal)) (k : ℕ) → length xs ≤ k → slice_get xs k ≡ None
+get_past [] k le = refl
+get_past (x ∷ xs) zero le = absurd (omega arith)
+get_past (x ∷ xs) (suc k) le = get_past xs k (omega arith)
+
+get_front : (xs ys : List (List Literal)) (k : ℕ) → k < length xs → slice_get (xs ++ ys) k ≡ slice_get xs k
+get_front [] ys k lt = absurd (omega arith)
+get_front (x ∷ xs) ys zero lt = refl
+get_front (x ∷ xs) ys (suc k) lt = get_front xs ys k (omega arith)
+
+get_behind : (xs : List (List Literal)) (y : List Literal) (k : ℕ) → k ≡ length xs → slice_get (xs ++ y ∷ []) k ≡ Some y
+get_behind [] y zero e = refl
+get_behind [] y (suc k) e = absurd (omega (arith, e))
+get_behind (x ∷ xs) y zero e = absurd (omega (arith, e))
+get_behind (x ∷ xs) y (suc k) e = get_behind xs y k (omega (arith, e))
+
+-- the clauses that a log starts from stand in front
+pub derived_front : (entries : List Chain) (clauses all : List (List Literal)) (k : ℕ) → derived clauses entries ≡ Some all → k < length clauses
+    → slice_get clauses k ≡ slice_get all k
+derived_front [] clauses all k h lt = let s : clauses ≡ all = cc in ap (λ z. slice_get z k) s
+derived_front (x ∷ xs) clauses all k h lt =
+    option_and_then_some (λ clause. derived (clauses ++ clause ∷ []) xs) (entry_of clauses x) all h
+    (λ clause f g. sym (get_front clauses (clause ∷ []) k lt)
+    ∙ derived_front xs (clauses ++ clause ∷ []) all k g (let e = length_push clauses clause in omega (arith, e, lt)))
+
+pub derived_length : (entries : List Chain) (clauses all : List (List Literal)) → derived clauses entries ≡ Some all → length all ≡ length clauses + length entries
+derived_length [] clauses all h = let s : clauses ≡ all = cc in let e = ap length s in omega (arith, e)
+derived_length (x ∷ xs) clauses all h =
+    option_and_then_some (λ clause. derived (clauses ++ clause ∷ []) xs) (entry_of clauses x) all h
+    (λ clause f g. let r = derived_length xs (clauses ++ clause ∷ []) all g in let e = length_push clauses clause in omega (arith, r, e))
+
+-- the clause of this number is what an entry gives from those before it
+pub record StandsAt (all : List (List Literal)) (entry : Chain) (number : ℕ) : Type 0 where
+  pub before : List (List Literal)
+  pub count : length before ≡ number
+  pub same : (k : ℕ) → k < number → slice_get before k ≡ slice_get all k
+  pub clause : List Literal
+  pub derives : entry_of before entry ≡ Some clause
+  pub there : slice_get all number ≡ Some clause
+
+pub derived_at : (entries : List Chain) (clauses all : List (List Literal)) (i : ℕ) (entry : Chain) → derived clauses entries ≡ Some all
+    → slice_get entries i ≡ Some entry → StandsAt all entry (length clauses + i)
+derived_at [] clauses all i entry h e = cc
+derived_at (x ∷ xs) clauses all zero entry h e =
+    let s : x ≡ entry = cc in
+    option_and_then_some (λ clause. derived (clauses ++ clause ∷ []) xs) (entry_of clauses x) all h
+    (λ clause f g. let n = length_push clauses clause in record {
+      before = clauses;
+      count = omega arith;
+      same = λ k lt. derived_front (x ∷ xs) clauses all k h (omega (arith, lt));
+      clause = clause;
+      derives = ap (λ (z : Chain). entry_of clauses z) (sym s) ∙ f;
+      there = sym (derived_front xs (clauses ++ clause ∷ []) all (length clauses + 0) g (omega (arith, n)))
+          ∙ get_behind clauses clause (length clauses + 0) (omega arith);
+    })
+derived_at (x ∷ xs) clauses all (suc i) entry h e =
+    option_and_then_some (λ clause. derived (clauses ++ clause ∷ []) xs) (entry_of clauses x) all h
+    (λ clause f g. let n = length_push clauses clause in
+    subst (λ z. StandsAt all entry z) (omega (arith, n)) (derived_at xs (clauses ++ clause ∷ []) all i entry g e))
+
+-- the clauses so far are those of the whole log at the kept numbers
+abbrev pub Agrees : ℕ → List Bool → List (List Literal) → List (List Literal) → Type 0
+Agrees first marks all clauses = (k : ℕ) → k < length clauses → is_kept first marks k ≡ true → slice_get clauses k ≡ slice_get all k
+
+-- one more entry before the closed ones, of which the marks still say the same: all that it cites is kept, or it is not marked
+pub closed_more : (first : ℕ) (entries : List Chain) (old new : List Bool) (end : ℕ) → AreClosed first entries old (end + 1)
+    → ((k : ℕ) → is_kept first old k ≡ true → is_kept first new k ≡ true)
+    → ((i : ℕ) → end ≤ i → get_or new i false ≡ get_or old i false)
+    → ((entry : Chain) → slice_get entries end ≡ Some entry → get_or old end false ≡ true → (k : ℕ) → cites entry k ≡ true → k < first + end → is_kept first new k ≡ true)
+    → AreClosed first entries new end
+closed_more first entries old new end closed kept later cited i entry le at marked k c lt =
+    elim (cases_eq i end) [
+      | inl s ↦ cited entry (ap (slice_get entries) (sym s) ∙ at) (sym (later end (omega arith)) ∙ (ap (λ z. get_or new z false) (sym s) ∙ marked)) k c (subst (λ z. k < first + z) s lt)
+      | inr n ↦ kept k (closed i entry (omega arith) at (sym (later i le) ∙ marked) k c lt)
+    ]
+
+pub closed_none : (first : ℕ) (entries : List Chain) (marks : List Bool) → AreClosed first entries marks (length entries)
+closed_none first entries marks i entry le at = let none = get_none entries i le in let e : None ≡ Some entry = sym none ∙ at in cc
+  where
+    get_none : (xs : List Chain) (k : ℕ) → length xs ≤ k → slice_get xs k ≡ None
+    get_none [] k le = refl
+    get_none (x ∷ xs) zero le = absurd (omega arith)
+    get_none (x ∷ xs) (suc k) le = get_none xs k (omega arith)
+
+-- one more clause, which is that of the whole log if its number is kept
+agrees_push : (first : ℕ) (marks : List Bool) (all clauses : List (List Literal)) (n : ℕ) (clause : List Literal) → length clauses ≡ n → Agrees first marks all clauses
+    → (is_kept first marks n ≡ true → slice_get all n ≡ Some clause) → Agrees first marks all (clauses ++ clause ∷ [])
+agrees_push first marks all clauses n clause size h e k lt kept = elim (cases_eq k n) [
+  | inl s ↦ get_behind clauses clause k (s ∙ sym size) ∙ (sym (e (ap (is_kept first marks) (sym s) ∙ kept)) ∙ ap (slice_get all) (sym s))
+  | inr ne ↦ (let size2 = length_push clauses clause in let below : k < length clauses = omega (arith, size, size2, lt, ne) in
+      get_front clauses (clause ∷ []) k below ∙ h k below kept)
+]
+
+kept_entry : (first i : ℕ) (marks : List Bool) → is_kept first marks (first + i) ≡ true → get_or marks i false ≡ true
+kept_entry first i marks e = elim (or_cases (nat_lt (first + i) first) (get_or marks (first + i - first) false) e) [
+  | inl s ↦ (let lt = ltb-true (first + i) first s in absurd (omega arith))
+  | inr s ↦ (let k : first + i - first ≡ i = omega arith in ap (λ z. get_or marks z false) (sym k) ∙ s)
+]
+
+pub agrees_skip : (first : ℕ) (marks : List Bool) (all clauses : List (List Literal)) (i : ℕ) (clause : List Literal) → length clauses ≡ first + i → Agrees first marks all clauses
+    → get_or marks i false ≡ false → Agrees first marks all (clauses ++ clause ∷ [])
+agrees_skip first marks all clauses i clause size h unmarked =
+    agrees_push first marks all clauses (first + i) clause size h (λ kept. absurd (false≢true (sym unmarked ∙ kept_entry first i marks kept)))
+
+-- what a marked entry derives from the kept clauses is what it derives in the whole log
+pub marked_entry : (entries : List Chain) (formula all clauses : List (List Literal)) (marks : List Bool) (i : ℕ) (entry : Chain) → derived formula entries ≡ Some all
+    → slice_get entries i ≡ Some entry → AreClosed (length formula) entries marks 0 → get_or marks i false ≡ true → length clauses ≡ length formula + i
+    → Agrees (length formula) marks all clauses
+    → (clause : List Literal) × (entry_of clauses entry ≡ Some clause) × (slice_get all (length formula + i) ≡ Some clause)
+marked_entry entries formula all clauses marks i entry h at closed marked size agrees =
+    let s = derived_at entries formula all i entry h at in
+    (s.clause, entry_of_same clauses s.before entry (λ k c. same s k c (cases_lt k (length formula + i))) ∙ s.derives, s.there)
+  where
+    same : (s : StandsAt all entry (length formula + i)) (k : ℕ) → cites entry k ≡ true → (k < length formula + i) ⊎ (length formula + i ≤ k) → slice_get clauses k ≡ slice_get s.before k
+    same s k c (inl lt) = agrees k (omega (arith, size, lt)) (closed i entry (omega arith) at marked k c lt) ∙ sym (s.same k lt)
+    same s k c (inr ge) = get_past clauses k (omega (arith, size, ge)) ∙ sym (get_past s.before k (let e = s.count in omega (arith, e, ge)))
+
+pub agrees_more : (entries : List Chain) (formula all clauses : List (List Literal)) (marks : List Bool) (i : ℕ) (entry : Chain) (clause : List Literal)
+    → derived formula entries ≡ Some all → slice_get entries i ≡ Some entry → AreClosed (length formula) entries marks 0 → get_or marks i false ≡ true
+    → length clauses ≡ length formula + i → Agrees (length formula) marks all clauses → entry_of clauses entry ≡ Some clause
+    → Agrees (length formula) marks all (clauses ++ clause ∷ [])
+agrees_more entries formula all clauses marks i entry clause h at closed marked size agrees derives =
+    let m = marked_entry entries formula all clauses marks i entry h at closed marked size agrees in
+    let e : Some clause ≡ Some m.0 = sym derives ∙ m.1 in
+    agrees_push (length formula) marks all clauses (length formula + i) clause size agrees (λ kept. m.2 ∙ sym e)
+
+pub stops_nowhere : (entries : List Chain) (formula all clauses : List (List Literal)) (marks : List Bool) (i : ℕ) (entry : Chain)
+    → derived formula entries ≡ Some all → slice_get entries i ≡ Some entry → AreClosed (length formula) entries marks 0 → get_or marks i false ≡ true
+    → length clauses ≡ length formula + i → Agrees (length formula) marks all clauses → entry_of clauses entry ≡ None → ⊥
+stops_nowhere entries formula all clauses marks i entry h at closed marked size agrees none =
+    let m = marked_entry entries formula all clauses marks i entry h at closed marked size agrees in
+    let e : None ≡ Some m.0 = sym none ∙ m.1 in cc
+
+pub agrees_whole : (entries : List Chain) (formula all clauses : List (List Literal)) (marks : List Bool) (k : ℕ) → derived formula entries ≡ Some all
+    → length clauses ≡ length formula + length entries → Agrees (length formula) marks all clauses
+    → (k < length formula + length entries → is_kept (length formula) marks k ≡ true) → slice_get clauses k ≡ slice_get all k
+agrees_whole entries formula all clauses marks k h size agrees kept = elim (cases_lt k (length formula + length entries)) [
+  | inl lt ↦ agrees k (omega (arith, size, lt)) (kept lt)
+  | inr ge ↦ (let e = derived_length entries formula all h in get_past clauses k (omega (arith, size, ge)) ∙ sym (get_past all k (omega (arith, e, ge))))
+]
+
+pub some_weaker : {X : Type 0} (o : Option X) (P Q : X → Type 0) → ((x : X) → P x → Q x) → IsSomeAnd o P → IsSomeAnd o Q
+some_weaker None P Q f h = h
+some_weaker (Some x) P Q f h = f x h
+
+-- the marked numbers of a table are those of the table that a call reads
+pub marked_there : (first size last : ℕ) (marks read : List Bool) (k : ℕ) → size ≡ first → read ≡ marks
+    → (k < size + last → is_kept size marks k ≡ true) → k < first + last → is_kept first read k ≡ true
+marked_there first size last marks read k e f h =
+    subst (λ (z : ℕ). k < z + last → is_kept z read k ≡ true) e (subst (λ (z : List Bool). k < size + last → is_kept size z k ≡ true) (sym f) h)

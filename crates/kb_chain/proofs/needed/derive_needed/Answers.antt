@@ -1,0 +1,16 @@
+use Rattle.std.proofs.Common.{sym, ap, subst, length, List, Bool, ℕ}
+use Rattle.std.proofs.lemmas.Result.{IfOk-weaker}
+use Rattle.kb_chain.specs.Needed.{AreClosed}
+use Rattle.kb_chain.proofs.NeededLaws.{some_weaker, marked_there}
+use Rattle.kb_chain.proofs.needed.derive_needed.Goals as goal
+
+pub derive_marked-requires-clause-closed : goal.derive_marked-requires-clause-closed
+derive_marked-requires-clause-closed c =
+    subst (λ (z : List Bool). AreClosed (length c.args.formula.now.clauses) c.args.entries.now z 0) (sym c.as_slice.ensures.value)
+    (subst (λ (z : ℕ). AreClosed z c.args.entries.now c.in_ok-needed.needed.items 0) (ap length c.clauses.ensures.value) c.in_ok-needed.ensures.closed)
+
+pub returns : goal.returns
+returns c =
+    IfOk-weaker c.derive_marked.result _ _ (λ found h all d. some_weaker found _ _ (λ store g k e. g k
+    (marked_there (length c.args.formula.now.clauses) (length c.clauses.result.now) (length c.args.entries.now) c.in_ok-needed.needed.items c.as_slice.result.now k
+    (ap length c.clauses.ensures.value) c.as_slice.ensures.value (c.in_ok-needed.ensures.marked k e))) (h all d)) c.derive_marked.ensures

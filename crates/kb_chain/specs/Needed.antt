@@ -1,0 +1,18 @@
+-- The entries of a log that the clauses of some numbers need.
+use Rattle.std.specs.Prelude.{◌≡◌, ℕ, ◌+◌, ◌-◌, ◌<◌, ◌≤◌, ◌==◌, nat_lt, Bool, true, false, ◌||◌, List, Some, slice_get, slice_index_or}
+use Rattle.std.specs.List.{list_any}
+use Rattle.kb_chain.specs.declared.log.Chain.{Chain}
+
+-- a chain cites the clause of this number
+abbrev pub cites : Chain → ℕ → Bool
+cites chain number = (chain.start == number) || list_any (λ (step : ℕ × ℕ). step.1 == number) chain.steps
+
+-- the clause of this number is one of the formula's, which are `first`, or that of a marked entry
+abbrev pub is_kept : ℕ → List Bool → ℕ → Bool
+is_kept first marks number = nat_lt number first || slice_index_or marks (number - first) false
+
+-- from this entry on, the marked ones cite such clauses alone, as far as they stand before them
+abbrev pub AreClosed : ℕ → List Chain → List Bool → ℕ → Type 0
+AreClosed first entries marks from =
+    (i : ℕ) (entry : Chain) → from ≤ i → slice_get entries i ≡ Some entry → slice_index_or marks i false ≡ true
+    → (number : ℕ) → cites entry number ≡ true → number < first + i → is_kept first marks number ≡ true

@@ -1,8 +1,0 @@
-use Rattle.kb_sat.proofs.SearchLaws.{model_satisfies}
-use Rattle.kb_sat.proofs.solver.found.Goals as goal
-
-pub returns-clause-satisfies : goal.returns-clause-satisfies
-returns-clause-satisfies c =
-    let s = c.args.search.now in
-    model_satisfies s.formula.now s.entries s.clauses s.watches.pairs.items s.watches.lists.items s.trail c.in_ok-bits.bits c.requires.searches c.facts.ensures c.facts-2.ensures
-    c.requires.complete.assigned c.requires.complete.quiet c.in_ok-bits.ensures.length c.in_ok-bits.ensures.values

@@ -1,0 +1,37 @@
+use Rattle.std.proofs.Common.{◌≡◌, ◌∙◌, sym, subst, length, arith}
+use Rattle.std.proofs.lemmas.List.{take_all}
+use Rattle.kb_chain.specs.Literal.{has}
+use Rattle.kb_sat.specs.Search.{IsConflict}
+use Rattle.kb_sat.specs.Solver.{IsSettledSearch}
+use Rattle.kb_sat.specs.Watches.{IsAwake, Quiet}
+use Rattle.kb_sat.proofs.SearchLaws.{doomed_from}
+use Rattle.kb_sat.proofs.WatchLaws.{at_none, at_some}
+use Rattle.kb_sat.proofs.solver.prepare.Goals as goal
+
+pub returns-in-Some : goal.returns-in-Some
+returns-in-Some c =
+    let s = c.settle.new.self in
+    let h = c.in_ok-number.ensures.searches in
+    let conflict : IsConflict s.clauses s.trail c.in-Some.number =
+    (at_some c.in_ok-number.field-0 c.in-Some.number (λ n. IsConflict s.clauses s.trail n × IsAwake s.watches.pairs.items n) c.in-Some.is c.in_ok-number.ensures.conflict).0 in
+    let d = doomed_from s.formula.now s.entries s.clauses s.watches.pairs.items s.watches.lists.items s.trail s.whole c.in-Some.number h conflict in (
+      record {
+        level = c.in_ok-number.ensures.grows.starts ∙ c.requires.level;
+        clauses = h.clauses;
+        derives = h.derives;
+        reasons = d.0;
+        conflict = d.1;
+      },
+      c.in_ok-number.ensures.formula,
+      c.in_ok-number.ensures.entries ∙ c.requires.entries,
+    )
+
+pub eliminate-requires-clause-ready : goal.eliminate-requires-clause-ready
+eliminate-requires-clause-ready c =
+    let s = c.settle.new.self in
+    let settled = at_none c.in_ok-number.field-0 (IsSettledSearch s) c.in_default.is c.in_ok-number.ensures.settled in
+    let at : s.head ≡ length s.trail.literals = settled.head in
+    record {
+      head = omega (arith, at);
+      quiet = subst (λ z. Quiet s.clauses s.watches.pairs.items (has z) (has s.trail.literals)) (sym (take_all s.head s.trail.literals (omega (arith, at)))) settled.quiet;
+    }
