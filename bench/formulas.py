@@ -29,8 +29,17 @@ class Formula:
         """The bits of an int about which nothing is known yet."""
         return [self.new_variable() for _ in range(WIDTH)]
 
+    def new_ints(self, count):
+        return [self.new_int() for _ in range(count)]
+
     def require(self, literal):
         self.add_clause(literal)
+
+    def require_all(self, literals):
+        """Requires each of the literals; the formula itself is given back."""
+        for literal in literals:
+            self.require(literal)
+        return self
 
     def dimacs(self):
         """The formula in the DIMACS format."""
@@ -183,52 +192,45 @@ def constant(value):
 def order_cycle(size):
     """v0 < v1 < .. < v0 over `size` ints."""
     formula = Formula()
-    ints = [formula.new_int() for _ in range(size)]
+    ints = formula.new_ints(size)
     tests = [formula.less(left, right) for left, right in zip(ints, ints[1:] + ints[:1])]
-    for test in tests:
-        formula.require(test)
-    return formula
+    return formula.require_all(tests)
+
+
+def chain(size, limit):
+    """v0 < v1 < .. over `size` ints, between 0 and `limit`."""
+    formula = Formula()
+    ints = formula.new_ints(size)
+    tests = [formula.less(left, right) for left, right in zip(ints, ints[1:])]
+    tests += [formula.less(constant(-1), ints[0]), formula.less(ints[-1], constant(limit))]
+    return formula.require_all(tests)
 
 
 def order_chain(size):
     """v0 < v1 < .. over `size` ints, between 0 and `size`."""
-    formula = Formula()
-    ints = [formula.new_int() for _ in range(size)]
-    tests = [formula.less(left, right) for left, right in zip(ints, ints[1:])]
-    tests += [formula.less(constant(-1), ints[0]), formula.less(ints[-1], constant(size))]
-    for test in tests:
-        formula.require(test)
-    return formula
+    return chain(size, size)
 
 
 def crowded_chain(size):
     """v0 < v1 < .. over `size` ints, between 0 and `size - 1`: one int too many."""
-    formula = Formula()
-    ints = [formula.new_int() for _ in range(size)]
-    tests = [formula.less(left, right) for left, right in zip(ints, ints[1:])]
-    tests += [formula.less(constant(-1), ints[0]), formula.less(ints[-1], constant(size - 1))]
-    for test in tests:
-        formula.require(test)
-    return formula
+    return chain(size, size - 1)
 
 
 def sum_cycle(size):
     """v0 < v1, v1 + 1 < v2 + 1, v2 + 2 < v3 + 2, .. back to v0, where no sum overflows."""
     formula = Formula()
-    ints = [formula.new_int() for _ in range(size)]
+    ints = formula.new_ints(size)
     tests = [formula.less(constant(-1), number) for number in ints]
     tests += [formula.less(number, constant(1 << 30)) for number in ints]
     for place, (left, right) in enumerate(zip(ints, ints[1:] + ints[:1])):
         tests.append(formula.less(formula.add(left, constant(place)), formula.add(right, constant(place))))
-    for test in tests:
-        formula.require(test)
-    return formula
+    return formula.require_all(tests)
 
 
 def same_sums(size):
     """The sum of `size` ints from the left and from the right are not the same."""
     formula = Formula()
-    ints = [formula.new_int() for _ in range(size)]
+    ints = formula.new_ints(size)
     forward = ints[0]
     for number in ints[1:]:
         forward = formula.add(forward, number)
@@ -242,21 +244,19 @@ def same_sums(size):
 def known_sum(size):
     """`size` ints whose sum and whose differences to the first are known."""
     formula = Formula()
-    ints = [formula.new_int() for _ in range(size)]
+    ints = formula.new_ints(size)
     total = ints[0]
     tests = []
     for place, number in enumerate(ints[1:]):
         total = formula.add(total, number)
         tests.append(formula.equal(formula.subtract(number, ints[0]), constant(1000003 * (place + 1))))
     tests.append(formula.equal(total, constant(12345 * size + 1000003 * size * (size - 1) // 2)))
-    for test in tests:
-        formula.require(test)
-    return formula
+    return formula.require_all(tests)
 
 
 def small_ints(formula, count, bits):
     """So many ints from 0 to 2^bits - 1."""
-    ints = [formula.new_int() for _ in range(count)]
+    ints = formula.new_ints(count)
     tests = []
     for number in ints:
         tests += [formula.less(constant(-1), number), formula.less(number, constant(1 << bits))]
@@ -268,9 +268,7 @@ def products_commute(size):
     formula = Formula()
     (left, right), tests = small_ints(formula, 2, size)
     tests.append(-formula.equal(formula.multiply(left, right), formula.multiply(right, left)))
-    for test in tests:
-        formula.require(test)
-    return formula
+    return formula.require_all(tests)
 
 
 def products_distribute(size):
@@ -280,9 +278,7 @@ def products_distribute(size):
     whole = formula.multiply(left, formula.add(right, other))
     parts = formula.add(formula.multiply(left, right), formula.multiply(left, other))
     tests.append(-formula.equal(whole, parts))
-    for test in tests:
-        formula.require(test)
-    return formula
+    return formula.require_all(tests)
 
 
 # primes below 2^size by their sizes
@@ -298,9 +294,7 @@ def known_product(size, product):
     (left, right), tests = small_ints(formula, 2, size)
     tests += [formula.less(constant(1), left), formula.less(constant(1), right)]
     tests.append(formula.equal(formula.multiply(left, right), constant(product)))
-    for test in tests:
-        formula.require(test)
-    return formula
+    return formula.require_all(tests)
 
 
 def factors(size):
@@ -321,9 +315,7 @@ def quotient_and_remainder(size):
     tests += more + [formula.less(constant(0), right)]
     again = formula.add(formula.multiply(formula.divide(left, right), right), formula.remainder(left, right))
     tests.append(-formula.equal(again, left))
-    for test in tests:
-        formula.require(test)
-    return formula
+    return formula.require_all(tests)
 
 
 def known_quotient(size):
@@ -332,9 +324,7 @@ def known_quotient(size):
     (left, right), tests = small_ints(formula, 2, size)
     tests.append(formula.equal(formula.divide(left, right), constant(3)))
     tests.append(formula.equal(formula.remainder(left, right), constant((1 << (size - 3)) + 1)))
-    for test in tests:
-        formula.require(test)
-    return formula
+    return formula.require_all(tests)
 
 
 def great_remainder(size):
@@ -343,9 +333,7 @@ def great_remainder(size):
     (left, right), tests = small_ints(formula, 2, size)
     tests.append(formula.less(constant(0), right))
     tests.append(-formula.less(formula.remainder(left, right), right))
-    for test in tests:
-        formula.require(test)
-    return formula
+    return formula.require_all(tests)
 
 
 def shifts_undone(size):
@@ -356,9 +344,7 @@ def shifts_undone(size):
     tests += [formula.less(constant(-1), distance), formula.less(distance, constant(size + 1))]
     back = formula.shift_right_unsigned(formula.shift_left(operand, distance), distance)
     tests.append(-formula.equal(back, operand))
-    for test in tests:
-        formula.require(test)
-    return formula
+    return formula.require_all(tests)
 
 
 # the families of a bench, each with its sizes

@@ -11,7 +11,6 @@ Usage: bench/replay.py [--runs N] [--program FILE]
 Build the program first, by running ./kiasan once.
 """
 
-import argparse
 import resource
 import subprocess
 import sys
@@ -19,7 +18,7 @@ import tempfile
 from dataclasses import dataclass
 from pathlib import Path
 
-from straight import ROOT, TARGET, class_file
+from straight import TARGET, class_file, read_options
 
 LENGTHS = [250, 500, 1000, 2000]
 COUNTS = [250, 500, 1000, 2000, 4000]
@@ -103,21 +102,13 @@ def print_table(title, loads, program, folder, runs):
 
 
 def main():
-    words = argparse.ArgumentParser(description="Times the replay of tests of straight methods.")
-    words.add_argument("--runs", type=int, default=5, help="runs of each file of tests (5)")
-    words.add_argument("--program", type=Path, default=ROOT / "build" / "kiasan", help="the built program")
-    options = words.parse_args()
-    if not options.program.is_file():
-        sys.exit(f"{options.program} is not there: run ./kiasan once")
-    if options.runs < 1:
-        sys.exit("--runs must be at least 1")
+    options = read_options("Times the replay of tests of straight methods.", "file of tests", 5)
     with tempfile.TemporaryDirectory() as name:
         folder = Path(name)
-        program = options.program.resolve()
         lengths = [Load(length, 1000) for length in LENGTHS]
         counts = [Load(LONGEST, count) for count in COUNTS]
-        print_table("Methods of several lengths", lengths, program, folder, options.runs)
-        print_table("Files of several numbers of tests", counts, program, folder, options.runs)
+        print_table("Methods of several lengths", lengths, options.program, folder, options.runs)
+        print_table("Files of several numbers of tests", counts, options.program, folder, options.runs)
 
 
 if __name__ == "__main__":

@@ -121,17 +121,24 @@ def print_table(seconds):
         before = each
 
 
-def main():
-    words = argparse.ArgumentParser(description="Times the built program on straight methods.")
-    words.add_argument("--runs", type=int, default=30, help="runs of each method (30)")
+def read_options(description, what, runs):
+    """The words of a bench: how many runs of what, and the built program, which must be there."""
+    words = argparse.ArgumentParser(description=description)
+    words.add_argument("--runs", type=int, default=runs, help=f"runs of each {what} ({runs})")
     words.add_argument("--program", type=Path, default=ROOT / "build" / "kiasan", help="the built program")
     options = words.parse_args()
     if not options.program.is_file():
         sys.exit(f"{options.program} is not there: run ./kiasan once")
     if options.runs < 1:
         sys.exit("--runs must be at least 1")
+    options.program = options.program.resolve()
+    return options
+
+
+def main():
+    options = read_options("Times the built program on straight methods.", "method", 30)
     with tempfile.TemporaryDirectory() as folder:
-        print_table(measured(options.program.resolve(), Path(folder), options.runs))
+        print_table(measured(options.program, Path(folder), options.runs))
 
 
 if __name__ == "__main__":
