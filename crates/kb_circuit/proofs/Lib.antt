@@ -1,0 +1,12 @@
+pub mod Formulas
+pub mod Defining
+pub mod GateLaws
+pub mod Loops
+pub mod WordLaws
+pub mod ShiftLoops
+pub mod Arithmetic
+pub mod Computing
+pub mod Comparing
+pub mod Bitwise
+pub mod Shifting
+pub mod ShiftWords

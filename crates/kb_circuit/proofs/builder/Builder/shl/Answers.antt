@@ -1,0 +1,14 @@
+use Rattle.std.proofs.Common.{subst}
+use Rattle.kb_arith.specs.Word.{word_shl}
+use Rattle.kb_circuit.specs.Meaning.{Computes}
+use Rattle.kb_circuit.proofs.Computing.{if_ok}
+use Rattle.kb_circuit.proofs.ShiftWords.{shl_computes}
+use Rattle.kb_circuit.proofs.builder.Builder.shl.Goals as goal
+
+pub returns-clause-value : goal.returns-clause-value
+returns-clause-value c =
+    let left = c.args.left.now in
+    let right = c.args.right.now in
+    if_ok c.shifted.result c.shifted.ensures.built (λ out built.
+    subst (λ r. Computes word_shl left right c.args.self.now r.0 r.1) built
+    (shl_computes left right c.args.self.now c.shifted.ensures.circuit c.told-left c.told-right c.requires.left c.requires.right))

@@ -1,0 +1,5 @@
+pub mod Circuit
+pub mod Gates
+pub mod Words
+pub mod Shifts
+pub mod Meaning

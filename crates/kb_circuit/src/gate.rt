@@ -1,0 +1,10 @@
+use kb_chain::Lit;
+
+/// A gate of two inputs. `Mux` gives the first where its literal is true, else the second.
+#[derive(Clone, Copy, Debug)]
+pub(crate) enum Gate {
+    And,
+    Or,
+    Xor,
+    Mux(Lit),
+}

@@ -1,0 +1,13 @@
+//! Circuits over words of 32 bits, as clauses.
+#![tactic(auto)]
+
+mod builder;
+mod gate;
+mod memory;
+mod shift;
+#[cfg(test)]
+mod tests;
+mod words;
+
+pub use builder::Builder;
+pub use memory::NoMemory;
