@@ -1,15 +1,13 @@
 #!/usr/bin/env python3
 """Times the two checks of kb_chain, check_refutation and check_fresh, on logs of 1,000, 2,000, 4,000 and 8,000 entries.
 
-No program of the repository reads logs. So this script writes a small one into a throw-away repository, beside a copy
-of kb_chain, has `rt run` prove and build it there, and keeps it as build/logs until kb_chain or this script changes.
+No program of the repository reads logs. So this script writes a small one into a throw-away repository, beside copies
+of kb_chain and kb_rows, has `rt run` prove and build it there, and keeps it as build/logs until one of these changes.
 The program builds a formula and a log of one of four shapes, checks the log so many times, and prints the verdict,
 which is compared with the one that is expected. The time of a run that builds both and checks nothing is taken off. All
 times are processor times, the least of the runs, so that other work on the machine disturbs them little.
 
-Where a check is linear, the time per entry is about the same in each line. It is not where each entry is a unit clause
-and must be fresh: each propagation begins again with all unit clauses before it, so the time per entry doubles with the
-number of entries.
+Where a check is linear, the time per entry is about the same in each line.
 
 Usage: bench/logs.py [--runs N]
 The first run takes as long as the proofs of kb_chain take, unless a checkout on this machine has kept them.
@@ -27,10 +25,10 @@ from dataclasses import dataclass
 from pathlib import Path
 
 ROOT = Path(__file__).resolve().parent.parent
-LIBRARY = ROOT / "crates" / "kb_chain"
+LIBRARIES = [ROOT / "crates" / name for name in ("kb_rows", "kb_chain")]
 PROGRAM = ROOT / "build" / "logs"
 SIZES = [1000, 2000, 4000, 8000]
-CRATES = "kb_chain: smallvec\nlogs: kb_chain\n"
+CRATES = "kb_rows:\nkb_chain: kb_rows smallvec\nlogs: kb_chain\n"
 
 
 @dataclass(frozen=True)
@@ -47,7 +45,7 @@ SHAPES = [
     Shape("refuted-units", "check_refutation: each entry is a unit clause, the last one empty", "entry", 100),
     Shape("refuted-chain", "check_refutation: one entry, whose chain shortens a clause step by step", "step", 500),
     Shape("fresh-pairs", "check_fresh: each entry has two literals", "entry", 40),
-    Shape("fresh-units", "check_fresh: each entry is a unit clause", "entry", 1),
+    Shape("fresh-units", "check_fresh: each entry is a unit clause", "entry", 40),
 ]
 
 SOURCE = """\
@@ -239,14 +237,16 @@ def is_built():
     """Whether the program is newer than each file that it is made of."""
     if not PROGRAM.is_file():
         return False
-    sources = [file for folder in ("src", "specs", "proofs") for file in (LIBRARY / folder).rglob("*")]
+    folders = [library / folder for library in LIBRARIES for folder in ("src", "specs", "proofs")]
+    sources = [file for folder in folders for file in folder.rglob("*")]
     return all(file.stat().st_mtime <= PROGRAM.stat().st_mtime for file in [*sources, Path(__file__)])
 
 
 def write_repository(root):
     """Writes the throw-away repository, and returns the folder of its program."""
     (root / "crates.txt").write_text(CRATES)
-    shutil.copytree(LIBRARY, root / "crates" / "kb_chain", ignore=shutil.ignore_patterns("must-fail", "out"))
+    for library in LIBRARIES:
+        shutil.copytree(library, root / "crates" / library.name, ignore=shutil.ignore_patterns("must-fail", "out"))
     folder = root / "crates" / "logs"
     (folder / "src").mkdir(parents=True)
     (folder / "src" / "main.rt").write_text(SOURCE)

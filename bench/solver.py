@@ -29,7 +29,7 @@ import formulas
 
 ROOT = Path(__file__).resolve().parent.parent
 PROGRAM = ROOT / "build" / "kb_dimacs"
-SOURCES = ["kb_chain", "kb_sat", "kb_dimacs"]
+SOURCES = ["kb_rows", "kb_chain", "kb_eliminate", "kb_sat", "kb_dimacs"]
 SAMPLE = ROOT / "crates" / "kb_dimacs" / "stdin"
 
 # exit statuses of the SAT competitions
@@ -95,7 +95,7 @@ def number(pattern, out):
 
 
 def we_learned(out):
-    return number(r"^c entries (\d+)", out) - number(r"^c resolvents (\d+)", out)
+    return number(r"^c entries (\d+)", out) - number(r"^c one-step (\d+)", out)
 
 
 def minisat_learned(out):

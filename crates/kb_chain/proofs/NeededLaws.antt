@@ -1,14 +1,15 @@
 -- Entries that are needed, and the clauses that they derive.
 use Rattle.std.proofs.Common.{◌≡◌, ℕ, ◌+◌, ◌-◌, ◌<◌, ◌≤◌, ◌==◌, nat_lt, List, [], ◌∷◌, ◌++◌, Bool, true, false, arith, refl, ap, sym, ◌∙◌, inl, inr, ◌⊎◌, subst, Option, Some, None, option_and_then, slice_get, fold, zero, suc, length, get_or}
-use Rattle.std.proofs.lemmas.Bool.{or_cases, or_left, or_right, false≢true, eq-eqb, cases_eq, cases_lt, ltb-true}
+use Rattle.std.proofs.lemmas.Bool.{or_cases, or_left, or_right, false≢true, eq-eqb, cases_eq, cases_lt, ltb-true, false_from_ne_true}
 use Rattle.std.proofs.lemmas.Option.{option_and_then_some}
 use Rattle.std.proofs.lemmas.List.{length_push}
 use Rattle.std.specs.Prelude.{IsSomeAnd}
 use Rattle.std.specs.List.{list_any}
 use Rattle.kb_chain.specs.Literal.{Literal}
 use Rattle.kb_chain.specs.Clause.{resolvent_of}
+use Rattle.kb_chain.specs.Index.{has_number}
 use Rattle.kb_chain.specs.Chains.{resolved, entry_of, derived}
-use Rattle.kb_chain.specs.Needed.{cites, is_kept, AreClosed}
+use Rattle.kb_chain.specs.Needed.{cites, is_kept, AreClosed, IsNeeded, SkipsOthers}
 use Rattle.kb_chain.specs.declared.log.Chain.{Chain}
 
 resolved_same : (xs ys : List (List Literal)) (o : Option (List Literal)) (s : ℕ × ℕ) → slice_get xs s.1 ≡ slice_get ys s.1 → resolved xs o s ≡ resolved ys o s
@@ -90,8 +91,8 @@ derived_at (x ∷ xs) clauses all (suc i) entry h e =
     subst (λ z. StandsAt all entry z) (omega (arith, n)) (derived_at xs (clauses ++ clause ∷ []) all i entry g e))
 
 -- the clauses so far are those of the whole log at the kept numbers
-abbrev pub Agrees : ℕ → List Bool → List (List Literal) → List (List Literal) → Type 0
-Agrees first marks all clauses = (k : ℕ) → k < length clauses → is_kept first marks k ≡ true → slice_get clauses k ≡ slice_get all k
+abbrev pub HasKept : ℕ → List Bool → List (List Literal) → List (List Literal) → Type 0
+HasKept first marks all clauses = (k : ℕ) → k < length clauses → is_kept first marks k ≡ true → slice_get clauses k ≡ slice_get all k
 
 -- one more entry before the closed ones, of which the marks still say the same: all that it cites is kept, or it is not marked
 pub closed_more : (first : ℕ) (entries : List Chain) (old new : List Bool) (end : ℕ) → AreClosed first entries old (end + 1)
@@ -114,9 +115,9 @@ closed_none first entries marks i entry le at = let none = get_none entries i le
     get_none (x ∷ xs) (suc k) le = get_none xs k (omega arith)
 
 -- one more clause, which is that of the whole log if its number is kept
-agrees_push : (first : ℕ) (marks : List Bool) (all clauses : List (List Literal)) (n : ℕ) (clause : List Literal) → length clauses ≡ n → Agrees first marks all clauses
-    → (is_kept first marks n ≡ true → slice_get all n ≡ Some clause) → Agrees first marks all (clauses ++ clause ∷ [])
-agrees_push first marks all clauses n clause size h e k lt kept = elim (cases_eq k n) [
+kept_push : (first : ℕ) (marks : List Bool) (all clauses : List (List Literal)) (n : ℕ) (clause : List Literal) → length clauses ≡ n → HasKept first marks all clauses
+    → (is_kept first marks n ≡ true → slice_get all n ≡ Some clause) → HasKept first marks all (clauses ++ clause ∷ [])
+kept_push first marks all clauses n clause size h e k lt kept = elim (cases_eq k n) [
   | inl s ↦ get_behind clauses clause k (s ∙ sym size) ∙ (sym (e (ap (is_kept first marks) (sym s) ∙ kept)) ∙ ap (slice_get all) (sym s))
   | inr ne ↦ (let size2 = length_push clauses clause in let below : k < length clauses = omega (arith, size, size2, lt, ne) in
       get_front clauses (clause ∷ []) k below ∙ h k below kept)
@@ -128,45 +129,45 @@ kept_entry first i marks e = elim (or_cases (nat_lt (first + i) first) (get_or m
   | inr s ↦ (let k : first + i - first ≡ i = omega arith in ap (λ z. get_or marks z false) (sym k) ∙ s)
 ]
 
-pub agrees_skip : (first : ℕ) (marks : List Bool) (all clauses : List (List Literal)) (i : ℕ) (clause : List Literal) → length clauses ≡ first + i → Agrees first marks all clauses
-    → get_or marks i false ≡ false → Agrees first marks all (clauses ++ clause ∷ [])
-agrees_skip first marks all clauses i clause size h unmarked =
-    agrees_push first marks all clauses (first + i) clause size h (λ kept. absurd (false≢true (sym unmarked ∙ kept_entry first i marks kept)))
+pub kept_skip : (first : ℕ) (marks : List Bool) (all clauses : List (List Literal)) (i : ℕ) (clause : List Literal) → length clauses ≡ first + i → HasKept first marks all clauses
+    → get_or marks i false ≡ false → HasKept first marks all (clauses ++ clause ∷ [])
+kept_skip first marks all clauses i clause size h unmarked =
+    kept_push first marks all clauses (first + i) clause size h (λ kept. absurd (false≢true (sym unmarked ∙ kept_entry first i marks kept)))
 
 -- what a marked entry derives from the kept clauses is what it derives in the whole log
 pub marked_entry : (entries : List Chain) (formula all clauses : List (List Literal)) (marks : List Bool) (i : ℕ) (entry : Chain) → derived formula entries ≡ Some all
     → slice_get entries i ≡ Some entry → AreClosed (length formula) entries marks 0 → get_or marks i false ≡ true → length clauses ≡ length formula + i
-    → Agrees (length formula) marks all clauses
+    → HasKept (length formula) marks all clauses
     → (clause : List Literal) × (entry_of clauses entry ≡ Some clause) × (slice_get all (length formula + i) ≡ Some clause)
-marked_entry entries formula all clauses marks i entry h at closed marked size agrees =
+marked_entry entries formula all clauses marks i entry h at closed marked size kept_same =
     let s = derived_at entries formula all i entry h at in
     (s.clause, entry_of_same clauses s.before entry (λ k c. same s k c (cases_lt k (length formula + i))) ∙ s.derives, s.there)
   where
     same : (s : StandsAt all entry (length formula + i)) (k : ℕ) → cites entry k ≡ true → (k < length formula + i) ⊎ (length formula + i ≤ k) → slice_get clauses k ≡ slice_get s.before k
-    same s k c (inl lt) = agrees k (omega (arith, size, lt)) (closed i entry (omega arith) at marked k c lt) ∙ sym (s.same k lt)
+    same s k c (inl lt) = kept_same k (omega (arith, size, lt)) (closed i entry (omega arith) at marked k c lt) ∙ sym (s.same k lt)
     same s k c (inr ge) = get_past clauses k (omega (arith, size, ge)) ∙ sym (get_past s.before k (let e = s.count in omega (arith, e, ge)))
 
-pub agrees_more : (entries : List Chain) (formula all clauses : List (List Literal)) (marks : List Bool) (i : ℕ) (entry : Chain) (clause : List Literal)
+pub kept_more : (entries : List Chain) (formula all clauses : List (List Literal)) (marks : List Bool) (i : ℕ) (entry : Chain) (clause : List Literal)
     → derived formula entries ≡ Some all → slice_get entries i ≡ Some entry → AreClosed (length formula) entries marks 0 → get_or marks i false ≡ true
-    → length clauses ≡ length formula + i → Agrees (length formula) marks all clauses → entry_of clauses entry ≡ Some clause
-    → Agrees (length formula) marks all (clauses ++ clause ∷ [])
-agrees_more entries formula all clauses marks i entry clause h at closed marked size agrees derives =
-    let m = marked_entry entries formula all clauses marks i entry h at closed marked size agrees in
+    → length clauses ≡ length formula + i → HasKept (length formula) marks all clauses → entry_of clauses entry ≡ Some clause
+    → HasKept (length formula) marks all (clauses ++ clause ∷ [])
+kept_more entries formula all clauses marks i entry clause h at closed marked size kept_same derives =
+    let m = marked_entry entries formula all clauses marks i entry h at closed marked size kept_same in
     let e : Some clause ≡ Some m.0 = sym derives ∙ m.1 in
-    agrees_push (length formula) marks all clauses (length formula + i) clause size agrees (λ kept. m.2 ∙ sym e)
+    kept_push (length formula) marks all clauses (length formula + i) clause size kept_same (λ kept. m.2 ∙ sym e)
 
 pub stops_nowhere : (entries : List Chain) (formula all clauses : List (List Literal)) (marks : List Bool) (i : ℕ) (entry : Chain)
     → derived formula entries ≡ Some all → slice_get entries i ≡ Some entry → AreClosed (length formula) entries marks 0 → get_or marks i false ≡ true
-    → length clauses ≡ length formula + i → Agrees (length formula) marks all clauses → entry_of clauses entry ≡ None → ⊥
-stops_nowhere entries formula all clauses marks i entry h at closed marked size agrees none =
-    let m = marked_entry entries formula all clauses marks i entry h at closed marked size agrees in
+    → length clauses ≡ length formula + i → HasKept (length formula) marks all clauses → entry_of clauses entry ≡ None → ⊥
+stops_nowhere entries formula all clauses marks i entry h at closed marked size kept_same none =
+    let m = marked_entry entries formula all clauses marks i entry h at closed marked size kept_same in
     let e : None ≡ Some m.0 = sym none ∙ m.1 in cc
 
-pub agrees_whole : (entries : List Chain) (formula all clauses : List (List Literal)) (marks : List Bool) (k : ℕ) → derived formula entries ≡ Some all
-    → length clauses ≡ length formula + length entries → Agrees (length formula) marks all clauses
+pub kept_whole : (entries : List Chain) (formula all clauses : List (List Literal)) (marks : List Bool) (k : ℕ) → derived formula entries ≡ Some all
+    → length clauses ≡ length formula + length entries → HasKept (length formula) marks all clauses
     → (k < length formula + length entries → is_kept (length formula) marks k ≡ true) → slice_get clauses k ≡ slice_get all k
-agrees_whole entries formula all clauses marks k h size agrees kept = elim (cases_lt k (length formula + length entries)) [
-  | inl lt ↦ agrees k (omega (arith, size, lt)) (kept lt)
+kept_whole entries formula all clauses marks k h size kept_same kept = elim (cases_lt k (length formula + length entries)) [
+  | inl lt ↦ kept_same k (omega (arith, size, lt)) (kept lt)
   | inr ge ↦ (let e = derived_length entries formula all h in get_past clauses k (omega (arith, size, ge)) ∙ sym (get_past all k (omega (arith, e, ge))))
 ]
 
@@ -179,3 +180,35 @@ pub marked_there : (first size last : ℕ) (marks read : List Bool) (k : ℕ) �
     → (k < size + last → is_kept size marks k ≡ true) → k < first + last → is_kept first read k ≡ true
 marked_there first size last marks read k e f h =
     subst (λ (z : ℕ). k < z + last → is_kept z read k ≡ true) e (subst (λ (z : List Bool). k < size + last → is_kept size z k ≡ true) (sym f) h)
+
+-- what is asked for is needed, and what a needed entry cites
+pub needed_given : (first : ℕ) (entries : List Chain) (numbers : List ℕ) (n : ℕ) → has_number numbers n ≡ true → IsNeeded first entries numbers n
+needed_given first entries numbers n e set has closed = has n e
+
+pub needed_cited : (first : ℕ) (entries : List Chain) (numbers : List ℕ) (end i : ℕ) (entry : Chain) → slice_get entries end ≡ Some entry
+    → IsNeeded first entries numbers (first + end) → cites entry (first + i) ≡ true → i < end → IsNeeded first entries numbers (first + i)
+needed_cited first entries numbers end i entry at needed c lt set has closed =
+    closed end entry at (needed set has closed) (first + i) c (omega (arith, lt))
+
+pub get_before : (xs : List (List Literal)) (y : List Literal) (k : ℕ) (c : List Literal) → slice_get xs k ≡ Some c → slice_get (xs ++ y ∷ []) k ≡ Some c
+get_before [] y k c e = cc
+get_before (x ∷ xs) y zero c e = e
+get_before (x ∷ xs) y (suc k) c e = get_before xs y k c e
+
+-- the clauses of the entries so far that are not marked are empty
+abbrev pub LeavesEmpty : ℕ → List Bool → ℕ → List (List Literal) → Type 0
+LeavesEmpty first marks end clauses = (i : ℕ) → i < end → get_or marks i false ≡ false → slice_get clauses (first + i) ≡ Some []
+
+pub empty_more : (first : ℕ) (marks : List Bool) (end : ℕ) (clauses : List (List Literal)) (clause : List Literal) → length clauses ≡ first + end
+    → LeavesEmpty first marks end clauses → (get_or marks end false ≡ false → clause ≡ []) → LeavesEmpty first marks (end + 1) (clauses ++ clause ∷ [])
+empty_more first marks end clauses clause size h last i lt unmarked = elim (cases_eq i end) [
+  | inl s ↦ get_behind clauses clause (first + i) (omega (arith, s, size)) ∙ ap Some (last (ap (λ z. get_or marks z false) (sym s) ∙ unmarked))
+  | inr n ↦ get_before clauses clause (first + i) [] (h i (omega (arith, lt, n)) unmarked)
+]
+
+-- an entry that is not needed is not marked
+pub skips_others : (first size : ℕ) (entries : List Chain) (numbers : List ℕ) (marks read : List Bool) (clauses : List (List Literal)) → size ≡ first → read ≡ marks
+    → ((i : ℕ) → get_or marks i false ≡ true → IsNeeded size entries numbers (size + i))
+    → ((i : ℕ) → i < length entries → get_or read i false ≡ false → slice_get clauses (first + i) ≡ Some []) → SkipsOthers first entries numbers clauses
+skips_others first size entries numbers marks read clauses e f only skipped i lt not_needed =
+    skipped i lt (false_from_ne_true _ (λ t. not_needed (subst (λ z. IsNeeded z entries numbers (z + i)) e (only i (ap (λ z. get_or z i false) (sym f) ∙ t)))))

@@ -9,8 +9,7 @@ use Rattle.std.specs.List.{filter}
 use Rattle.kb_chain.specs.Literal.{Literal, literal, negated, place_of, same, has}
 use Rattle.kb_chain.specs.Clause.{IsOrdered}
 use Rattle.kb_chain.specs.Propagation.{others, all_negated, IsClosed, NegatesSome}
-use Rattle.kb_chain.specs.Index.{joined, Extends, IsSettled, IsIndexed, open_literals, status_of, has_number}
-use Rattle.kb_chain.specs.declared.index.Index.{Index}
+use Rattle.kb_chain.specs.Index.{joined, Extends, IsSettled, AreSettled, open_literals, status_of, has_number}
 use Rattle.kb_chain.specs.declared.propagation.Status.TheVariants.{Negated, Unit, Open}
 use Rattle.kb_chain.proofs.LiteralLaws.{same-true, has_head, has_tail, has-append, has-filter, negated-negated}
 use Rattle.kb_chain.proofs.OrderLaws.{IsOrdered-filter, has_take-suc}
@@ -167,7 +166,7 @@ Extends-part old new e l h = has_taken new (length old) l (ap (λ z. has z l) e 
 pub Extends-length : (old new : List Literal) → Extends old new → length old ≤ length new
 Extends-length old new e = let k : length (take (length old) new) ≡ length old = ap length e in omega (arith, length-take (length old) new)
 
-take-take-le : (i j : ℕ) (xs : List Literal) → i ≤ j → take i (take j xs) ≡ take i xs
+pub take-take-le : (i j : ℕ) (xs : List Literal) → i ≤ j → take i (take j xs) ≡ take i xs
 take-take-le zero j xs h = refl
 take-take-le (suc i) zero xs h = absurd (omega arith)
 take-take-le (suc i) (suc j) [] h = refl
@@ -207,33 +206,20 @@ IsSettled_taken trail later i d clause lt e before visited =
       }
     ]
 
--- nothing is taken up yet
-pub IsSettled_start : (clauses : List (List Literal)) (index : Index) (trail : List Literal) → IsIndexed clauses index → index.refuted ≡ false
-    → ((l : Literal) → has index.units.items l ≡ true → has trail l ≡ true)
-    → (k : ℕ) (clause : List Literal) → slice_get clauses k ≡ Some clause → IsSettled (has []) (has trail) clause
-IsSettled_start clauses index trail h quiet units k clause e = record {
-  consistent = not_negated clause refl;
-  reached = λ l i o. units l (h.units k clause e l i (no_others (others l clause) o));
-}
-  where
-    not_negated : (c : List Literal) → clause ≡ c → all_negated (has []) c ≡ false
-    not_negated [] f = absurd (false≢true (sym quiet ∙ h.empty k (e ∙ ap Some f)))
-    not_negated (x ∷ xs) f = refl
-
-    no_others : (c : List Literal) → all_negated (has []) c ≡ true → c ≡ []
-    no_others [] o = refl
-    no_others (x ∷ xs) o = absurd (false≢true o)
-
 -- all is taken up
-pub IsClosed_end : (clauses : List (List Literal)) (trail : List Literal) (i : ℕ) → length trail ≤ i
-    → ((k : ℕ) (clause : List Literal) → slice_get clauses k ≡ Some clause → IsSettled (has (take i trail)) (has trail) clause) → IsClosed clauses (has trail)
-IsClosed_end clauses trail i h f k clause e l j o =
-    (f k clause e).reached l j (ap (λ z. all_negated (has z) (others l clause)) (take_all i trail h) ∙ o)
+pub AreSettled_end : (clauses : List (List Literal)) (trail : List Literal) (i : ℕ) → length trail ≤ i → AreSettled clauses (take i trail) trail → AreSettled clauses trail trail
+AreSettled_end clauses trail i h f k clause e = subst (λ z. IsSettled (has z) (has trail) clause) (take_all i trail h) (f k clause e)
 
-pub NegatesSome_end : (clauses : List (List Literal)) (trail : List Literal) (i : ℕ) → length trail ≤ i
-    → ((k : ℕ) (clause : List Literal) → slice_get clauses k ≡ Some clause → IsSettled (has (take i trail)) (has trail) clause) → NegatesSome clauses (has trail) → ⊥
-NegatesSome_end clauses trail i h f n =
-    false≢true (sym (f n.0 n.1 n.2).consistent ∙ (ap (λ z. all_negated (has z) n.1) (take_all i trail h) ∙ n.3))
+-- the literals go on
+pub AreSettled_more : (clauses : List (List Literal)) (earlier old new : List Literal) → IsPart (has old) (has new) → AreSettled clauses earlier old → AreSettled clauses earlier new
+AreSettled_more clauses earlier old new grown f k clause e =
+    IsSettled_more (has earlier) (has earlier) (has old) (has new) clause (λ l j. j) grown (f k clause e)
+
+pub settled_closed : (clauses : List (List Literal)) (trail : List Literal) → AreSettled clauses trail trail → IsClosed clauses (has trail)
+settled_closed clauses trail f k clause e l j o = (f k clause e).reached l j o
+
+pub settled_quiet : (clauses : List (List Literal)) (trail : List Literal) → AreSettled clauses trail trail → NegatesSome clauses (has trail) → ⊥
+settled_quiet clauses trail f n = false≢true (sym (f n.0 n.1 n.2).consistent ∙ n.3)
 
 pub place_of-negated : (l : Literal) (n : ℕ) → place_of l < 2 * n + 2 → place_of (negated l) < 2 * n + 2
 place_of-negated l n h = go l.variable l.positive h

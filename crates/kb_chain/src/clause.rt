@@ -1,3 +1,5 @@
+//! Clauses: their literals in order, each once.
+
 ghost use Rattle.std.specs.Prelude.{◌≡◌, ◌≤◌, [], true, OnOk, IfOk};
 ghost use Rattle.kb_chain.specs.Literal.{Literal, has, place_of};
 ghost use Rattle.kb_chain.specs.Clause.{IsOrdered, IsRising, clause_of};

@@ -1,34 +1,15 @@
-ghost use Rattle.std.specs.Prelude.{◌≡◌, ◌+◌, ◌*◌, [], Some, None, IfOk, IfSome, IsSome, MatchBool, MatchOption, fold};
+//! The clause that one chain of resolutions gives.
+
+ghost use Rattle.std.specs.Prelude.{◌≡◌, ◌+◌, ◌*◌, [], Some, None, IfOk, IfSome, IsSome, MatchBool, fold};
 ghost use Rattle.kb_chain.specs.Cnf.{IsWithin};
-ghost use Rattle.kb_chain.specs.Chains.{resolved, entry_of, derived};
+ghost use Rattle.kb_chain.specs.Chains.{resolved, entry_of};
 
 use crate::clause::Clause;
-use crate::formula::Formula;
 use crate::log::Chain;
 use crate::memory::NoMemory;
 use crate::store::Store;
 use crate::working::Working;
 use std::alloc::Global;
-
-/// The clauses of a formula and, behind them, those that the entries derive; none where an entry does not derive.
-pub fn derive_all<'a>(
-    alloc: Global,
-    formula: &'a Formula,
-    entries: &[Chain],
-) -> Result<Option<Store<'a>>, NoMemory>
-    ensures { IfOk result (λ found. MatchOption found (derived formula.now.clauses entries.now ≡ None)
-        (λ store. derived formula.now.clauses entries.now ≡ Some store.clauses)) }
-{
-    let mut store = Store::new(alloc, formula);
-    let mut working = Working::new(alloc, formula.vars())?;
-    for entry in entries {
-        let Some(clause) = derive(alloc, &store, &mut working, entry)? else {
-            return Ok(None);
-        };
-        store.push(clause)?;
-    }
-    Ok(Some(store))
-}
 
 /// The clause that a chain gives from the clauses of the store, if all its resolvents are there.
 pub(crate) fn derive(

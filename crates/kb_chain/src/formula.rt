@@ -1,3 +1,5 @@
+//! Formulas in conjunctive normal form.
+
 ghost use Rattle.std.specs.Prelude.{◌≡◌, ◌≤◌, ◌<◌, ◌+◌, ◌^◌, ◌↔◌, [], ◌∷◌, ◌++◌, OnOk, OnErr, IsNone, IfSome, IfNone, true};
 ghost use Rattle.kb_chain.specs.Literal.{literal};
 ghost use Rattle.kb_chain.specs.Cnf.{IsWithin, AllWithin};

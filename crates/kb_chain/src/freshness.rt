@@ -1,10 +1,12 @@
-ghost use Rattle.std.specs.Prelude.{◌≡◌, ℕ, ◌+◌, ◌*◌, ◌<◌, ◌≤◌, ◌^◌, ◌||◌, map, length, OnOk, IfOk};
+//! The check of fresh logs.
+
+ghost use Rattle.std.specs.Prelude.{◌≡◌, ℕ, ◌+◌, ◌*◌, ◌<◌, ◌≤◌, ◌^◌, ◌||◌, ◌++◌, ◌∷◌, [], map, length, true, OnOk, IfOk, IfSome};
 ghost use Rattle.std.specs.Bool.{OnTrue, OnFalse};
 ghost use Rattle.kb_chain.specs.Literal.{Literal, has, negated};
-ghost use Rattle.kb_chain.specs.Cnf.{AllWithin};
+ghost use Rattle.kb_chain.specs.Cnf.{IsWithin};
 ghost use Rattle.kb_chain.specs.Working.{AreWithin};
 ghost use Rattle.kb_chain.specs.Propagation.{others, Misses, IsNew};
-ghost use Rattle.kb_chain.specs.Index.{IsIndexed};
+ghost use Rattle.kb_chain.specs.Index.{Extends, IsIndexed, IsRoot, IsRefuted};
 ghost use Rattle.kb_chain.specs.Verdicts.{JudgesFresh};
 
 use crate::clause::Clause;
@@ -12,9 +14,9 @@ use crate::derivation::derive;
 use crate::formula::Formula;
 use crate::index::Index;
 use crate::literal::Lit;
-use crate::log::{Log, Verdict};
+use crate::log::{Chain, Log, Verdict};
 use crate::memory::NoMemory;
-use crate::propagation::propagate;
+use crate::propagation::{examine, propagate};
 use crate::signs::has_both_signs;
 use crate::store::Store;
 use crate::trail::Trail;
@@ -35,15 +37,25 @@ pub fn check_fresh(alloc: Global, formula: &Formula, log: &Log) -> Result<Verdic
     let mut working = Working::new(alloc, formula.vars())?;
     let mut trail = Trail::new(alloc, formula.vars())?;
     let mut index = index_of(alloc, formula)?;
+    let mut quiet = begin(formula, &store, &index, &mut trail)?;
     for (i, entry) in entries.iter().enumerate() {
         let Some(clause) = derive(alloc, &store, &mut working, entry)? else {
             return Ok(Verdict::Bad(i as u32));
         };
-        if !is_new(&store, &index, &mut trail, &clause)? {
+        if !quiet {
             return Ok(Verdict::Bad(i as u32));
         }
-        index.add((first + i) as u32, &clause)?;
-        store.push(clause)?;
+        let likely = likely_missed(&store, entry, &clause);
+        if !is_new(&store, &index, &mut trail, &clause, likely)? {
+            return Ok(Verdict::Bad(i as u32));
+        }
+        quiet = take_in(
+            &mut store,
+            &mut index,
+            &mut trail,
+            (first + i) as u32,
+            clause,
+        )?;
     }
     Ok(Verdict::Good)
 }
@@ -61,24 +73,88 @@ fn index_of(alloc: Global, formula: &Formula) -> Result<Index, NoMemory>
     Ok(index)
 }
 
-/// Whether unit propagation misses one of the clause's literals, of which no two are of one variable.
+/// Reaches what unit propagation on the formula reaches from no literals, and says whether no clause is negated on the way.
+fn begin(
+    formula: &Formula,
+    store: &Store<'_>,
+    index: &Index,
+    trail: &mut Trail,
+) -> Result<bool, NoMemory>
+    requires formula { store.now ≡ formula.now }
+    requires places { trail.old.places ≡ 2 * store.now.vars + 2 }
+    requires rows { length index.now.occurrences.items ≡ 2 * store.now.vars + 2 }
+    requires indexed { IsIndexed store.now.clauses index.now }
+    requires empty { trail.old.literals ≡ [] }
+    ensures root { IfOk result (λ quiet. OnTrue quiet (IsRoot store.now.clauses trail.new.literals)) }
+    ensures refuted { IfOk result (λ quiet. OnFalse quiet (IsRefuted store.now.clauses trail.new.literals)) }
+    ensures places { trail.new.places ≡ trail.old.places }
+{
+    for clause in formula.clauses() {
+        if !examine(clause, trail)? {
+            return Ok(false);
+        }
+    }
+    propagate(store, index, trail, 0)
+}
+
+/// Puts a clause behind the others, goes on with what unit propagation reaches from no literals, and says whether no
+/// clause is negated on the way.
+fn take_in(
+    store: &mut Store<'_>,
+    index: &mut Index,
+    trail: &mut Trail,
+    number: u32,
+    clause: Clause,
+) -> Result<bool, NoMemory>
+    requires number { number ≡ length store.old.clauses }
+    requires places { trail.old.places ≡ 2 * store.old.vars + 2 }
+    requires rows { length index.old.occurrences.items ≡ 2 * store.old.vars + 2 }
+    requires indexed { IsIndexed store.old.clauses index.old }
+    requires within { IsWithin store.old.vars clause }
+    requires root { IsRoot store.old.clauses trail.old.literals }
+    ensures clauses { OnOk result (store.new.clauses ≡ store.old.clauses ++ clause ∷ []) }
+    ensures vars { store.new.vars ≡ store.old.vars }
+    ensures places { trail.new.places ≡ trail.old.places }
+    ensures rows { length index.new.occurrences.items ≡ length index.old.occurrences.items }
+    ensures indexed { OnOk result (IsIndexed store.new.clauses index.new) }
+    ensures root { IfOk result (λ quiet. OnTrue quiet (IsRoot store.new.clauses trail.new.literals)) }
+    ensures refuted { IfOk result (λ quiet. OnFalse quiet (IsRefuted store.new.clauses trail.new.literals)) }
+{
+    let next = trail.literals().len();
+    index.add(number, &clause)?;
+    let quiet = examine(&clause, trail)?;
+    store.push(clause)?;
+    if !quiet {
+        return Ok(false);
+    }
+    propagate(store, index, trail, next)
+}
+
+/// Whether unit propagation misses one of the clause's literals, of which no two are of one variable; the likely one is
+/// tried first. The trail has what is reached from no literals, before and after.
 fn is_new(
     store: &Store<'_>,
     index: &Index,
     trail: &mut Trail,
     clause: &Clause,
+    likely: Option<Lit>,
 ) -> Result<bool, NoMemory>
     requires places { trail.old.places ≡ 2 * store.now.vars + 2 }
     requires rows { length index.now.occurrences.items ≡ 2 * store.now.vars + 2 }
     requires indexed { IsIndexed store.now.clauses index.now }
-    requires all_within { AllWithin store.now.vars store.now.clauses }
     requires within { AreWithin trail.old.places clause.now }
+    requires likely { IfSome likely (λ l. has clause.now l ≡ true) }
+    requires root { IsRoot store.now.clauses trail.old.literals }
     ensures new { IfOk result (λ new. OnTrue new (IsNew store.now.clauses clause.now)) }
     ensures known { IfOk result (λ new. OnFalse new (IsNew store.now.clauses clause.now → ⊥)) }
     ensures places { trail.new.places ≡ trail.old.places }
+    ensures root { OnOk result (trail.new.literals ≡ trail.old.literals) }
 {
     if has_both_signs(clause) {
         return Ok(false);
+    }
+    if misses_likely(store, index, trail, clause, likely)? {
+        return Ok(true);
     }
     for literal in clause.literals() {
         if misses(store, index, trail, clause, *literal)? {
@@ -88,7 +164,32 @@ fn is_new(
     Ok(false)
 }
 
-/// Whether unit propagation from the negations of the clause's other literals misses this one.
+/// Whether unit propagation misses the likely literal, if there is one.
+fn misses_likely(
+    store: &Store<'_>,
+    index: &Index,
+    trail: &mut Trail,
+    clause: &Clause,
+    likely: Option<Lit>,
+) -> Result<bool, NoMemory>
+    requires places { trail.old.places ≡ 2 * store.now.vars + 2 }
+    requires rows { length index.now.occurrences.items ≡ 2 * store.now.vars + 2 }
+    requires indexed { IsIndexed store.now.clauses index.now }
+    requires within { AreWithin trail.old.places clause.now }
+    requires likely { IfSome likely (λ l. has clause.now l ≡ true) }
+    requires root { IsRoot store.now.clauses trail.old.literals }
+    ensures missed { IfOk result (λ missed. OnTrue missed ((l : Literal) × (has clause.now l ≡ true) × Misses store.now.clauses clause.now l)) }
+    ensures places { trail.new.places ≡ trail.old.places }
+    ensures root { OnOk result (trail.new.literals ≡ trail.old.literals) }
+{
+    match likely {
+        Some(literal) => misses(store, index, trail, clause, literal),
+        None => Ok(false),
+    }
+}
+
+/// Whether unit propagation from the negations of the clause's other literals misses this one. The trail has what is
+/// reached from no literals, before and after.
 fn misses(
     store: &Store<'_>,
     index: &Index,
@@ -99,19 +200,41 @@ fn misses(
     requires places { trail.old.places ≡ 2 * store.now.vars + 2 }
     requires rows { length index.now.occurrences.items ≡ 2 * store.now.vars + 2 }
     requires indexed { IsIndexed store.now.clauses index.now }
-    requires all_within { AllWithin store.now.vars store.now.clauses }
     requires within { AreWithin trail.old.places clause.now }
+    requires root { IsRoot store.now.clauses trail.old.literals }
     ensures missed { IfOk result (λ missed. OnTrue missed (Misses store.now.clauses clause.now literal)) }
     ensures reached { IfOk result (λ missed. OnFalse missed (Misses store.now.clauses clause.now literal → ⊥)) }
     ensures places { trail.new.places ≡ trail.old.places }
+    ensures root { OnOk result (trail.new.literals ≡ trail.old.literals) }
 {
-    if index.refuted {
-        return Ok(false);
-    }
-    trail.clear();
+    let root = trail.literals().len();
+    let missed = goes_on(store, index, trail, clause, literal)?;
+    trail.go_back(root);
+    Ok(missed)
+}
+
+/// Goes on from what is reached from no literals, which the trail has, to what is reached from the negations of the
+/// clause's other literals, and says whether this one is missed.
+fn goes_on(
+    store: &Store<'_>,
+    index: &Index,
+    trail: &mut Trail,
+    clause: &Clause,
+    literal: Lit,
+) -> Result<bool, NoMemory>
+    requires places { trail.old.places ≡ 2 * store.now.vars + 2 }
+    requires rows { length index.now.occurrences.items ≡ 2 * store.now.vars + 2 }
+    requires indexed { IsIndexed store.now.clauses index.now }
+    requires within { AreWithin trail.old.places clause.now }
+    requires root { IsRoot store.now.clauses trail.old.literals }
+    ensures missed { IfOk result (λ missed. OnTrue missed (Misses store.now.clauses clause.now literal)) }
+    ensures reached { IfOk result (λ missed. OnFalse missed (Misses store.now.clauses clause.now literal → ⊥)) }
+    ensures extended { OnOk result (Extends trail.old.literals trail.new.literals) }
+    ensures places { trail.new.places ≡ trail.old.places }
+{
+    let root = trail.literals().len();
     assume_others(store, trail, clause, literal)?;
-    trail.insert_all(index.units.as_slice())?;
-    if !propagate(store, index, trail)? {
+    if !propagate(store, index, trail, root)? {
         return Ok(false);
     }
     Ok(!trail.contains(literal))
@@ -128,6 +251,7 @@ fn assume_others(
     requires within { AreWithin trail.old.places clause.now }
     ensures has { OnOk result ((l : Literal) → has trail.new.literals l
         ≡ (has trail.old.literals l || has (map negated (others literal clause.now)) l)) }
+    ensures extended { OnOk result (Extends trail.old.literals trail.new.literals) }
     ensures places { trail.new.places ≡ trail.old.places }
 {
     for other in clause.literals() {
@@ -136,4 +260,39 @@ fn assume_others(
         }
     }
     Ok(())
+}
+
+/// The literal of the clause that stands in most of the clauses that its chain resolves with. Where a solver learned the
+/// clause from a conflict, it is nearly always the literal that unit propagation misses; nothing rests on that.
+fn likely_missed(store: &Store<'_>, chain: &Chain, clause: &Clause) -> Option<Lit>
+    ensures { IfSome result (λ l. has clause.now l ≡ true) }
+{
+    let mut likely = None;
+    let mut most = 0;
+    for literal in clause.literals() {
+        let count = count_sides(store, chain, *literal);
+        if count > most {
+            most = count;
+            likely = Some(*literal);
+        }
+    }
+    likely
+}
+
+/// In how many of the clauses that a chain resolves with a literal stands.
+fn count_sides(store: &Store<'_>, chain: &Chain, literal: Lit) -> usize {
+    chain
+        .steps
+        .as_slice()
+        .iter()
+        .filter(|step| has_literal(store, step.1, literal))
+        .count()
+}
+
+/// Whether a literal stands in the clause of that number.
+fn has_literal(store: &Store<'_>, number: u32, literal: Lit) -> bool {
+    match store.get(number) {
+        Some(clause) => clause.contains(literal),
+        None => false,
+    }
 }

@@ -1,12 +1,13 @@
+//! In which clauses each literal stands.
+
 ghost use Rattle.std.specs.Prelude.{◌≡◌, ◌+◌, ◌*◌, ◌<◌, ◌≤◌, [], ◌∷◌, ◌++◌, List, length, OnOk, IfOk};
 ghost use Rattle.kb_chain.specs.Literal.{Literal};
 ghost use Rattle.kb_chain.specs.Working.{AreWithin};
 ghost use Rattle.kb_chain.specs.Index.{IsIndexed};
 
 use crate::clause::Clause;
-use crate::literal::Lit;
-use crate::log::Row;
 use crate::memory::NoMemory;
+use kb_rows::Row;
 use std::alloc::Global;
 
 /// Where the literals of numbered clauses stand.
@@ -14,10 +15,6 @@ use std::alloc::Global;
 pub(crate) struct Index {
     /// By a literal's place, the numbers of the clauses that have it.
     pub(crate) occurrences: Vec<Row<u32>>,
-    /// The literals of the clauses of one literal.
-    pub(crate) units: Vec<Lit>,
-    /// Whether there is an empty clause.
-    pub(crate) refuted: bool,
 }
 
 impl Index {
@@ -30,12 +27,7 @@ impl Index {
         for _place in 0..2 * vars as usize + 2 {
             occurrences.push(Row::new(alloc))?;
         }
-        let units = Vec::new(alloc);
-        Ok(Index {
-            occurrences,
-            units,
-            refuted: false,
-        })
+        Ok(Index { occurrences })
     }
 
     /// Takes in one more clause, whose number is that of the clauses before it.
@@ -45,19 +37,10 @@ impl Index {
             → IsIndexed clauses self.old → IsIndexed (clauses ++ clause.now ∷ []) self.new) }
         ensures places { length self.new.occurrences.items ≡ length self.old.occurrences.items }
     {
-        let literals = clause.literals();
-        for literal in literals {
+        for literal in clause.literals() {
             let numbers = &mut self.occurrences[literal.place()];
             numbers.push(number)?;
         }
-        if literals.is_empty() {
-            self.refuted = true;
-            return Ok(());
-        }
-        if literals.len() > 1 {
-            return Ok(());
-        }
-        self.units.push(literals[0])?;
         Ok(())
     }
 }

@@ -22,11 +22,11 @@ mod trail;
 mod working;
 
 pub use clause::Clause;
-pub use derivation::derive_all;
 pub use formula::Formula;
 pub use freshness::check_fresh;
+pub use kb_rows::Row;
 pub use literal::Lit;
-pub use log::{Chain, Log, Row, Verdict};
+pub use log::{Chain, Log, Verdict};
 pub use memory::NoMemory;
 pub use needed::derive_needed;
 pub use refutation::check_refutation;

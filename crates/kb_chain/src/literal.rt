@@ -1,3 +1,5 @@
+//! Literals of propositional logic.
+
 ghost use Rattle.std.specs.Prelude.{◌≡◌, ◌^◌, ◌<◌, ◌↔◌, IsSome, IfSome};
 ghost use Rattle.kb_chain.specs.Literal.{negated, place_of, literal, literal_of, number_of};
 

@@ -1,3 +1,5 @@
+//! Tables that mark literals by their places.
+
 ghost use Rattle.std.specs.Prelude.{◌≡◌, slice_index_or, false, not, ◌&&◌};
 ghost use Rattle.kb_chain.specs.Literal.{Literal, has};
 ghost use Rattle.kb_chain.specs.Working.{marked};

@@ -1,3 +1,5 @@
+//! Want of memory.
+
 use std::alloc::{AllocError, AllocFailed};
 
 /// There was no memory for the answer.

@@ -1,8 +1,10 @@
-ghost use Rattle.std.specs.Prelude.{◌≡◌, ℕ, ◌+◌, ◌<◌, ◌≤◌, true, false, List, length, slice_get, slice_index_or, Some, IsSomeAnd, IfOk};
+//! The entries of a log that some clauses need, and the clauses that they derive.
+
+ghost use Rattle.std.specs.Prelude.{◌≡◌, ℕ, ◌+◌, ◌<◌, ◌≤◌, true, false, List, length, slice_get, slice_index_or, Some, IsSomeAnd, IfSome, IfOk, ◌⊎◌, []};
 ghost use Rattle.kb_chain.specs.Literal.{Literal};
 ghost use Rattle.kb_chain.specs.Index.{has_number};
 ghost use Rattle.kb_chain.specs.Chains.{derived};
-ghost use Rattle.kb_chain.specs.Needed.{cites, is_kept, AreClosed};
+ghost use Rattle.kb_chain.specs.Needed.{cites, is_kept, AreClosed, IsNeeded, SkipsOthers};
 
 use crate::clause::Clause;
 use crate::derivation::derive;
@@ -14,16 +16,18 @@ use crate::working::Working;
 use std::alloc::Global;
 
 /// The clauses of a formula and, behind them, those of the entries, as far as the clauses of these numbers need them. The
-/// empty clause stands for each of the others.
+/// others are not derived: the empty clause stands for each.
 pub fn derive_needed<'a>(
     alloc: Global,
     formula: &'a Formula,
     entries: &[Chain],
     numbers: &[u32],
 ) -> Result<Option<Store<'a>>, NoMemory>
-    ensures { IfOk result (λ found. (all : List (List Literal)) → derived formula.now.clauses entries.now ≡ Some all
+    ensures same { IfOk result (λ found. (all : List (List Literal)) → derived formula.now.clauses entries.now ≡ Some all
         → IsSomeAnd found (λ store. (number : ℕ) → has_number numbers.now number ≡ true
         → slice_get store.clauses number ≡ slice_get all number)) }
+    ensures skipped { IfOk result (λ found. IfSome found (λ store.
+        SkipsOthers (length formula.now.clauses) entries.now numbers.now store.clauses)) }
 {
     let needed = needed_entries(alloc, formula.clauses().len(), entries, numbers)?;
     derive_marked(alloc, formula, entries, needed.as_slice())
@@ -38,10 +42,12 @@ fn derive_marked<'a>(
 ) -> Result<Option<Store<'a>>, NoMemory>
     requires table { length needed.now ≡ length entries.now }
     requires closed { AreClosed (length formula.now.clauses) entries.now needed.now 0 }
-    ensures { IfOk result (λ found. (all : List (List Literal)) → derived formula.now.clauses entries.now ≡ Some all
+    ensures same { IfOk result (λ found. (all : List (List Literal)) → derived formula.now.clauses entries.now ≡ Some all
         → IsSomeAnd found (λ store. (number : ℕ)
         → (number < length formula.now.clauses + length entries.now → is_kept (length formula.now.clauses) needed.now number ≡ true)
         → slice_get store.clauses number ≡ slice_get all number)) }
+    ensures skipped { IfOk result (λ found. IfSome found (λ store. (i : ℕ) → i < length entries.now
+        → slice_index_or needed.now i false ≡ false → slice_get store.clauses (length formula.now.clauses + i) ≡ Some [])) }
 {
     let mut store = Store::new(alloc, formula);
     let mut working = Working::new(alloc, formula.vars())?;
@@ -69,6 +75,8 @@ fn needed_entries(
     ensures marked { IfOk result (λ needed. (number : ℕ) → has_number numbers.now number ≡ true → number < first + length entries.now
         → is_kept first needed.items number ≡ true) }
     ensures closed { IfOk result (λ needed. AreClosed first entries.now needed.items 0) }
+    ensures only { IfOk result (λ needed. (i : ℕ) → slice_index_or needed.items i false ≡ true
+        → IsNeeded first entries.now numbers.now (first + i)) }
 {
     let mut needed = vec![in alloc; false; entries.len()]?;
     for number in numbers {
@@ -89,6 +97,8 @@ fn mark_cited(needed: &mut [bool], first: usize, end: usize, chain: &Chain)
     requires { end ≤ length needed.old }
     ensures kept { (number : ℕ) → is_kept first needed.old number ≡ true → is_kept first needed.new number ≡ true }
     ensures marked { (number : ℕ) → cites chain.now number ≡ true → number < first + end → is_kept first needed.new number ≡ true }
+    ensures only { (i : ℕ) → slice_index_or needed.new i false ≡ true
+        → (slice_index_or needed.old i false ≡ true) ⊎ ((cites chain.now (first + i) ≡ true) × (i < end)) }
     ensures later { (i : ℕ) → end ≤ i → slice_index_or needed.new i false ≡ slice_index_or needed.old i false }
 {
     mark(needed, first, end, chain.start);
@@ -102,6 +112,8 @@ fn mark(needed: &mut [bool], first: usize, end: usize, number: u32)
     requires { end ≤ length needed.old }
     ensures kept { (k : ℕ) → is_kept first needed.old k ≡ true → is_kept first needed.new k ≡ true }
     ensures marked { number < first + end → is_kept first needed.new number ≡ true }
+    ensures only { (i : ℕ) → slice_index_or needed.new i false ≡ true
+        → (slice_index_or needed.old i false ≡ true) ⊎ ((number ≡ first + i) × (i < end)) }
     ensures later { (i : ℕ) → end ≤ i → slice_index_or needed.new i false ≡ slice_index_or needed.old i false }
 {
     let number = number as usize;

@@ -1,10 +1,12 @@
-ghost use Rattle.std.specs.Prelude.{◌≡◌, ℕ, ◌+◌, ◌*◌, ◌<◌, ◌≤◌, Bool, true, false, [], List, Some, length, OnOk, IfOk, slice_get};
+//! Unit propagation (Davis, Logemann and Loveland, 1962), over an index of the clauses.
+
+ghost use Rattle.std.specs.Prelude.{◌≡◌, ℕ, ◌+◌, ◌*◌, ◌<◌, ◌≤◌, Bool, true, false, [], List, Some, length, take, OnOk, IfOk, slice_get};
 ghost use Rattle.std.specs.Bool.{OnTrue, OnFalse};
 ghost use Rattle.kb_chain.specs.Literal.{Literal, has, place_of};
 ghost use Rattle.kb_chain.specs.Clause.{IsOrdered};
 ghost use Rattle.kb_chain.specs.Working.{AreWithin};
 ghost use Rattle.kb_chain.specs.Propagation.{IsClosed, Includes, NegatesSome, all_negated, others};
-ghost use Rattle.kb_chain.specs.Index.{Extends, IsIndexed, IsSettled, open_literals, status_of};
+ghost use Rattle.kb_chain.specs.Index.{Extends, IsIndexed, IsSettled, AreSettled, open_literals, status_of};
 
 use crate::clause::Clause;
 use crate::index::Index;
@@ -24,27 +26,28 @@ pub(crate) enum Status {
     Open,
 }
 
-/// Reaches what unit propagation reaches from the trail, and says whether no clause is negated on the way.
-/// Each literal of the trail is taken up once, and with it only the clauses in which its negation stands.
+/// Reaches what unit propagation reaches from the trail, whose literals before `next` are taken up, and says whether no
+/// clause is negated on the way. Each of the others is taken up once, and with it only the clauses in which its negation
+/// stands.
 pub(crate) fn propagate(
     store: &Store<'_>,
     index: &Index,
     trail: &mut Trail,
+    next: usize,
 ) -> Result<bool, NoMemory>
     requires places { trail.old.places ≡ 2 * store.now.vars + 2 }
     requires rows { length index.now.occurrences.items ≡ 2 * store.now.vars + 2 }
     requires indexed { IsIndexed store.now.clauses index.now }
-    requires units { (l : Literal) → has index.now.units.items l ≡ true → has trail.old.literals l ≡ true }
-    requires consistent { index.now.refuted ≡ false }
-    ensures closed { IfOk result (λ quiet. OnTrue quiet (IsClosed store.now.clauses (has trail.new.literals))) }
-    ensures quiet { IfOk result (λ quiet. OnTrue quiet (NegatesSome store.now.clauses (has trail.new.literals) → ⊥)) }
+    requires inside { next ≤ length trail.old.literals }
+    requires settled { AreSettled store.now.clauses (take next trail.old.literals) trail.old.literals }
+    ensures settled { IfOk result (λ quiet. OnTrue quiet (AreSettled store.now.clauses trail.new.literals trail.new.literals)) }
     ensures negated { IfOk result (λ quiet. OnFalse quiet (NegatesSome store.now.clauses (has trail.new.literals))) }
     ensures extended { OnOk result (Extends trail.old.literals trail.new.literals) }
     ensures least { OnOk result ((set : Literal → Bool) → IsClosed store.now.clauses set
         → Includes set trail.old.literals → Includes set trail.new.literals) }
     ensures places { trail.new.places ≡ trail.old.places }
 {
-    let mut next = 0;
+    let mut next = next;
     while next < trail.literals().len() {
         let negation = trail.literals()[next].negated();
         if !visit(store, index, trail, negation)? {
@@ -85,7 +88,7 @@ fn visit(
 }
 
 /// Reaches the literal that is left of a clause, if all others are negated; false where all are.
-fn examine(clause: &Clause, trail: &mut Trail) -> Result<bool, NoMemory>
+pub(crate) fn examine(clause: &Clause, trail: &mut Trail) -> Result<bool, NoMemory>
     requires { AreWithin trail.old.places clause.now }
     ensures settled { IfOk result (λ quiet. OnTrue quiet (IsSettled (has trail.old.literals) (has trail.new.literals) clause.now)) }
     ensures negated { IfOk result (λ quiet. OnFalse quiet (all_negated (has trail.new.literals) clause.now ≡ true)) }

@@ -1,3 +1,5 @@
+//! The check of refutations.
+
 ghost use Rattle.std.specs.Prelude.{◌≡◌, ℕ, Bool, Ok, IfOk};
 ghost use Rattle.kb_chain.specs.Clause.{Satisfies};
 ghost use Rattle.kb_chain.specs.Verdicts.{JudgesRefutation};

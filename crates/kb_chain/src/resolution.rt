@@ -1,3 +1,5 @@
+//! Resolvents of two clauses (Robinson, 1965).
+
 ghost use Rattle.std.specs.Prelude.{◌≡◌, ◌++◌, ◌↔◌, Some, None, IfOk, IsErrOf};
 ghost use Rattle.kb_chain.specs.Clause.{are_opposite, without, resolvent_of};
 ghost use Rattle.kb_chain.specs.Literal.{literal, has};

@@ -1,3 +1,5 @@
+//! Whether a clause has both literals of a variable.
+
 ghost use Rattle.std.specs.Prelude.{◌≡◌, None};
 ghost use Rattle.std.specs.Bool.{OnTrue, OnFalse};
 ghost use Rattle.kb_chain.specs.Propagation.{HasBothSigns};

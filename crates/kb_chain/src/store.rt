@@ -1,3 +1,5 @@
+//! The clauses of a formula and of the entries of a log, by their numbers.
+
 ghost use Rattle.std.specs.Prelude.{◌≡◌, [], ◌∷◌, ◌++◌, OnOk, OnErr, IfSome, slice_get};
 ghost use Rattle.std.specs.Option.{option_copied};
 ghost use Rattle.kb_chain.specs.Cnf.{IsWithin, AllWithin};

@@ -1,7 +1,7 @@
 //! Each public call once, and refutations of small formulas, whose answers were worked out by hand.
 use crate::{
     Chain, Clause, Formula, Lit, Log, NoMemory, ResolveStop, Row, Verdict, check_fresh,
-    check_refutation, derive_all, derive_needed, resolve,
+    check_refutation, derive_needed, resolve,
 };
 use std::alloc::Global;
 use std::process::Abort;
@@ -257,21 +257,6 @@ fn pigeons_are_refuted(rt: HostRuntime) -> Result<(), Fail> {
         &[THIRD, FOURTH, OWN_NUMBER],
         Verdict::Bad(2),
     )?;
-    Ok(())
-}
-
-#[test]
-fn entries_derive_clauses(rt: HostRuntime) -> Result<(), Fail> {
-    let formula = formula(rt.alloc(), 3, &[&[1, 2], &[-1, 3]])?;
-    let log = log(rt.alloc(), &[&[0, 1, 1]])?;
-    let Some(store) = derive_all(rt.alloc(), &formula, log.entries.as_slice())? else {
-        panic!(&rt; "the entry derives");
-    };
-    match store.get(2) {
-        Some(clause) => has_numbers(&rt, clause, &[2, 3]),
-        None => panic!(&rt; "the clause is there"),
-    }
-    assert!(rt; store.get(3).is_none());
     Ok(())
 }
 

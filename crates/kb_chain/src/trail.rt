@@ -1,10 +1,12 @@
-ghost use Rattle.std.specs.Prelude.{◌≡◌, ◌+◌, ◌*◌, ◌<◌, ◌≤◌, [], length, ◌||◌, OnOk, IfOk};
+//! The literals that unit propagation reaches, in their order.
+
+ghost use Rattle.std.specs.Prelude.{◌≡◌, ◌+◌, ◌*◌, ◌<◌, ◌≤◌, [], length, take, ◌-◌, OnOk, IfOk};
 ghost use Rattle.kb_chain.specs.Literal.{Literal, place_of, has};
 ghost use Rattle.kb_chain.specs.Working.{AreWithin};
 ghost use Rattle.kb_chain.specs.Index.{joined};
 
 use crate::literal::Lit;
-use crate::marks::{is_marked, unmark};
+use crate::marks::is_marked;
 use crate::memory::NoMemory;
 use std::alloc::Global;
 use std::marker::Model;
@@ -70,24 +72,23 @@ impl Trail {
         Ok(())
     }
 
-    /// Puts in each literal that is not there yet.
-    pub(crate) fn insert_all(&mut self, literals: &[Lit]) -> Result<(), NoMemory>
-        requires { AreWithin self.old.places literals.now }
-        ensures has { OnOk result ((l : Literal) → has self.new.literals l ≡ (has self.old.literals l || has literals.now l)) }
+    /// Goes back to the first `length` literals.
+    pub(crate) fn go_back(&mut self, length: usize)
+        ensures literals { self.new.literals ≡ take length self.old.literals }
         ensures places { self.new.places ≡ self.old.places }
     {
-        for literal in literals {
-            self.insert(*literal)?;
+        while self.reached.len() > length {
+            self.remove_last();
         }
-        Ok(())
     }
 
-    /// Begins again with no literals.
-    pub(crate) fn clear(&mut self)
-        ensures literals { self.new.literals ≡ [] }
+    /// Takes away the last literal.
+    fn remove_last(&mut self)
+        ensures literals { self.new.literals ≡ take (length self.old.literals - 1) self.old.literals }
         ensures places { self.new.places ≡ self.old.places }
     {
-        unmark(self.marks.as_mut_slice(), self.reached.as_slice());
-        self.reached.clear();
+        if let Some(literal) = self.reached.pop() {
+            self.marks[literal.place()] = false;
+        }
     }
 }

@@ -1,3 +1,5 @@
+//! The clause so far of a chain, which resolutions change.
+
 ghost use Rattle.std.specs.Prelude.{◌≡◌, ◌+◌, ◌*◌, ◌<◌, ◌≤◌, [], ◌∷◌, ◌++◌, false, slice_index_or, not, ◌==◌, ◌&&◌, ◌||◌, Some, None, MatchBool, OnOk, IfOk};
 ghost use Rattle.std.specs.List.{filter};
 ghost use Rattle.kb_chain.specs.Literal.{Literal, literal, place_of, same, has};

@@ -21,7 +21,7 @@ u1_exact = number_exact unbuilt 1
 u2_exact : Exact u2 IsU2
 u2_exact = number_exact unbuilt 2
 
-u4_exact : Exact u4 IsU4
+pub u4_exact : Exact u4 IsU4
 u4_exact = number_exact unbuilt 4
 
 -- ---- the constant pool

@@ -12,9 +12,8 @@ use Rattle.kb_classfile.specs.declared.file.ClassFile.{ClassFile}
 use Rattle.kb_classfile.specs.declared.refusal.ClassRefusal.{ClassRefusal}
 use Rattle.kb_classfile.specs.declared.refusal.ClassRefusal.TheVariants as refusals
 use Rattle.kb_classfile.specs.Spelling.{SpellsInfo, SpellsEntry, SpellsTable, NotBuilt, SpellsAttributes, SpellsMethod, Spells}
-use Rattle.kb_classfile.specs.Small.{IsPlain, IsTextOrClass, HasOwnNames, IsSmallForm, SpellsSmall, most_bytes}
+use Rattle.kb_classfile.specs.Small.{IsPlain, IsTextOrClass, HasAllowedNames, IsSmallForm, SpellsSmall, most_bytes}
 use Rattle.kb_classfile.specs.Reading.{Fails, unbuilt, class_file}
-use Rattle.kb_classfile.specs.Answers.{unbuilt_for}
 use Rattle.kb_classfile.proofs.Begins.{result_of}
 use Rattle.kb_classfile.proofs.Exactness.{class_file_exact}
 
@@ -44,8 +43,8 @@ texts_and_classes [] bytes s = tt
 texts_and_classes (x ∷ xs) bytes s =
     (text_or_class s.begins.0 x s.begins.1.back s.begins.1.ends, texts_and_classes xs s.back s.ends)
 
--- what a spelled file of own names is, is of the form
-pub small_form : (file : ClassFile) (bytes : List ℕ) → Spells file bytes → HasOwnNames file → IsSmallForm file
+-- a spelled file whose names are allowed is of the form
+pub small_form : (file : ClassFile) (bytes : List ℕ) → Spells file bytes → HasAllowedNames file → IsSmallForm file
 small_form file bytes s names =
     let behind = s.ends.ends.ends.ends.ends.ends in
     record {
@@ -67,17 +66,17 @@ pub one_file : (a b : ClassFile) (bytes : List ℕ) → whole unbuilt class_file
 one_file a b bytes read s = ok_file b a (sym (whole_only unbuilt class_file Spells class_file_exact bytes 0 b s) ∙ read)
 
 -- what is read is of the form
-pub is_small : (file : ClassFile) (bytes : List ℕ) → whole unbuilt class_file bytes 0 ≡ Ok file → HasOwnNames file → length bytes ≤ most_bytes → SpellsSmall file bytes
+pub is_small : (file : ClassFile) (bytes : List ℕ) → whole unbuilt class_file bytes 0 ≡ Ok file → HasAllowedNames file → length bytes ≤ most_bytes → SpellsSmall file bytes
 is_small file bytes read names limit =
     let s = is_spelled file bytes read in
     record { spelled = s; small = small_form file bytes s names; limit = limit }
 
 -- a file that is read and is not of the form, so that none is
-pub none_is_small : (file other : ClassFile) (bytes : List ℕ) → whole unbuilt class_file bytes 0 ≡ Ok file → (HasOwnNames file → ⊥) → SpellsSmall other bytes → ⊥
+pub none_is_small : (file other : ClassFile) (bytes : List ℕ) → whole unbuilt class_file bytes 0 ≡ Ok file → (HasAllowedNames file → ⊥) → SpellsSmall other bytes → ⊥
 none_is_small file other bytes read none small =
-    none (subst HasOwnNames (one_file file other bytes read small.spelled) small.small.names)
+    none (subst HasAllowedNames (one_file file other bytes read small.spelled) small.small.names)
 
 -- where nothing is read, no file is spelled
-pub none_is_read : (refusal : ClassRefusal) (file : ClassFile) (bytes : List ℕ) → Fails refusal (whole unbuilt class_file bytes 0) → Spells file bytes → Fails (unbuilt_for refusal) (result_of file)
+pub none_is_read : (refusal : ClassRefusal) (file : ClassFile) (bytes : List ℕ) → Fails refusal (whole unbuilt class_file bytes 0) → Spells file bytes → Fails refusal (result_of file)
 none_is_read refusals.NoMemory file bytes fails s = tt
 none_is_read refusal file bytes fails s = absurd (whole_none unbuilt class_file Spells class_file_exact bytes 0 refusal fails file s)

@@ -1,8 +1,9 @@
 pub mod Numbers
 pub mod Steps
-pub mod Begins
 pub mod Exactness
 pub mod Distinct
 pub mod Names
 pub mod Texts
+pub mod Faults
+pub mod Begins
 pub mod Form

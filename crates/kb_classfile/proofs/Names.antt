@@ -6,7 +6,7 @@ use Rattle.std.proofs.lemmas.Slice.Eq.{bytes_eq-Decides}
 use Rattle.std.specs.Prelude.{Result, Ok, Err, IfOk, IsTrue, ◌↔◌, map}
 use Rattle.kb_classfile.specs.declared.file.ClassFile.{ClassFile}
 use Rattle.kb_classfile.specs.Pool.{is_text, is_one_of, class_name_of}
-use Rattle.kb_classfile.specs.Small.{IsNoneOf, object_name, platform_names, HasNoInitialiser, HasOwnNames, AllDiffer, member_of}
+use Rattle.kb_classfile.specs.Small.{IsNoneOf, object_name, platform_names, HasNoClassInitialiser, HasAllowedNames, AllDiffer, member_of}
 use Rattle.kb_classfile.proofs.Distinct.{one_true}
 use Rattle.kb_classfile.proofs.Texts.{is_the_text, text_is}
 
@@ -51,9 +51,9 @@ module _ {A : Type 0} (text : List ℕ) (found : A → Option (List ℕ)) where
     go later false is h = later h
 
 -- the four facts together
-pub own_names : (file : ClassFile) {E : Type 0} (result : Result Bool E) → class_name_of file file.parent ≡ Some object_name
-    → IfSome (class_name_of file file.this) (IsNoneOf platform_names) → HasNoInitialiser file
-    → IfOk result (λ differ. IsTrue differ ↔ AllDiffer (map (member_of file) file.methods)) → IfOk result (λ own. IsTrue own ↔ HasOwnNames file)
-own_names file (Ok b) parent own initialiser members =
+pub allowed_names : (file : ClassFile) {E : Type 0} (result : Result Bool E) → class_name_of file file.parent ≡ Some object_name
+    → IfSome (class_name_of file file.this) (IsNoneOf platform_names) → HasNoClassInitialiser file
+    → IfOk result (λ differ. IsTrue differ ↔ AllDiffer (map (member_of file) file.methods)) → IfOk result (λ own. IsTrue own ↔ HasAllowedNames file)
+allowed_names file (Ok b) parent own initialiser members =
     ((λ yes. record { parent = parent; own = own; initialiser = initialiser; members = members.0 yes }), (λ names. members.1 names.members))
-own_names file (Err e) parent own initialiser members = tt
+allowed_names file (Err e) parent own initialiser members = tt

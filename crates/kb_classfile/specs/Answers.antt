@@ -27,11 +27,6 @@ IsMagicUnbuiltOrNoMemory refusals.Unbuilt = ⊤
 IsMagicUnbuiltOrNoMemory refusals.NoMemory = ⊤
 IsMagicUnbuiltOrNoMemory _ = ⊥
 
--- the answer for a fault behind the magic number, until each fault has its own
-abbrev pub unbuilt_for : ClassRefusal → ClassRefusal
-unbuilt_for refusals.NoMemory = refusals.NoMemory
-unbuilt_for _ = refusals.Unbuilt
-
 abbrev pub IsUnbuiltOrNoMemory : ClassRefusal → Type 0
 IsUnbuiltOrNoMemory refusals.Unbuilt = ⊤
 IsUnbuiltOrNoMemory refusals.NoMemory = ⊤

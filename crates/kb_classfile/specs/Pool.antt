@@ -13,9 +13,9 @@ text_of (entries.Utf8 text) = Some text
 text_of _ = None
 
 -- the entry of the name of a Class entry (JVMS 8 section 4.4.1)
-abbrev pub name_of : PoolEntry → Option ℕ
-name_of (entries.Class name) = Some name
-name_of _ = None
+abbrev pub name_index_of : PoolEntry → Option ℕ
+name_index_of (entries.Class name) = Some name
+name_index_of _ = None
 
 -- the bytes of the Utf8 entry with that number
 abbrev pub utf8_in : List PoolEntry → ℕ → Option (List ℕ)
@@ -23,7 +23,7 @@ utf8_in pool index = option_and_then text_of (slice_get pool index)
 
 -- the bytes of the name of the Class entry with that number
 abbrev pub class_name_in : List PoolEntry → ℕ → Option (List ℕ)
-class_name_in pool index = option_and_then (utf8_in pool) (option_and_then name_of (slice_get pool index))
+class_name_in pool index = option_and_then (utf8_in pool) (option_and_then name_index_of (slice_get pool index))
 
 abbrev pub utf8_of : ClassFile → ℕ → Option (List ℕ)
 utf8_of file index = utf8_in file.pool index

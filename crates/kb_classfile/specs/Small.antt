@@ -43,14 +43,14 @@ abbrev pub IsPlain : Method → Type 0
 IsPlain method = (code : Code) × (method.code ≡ Some code) × (code.handlers ≡ [])
 
 -- no method is named `<clinit>`
-abbrev pub HasNoInitialiser : ClassFile → Type 0
-HasNoInitialiser file = AllByRecursion (λ method. utf8_of file method.name ≢ Some (codes "<clinit>")) file.methods
+abbrev pub HasNoClassInitialiser : ClassFile → Type 0
+HasNoClassInitialiser file = AllByRecursion (λ method. utf8_of file method.name ≢ Some (codes "<clinit>")) file.methods
 
 -- the superclass is java/lang/Object, and the names of the class and of its methods are of the form
-pub record HasOwnNames (file : ClassFile) : Type 0 where
+pub record HasAllowedNames (file : ClassFile) : Type 0 where
   pub parent : class_name_of file file.parent ≡ Some object_name
   pub own : IfSome (class_name_of file file.this) (IsNoneOf platform_names)
-  pub initialiser : HasNoInitialiser file
+  pub initialiser : HasNoClassInitialiser file
   pub members : AllDiffer (map (member_of file) file.methods)
 
 -- the entry is a Utf8 or Class entry
@@ -62,7 +62,7 @@ IsTextOrClass _ = ⊥
 -- What of the form can be told of the file. That it has no attributes but Code is not seen in it: here the
 -- grammar says so.
 pub record IsSmallForm (file : ClassFile) : Type 0 where
-  pub names : HasOwnNames file
+  pub names : HasAllowedNames file
   pub entries : AllByRecursion IsTextOrClass (drop 1 file.pool)
   pub interfaces : file.interfaces ≡ []
   pub fields : file.fields ≡ []

@@ -1,6 +1,6 @@
 //! A class file that was read.
 
-use crate::rows::Row;
+use kb_rows::Row;
 
 /// An entry of the constant pool (JVMS 8 section 4.4). Numbers in it are numbers of other entries.
 #[derive(Debug, Drop)]
@@ -54,6 +54,9 @@ pub struct Field {
     pub name: u16,
     pub kind: u16,
 }
+
+/// The access flag of a static method or field, ACC_STATIC (JVMS 8 tables 4.5-A and 4.6-A).
+pub const STATIC: u16 = 0x0008;
 
 /// A method: its access flags, the entries of its name and descriptor, and its code, where it has some
 /// (JVMS 8 section 4.6).

@@ -1,11 +1,12 @@
 //! The items of a class file, in the order of the file: a method for each kind.
 
-ghost use Rattle.std.specs.Prelude.{◌≡◌, ◌+◌, ◌<◌, ◌^◌, List, [], codes, ℕ, length};
+ghost use Rattle.std.specs.Prelude.{◌≡◌, ◌+◌, ◌<◌, ◌^◌, List, [], codes, ℕ, length, IfErr};
 ghost use Rattle.std.specs.List.{list_all};
 ghost use Rattle.std.specs.Option.{option_copied};
-ghost use Rattle.kb_grammar.specs.Reading.{times, whole, run};
+ghost use Rattle.kb_grammar.specs.Reading.{times, whole, settled, run};
 ghost use Rattle.kb_classfile.specs.Pool.{utf8_in};
-ghost use Rattle.kb_classfile.specs.Reading.{Gives, unbuilt, utf8_entry, class_entry, info, entry, entries_of, pool, utf8_index, class_index, no_items, instructions, counted_bytes, no_attributes, code_content, code_name, code_attribute, attributes, method, methods, version, versions, can_be_major, can_be_code, class_body, class_file};
+ghost use Rattle.kb_classfile.specs.Reading.{Gives, unbuilt, utf8_entry, class_entry, info, entry, entries_of, pool, utf8_index, class_index, no_items, instructions, counted_bytes, no_attributes, code_content, code_name, code_attribute, attributes, method, methods, version, versions, can_be_major, can_be_code, class_body};
+ghost use Rattle.kb_classfile.specs.Answers.{IsUnbuiltOrNoMemory};
 ghost use Rattle.kb_classfile.specs.declared.file.PoolEntry.{PoolEntry};
 ghost use Rattle.kb_classfile.specs.declared.file.Method.{Method};
 
@@ -13,11 +14,8 @@ use crate::file::{ClassFile, Code, Method, PoolEntry};
 use crate::pool::{all_refer_well, class_name_in, is_text, utf8_in};
 use crate::reader::Reader;
 use crate::refusal::ClassRefusal;
-use crate::rows::Row;
+use kb_rows::Row;
 use std::alloc::Global;
-
-/// The number that each class file begins with (JVMS 8 section 4.1).
-pub const MAGIC: u32 = 0xCAFEBABE;
 
 /// The most bytes of code that a method has (JVMS 8 section 4.7.3).
 const MOST_CODE: usize = 65_535;
@@ -33,15 +31,12 @@ const UTF8_TAG: u8 = 1;
 /// The tag of a Class entry.
 const CLASS_TAG: u8 = 7;
 
-/// The file that all of the bytes spell.
-#[tactic(auto, unfolding(crate::specs::Reading::class_file))]
-pub fn class_of(alloc: Global, bytes: &[u8]) -> Result<ClassFile, ClassRefusal>
-    ensures { Gives (λ file. file) result (whole unbuilt class_file bytes.now 0) }
+/// The class file whose bytes, behind the magic number, are all that is left.
+pub fn class_of(alloc: Global, body: Reader<'_>) -> Result<ClassFile, ClassRefusal>
+    ensures read { Gives (λ file. file) result (settled unbuilt (class_body body.entry)) }
+    ensures refusals { IfErr result IsUnbuiltOrNoMemory }
 {
-    let mut reader = Reader::new(bytes, 0);
-    if reader.u4()? != MAGIC {
-        return Err(ClassRefusal::Magic);
-    }
+    let mut reader = body;
     let file = reader.class_body(alloc)?;
     if !reader.is_empty() {
         return Err(ClassRefusal::Unbuilt);

@@ -11,13 +11,12 @@ mod pool;
 mod read;
 mod reader;
 mod refusal;
-mod rows;
 mod small;
 
-pub use file::{ClassFile, Code, Field, Handler, Method, PoolEntry};
+pub use file::{ClassFile, Code, Field, Handler, Method, PoolEntry, STATIC};
+pub use kb_rows::Row;
 pub use read::read_class;
 pub use refusal::{ClassRefusal, NoMemory};
-pub use rows::Row;
 
 #[cfg(test)]
 mod tests;

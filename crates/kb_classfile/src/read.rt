@@ -1,17 +1,21 @@
 //! Reading a class file.
 
 ghost use Rattle.std.specs.Prelude.{◌≡◌, ◌<◌, ◌≤◌, ◌≢◌, ◌↔◌, ◌⊎◌, Ok, length, take, IfOk, IfErr, OnOk, IsErrOf};
-ghost use Rattle.kb_classfile.specs.Reading.{Gives};
+ghost use Rattle.kb_classfile.specs.Reading.{Gives, unbuilt, class_body, class_file};
+ghost use Rattle.kb_grammar.specs.Reading.{whole, settled};
 ghost use Rattle.kb_classfile.specs.Small.{SpellsSmall};
-ghost use Rattle.kb_classfile.specs.Answers.{IsMagicUnbuiltOrNoMemory, BeginsAsClass, DoesNotBegin, IsNotBuilt, IsUnbuiltOrNoMemory, unbuilt_for};
+ghost use Rattle.kb_classfile.specs.Answers.{IsMagicUnbuiltOrNoMemory, BeginsAsClass, DoesNotBegin, IsNotBuilt, IsUnbuiltOrNoMemory};
 ghost use Rattle.kb_classfile.specs.declared.file.ClassFile.{ClassFile};
 
 use crate::file::ClassFile;
-use crate::items::{MAGIC, class_of};
+use crate::items::class_of;
+use crate::reader::Reader;
 use crate::refusal::ClassRefusal;
-use crate::small::has_own_names;
-use byteorder::{BigEndian, ByteOrder};
+use crate::small::has_allowed_names;
 use std::alloc::Global;
+
+/// The number that each class file begins with (JVMS 8 section 4.1).
+const MAGIC: u32 = 0xCAFEBABE;
 
 /// The most bytes that are read.
 const MOST_BYTES: usize = 1_048_576;
@@ -36,12 +40,27 @@ pub fn read_class(alloc: Global, bytes: &[u8]) -> Result<ClassFile, ClassRefusal
     ensures unbuilt { IsErrOf result ClassRefusal.Unbuilt → IsNotBuilt bytes.now }
     ensures others { IfErr result IsMagicUnbuiltOrNoMemory }
 {
-    begins_as_class(bytes)?;
-    small_class(alloc, bytes)
+    let body = behind_magic(bytes)?;
+    small_class(alloc, bytes, body)
 }
 
-/// The class file of the small form that the bytes spell.
-fn small_class(alloc: Global, bytes: &[u8]) -> Result<ClassFile, ClassRefusal>
+/// A reader that stands behind the magic number.
+#[tactic(auto, unfolding(crate::specs::Reading::class_file))]
+fn behind_magic(bytes: &[u8]) -> Result<Reader<'_>, ClassRefusal>
+    ensures begins { OnOk result (BeginsAsClass bytes.now) }
+    ensures body { IfOk result (λ body. whole unbuilt class_file bytes.now 0 ≡ settled unbuilt (class_body body)) }
+    ensures err { IfErr result (λ refusal. DoesNotBegin refusal bytes.now) }
+{
+    let mut reader = Reader::new(bytes, 0);
+    if reader.u4()? != MAGIC {
+        return Err(ClassRefusal::Magic);
+    }
+    Ok(reader)
+}
+
+/// The class file of the small form that the bytes spell, of which the reader has those behind the magic number.
+fn small_class(alloc: Global, bytes: &[u8], body: Reader<'_>) -> Result<ClassFile, ClassRefusal>
+    requires { whole unbuilt class_file bytes.now 0 ≡ settled unbuilt (class_body body) }
     ensures found { IfOk result (λ file. SpellsSmall file bytes.now) }
     ensures only { (file : ClassFile) → SpellsSmall file bytes.now → Gives (λ read. read) result (Ok file) }
     ensures refusals { IfErr result IsUnbuiltOrNoMemory }
@@ -49,36 +68,9 @@ fn small_class(alloc: Global, bytes: &[u8]) -> Result<ClassFile, ClassRefusal>
     if MOST_BYTES < bytes.len() {
         return Err(ClassRefusal::Unbuilt);
     }
-    let file = match class_of(alloc, bytes) {
-        Ok(file) => file,
-        Err(refusal) => return Err(unbuilt_for(refusal)),
-    };
-    if !has_own_names(alloc, &file)? {
+    let file = class_of(alloc, body)?;
+    if !has_allowed_names(alloc, &file)? {
         return Err(ClassRefusal::Unbuilt);
     }
     Ok(file)
-}
-
-/// Each fault behind the magic number is Unbuilt, until each has its own refusal.
-fn unbuilt_for(refusal: ClassRefusal) -> ClassRefusal
-    ensures { result ≡ unbuilt_for refusal }
-{
-    match refusal {
-        ClassRefusal::NoMemory => ClassRefusal::NoMemory,
-        _ => ClassRefusal::Unbuilt,
-    }
-}
-
-/// Whether the bytes begin with the magic number.
-fn begins_as_class(bytes: &[u8]) -> Result<(), ClassRefusal>
-    ensures ok { OnOk result (BeginsAsClass bytes.now) }
-    ensures err { IfErr result (λ refusal. DoesNotBegin refusal bytes.now) }
-{
-    if bytes.len() < 4 {
-        return Err(ClassRefusal::Unbuilt);
-    }
-    if BigEndian::read_u32(bytes) != MAGIC {
-        return Err(ClassRefusal::Magic);
-    }
-    Ok(())
 }

@@ -4,7 +4,7 @@ ghost use Rattle.std.specs.Prelude.{◌≡◌, ◌↔◌, codes, IsTrue, IfOk};
 ghost use Rattle.std.specs.List.{list_any};
 ghost use Rattle.std.specs.Str.{bytes_eq};
 ghost use Rattle.kb_classfile.specs.Pool.{utf8_of, class_name_of, is_one_of, is_text};
-ghost use Rattle.kb_classfile.specs.Small.{object_name, platform_names, HasOwnNames};
+ghost use Rattle.kb_classfile.specs.Small.{object_name, platform_names, HasAllowedNames};
 
 use crate::file::ClassFile;
 use crate::members::members_differ;
@@ -37,16 +37,16 @@ const PLATFORM_NAMES: [&str; 20] = [
 
 /// Whether the superclass is java/lang/Object, the class is no platform class, no method is named
 /// `<clinit>`, and no two methods have one name and descriptor.
-pub fn has_own_names(alloc: Global, file: &ClassFile) -> Result<bool, AllocError>
-    ensures { IfOk result (λ own. IsTrue own ↔ HasOwnNames file.now) }
+pub fn has_allowed_names(alloc: Global, file: &ClassFile) -> Result<bool, AllocError>
+    ensures { IfOk result (λ own. IsTrue own ↔ HasAllowedNames file.now) }
 {
     if !extends_object(file) {
         return Ok(false);
     }
-    if is_platform_class(file) {
+    if has_platform_name(file) {
         return Ok(false);
     }
-    if has_initialiser(file) {
+    if has_class_initialiser(file) {
         return Ok(false);
     }
     members_differ(alloc, file)
@@ -73,7 +73,7 @@ fn is_platform_name(name: &[u8]) -> bool
     is_among(&PLATFORM_NAMES, name)
 }
 
-fn is_platform_class(file: &ClassFile) -> bool
+fn has_platform_name(file: &ClassFile) -> bool
     ensures { result ≡ is_one_of platform_names (class_name_of file.now file.now.this) }
 {
     match file.class_name(file.this) {
@@ -83,7 +83,7 @@ fn is_platform_class(file: &ClassFile) -> bool
 }
 
 /// Whether a method is named `<clinit>`.
-fn has_initialiser(file: &ClassFile) -> bool
+fn has_class_initialiser(file: &ClassFile) -> bool
     ensures { result ≡ list_any (λ method. is_text (codes "<clinit>") (utf8_of file.now method.name)) file.now.methods }
 {
     file.methods

@@ -76,10 +76,10 @@ begun : (code : List ℕ) (at n : ℕ) (i : Instr) (rest : List (ℕ × Instr)) 
 begun code at n i [] only inside listed = absurd (omega (arith, ap length listed))
 begun code at n i (item ∷ more) only inside listed =
     let same : SameInstruction i n item.1 (length listed.1.0) = only.only item.1 listed.1.0 listed.1.1 listed.1.2 listed.1.3 in
-    let kind : i ≡ item.1 = ap (λ (o : Option (Instr × ℕ)). (unwrap_or o (i, n)).0) same in
+    let instr : i ≡ item.1 = ap (λ (o : Option (Instr × ℕ)). (unwrap_or o (i, n)).0) same in
     let long : n ≡ length listed.1.0 = ap (λ (o : Option (Instr × ℕ)). (unwrap_or o (i, n)).1) same in
     let left : drop (at + length listed.1.0) code ≡ listed.1.1 = sym (drop-drop (length listed.1.0) at code) ∙ behind_text (drop at code) listed.1.0 listed.1.1 listed.1.3 in
-    (more, ap (λ (o : ℕ). (o, item.1) ∷ more) listed.0 ∙ ap (λ (j : Instr). (at, j) ∷ more) (sym kind), rw (long, left) listed.1.4)
+    (more, ap (λ (o : ℕ). (o, item.1) ∷ more) listed.0 ∙ ap (λ (j : Instr). (at, j) ∷ more) (sym instr), rw (long, left) listed.1.4)
 
 pub listed_more : (code : List ℕ) (at : ℕ) (listed : List (ℕ × Instr)) (i : Instr) (n : ℕ) →
     IsListedTo code at listed → SpellsInstr i (take n (drop at code)) → n ≤ length (drop at code) → at < length code →

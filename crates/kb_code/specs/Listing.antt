@@ -12,30 +12,30 @@ use Rattle.kb_code.specs.declared.instruction.Instr.TheVariants.{Nop, PushInt, L
 -- The bytes spell the instruction: one byte for most, with a byte of its own for the first ints and locals; bipush and
 -- sipush carry their int with its sign, iload and istore a local's number, iinc a local's number and a constant with its sign.
 abbrev pub SpellsInstr : Instr → List ℕ → Type 0
-SpellsInstr Nop bytes = bytes ≡ 0 ∷ []
+SpellsInstr Nop bytes = bytes ≡ 0x00 ∷ []  -- nop
 SpellsInstr (PushInt z) bytes =
-    ((n : ℕ) × (n < 7) × (z ≡ pos n -ℤ pos 1) × (bytes ≡ (2 + n) ∷ [])) ⊎
-    ((b : ℕ) × (z ≡ cast_signed w8 b) × (bytes ≡ 16 ∷ b ∷ [])) ⊎
-    ((high low : ℕ) × (z ≡ cast_signed w16 (256 * high + low)) × (bytes ≡ 17 ∷ high ∷ low ∷ []))
-SpellsInstr (LoadInt k) bytes = ((k < 4) × (bytes ≡ (26 + k) ∷ [])) ⊎ (bytes ≡ 21 ∷ k ∷ [])
-SpellsInstr (StoreInt k) bytes = ((k < 4) × (bytes ≡ (59 + k) ∷ [])) ⊎ (bytes ≡ 54 ∷ k ∷ [])
-SpellsInstr Pop bytes = bytes ≡ 87 ∷ []
-SpellsInstr Dup bytes = bytes ≡ 89 ∷ []
-SpellsInstr (Int2 Add) bytes = bytes ≡ 96 ∷ []
-SpellsInstr (Int2 Sub) bytes = bytes ≡ 100 ∷ []
-SpellsInstr (Int2 Mul) bytes = bytes ≡ 104 ∷ []
-SpellsInstr Neg bytes = bytes ≡ 116 ∷ []
-SpellsInstr (Int2 Shl) bytes = bytes ≡ 120 ∷ []
-SpellsInstr (Int2 Shr) bytes = bytes ≡ 122 ∷ []
-SpellsInstr (Int2 Ushr) bytes = bytes ≡ 124 ∷ []
-SpellsInstr (Int2 And) bytes = bytes ≡ 126 ∷ []
-SpellsInstr (Int2 Or) bytes = bytes ≡ 128 ∷ []
-SpellsInstr (Int2 Xor) bytes = bytes ≡ 130 ∷ []
-SpellsInstr (Inc k z) bytes = (b : ℕ) × (z ≡ cast_signed w8 b) × (bytes ≡ 132 ∷ k ∷ b ∷ [])
-SpellsInstr (Narrow Byte) bytes = bytes ≡ 145 ∷ []
-SpellsInstr (Narrow Char) bytes = bytes ≡ 146 ∷ []
-SpellsInstr (Narrow Short) bytes = bytes ≡ 147 ∷ []
-SpellsInstr ReturnInt bytes = bytes ≡ 172 ∷ []
+    ((n : ℕ) × (n < 7) × (z ≡ pos n -ℤ pos 1) × (bytes ≡ (0x02 + n) ∷ [])) ⊎  -- iconst_m1 to iconst_5
+    ((b : ℕ) × (z ≡ cast_signed w8 b) × (bytes ≡ 0x10 ∷ b ∷ [])) ⊎  -- bipush
+    ((high low : ℕ) × (z ≡ cast_signed w16 (256 * high + low)) × (bytes ≡ 0x11 ∷ high ∷ low ∷ []))  -- sipush
+SpellsInstr (LoadInt k) bytes = ((k < 4) × (bytes ≡ (0x1a + k) ∷ [])) ⊎ (bytes ≡ 0x15 ∷ k ∷ [])  -- iload_0 to iload_3, iload
+SpellsInstr (StoreInt k) bytes = ((k < 4) × (bytes ≡ (0x3b + k) ∷ [])) ⊎ (bytes ≡ 0x36 ∷ k ∷ [])  -- istore_0 to istore_3, istore
+SpellsInstr Pop bytes = bytes ≡ 0x57 ∷ []  -- pop
+SpellsInstr Dup bytes = bytes ≡ 0x59 ∷ []  -- dup
+SpellsInstr (Int2 Add) bytes = bytes ≡ 0x60 ∷ []  -- iadd
+SpellsInstr (Int2 Sub) bytes = bytes ≡ 0x64 ∷ []  -- isub
+SpellsInstr (Int2 Mul) bytes = bytes ≡ 0x68 ∷ []  -- imul
+SpellsInstr Neg bytes = bytes ≡ 0x74 ∷ []  -- ineg
+SpellsInstr (Int2 Shl) bytes = bytes ≡ 0x78 ∷ []  -- ishl
+SpellsInstr (Int2 Shr) bytes = bytes ≡ 0x7a ∷ []  -- ishr
+SpellsInstr (Int2 Ushr) bytes = bytes ≡ 0x7c ∷ []  -- iushr
+SpellsInstr (Int2 And) bytes = bytes ≡ 0x7e ∷ []  -- iand
+SpellsInstr (Int2 Or) bytes = bytes ≡ 0x80 ∷ []  -- ior
+SpellsInstr (Int2 Xor) bytes = bytes ≡ 0x82 ∷ []  -- ixor
+SpellsInstr (Inc k z) bytes = (b : ℕ) × (z ≡ cast_signed w8 b) × (bytes ≡ 0x84 ∷ k ∷ b ∷ [])  -- iinc
+SpellsInstr (Narrow Byte) bytes = bytes ≡ 0x91 ∷ []  -- i2b
+SpellsInstr (Narrow Char) bytes = bytes ≡ 0x92 ∷ []  -- i2c
+SpellsInstr (Narrow Short) bytes = bytes ≡ 0x93 ∷ []  -- i2s
+SpellsInstr ReturnInt bytes = bytes ≡ 0xac ∷ []  -- ireturn
 
 -- The code from the offset `at` on is these instructions, one behind the other, each with its offset.
 abbrev pub ListsFrom : ℕ → List (ℕ × Instr) → List ℕ → Type 0

@@ -7,7 +7,13 @@ ghost use Rattle.kb_code.specs.declared.listing.Listing.{Listing};
 ghost use Rattle.kb_code.specs.declared.instruction.Instr.{Instr};
 
 use crate::instruction::{Instr, IntCut, IntOp};
-use crate::listing::{Handler, Listing, Row};
+use crate::listing::{Handler, Listing};
+use crate::opcode::{
+    BIPUSH, DUP, I2B, I2C, I2S, IADD, IAND, ICONST_0, ICONST_5, ICONST_M1, IINC, ILOAD, ILOAD_0,
+    ILOAD_3, IMUL, INEG, IOR, IRETURN, ISHL, ISHR, ISTORE, ISTORE_0, ISTORE_3, ISUB, IUSHR, IXOR,
+    NOP, POP, SIPUSH,
+};
+use kb_rows::Row;
 use std::alloc::Global;
 
 /// Why code has no listing.
@@ -18,13 +24,13 @@ pub enum CodeRefusal {
     NoMemory,
 }
 
-/// The int that iconst_m1 to iconst_5 push, whose opcodes are 2 to 8.
+/// The int that iconst_m1 to iconst_5 push.
 fn small_int(op: u8) -> i32
-    requires low { 2 ≤ op }
-    requires high { op ≤ 8 }
-    ensures { result ≡ pos (op - 2) -ℤ pos 1 }
+    requires low { 0x02 ≤ op }
+    requires high { op ≤ 0x08 }
+    ensures { result ≡ pos (op - 0x02) -ℤ pos 1 }
 {
-    i32::from(op) - 3
+    i32::from(op) - i32::from(ICONST_0)
 }
 
 /// The signed number of 16 bits that two bytes spell.
@@ -40,31 +46,31 @@ fn first_instruction(bytes: &[u8]) -> Option<(Instr, usize)>
     ensures only { (i : Instr) → (text behind : List ℕ) → SpellsInstr i text → bytes.now ≡ text ++ behind → result ≡ Some (i, length text) }
 {
     match bytes {
-        [0, ..] => Some((Instr::Nop, 1)),
-        [op @ 2..=8, ..] => Some((Instr::PushInt(small_int(*op)), 1)),
-        [16, b, ..] => Some((Instr::PushInt(i32::from(b.cast_signed())), 2)),
-        [17, high, low, ..] => Some((Instr::PushInt(short_of(*high, *low)), 3)),
-        [21, k, ..] => Some((Instr::LoadInt(u16::from(*k)), 2)),
-        [op @ 26..=29, ..] => Some((Instr::LoadInt(u16::from(*op) - 26), 1)),
-        [54, k, ..] => Some((Instr::StoreInt(u16::from(*k)), 2)),
-        [op @ 59..=62, ..] => Some((Instr::StoreInt(u16::from(*op) - 59), 1)),
-        [87, ..] => Some((Instr::Pop, 1)),
-        [89, ..] => Some((Instr::Dup, 1)),
-        [96, ..] => Some((Instr::Int2(IntOp::Add), 1)),
-        [100, ..] => Some((Instr::Int2(IntOp::Sub), 1)),
-        [104, ..] => Some((Instr::Int2(IntOp::Mul), 1)),
-        [116, ..] => Some((Instr::Neg, 1)),
-        [120, ..] => Some((Instr::Int2(IntOp::Shl), 1)),
-        [122, ..] => Some((Instr::Int2(IntOp::Shr), 1)),
-        [124, ..] => Some((Instr::Int2(IntOp::Ushr), 1)),
-        [126, ..] => Some((Instr::Int2(IntOp::And), 1)),
-        [128, ..] => Some((Instr::Int2(IntOp::Or), 1)),
-        [130, ..] => Some((Instr::Int2(IntOp::Xor), 1)),
-        [132, k, b, ..] => Some((Instr::Inc(u16::from(*k), i32::from(b.cast_signed())), 3)),
-        [145, ..] => Some((Instr::Narrow(IntCut::Byte), 1)),
-        [146, ..] => Some((Instr::Narrow(IntCut::Char), 1)),
-        [147, ..] => Some((Instr::Narrow(IntCut::Short), 1)),
-        [172, ..] => Some((Instr::ReturnInt, 1)),
+        [NOP, ..] => Some((Instr::Nop, 1)),
+        [op @ ICONST_M1..=ICONST_5, ..] => Some((Instr::PushInt(small_int(*op)), 1)),
+        [BIPUSH, b, ..] => Some((Instr::PushInt(i32::from(b.cast_signed())), 2)),
+        [SIPUSH, high, low, ..] => Some((Instr::PushInt(short_of(*high, *low)), 3)),
+        [ILOAD, k, ..] => Some((Instr::LoadInt(u16::from(*k)), 2)),
+        [op @ ILOAD_0..=ILOAD_3, ..] => Some((Instr::LoadInt(u16::from(*op - ILOAD_0)), 1)),
+        [ISTORE, k, ..] => Some((Instr::StoreInt(u16::from(*k)), 2)),
+        [op @ ISTORE_0..=ISTORE_3, ..] => Some((Instr::StoreInt(u16::from(*op - ISTORE_0)), 1)),
+        [POP, ..] => Some((Instr::Pop, 1)),
+        [DUP, ..] => Some((Instr::Dup, 1)),
+        [IADD, ..] => Some((Instr::Int2(IntOp::Add), 1)),
+        [ISUB, ..] => Some((Instr::Int2(IntOp::Sub), 1)),
+        [IMUL, ..] => Some((Instr::Int2(IntOp::Mul), 1)),
+        [INEG, ..] => Some((Instr::Neg, 1)),
+        [ISHL, ..] => Some((Instr::Int2(IntOp::Shl), 1)),
+        [ISHR, ..] => Some((Instr::Int2(IntOp::Shr), 1)),
+        [IUSHR, ..] => Some((Instr::Int2(IntOp::Ushr), 1)),
+        [IAND, ..] => Some((Instr::Int2(IntOp::And), 1)),
+        [IOR, ..] => Some((Instr::Int2(IntOp::Or), 1)),
+        [IXOR, ..] => Some((Instr::Int2(IntOp::Xor), 1)),
+        [IINC, k, b, ..] => Some((Instr::Inc(u16::from(*k), i32::from(b.cast_signed())), 3)),
+        [I2B, ..] => Some((Instr::Narrow(IntCut::Byte), 1)),
+        [I2C, ..] => Some((Instr::Narrow(IntCut::Char), 1)),
+        [I2S, ..] => Some((Instr::Narrow(IntCut::Short), 1)),
+        [IRETURN, ..] => Some((Instr::ReturnInt, 1)),
         _ => None,
     }
 }

@@ -6,9 +6,11 @@
 mod decoding;
 mod instruction;
 mod listing;
+mod opcode;
 #[cfg(test)]
 mod tests;
 
 pub use decoding::{CodeRefusal, decode};
 pub use instruction::{Instr, IntCut, IntOp};
-pub use listing::{Handler, Listing, Row};
+pub use kb_rows::Row;
+pub use listing::{Handler, Listing};

@@ -1,39 +1,7 @@
 //! The listing of a method's code, and the rows of its handler table.
 
-ghost use Rattle.std.specs.Prelude.{◌≡◌};
-
 use crate::instruction::Instr;
-use std::marker::Model;
-
-/// A list over a `Vec`: made from it and lent as a slice, and neither takes memory.
-#[derive(Debug, Drop)]
-pub struct Row<T> {
-    inner: Vec<T>,
-}
-
-impl<T> Model for Row<T> {
-    ghost use Rattle.std.specs.Prelude.{List};
-
-    ghost Value = { List T };
-
-    ghost view = { λ row. row.inner.items };
-}
-
-impl<T> Row<T> {
-    /// The row of the items of that `Vec`.
-    pub fn from_vec(items: Vec<T>) -> Row<T>
-        ensures { result ≡ items.items }
-    {
-        Row { inner: items }
-    }
-
-    /// The items.
-    pub fn as_slice(&self) -> &[T]
-        ensures { result.now ≡ self.now }
-    {
-        self.inner.as_slice()
-    }
-}
+use kb_rows::Row;
 
 /// The instructions of a method's code with their offsets, in order.
 #[derive(Debug, Drop)]

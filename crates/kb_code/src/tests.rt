@@ -1,3 +1,5 @@
+//! Code is spelled as `javap -c` shows it.
+
 use crate::{CodeRefusal, Handler, Instr, IntOp, decode};
 use std::test::Fail;
 

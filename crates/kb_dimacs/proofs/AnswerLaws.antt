@@ -1,13 +1,14 @@
 -- What an answer says of the formula.
-use Rattle.std.proofs.Common.{◌≡◌, ℕ, List, Bool, inl, inr, subst}
+use Rattle.std.proofs.Common.{◌≡◌, ℕ, List, Bool, Option, Some, inl, inr, sym, subst}
 use Rattle.kb_chain.specs.Clause.{Satisfies}
 use Rattle.kb_chain.specs.Cnf.{Cnf}
+use Rattle.kb_sat.specs.Answer.{Answers as Solves}
 use Rattle.kb_sat.specs.declared.solver.Solved.{Solved}
 use Rattle.kb_sat.specs.declared.solver.Solved.TheVariants.{Sat, Unsat, Undecided}
 use Rattle.kb_dimacs.specs.Lines.{lines}
 use Rattle.kb_dimacs.specs.Dimacs.{IsDimacs}
-use Rattle.kb_dimacs.specs.Answers.{Solves, Tells, AnswersInput}
-use Rattle.kb_dimacs.specs.declared.order.Order.{Order}
+use Rattle.kb_dimacs.specs.Answers.{Tells, AnswersInput, Answers, Sends, Runs}
+use Rattle.kb_dimacs.specs.declared.request.Request.{Request}
 use Rattle.kb_dimacs.specs.declared.status.Status.{Status}
 use Rattle.kb_dimacs.specs.declared.status.Status.TheVariants.{Satisfiable, Unsatisfiable, Unknown, Refused}
 use Rattle.kb_dimacs.proofs.FrontLaws.{same_formula}
@@ -23,9 +24,15 @@ unsatisfiable_formula formula budget check (Sat bits) status text solves tells e
 unsatisfiable_formula formula budget check (Unsat log) status text solves tells e assignment satisfies = refuted formula.clauses log.entries assignment solves.0 satisfies
 unsatisfiable_formula formula budget check (Undecided log) status text solves tells e assignment satisfies = let s : status ≡ Unknown = tells.0 in cc
 
-pub unsatisfiable_input : (order : Order) (input : List ℕ) (status : Status) (text : List ℕ) → AnswersInput order input status text → IsUnsatisfiable input status
-unsatisfiable_input order input status text (inl refusal) e formula is assignment satisfies = let s : status ≡ Refused = refusal.3 in cc
-unsatisfiable_input order input status text (inr answer) e formula is assignment satisfies =
+pub unsatisfiable_input : (request : Request) (input : List ℕ) (status : Status) (text : List ℕ) → AnswersInput request input status text → IsUnsatisfiable input status
+unsatisfiable_input request input status text (inl refusal) e formula is assignment satisfies = let s : status ≡ Refused = refusal.3 in cc
+unsatisfiable_input request input status text (inr answer) e formula is assignment satisfies =
     let same = same_formula formula answer.0 (lines input) is answer.1 in
-    unsatisfiable_formula answer.0 order.budget order.check answer.2.0 status text answer.2.1 answer.2.2 e assignment
+    unsatisfiable_formula answer.0 request.budget request.check answer.2.0 status answer.2.2 answer.2.3 answer.2.4 e assignment
     (subst (λ (f : Cnf). Satisfies assignment f.clauses) same satisfies)
+
+-- there is an answer
+pub runs_answer : (words : List (List ℕ)) (input : Option (List ℕ)) (bytes text : List ℕ) (status : Status) (old new : Option (List ℕ)) (code : ℕ) → input ≡ Some bytes
+    → Answers words bytes status text → Sends status text old new code → Runs words input old new code
+runs_answer words input bytes text status old new code e answers sends =
+    subst (λ (i : Option (List ℕ)). Runs words i old new code) (sym e) (status, text, inl answers, sends)

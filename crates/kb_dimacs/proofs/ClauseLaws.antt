@@ -12,15 +12,16 @@ use Rattle.kb_chain.specs.Clause.{clause_of}
 use Rattle.kb_chain.specs.Cnf.{Cnf, IsWithin}
 use Rattle.kb_chain.proofs.ChainLaws.{IsWithin-has, IsWithin-from}
 use Rattle.kb_chain.proofs.OrderLaws.{has-clause_of}
-use Rattle.kb_dimacs.specs.Numbers.{SpellsNumber, SpellNumbers}
+use Rattle.kb_dimacs.specs.Numbers.{SpellsDimacsNumber, SpellNumbers}
 use Rattle.kb_dimacs.specs.Dimacs.{IsLiteral, AreLiterals, AreClauses, written, all_written, clause_from, SpellClauses}
-use Rattle.kb_dimacs.specs.Fronts.{Holds, StopsAt, IsWordCause, HasBadWord}
+use Rattle.kb_dimacs.specs.Fronts.{Holds, StopsAt, AreAllThere, IsWordCause, AreFine, HasBadWord}
 use Rattle.kb_dimacs.specs.declared.refusal.Cause.{Cause}
-use Rattle.kb_dimacs.specs.declared.refusal.Stop.{Stop}
-use Rattle.kb_dimacs.specs.declared.refusal.Stop.TheVariants.{Bad, NoMemory as no_memory}
+use Rattle.kb_dimacs.specs.declared.refusal.Cause.TheVariants.{Header, NoNumber, HighVariable, MoreClauses, EarlyEnd}
+use Rattle.kb_dimacs.specs.declared.refusal.ReadingStop.{ReadingStop}
+use Rattle.kb_dimacs.specs.declared.refusal.ReadingStop.TheVariants.{Bad, NoMemory as no_memory}
 use Rattle.kb_dimacs.specs.declared.body.Body.{Body}
 
-pub same_number : (m n : ℤ) (word : List ℕ) → SpellsNumber m word → SpellsNumber n word → m ≡ n
+pub same_number : (m n : ℤ) (word : List ℕ) → SpellsDimacsNumber m word → SpellsDimacsNumber n word → m ≡ n
 same_number m n word p q = sym p.1 ∙ q.1
 
 -- the numbers of words, behind those of the words in front
@@ -106,7 +107,7 @@ begun (clause ∷ clauses) front n back e = omega arith
 pub record NextNumber (body : Body) (word : List ℕ) : Type 0 where
   pub room : length body.formula.clauses < body.count
   pub number : ℤ
-  pub spelled : SpellsNumber number word
+  pub spelled : SpellsDimacsNumber number word
   pub is : IsNumber body.formula.vars number
 
 length-clauses : (xs : List (List ℤ)) → length (map clause_from xs) ≡ length xs
@@ -188,7 +189,7 @@ pub held_count : (body : Body) (read : List (List ℕ)) (held : Holds body read)
 held_count body read held = ap length held.formula_is ∙ length-clauses held.clauses
 
 -- behind one more literal
-pub next_literal : (old new : Body) (read : List (List ℕ)) (word : List ℕ) (number : ℤ) (literal : Literal) → Holds old read → SpellsNumber number word
+pub next_literal : (old new : Body) (read : List (List ℕ)) (word : List ℕ) (number : ℤ) (literal : Literal) → Holds old read → SpellsDimacsNumber number word
     → IsLiteral old.formula.vars number → literal ≡ literal_of number → new.formula ≡ old.formula → new.count ≡ old.count
     → new.literals.items ≡ old.literals.items ++ literal ∷ [] → (length old.formula.clauses ≡ old.count → ⊥) → Holds new (read ++ word ∷ [])
 next_literal old new read word number literal held spells is literal_is formula count literals room = record {
@@ -207,7 +208,7 @@ next_literal old new read word number literal held spells is literal_is formula 
 }
 
 -- behind the end of a clause
-pub next_clause : (old new : Body) (read : List (List ℕ)) (word : List ℕ) → Holds old read → SpellsNumber (pos 0) word
+pub next_clause : (old new : Body) (read : List (List ℕ)) (word : List ℕ) → Holds old read → SpellsDimacsNumber (pos 0) word
     → new.formula.vars ≡ old.formula.vars → new.formula.clauses ≡ old.formula.clauses ++ clause_of old.literals.items ∷ [] → new.count ≡ old.count
     → new.literals.items ≡ [] → (length old.formula.clauses ≡ old.count → ⊥) → Holds new (read ++ word ∷ [])
 next_clause old new read word held spells vars clauses count literals room = record {
@@ -259,22 +260,94 @@ same_cause vars vars' count count' read read' word cause e f g is =
     subst (λ (l : List (List ℕ)). IsWordCause vars count l word cause) g
     (subst (λ (n : ℕ). IsWordCause vars n read' word cause) f (subst (λ (n : ℕ). IsWordCause n count' read' word cause) e is))
 
+-- where a list goes on behind a place in it
+split : (xs ys before behind : List (List ℕ)) (word : List ℕ) → xs ++ ys ≡ before ++ word ∷ behind
+    → ((rest : List (List ℕ)) × (xs ≡ before ++ word ∷ rest)) ⊎ ((front : List (List ℕ)) × (before ≡ xs ++ front) × (ys ≡ front ++ word ∷ behind))
+split [] ys before behind word e = inr (before, refl, e)
+split (x ∷ xs) ys [] behind word e = let head : x ≡ word = cc in inl (xs, ap (λ (w : List ℕ). w ∷ xs) head)
+split (x ∷ xs) ys (b ∷ before) behind word e =
+    let tails : xs ++ ys ≡ before ++ word ∷ behind = cc in
+    let head : x ≡ b = cc in
+    elim (split xs ys before behind word tails) [
+      | inl s ↦ inl (s.0, ap (λ (w : List ℕ). w ∷ xs) head ∙ ap (λ (l : List (List ℕ)). b ∷ l) s.1)
+      | inr s ↦ inr (s.0, ap (λ (l : List (List ℕ)). b ∷ l) s.1 ∙ ap (λ (w : List ℕ). w ∷ (xs ++ s.0)) (sym head), s.2)
+    ]
+
+pub fine_none : (vars count : ℕ) (read : List (List ℕ)) → AreFine vars count read []
+fine_none vars count read [] word behind e cause is = cc
+fine_none vars count read (b ∷ before) word behind e cause is = cc
+
+pub fine_one : (vars count : ℕ) (read : List (List ℕ)) (word : List ℕ) → ((cause : Cause) → IsWordCause vars count read word cause → ⊥) → AreFine vars count read (word ∷ [])
+fine_one vars count read word none [] other behind e cause is =
+    let same : word ≡ other = cc in
+    none cause (subst (λ (w : List ℕ). IsWordCause vars count read w cause) (sym same) (subst (λ (l : List (List ℕ)). IsWordCause vars count l other cause) (append-nil read) is))
+fine_one vars count read word none (b ∷ []) other behind e cause is = cc
+fine_one vars count read word none (b ∷ c ∷ before) other behind e cause is = cc
+
+pub fine_append : (vars count : ℕ) (read xs ys : List (List ℕ)) → AreFine vars count read xs → AreFine vars count (read ++ xs) ys → AreFine vars count read (xs ++ ys)
+fine_append vars count read xs ys f g before word behind e cause is =
+    elim (split xs ys before behind word e) [
+      | inl s ↦ f before word s.0 s.1 cause is
+      | inr s ↦ g s.0 word behind s.2 cause
+          (subst (λ (l : List (List ℕ)). IsWordCause vars count l word cause) (ap (λ (l : List (List ℕ)). read ++ l) s.1 ∙ sym (append_assoc read xs s.0)) is)
+    ]
+
+-- nothing is wrong with a word that was read
+pub fine_word : (body : Body) (read : List (List ℕ)) (word : List ℕ) (number : ℤ) → Holds body read → (length body.formula.clauses ≡ body.count → ⊥)
+    → FitsSigned w32 number → SpellsDimacsNumber number word → (literal_of number).variable ≤ body.formula.vars → AreFine body.formula.vars body.count read (word ∷ [])
+fine_word body read word number held room fits spells low = fine_one body.formula.vars body.count read word none
+  where
+    none : (cause : Cause) → IsWordCause body.formula.vars body.count read word cause → ⊥
+    none MoreClauses is = room (no_more body read is.0 held is.1).1
+    none NoNumber is = is.1 number fits spells
+    none HighVariable is =
+        let same : number ≡ is.1 = same_number number is.1 word spells is.3 in
+        let high : body.formula.vars < (literal_of number).variable = subst (λ (n : ℤ). body.formula.vars < (literal_of n).variable) (sym same) is.4 in
+        omega (arith, high, low)
+    none Header is = is
+    none EarlyEnd is = is
+
+-- the clauses are not all there where there is room
+pub not_all : (body : Body) (read : List (List ℕ)) → Holds body read → (length body.formula.clauses ≡ body.count → ⊥) → AreAllThere body.formula.vars body.count read → ⊥
+not_all body read held room all = room (no_more body read all.0 held all.1).1
+
 -- words behind one that was not read
-pub stops_behind : (old now : Body) (done tail : List (List ℕ)) (word : List ℕ) (stop : Stop) → now.formula.vars ≡ old.formula.vars → now.count ≡ old.count
-    → ((read : List (List ℕ)) → Holds old read → Holds now (read ++ done)) → StopsAt now (word ∷ []) stop → StopsAt old (done ++ word ∷ tail) stop
-stops_behind old now done tail word (Bad cause) vars count holds stops = λ read held.
+pub stops_behind : (old now : Body) (done tail : List (List ℕ)) (word : List ℕ) (stop : ReadingStop) → now.formula.vars ≡ old.formula.vars → now.count ≡ old.count
+    → ((read : List (List ℕ)) → Holds old read → Holds now (read ++ done)) → ((read : List (List ℕ)) → Holds old read → AreFine old.formula.vars old.count read done)
+    → StopsAt now (word ∷ []) stop → StopsAt old (done ++ word ∷ tail) stop
+stops_behind old now done tail word (Bad cause) vars count holds fine stops = λ read held.
     let stop = stops (read ++ done) (holds read held) in (
       record {
         before = done ++ stop.0.before;
         word = stop.0.word;
         behind = stop.0.behind ++ tail;
         words_are = around done stop.0.before stop.0.behind tail word stop.0.word stop.0.words_are;
+        fine = fine_append old.formula.vars old.count read done stop.0.before (fine read held)
+            (subst (λ (n : ℕ). AreFine old.formula.vars n (read ++ done) stop.0.before) count
+            (subst (λ (n : ℕ). AreFine n now.count (read ++ done) stop.0.before) vars stop.0.fine));
         is = same_cause old.formula.vars now.formula.vars old.count now.count _ _ stop.0.word cause vars count (append_assoc read done stop.0.before) stop.0.is;
       },
       λ more clauses spells.
           stop.1 (tail ++ more) clauses (same_body old.formula.vars now.formula.vars old.count now.count clauses _ _ vars count (front_and_word read done tail more word) spells),
     )
-stops_behind old now done tail word no_memory vars count holds stops = tt
+stops_behind old now done tail word no_memory vars count holds fine stops = tt
+
+-- nothing is wrong with words that were read and one more
+pub fine_behind : (old now : Body) (done : List (List ℕ)) (word : List ℕ) → now.formula.vars ≡ old.formula.vars → now.count ≡ old.count
+    → ((read : List (List ℕ)) → Holds old read → Holds now (read ++ done)) → ((read : List (List ℕ)) → Holds old read → AreFine old.formula.vars old.count read done)
+    → ((read : List (List ℕ)) → Holds now read → AreFine now.formula.vars now.count read (word ∷ []))
+    → (read : List (List ℕ)) → Holds old read → AreFine old.formula.vars old.count read (done ++ word ∷ [])
+fine_behind old now done word vars count holds fine next read held =
+    fine_append old.formula.vars old.count read done (word ∷ []) (fine read held)
+    (subst (λ (n : ℕ). AreFine old.formula.vars n (read ++ done) (word ∷ [])) count
+    (subst (λ (n : ℕ). AreFine n now.count (read ++ done) (word ∷ [])) vars (next (read ++ done) (holds read held))))
+
+-- words that were read and one more are held
+pub held_behind : (old now next : Body) (done : List (List ℕ)) (word : List ℕ)
+    → ((read : List (List ℕ)) → Holds old read → Holds now (read ++ done)) → ((read : List (List ℕ)) → Holds now read → Holds next (read ++ word ∷ []))
+    → (read : List (List ℕ)) → Holds old read → Holds next (read ++ (done ++ word ∷ []))
+held_behind old now next done word holds one read held =
+    subst (Holds next) (append_assoc read done (word ∷ [])) (one (read ++ done) (holds read held))
 
 -- one word that is wrong
 pub bad_word : (vars count : ℕ) (read : List (List ℕ)) (word : List ℕ) (cause : Cause) → IsWordCause vars count read word cause → HasBadWord vars count read (word ∷ []) cause
@@ -283,6 +356,7 @@ bad_word vars count read word cause is = record {
   word = word;
   behind = [];
   words_are = refl;
+  fine = fine_none vars count read;
   is = subst (λ (l : List (List ℕ)). IsWordCause vars count l word cause) (sym (append-nil read)) is;
 }
 

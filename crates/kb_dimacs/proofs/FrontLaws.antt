@@ -5,7 +5,7 @@ use Rattle.std.specs.List.{flat_map}
 use Rattle.std.proofs.lemmas.List.Concat.{flat_map-append}
 use Rattle.kb_chain.specs.Cnf.{Cnf}
 use Rattle.kb_dimacs.specs.Lines.{line_words}
-use Rattle.kb_dimacs.specs.Numbers.{SpellsNumber, SpellNumbers}
+use Rattle.kb_dimacs.specs.Numbers.{SpellsDimacsNumber, SpellNumbers}
 use Rattle.kb_dimacs.specs.Dimacs.{AreClauses, written, all_written, clause_from, SpellsHeader, SpellClauses, AreDimacs}
 use Rattle.kb_dimacs.specs.Fronts.{Holds, StopsAt, HasBadLine, IsLineCause, StandsBehind, Stands, StopsAtLine, GoesOn}
 use Rattle.kb_dimacs.specs.declared.body.Body.{Body}
@@ -13,8 +13,8 @@ use Rattle.kb_dimacs.specs.declared.front.Front.{Front}
 use Rattle.kb_dimacs.specs.declared.front.Front.TheVariants.{Start, Behind}
 use Rattle.kb_dimacs.specs.declared.refusal.Cause.{Cause}
 use Rattle.kb_dimacs.specs.declared.refusal.Cause.TheVariants.{Header, NoNumber, HighVariable, MoreClauses, EarlyEnd}
-use Rattle.kb_dimacs.specs.declared.refusal.Stop.{Stop}
-use Rattle.kb_dimacs.specs.declared.refusal.Stop.TheVariants.{Bad, NoMemory as no_memory}
+use Rattle.kb_dimacs.specs.declared.refusal.ReadingStop.{ReadingStop}
+use Rattle.kb_dimacs.specs.declared.refusal.ReadingStop.TheVariants.{Bad, NoMemory as no_memory}
 use Rattle.kb_dimacs.proofs.ClauseLaws.{SpellNumbers-append, numbers_behind, clauses_behind, no_more, held_count, same_body, whole_clauses}
 use Rattle.kb_dimacs.proofs.WordLaws.{same_header, some_header}
 
@@ -23,7 +23,7 @@ none_in_front [] ys e = (refl, e)
 none_in_front (x ∷ xs) ys e = absurd cc
 
 -- the first line that has words, those before it and those behind it
-same_first : (xs ys us vs : List (List ℕ)) (x y : List ℕ) → flat_map line_words xs ≡ [] → flat_map line_words ys ≡ [] → (line_words x ≡ [] → ⊥) → (line_words y ≡ [] → ⊥)
+pub same_first : (xs ys us vs : List (List ℕ)) (x y : List ℕ) → flat_map line_words xs ≡ [] → flat_map line_words ys ≡ [] → (line_words x ≡ [] → ⊥) → (line_words y ≡ [] → ⊥)
     → xs ++ x ∷ us ≡ ys ++ y ∷ vs → (x ≡ y) × (us ≡ vs)
 same_first [] [] us vs x y p q some_x some_y e = (cc, cc)
 same_first [] (w ∷ ys) us vs x y p q some_x some_y e =
@@ -61,7 +61,7 @@ line_cause ls line HighVariable bad = bad
 line_cause ls line MoreClauses bad = bad
 line_cause ls line EarlyEnd bad = absurd bad.bad.is
 
-pub stops_at_line : (body : Body) (line : List ℕ) (stop : Stop) → StopsAt body (line_words line) stop → StopsAtLine (Behind body) line stop
+pub stops_at_line : (body : Body) (line : List ℕ) (stop : ReadingStop) → StopsAt body (line_words line) stop → StopsAtLine (Behind body) line stop
 stops_at_line body line (Bad cause) stops = λ ls stands.
     let stop = stops (flat_map line_words stands.behind) stands.holds in (
       line_cause ls line cause (record {
@@ -155,7 +155,7 @@ same_formula f g ls p q =
 
 -- ---- every front goes on
 
-zero_word : SpellsNumber (pos 0) (codes "0")
+zero_word : SpellsDimacsNumber (pos 0) (codes "0")
 zero_word = ((omega arith, (omega arith, tt)), refl)
 
 least_header : line_words (codes "p cnf 0 0") ≡ codes "p" ∷ codes "cnf" ∷ codes "0" ∷ codes "0" ∷ []

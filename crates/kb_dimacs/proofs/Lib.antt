@@ -4,6 +4,7 @@ pub mod NumberLaws
 pub mod WordLaws
 pub mod FrontLaws
 pub mod LineLaws
+pub mod RefusalLaws
 pub mod LogLaws
 pub mod TextLaws
 pub mod AnswerLaws

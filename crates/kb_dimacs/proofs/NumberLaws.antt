@@ -6,7 +6,7 @@ use Rattle.std.specs.Str.Parse.{AllDigits, IsNumeral, without_leading_sign}
 use Rattle.std.specs.Char.{digit_value}
 use Rattle.std.proofs.lemmas.Str.{IsUtf8-from_ascii}
 use Rattle.std.proofs.lemmas.Bool.Decides.{nat_tests}
-use Rattle.kb_dimacs.specs.Numbers.{SpellsNumber}
+use Rattle.kb_dimacs.specs.Numbers.{SpellsDimacsNumber}
 
 digit_below : (c : ℕ) → digit_value c < 10 → c < 128
 digit_below c h = grind (arith, nat_tests)
@@ -30,5 +30,5 @@ number_is_ascii (b ∷ bs) p = go (eqb b 45) (eqb b 43) refl refl p.1
     go false true m p q = IsAscii-cons b bs (grind (arith, nat_tests)) (digits_below bs q)
     go false false m p q = digits_below (b ∷ bs) q
 
-pub number_is_utf8 : (number : ℤ) (word : List ℕ) → SpellsNumber number word → IsUtf8 word
+pub number_is_utf8 : (number : ℤ) (word : List ℕ) → SpellsDimacsNumber number word → IsUtf8 word
 number_is_utf8 number word spells = IsUtf8-from_ascii word (number_is_ascii word spells.0)

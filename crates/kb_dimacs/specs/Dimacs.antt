@@ -5,7 +5,7 @@ use Rattle.kb_chain.specs.Literal.{Literal, literal_of}
 use Rattle.kb_chain.specs.Clause.{clause_of}
 use Rattle.kb_chain.specs.Cnf.{Cnf}
 use Rattle.kb_dimacs.specs.Lines.{lines, line_words}
-use Rattle.kb_dimacs.specs.Numbers.{SpellsNumber, SpellNumbers}
+use Rattle.kb_dimacs.specs.Numbers.{SpellsDimacsNumber, SpellNumbers}
 
 -- the number of a literal over the variables 1 to `vars`
 abbrev pub IsLiteral : ℕ → ℤ → Type 0
@@ -35,8 +35,8 @@ pub record SpellsHeader (vars count : ℕ) (words : List (List ℕ)) : Type 0 wh
   pub vars_word : List ℕ
   pub count_word : List ℕ
   pub words_are : words ≡ codes "p" ∷ codes "cnf" ∷ vars_word ∷ count_word ∷ []
-  pub vars_is : SpellsNumber (pos vars) vars_word
-  pub count_is : SpellsNumber (pos count) count_word
+  pub vars_is : SpellsDimacsNumber (pos vars) vars_word
+  pub count_is : SpellsDimacsNumber (pos count) count_word
   pub vars_fit : vars < 2 ^ 31
   pub count_fits : count < 2 ^ 31
 

@@ -6,13 +6,13 @@ use mir.Syntax.{w32}
 use Rattle.kb_chain.specs.Literal.{literal_of}
 use Rattle.kb_chain.specs.Cnf.{Cnf}
 use Rattle.kb_dimacs.specs.Lines.{line_words}
-use Rattle.kb_dimacs.specs.Numbers.{SpellsNumber, SpellNumbers}
+use Rattle.kb_dimacs.specs.Numbers.{SpellsDimacsNumber, SpellNumbers}
 use Rattle.kb_dimacs.specs.Dimacs.{AreLiterals, AreClauses, all_written, clause_from, SpellsHeader, SpellClauses, AreDimacs}
 use Rattle.kb_dimacs.specs.declared.body.Body.{Body}
 use Rattle.kb_dimacs.specs.declared.refusal.Cause.{Cause}
 use Rattle.kb_dimacs.specs.declared.refusal.Cause.TheVariants.{Header, NoNumber, HighVariable, MoreClauses, EarlyEnd}
-use Rattle.kb_dimacs.specs.declared.refusal.Stop.{Stop}
-use Rattle.kb_dimacs.specs.declared.refusal.Stop.TheVariants.{Bad, NoMemory as no_memory}
+use Rattle.kb_dimacs.specs.declared.refusal.ReadingStop.{ReadingStop}
+use Rattle.kb_dimacs.specs.declared.refusal.ReadingStop.TheVariants.{Bad, NoMemory as no_memory}
 use Rattle.kb_dimacs.specs.declared.front.Front.{Front}
 use Rattle.kb_dimacs.specs.declared.front.Front.TheVariants.{Start, Behind}
 
@@ -29,25 +29,38 @@ pub record Holds (body : Body) (words : List (List ℕ)) : Type 0 where
   pub few : length clauses ≤ body.count
   pub full : length clauses ≡ body.count → numbers ≡ []
 
--- what is wrong with a word behind the header and these words: it is no number; its variable is above the announced ones; or
 -- the announced clauses are all there
+abbrev pub AreAllThere : ℕ → ℕ → List (List ℕ) → Type 0
+AreAllThere vars count read = (clauses : List (List ℤ)) × SpellClauses vars count clauses read
+
+-- what is wrong with a word behind the header and these words: the announced clauses are all there; or they are not, and it is
+-- no number of 32 bits; or it is one, and its variable is above the announced ones
 abbrev pub IsWordCause : ℕ → ℕ → List (List ℕ) → List ℕ → Cause → Type 0
-IsWordCause vars count read word NoNumber = (number : ℤ) → FitsSigned w32 number → SpellsNumber number word → ⊥
-IsWordCause vars count read word HighVariable = (number : ℤ) × SpellsNumber number word × (vars < (literal_of number).variable)
-IsWordCause vars count read word MoreClauses = (clauses : List (List ℤ)) × SpellClauses vars count clauses read
+IsWordCause vars count read word MoreClauses = AreAllThere vars count read
+IsWordCause vars count read word NoNumber =
+    (AreAllThere vars count read → ⊥) × ((number : ℤ) → FitsSigned w32 number → SpellsDimacsNumber number word → ⊥)
+IsWordCause vars count read word HighVariable =
+    (AreAllThere vars count read → ⊥) × (number : ℤ) × FitsSigned w32 number × SpellsDimacsNumber number word × (vars < (literal_of number).variable)
 IsWordCause vars count read word Header = ⊥
 IsWordCause vars count read word EarlyEnd = ⊥
 
--- one of the words is wrong
+-- nothing is wrong with any of the words
+abbrev pub AreFine : ℕ → ℕ → List (List ℕ) → List (List ℕ) → Type 0
+AreFine vars count read words =
+    (before : List (List ℕ)) (word : List ℕ) (behind : List (List ℕ)) → words ≡ before ++ word ∷ behind
+    → (cause : Cause) → IsWordCause vars count (read ++ before) word cause → ⊥
+
+-- what is wrong with the first of the words with which something is wrong
 pub record HasBadWord (vars count : ℕ) (read words : List (List ℕ)) (cause : Cause) : Type 0 where
   pub before : List (List ℕ)
   pub word : List ℕ
   pub behind : List (List ℕ)
   pub words_are : words ≡ before ++ word ∷ behind
+  pub fine : AreFine vars count read before
   pub is : IsWordCause vars count (read ++ before) word cause
 
 -- no clauses of that body go on with these words, one of which is wrong
-abbrev pub StopsAt : Body → List (List ℕ) → Stop → Type 0
+abbrev pub StopsAt : Body → List (List ℕ) → ReadingStop → Type 0
 StopsAt body words (Bad cause) =
     (read : List (List ℕ)) → Holds body read → HasBadWord body.formula.vars body.count read words cause
     × ((more : List (List ℕ)) (clauses : List (List ℤ)) → SpellClauses body.formula.vars body.count clauses (read ++ (words ++ more)) → ⊥)
@@ -89,7 +102,7 @@ IsLineCause ls line MoreClauses = HasBadLine ls line MoreClauses
 IsLineCause ls line EarlyEnd = ⊥
 
 -- no DIMACS text goes on with this line, and what is wrong with it
-abbrev pub StopsAtLine : Front → List ℕ → Stop → Type 0
+abbrev pub StopsAtLine : Front → List ℕ → ReadingStop → Type 0
 StopsAtLine front line (Bad cause) =
     (ls : List (List ℕ)) → Stands front ls → IsLineCause ls line cause × ((more : List (List ℕ)) (formula : Cnf) → AreDimacs formula (ls ++ line ∷ more) → ⊥)
 StopsAtLine front line no_memory = Unit {0}

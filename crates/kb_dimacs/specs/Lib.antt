@@ -4,7 +4,7 @@ pub mod Numbers
 pub mod Dimacs
 pub mod Fronts
 pub mod Refusals
-pub mod Orders
+pub mod Requests
 pub mod Texts
 pub mod Answers
 pub mod StatusNumber

@@ -11,17 +11,17 @@ use Rattle.kb_dimacs.specs.declared.refusal.Refusal.TheVariants.{Line, NoMemory 
 
 -- The first line, from 1, such that no DIMACS text begins with the lines up to it; or the last line, where some does and
 -- the text itself is none.
-pub record IsFirstBadLine (ls : List (List ℕ)) (number : ℕ) : Type 0 where
+pub record IsStoppingLine (ls : List (List ℕ)) (number : ℕ) : Type 0 where
   pub some : 1 ≤ number
   pub inside : number ≤ length ls
   pub goes_on : GoesOn (take (number - 1) ls)
   pub no_further : number < length ls → GoesOn (take number ls) → ⊥
   pub no_text : (formula : Cnf) → AreDimacs formula ls → ⊥
 
--- what is wrong with that line
+-- no DIMACS text begins with the lines up to that one, and what is wrong with it
 abbrev pub IsWrongLine : List (List ℕ) → ℕ → Cause → Type 0
 IsWrongLine ls number cause =
-    (line : List ℕ) × (rest : List (List ℕ)) × (ls ≡ take (number - 1) ls ++ line ∷ rest) × IsLineCause (take (number - 1) ls) line cause
+    (GoesOn (take number ls) → ⊥) × (line : List ℕ) × (rest : List (List ℕ)) × (ls ≡ take (number - 1) ls ++ line ∷ rest) × IsLineCause (take (number - 1) ls) line cause
 
 -- why it is that line: something is wrong with it, or the text could go on
 abbrev pub IsCauseAt : List (List ℕ) → ℕ → Cause → Type 0
@@ -33,7 +33,7 @@ IsCauseAt ls number EarlyEnd = (number ≡ length ls) × GoesOn ls
 
 -- what the reader answers where it refuses a text
 abbrev pub Refuses : List ℕ → Refusal → Type 0
-Refuses text (Line number cause) = IsFirstBadLine (lines text) number × IsCauseAt (lines text) number cause
+Refuses text (Line number cause) = IsStoppingLine (lines text) number × IsCauseAt (lines text) number cause
 Refuses text no_memory = Unit {0}
 
 -- this formula was read, unless memory ran out

@@ -5,7 +5,7 @@ ghost use Rattle.kb_chain.specs.Cnf.{IsWithin};
 
 use crate::memory::NoMemory;
 use crate::numbers::{literal_within, read_number};
-use crate::refusal::{Cause, Stop};
+use crate::refusal::{Cause, ReadingStop};
 use kb_chain::{Clause, Formula, Lit};
 use std::alloc::Global;
 
@@ -20,7 +20,7 @@ pub struct Body {
 }
 
 impl Body {
-    ghost use Rattle.kb_dimacs.specs.Fronts.{Holds, StopsAt};
+    ghost use Rattle.kb_dimacs.specs.Fronts.{Holds, AreFine, StopsAt};
 
     /// Nothing behind a header.
     pub fn new(alloc: Global, vars: u32, count: u32) -> Body
@@ -56,7 +56,7 @@ impl Body {
     }
 
     /// Reads the words of a line.
-    pub fn read_words(&mut self, alloc: Global, words: &[&[u8]]) -> Result<(), Stop>
+    pub fn read_words(&mut self, alloc: Global, words: &[&[u8]]) -> Result<(), ReadingStop>
         ensures ok { OnOk result ((read : List (List ℕ)) → Holds self.old read → Holds self.new (read ++ map (λ w. w.now) words.now)) }
         ensures vars { self.new.formula.vars ≡ self.old.formula.vars }
         ensures count { self.new.count ≡ self.old.count }
@@ -69,23 +69,25 @@ impl Body {
     }
 
     /// Reads a word: a literal, or the end of a clause.
-    fn read_word(&mut self, alloc: Global, word: &[u8]) -> Result<(), Stop>
+    fn read_word(&mut self, alloc: Global, word: &[u8]) -> Result<(), ReadingStop>
         ensures ok { OnOk result ((read : List (List ℕ)) → Holds self.old read → Holds self.new (read ++ word.now ∷ [])) }
+        ensures fine { OnOk result ((read : List (List ℕ)) → Holds self.old read
+            → AreFine self.old.formula.vars self.old.count read (word.now ∷ [])) }
         ensures vars { self.new.formula.vars ≡ self.old.formula.vars }
         ensures count { self.new.count ≡ self.old.count }
         ensures bad { IfErr result (StopsAt self.old (word.now ∷ [])) }
     {
         if self.is_full() {
-            return Err(Stop::Bad(Cause::MoreClauses));
+            return Err(ReadingStop::Bad(Cause::MoreClauses));
         }
         let Some(number) = read_number(word) else {
-            return Err(Stop::Bad(Cause::NoNumber));
+            return Err(ReadingStop::Bad(Cause::NoNumber));
         };
         if number == 0 {
             return Ok(self.end_clause(alloc)?);
         }
         let Some(literal) = literal_within(self.formula.vars(), number) else {
-            return Err(Stop::Bad(Cause::HighVariable));
+            return Err(ReadingStop::Bad(Cause::HighVariable));
         };
         Ok(self.add_literal(literal)?)
     }

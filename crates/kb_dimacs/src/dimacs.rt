@@ -7,13 +7,13 @@ ghost use Rattle.kb_dimacs.specs.Answers.{Answers, AnswersInput, AnswersFormula}
 
 use crate::answer::{Answer, answer_solved};
 use crate::memory::NoMemory;
-use crate::order::{Order, read_order};
 use crate::read::read_dimacs;
 use crate::refusal::Refusal;
+use crate::request::{Request, read_request};
 use crate::status::Status;
-use crate::texts::{refusal_text, usage_text};
+use crate::texts::{counts_text, refusal_text, usage_text};
 use kb_chain::Formula;
-use kb_sat::solve;
+use kb_sat::solve_counted;
 use std::alloc::Global;
 
 /// Solves the formula that the input spells, as the words ask for it. The text is whole before any of it is written.
@@ -24,8 +24,8 @@ pub fn dimacs(alloc: Global, words: &[String], input: &[u8]) -> Result<Answer, N
     ensures unsatisfiable { IfOk result (λ a. a.status ≡ Status.Unsatisfiable →
         (formula : Cnf) → IsDimacs formula input.now → (assignment : ℕ → Bool) → Satisfies assignment formula.clauses → ⊥) }
 {
-    match read_order(words) {
-        Some(order) => answer_input(alloc, order, input),
+    match read_request(words) {
+        Some(request) => answer_input(alloc, request, input),
         None => Ok(Answer {
             status: Status::Refused,
             text: usage_text(alloc)?,
@@ -34,12 +34,12 @@ pub fn dimacs(alloc: Global, words: &[String], input: &[u8]) -> Result<Answer, N
 }
 
 /// What the program answers to its input.
-fn answer_input(alloc: Global, order: Order, input: &[u8]) -> Result<Answer, NoMemory>
-    requires { 0 < order.budget }
-    ensures { IfOk result (λ a. AnswersInput order input.now a.status (string_bytes a.text)) }
+fn answer_input(alloc: Global, request: Request, input: &[u8]) -> Result<Answer, NoMemory>
+    requires { 0 < request.budget }
+    ensures { IfOk result (λ a. AnswersInput request input.now a.status (string_bytes a.text)) }
 {
     match read_dimacs(alloc, input) {
-        Ok(formula) => answer_formula(alloc, order, &formula),
+        Ok(formula) => answer_formula(alloc, request, &formula),
         Err(Refusal::Line(line, cause)) => Ok(Answer {
             status: Status::Refused,
             text: refusal_text(alloc, line, cause)?,
@@ -49,11 +49,17 @@ fn answer_input(alloc: Global, order: Order, input: &[u8]) -> Result<Answer, NoM
 }
 
 /// What the program answers to a formula.
-fn answer_formula(alloc: Global, order: Order, formula: &Formula) -> Result<Answer, NoMemory>
-    requires budget { 0 < order.budget }
+fn answer_formula(alloc: Global, request: Request, formula: &Formula) -> Result<Answer, NoMemory>
+    requires budget { 0 < request.budget }
     requires small { formula.now.vars < 2 ^ 31 }
-    ensures { IfOk result (λ a. AnswersFormula order formula.now a.status (string_bytes a.text)) }
+    ensures { IfOk result (λ a. AnswersFormula request formula.now a.status (string_bytes a.text)) }
 {
-    let solved = solve(alloc, formula, order.budget)?;
-    answer_solved(alloc, formula, &solved, order.check)
+    let (solved, counts) = solve_counted(alloc, formula, request.budget)?;
+    let answer = answer_solved(alloc, formula, &solved, request.check)?;
+    let mut text = counts_text(alloc, counts)?;
+    text.push_str(answer.text.as_str())?;
+    Ok(Answer {
+        status: answer.status,
+        text,
+    })
 }

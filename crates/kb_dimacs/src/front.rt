@@ -8,7 +8,7 @@ ghost use Rattle.kb_dimacs.specs.Fronts.{Stands, StopsAtLine};
 use crate::body::Body;
 use crate::lines::line_words;
 use crate::numbers::read_header;
-use crate::refusal::{Cause, Stop};
+use crate::refusal::{Cause, ReadingStop};
 use kb_chain::Formula;
 use std::alloc::Global;
 
@@ -23,7 +23,7 @@ pub enum Front {
 
 impl Front {
     /// Where the reader stands after one more line.
-    pub fn next(self, alloc: Global, line: &[u8]) -> Result<Front, Stop>
+    pub fn next(self, alloc: Global, line: &[u8]) -> Result<Front, ReadingStop>
         ensures ok { IfOk result (λ next. (ls : List (List ℕ)) → Stands self ls → Stands next (ls ++ line.now ∷ [])) }
         ensures bad { IfErr result (StopsAtLine self line.now) }
     {
@@ -48,7 +48,7 @@ impl Front {
 }
 
 /// Where the reader stands after the words of a line before the header.
-fn begin(alloc: Global, words: &[&[u8]]) -> Result<Front, Stop>
+fn begin(alloc: Global, words: &[&[u8]]) -> Result<Front, ReadingStop>
     ensures ok { IfOk result (λ next. (ls : List (List ℕ)) (line : List ℕ) → line_words line ≡ map (λ w. w.now) words.now →
         Stands Front.Start ls → Stands next (ls ++ line ∷ [])) }
     ensures bad { (line : List ℕ) → line_words line ≡ map (λ w. w.now) words.now → IfErr result (StopsAtLine Front.Start line) }
@@ -58,12 +58,12 @@ fn begin(alloc: Global, words: &[&[u8]]) -> Result<Front, Stop>
     }
     match read_header(words) {
         Some((vars, count)) => Ok(Front::Behind(Body::new(alloc, vars, count))),
-        None => Err(Stop::Bad(Cause::Header)),
+        None => Err(ReadingStop::Bad(Cause::Header)),
     }
 }
 
 /// Where the reader stands after the words of a line behind the header.
-fn go_on(alloc: Global, body: Body, words: &[&[u8]]) -> Result<Front, Stop>
+fn go_on(alloc: Global, body: Body, words: &[&[u8]]) -> Result<Front, ReadingStop>
     ensures ok { IfOk result (λ next. (ls : List (List ℕ)) (line : List ℕ) → line_words line ≡ map (λ w. w.now) words.now →
         Stands (Front.Behind body) ls → Stands next (ls ++ line ∷ [])) }
     ensures bad { (line : List ℕ) → line_words line ≡ map (λ w. w.now) words.now → IfErr result (StopsAtLine (Front.Behind body) line) }

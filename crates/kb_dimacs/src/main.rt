@@ -8,59 +8,49 @@ mod front;
 mod lines;
 mod memory;
 mod numbers;
-mod order;
 mod read;
 mod refusal;
+mod request;
+mod run;
 mod status;
 #[cfg(test)]
 mod tests;
 mod texts;
 
-use answer::Answer;
-use dimacs::dimacs;
-use memory::NoMemory;
+use run::run;
 use status::Status;
 use std::env::{self, Env};
-use std::io::{self, Read, Write};
+use std::io::{self, ErrorKind, Read};
 use std::process::ExitCode;
 
-/// Calls `dimacs` on the words of the command line and the standard input, and writes what it answers, or one line where
-/// there is no answer.
+/// The exit code where a word of the command line is no UTF-8. It is no status.
+const NO_WORDS: u8 = 71;
+
+/// Calls `run` on the words of the command line and the standard input, over the standard output. Where there are no words
+/// it writes nothing.
 fn main(rt: HostRuntime) -> ExitCode {
+    let words = match command_words(&rt) {
+        Ok(words) => words,
+        Err(error) => return ExitCode::from(code_without_words(error.kind())),
+    };
+    let input = standard_input(&rt);
     let mut out = io::writer(&rt);
-    let (status, sent) = match answer_system(&rt) {
-        Ok(answer) => (answer.status, out.write_all(answer.text.as_bytes())),
-        Err(Fault::Read) => (
-            Status::ReadFault,
-            out.write_all(b"c the input could not be read\n"),
-        ),
-        Err(Fault::Memory) => (Status::Memory, out.write_all(b"c out of memory\n")),
-    };
-    let status = if sent.is_ok() {
-        status
-    } else {
-        Status::WriteFault
-    };
-    ExitCode::from(status.number())
+    ExitCode::from(run(rt.alloc(), words.as_slice(), input.as_deref(), &mut out))
 }
 
-/// Why there is no answer.
-enum Fault {
-    Read,
-    Memory,
-}
-
-fn answer_system<R: Env + Input + AllocGlobal>(rt: &R) -> Result<Answer, Fault> {
-    let Ok(words) = command_words(rt) else {
-        return Err(Fault::Memory);
-    };
-    let mut input = Vec::new(rt.alloc());
-    if rt.reader().read_to_end(&mut input).is_err() {
-        return Err(Fault::Read);
+fn code_without_words(kind: ErrorKind) -> u8 {
+    match kind {
+        ErrorKind::OutOfMemory => Status::Memory.number(),
+        _ => NO_WORDS,
     }
-    match dimacs(rt.alloc(), words.as_slice(), input.as_slice()) {
-        Ok(answer) => Ok(answer),
-        Err(NoMemory) => Err(Fault::Memory),
+}
+
+/// The standard input, if it can be read.
+fn standard_input<R: Input + AllocGlobal>(rt: &R) -> Option<Vec<u8>> {
+    let mut input = Vec::new(rt.alloc());
+    match rt.reader().read_to_end(&mut input) {
+        Ok(_) => Some(input),
+        Err(_) => None,
     }
 }
 

@@ -3,7 +3,7 @@ ghost use Rattle.std.specs.Prelude.{◌≡◌, ◌<◌, ◌^◌, ◌↔◌, ℕ,
 ghost use Rattle.std.specs.Int.RustNames.{FitsSigned};
 ghost use mir.Syntax.{w32};
 ghost use Rattle.kb_chain.specs.Literal.{literal_of};
-ghost use Rattle.kb_dimacs.specs.Numbers.{SpellsNumber};
+ghost use Rattle.kb_dimacs.specs.Numbers.{SpellsDimacsNumber};
 ghost use Rattle.kb_dimacs.specs.Dimacs.{IsLiteral, SpellsHeader};
 
 use kb_chain::Lit;
@@ -11,8 +11,8 @@ use kb_chain::Lit;
 /// The number that a word spells, if it has 32 bits.
 pub fn read_number(word: &[u8]) -> Option<i32>
     ensures { MatchOption result
-        ((number : ℤ) → FitsSigned w32 number → SpellsNumber number word.now → ⊥)
-        (λ number. FitsSigned w32 number × SpellsNumber number word.now) }
+        ((number : ℤ) → FitsSigned w32 number → SpellsDimacsNumber number word.now → ⊥)
+        (λ number. FitsSigned w32 number × SpellsDimacsNumber number word.now) }
 {
     let Ok(text) = str::from_utf8(word) else {
         return None;
@@ -37,8 +37,8 @@ pub fn literal_within(vars: u32, number: i32) -> Option<Lit>
 /// The number that a word spells, if it is below 2^31 and not negative.
 fn read_count(word: &[u8]) -> Option<u32>
     ensures { MatchOption result
-        ((number : ℕ) → number < 2 ^ 31 → SpellsNumber (pos number) word.now → ⊥)
-        (λ number. (number < 2 ^ 31) × SpellsNumber (pos number) word.now) }
+        ((number : ℕ) → number < 2 ^ 31 → SpellsDimacsNumber (pos number) word.now → ⊥)
+        (λ number. (number < 2 ^ 31) × SpellsDimacsNumber (pos number) word.now) }
 {
     let Some(number) = read_number(word) else {
         return None;

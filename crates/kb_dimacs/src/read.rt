@@ -6,7 +6,7 @@ ghost use Rattle.kb_dimacs.specs.Refusals.{Refuses, Reads};
 
 use crate::front::Front;
 use crate::lines::{Separator, cut};
-use crate::refusal::{Cause, Refusal, Stop};
+use crate::refusal::{Cause, ReadingStop, Refusal};
 use kb_chain::Formula;
 use std::alloc::Global;
 
@@ -26,8 +26,8 @@ pub fn read_dimacs(alloc: Global, text: &[u8]) -> Result<Formula, Refusal>
         number += 1;
         front = match front.next(alloc, line) {
             Ok(next) => next,
-            Err(Stop::Bad(cause)) => return Err(Refusal::Line(number, cause)),
-            Err(Stop::NoMemory) => return Err(Refusal::NoMemory),
+            Err(ReadingStop::Bad(cause)) => return Err(Refusal::Line(number, cause)),
+            Err(ReadingStop::NoMemory) => return Err(Refusal::NoMemory),
         };
         rest = others;
     }

@@ -1,6 +1,9 @@
 //! Why an input was not read.
-ghost use Rattle.std.specs.Prelude.{◌≡◌};
+ghost use Rattle.std.specs.Prelude.{◌≡◌, ℕ, List};
 ghost use Rattle.kb_dimacs.specs.Texts.{cause_text};
+ghost use Rattle.kb_dimacs.specs.Refusals.{Refuses};
+ghost use Rattle.kb_dimacs.specs.declared.refusal.Cause.{Cause};
+ghost use Rattle.kb_dimacs.specs.declared.refusal.Refusal.TheVariants.{Line};
 
 use crate::memory::NoMemory;
 
@@ -36,19 +39,19 @@ impl Cause {
 
 /// Why a line or a word was not read.
 #[derive(Clone, Copy, Debug, PartialEq, Eq)]
-pub enum Stop {
+pub enum ReadingStop {
     Bad(Cause),
     NoMemory,
 }
 
-impl From<NoMemory> for Stop {
-    ghost use Rattle.std.specs.Prelude.{◌≡◌};
-    ghost use Rattle.kb_dimacs.specs.declared.refusal.Stop.TheVariants.{NoMemory};
+impl From<NoMemory> for ReadingStop {
+    ghost use Rattle.std.specs.Prelude.{◌≡◌, ℕ, List};
+    ghost use Rattle.kb_dimacs.specs.declared.refusal.ReadingStop.TheVariants.{NoMemory};
 
     ghost from_gives = { λ _ e. e ≡ NoMemory };
 
-    fn from(_want: NoMemory) -> Stop {
-        Stop::NoMemory
+    fn from(_want: NoMemory) -> ReadingStop {
+        ReadingStop::NoMemory
     }
 }
 
@@ -59,3 +62,11 @@ pub enum Refusal {
     Line(usize, Cause),
     NoMemory,
 }
+
+/// A text is refused at one line alone, and by one cause.
+pub fn is_refused_once()
+    ensures line { (text : List ℕ) (line other : ℕ) (cause why : Cause) → Refuses text (Line line cause) → Refuses text (Line other why)
+        → line ≡ other }
+    ensures cause { (text : List ℕ) (line other : ℕ) (cause why : Cause) → Refuses text (Line line cause) → Refuses text (Line other why)
+        → cause ≡ why }
+{}

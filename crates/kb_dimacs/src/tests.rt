@@ -1,9 +1,12 @@
+//! Texts that are read and refused, words, answers, and the program over writers in memory.
+
 use crate::answer::answer_solved;
 use crate::dimacs::dimacs;
 use crate::memory::NoMemory;
-use crate::order::{Order, read_order};
 use crate::read::read_dimacs;
 use crate::refusal::{Cause, Refusal};
+use crate::request::{Request, read_request};
+use crate::run::run;
 use crate::status::Status;
 use kb_chain::{Chain, Formula, Log, Row, Verdict, check_fresh, check_refutation};
 use kb_sat::Solved;
@@ -104,10 +107,10 @@ fn words_are_a_budget_and_maybe_check(rt: HostRuntime) -> Result<(), Fail> {
     ];
     for (line, want) in cases {
         let words = words_of(rt.alloc(), line)?;
-        let order = want.map(|(budget, check)| Order { budget, check });
-        assert!(rt; read_order(words.as_slice()) == order, "{line:?}");
+        let request = want.map(|(budget, check)| Request { budget, check });
+        assert!(rt; read_request(words.as_slice()) == request, "{line:?}");
     }
-    assert!(rt; read_order(&[]) == None);
+    assert!(rt; read_request(&[]) == None);
     Ok(())
 }
 
@@ -187,18 +190,18 @@ fn refutations_are_counted_and_checked(rt: HostRuntime) -> Result<(), Fail> {
     assert_eq!(rt; answer.status.number(), 20);
     assert_eq!(rt;
         answer.text.as_str(),
-        "c entries 3\nc resolvents 3\nc log good\ns UNSATISFIABLE\n"
+        "c entries 3\nc one-step 3\nc log good\ns UNSATISFIABLE\n"
     );
     let answer = answer_solved(rt.alloc(), &square, &unsatisfiable, false)?;
     assert_eq!(rt;
         answer.text.as_str(),
-        "c entries 3\nc resolvents 3\ns UNSATISFIABLE\n"
+        "c entries 3\nc one-step 3\ns UNSATISFIABLE\n"
     );
     Ok(())
 }
 
 #[test]
-fn entries_of_no_or_more_steps_are_no_resolvents(rt: HostRuntime) -> Result<(), Fail> {
+fn entries_of_no_or_more_steps_are_not_counted(rt: HostRuntime) -> Result<(), Fail> {
     let square = read(&rt, rt.alloc(), SQUARE);
     let refutation = log(
         rt.alloc(),
@@ -208,7 +211,7 @@ fn entries_of_no_or_more_steps_are_no_resolvents(rt: HostRuntime) -> Result<(), 
     let answer = answer_solved(rt.alloc(), &square, &Solved::Unsat(refutation), true)?;
     assert_eq!(rt;
         answer.text.as_str(),
-        "c entries 3\nc resolvents 1\nc log good\ns UNSATISFIABLE\n"
+        "c entries 3\nc one-step 1\nc log good\ns UNSATISFIABLE\n"
     );
     Ok(())
 }
@@ -222,7 +225,7 @@ fn fresh_logs_are_counted_and_checked(rt: HostRuntime) -> Result<(), Fail> {
     assert_eq!(rt; answer.status.number(), 0);
     assert_eq!(rt;
         answer.text.as_str(),
-        "c entries 1\nc resolvents 1\nc log good\ns UNKNOWN\n"
+        "c entries 1\nc one-step 1\nc log good\ns UNKNOWN\n"
     );
     let implied = read(&rt, rt.alloc(), "p cnf 3 3\n1 2 3 0 1 -2 0 1 -3 0\n");
     let fresh = log(rt.alloc(), &[(0, &[(2, 1), (3, 2)])])?;
@@ -230,7 +233,82 @@ fn fresh_logs_are_counted_and_checked(rt: HostRuntime) -> Result<(), Fail> {
     let answer = answer_solved(rt.alloc(), &implied, &Solved::Undecided(fresh), false)?;
     assert_eq!(rt;
         answer.text.as_str(),
-        "c entries 1\nc resolvents 0\ns UNKNOWN\n"
+        "c entries 1\nc one-step 0\ns UNKNOWN\n"
     );
+    Ok(())
+}
+
+/// Runs the program over a writer in memory, and compares its exit code and the end of what it writes.
+fn runs(
+    rt: &impl Abort,
+    alloc: Global,
+    line: &str,
+    input: Option<&str>,
+    code: u8,
+    end: &str,
+) -> Result<(), AllocError> {
+    let words = words_of(alloc, line)?;
+    let mut out = Vec::new(alloc);
+    let ended = run(
+        alloc,
+        words.as_slice(),
+        input.map(|text| text.as_bytes()),
+        &mut out,
+    );
+    assert_eq!(rt; ended, code, "{line:?}");
+    assert!(rt; out.as_slice().ends_with(end.as_bytes()), "{line:?}");
+    Ok(())
+}
+
+#[test]
+fn exit_codes_are_those_of_the_statuses(rt: HostRuntime) -> Result<(), Fail> {
+    let open = "p cnf 2 2\n1 2 0 -1 0\n";
+    runs(
+        &rt,
+        rt.alloc(),
+        "9",
+        Some(open),
+        10,
+        "s SATISFIABLE\nv -1 2 0\n",
+    )?;
+    runs(
+        &rt,
+        rt.alloc(),
+        "9 check",
+        Some(SQUARE),
+        20,
+        "c log good\ns UNSATISFIABLE\n",
+    )?;
+    runs(
+        &rt,
+        rt.alloc(),
+        "9",
+        Some("p cnf 1 1\n"),
+        1,
+        "the text ends before the announced clauses do\n",
+    )?;
+    runs(
+        &rt,
+        rt.alloc(),
+        "9",
+        None,
+        6,
+        "c the input could not be read\n",
+    )?;
+    Ok(())
+}
+
+#[test]
+fn a_failed_write_has_its_own_exit_code(rt: HostRuntime) -> Result<(), Fail> {
+    let words = words_of(rt.alloc(), "9")?;
+    let mut room = [0; 40];
+    let mut out = room.as_mut_slice();
+    let code = run(
+        rt.alloc(),
+        words.as_slice(),
+        Some(SQUARE.as_bytes()),
+        &mut out,
+    );
+    assert_eq!(rt; code, 7);
     Ok(())
 }

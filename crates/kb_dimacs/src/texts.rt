@@ -1,11 +1,12 @@
 //! What the program writes.
 ghost use Rattle.std.specs.Prelude.{◌≡◌, ◌<◌, ◌≤◌, ◌^◌, ◌++◌, ℕ, length, string_bytes, Some, None, Option, IfOk, OnOk};
 ghost use Rattle.std.specs.Fmt.{signed_decimal};
-ghost use Rattle.kb_dimacs.specs.Texts.{placed, column_behind, all_placed, value_words, satisfiable_text, resolvents, check_text, log_text, unsatisfiable_text, unknown_text, usage_text, refusal_text};
+ghost use Rattle.kb_dimacs.specs.Texts.{placed, column_behind, all_placed, value_words, satisfiable_text, one_step_entries, check_text, log_text, unsatisfiable_text, unknown_text, counts_text, count_line, usage_text, refusal_text};
 
 use crate::memory::NoMemory;
 use crate::refusal::Cause;
 use kb_chain::{Chain, Lit, Verdict};
+use kb_sat::Counts;
 use std::alloc::{AllocError, Global};
 
 /// The most bytes of a line of values.
@@ -99,16 +100,23 @@ fn write_log(
 ) -> Result<(), AllocError>
     ensures { OnOk result (string_bytes text.new ≡ string_bytes text.old ++ log_text entries.now checked) }
 {
-    let count = entries.len();
-    let resolvents = count_resolvents(entries);
-    writeln!(text, "c entries {count}")?;
-    writeln!(text, "c resolvents {resolvents}")?;
+    write_count(text, "entries", entries.len() as u64)?;
+    write_count(text, "one-step", count_one_step(entries) as u64)?;
     write_check(text, checked)
 }
 
-/// How many entries resolve two clauses and go no further, as the elimination of a variable does.
-fn count_resolvents(entries: &[Chain]) -> usize
-    ensures { result ≡ resolvents entries.now }
+/// Writes a comment line with a count.
+#[tactic(auto, unfolding(crate::specs::Texts::count_line))]
+fn write_count(text: &mut String, label: &str, count: u64) -> Result<(), AllocError>
+    ensures { OnOk result (string_bytes text.new ≡ string_bytes text.old ++ count_line label.now count) }
+{
+    writeln!(text, "c {label} {count}")
+}
+
+/// How many entries resolve two clauses and go no further: the resolvents of an elimination are such entries, and some
+/// learned clauses.
+fn count_one_step(entries: &[Chain]) -> usize
+    ensures { result ≡ one_step_entries entries.now }
 {
     entries
         .iter()
@@ -124,6 +132,19 @@ fn write_check(text: &mut String, checked: Option<Verdict>) -> Result<(), AllocE
         Some(Verdict::Good) => text.push_str("c log good\n"),
         Some(Verdict::Bad(entry)) => writeln!(text, "c log bad at entry {entry}"),
     }
+}
+
+/// What the solver did.
+#[tactic(auto, unfolding(crate::specs::Texts::counts_text))]
+pub fn counts_text(alloc: Global, counts: Counts) -> Result<String, NoMemory>
+    ensures { IfOk result (λ text. string_bytes text ≡ counts_text counts) }
+{
+    let mut text = String::new(alloc);
+    write_count(&mut text, "decisions", counts.decisions)?;
+    write_count(&mut text, "propagations", counts.propagations)?;
+    write_count(&mut text, "conflicts", counts.conflicts)?;
+    write_count(&mut text, "restarts", counts.restarts)?;
+    Ok(text)
 }
 
 /// What is said of words that ask for nothing.

@@ -1,2 +1,5 @@
 pub mod Reading
 pub mod Grammar
+pub mod Lines
+pub mod Numbers
+pub mod LineFormats

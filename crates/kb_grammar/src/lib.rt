@@ -2,11 +2,24 @@
 //!
 //! `specs/Reading.antt` has the readers, `specs/Grammar.antt` the grammars and what it means that a
 //! reader is exact for one, and `proofs/Laws.antt` the laws by which a reader is built that is.
+//!
+//! Texts of lines have their own definitions in `specs/Lines.antt` and `specs/Numbers.antt`, and a reader
+//! that goes line by line, `read_lines`.
 #![tactic(auto)]
+
+mod lines;
+mod numbers;
+#[cfg(test)]
+mod tests;
+mod words;
 
 ghost use Rattle.std.specs.Prelude.{ℕ};
 ghost use Rattle.kb_grammar.specs.Reading.{number, run};
 ghost use Rattle.kb_grammar.specs.Grammar.{Exact, IsNumber, IsRunOf};
+
+pub use lines::{LineFormat, LineRefusal, read_lines};
+pub use numbers::{number_behind, number_within, read_int, read_number};
+pub use words::{behind, cut, is_line};
 
 /// A number of any width is read exactly where its bytes are whole, and a run of bytes likewise.
 pub fn numbers_and_runs()

@@ -1,5 +1,4 @@
-// The bounds of a run and of an exploration.
-ghost use Rattle.std.specs.Prelude.{◌≡◌, ◌↔◌, IsTrue};
+//! The bounds of a run and of an exploration.
 
 /// The bounds of a run. A run ends as past a bound at the instruction that would go beyond it.
 #[derive(Clone, Copy, Debug, PartialEq, Eq)]
@@ -14,15 +13,6 @@ pub struct RunBounds {
     pub steps: u32,
 }
 
-impl RunBounds {
-    /// Whether each bound is the same.
-    pub fn is_same(&self, other: &RunBounds) -> bool
-        ensures { IsTrue result ↔ (self.now ≡ other.now) }
-    {
-        self == other
-    }
-}
-
 /// The bounds of an exploration: those of its runs and those of its inputs.
 #[derive(Clone, Copy, Debug, PartialEq, Eq)]
 pub struct Bounds {
@@ -31,15 +21,6 @@ pub struct Bounds {
     /// The greatest length of an input array.
     pub array: u32,
     pub run: RunBounds,
-}
-
-impl Bounds {
-    /// Whether each bound is the same.
-    pub fn is_same(&self, other: &Bounds) -> bool
-        ensures { IsTrue result ↔ (self.now ≡ other.now) }
-    {
-        self == other
-    }
 }
 
 /// One of the bounds.

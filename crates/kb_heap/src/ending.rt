@@ -1,4 +1,4 @@
-// How a run ends.
+//! How a run ends.
 ghost use Rattle.std.specs.Prelude.{◌≡◌, ◌↔◌, IfOk, IsTrue};
 
 use crate::{Bound, NoMemory, Value};
@@ -51,16 +51,6 @@ pub enum Ending {
     Past(Bound),
 }
 
-fn is_same_value(one: &Option<Value>, other: &Option<Value>) -> bool
-    ensures { IsTrue result ↔ (one.now ≡ other.now) }
-{
-    match (one, other) {
-        (Some(value), Some(other)) => value.is_same(other),
-        (None, None) => true,
-        _ => false,
-    }
-}
-
 impl Ending {
     /// Another ending that equals this one.
     pub fn copied(&self, alloc: Global) -> Result<Ending, NoMemory>
@@ -79,7 +69,7 @@ impl Ending {
         ensures { IsTrue result ↔ (self.now ≡ other.now) }
     {
         match (self, other) {
-            (Ending::Returned(value), Ending::Returned(other)) => is_same_value(value, other),
+            (Ending::Returned(value), Ending::Returned(other)) => value == other,
             (Ending::Threw(object), Ending::Threw(other)) => object == other,
             (Ending::IllTyped(place), Ending::IllTyped(other)) => place.is_same(other),
             (Ending::Past(bound), Ending::Past(other)) => bound == other,

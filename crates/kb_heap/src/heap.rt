@@ -1,4 +1,4 @@
-// Heaps and what they hold.
+//! Heaps and what they hold.
 ghost use Rattle.std.specs.Prelude.{◌≡◌, ◌↔◌, [], ◌∷◌, ◌++◌, Some, length, IfOk, IfErr, IsTrue};
 ghost use Rattle.kb_heap.specs.Heap.{IsPlace, value_at, with_value, with_object};
 
@@ -16,23 +16,9 @@ pub enum Value {
     Ref(u32),
 }
 
-impl Value {
-    /// Whether they are one value.
-    pub fn is_same(&self, other: &Value) -> bool
-        ensures { IsTrue result ↔ (self.now ≡ other.now) }
-    {
-        match (self, other) {
-            (Value::Int(number), Value::Int(other)) => number == other,
-            (Value::Null, Value::Null) => true,
-            (Value::Ref(object), Value::Ref(other)) => object == other,
-            _ => false,
-        }
-    }
-}
-
 impl Same for Value {
     fn is_same_as(&self, other: &Value) -> bool {
-        self.is_same(other)
+        self == other
     }
 }
 
@@ -137,7 +123,7 @@ impl Heap {
         requires { IsPlace self.old object slot }
         ensures { self.new ≡ with_value self.old object slot value }
     {
-        let object = &mut self.objects.items[object as usize];
+        let object = self.objects.item_mut(object as usize);
         object.values.set(slot as usize, value);
     }
 

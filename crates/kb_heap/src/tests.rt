@@ -1,3 +1,5 @@
+//! Heaps, endings and bounds are copied, changed and told apart.
+
 use crate::{Bound, Bounds, Ending, Heap, Input, Object, Place, Row, RunBounds, Value};
 use kb_names::{ExactType, JType, Name, read_target};
 use std::alloc::Global;
@@ -91,12 +93,13 @@ fn endings_and_bounds_are_told_apart(rt: HostRuntime) -> Result<(), Fail> {
         run,
     };
     assert!(rt;
-        bounds.is_same(&Bounds {
-            k: 3,
-            array: 3,
-            run
-        })
+        bounds
+            == Bounds {
+                k: 3,
+                array: 3,
+                run
+            }
     );
-    assert!(rt; !bounds.run.is_same(&RunBounds { steps: 2001, ..run }));
+    assert!(rt; bounds.run != RunBounds { steps: 2001, ..run });
     Ok(())
 }

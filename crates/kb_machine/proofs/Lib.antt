@@ -1,3 +1,4 @@
+pub mod Locals
 pub mod Steps
 pub mod RunLaws
 pub mod Methods

@@ -9,7 +9,7 @@ use Rattle.kb_code.proofs.Listings.{listed_laid_out}
 use Rattle.kb_heap.specs.declared.heap.Input.{Input}
 use Rattle.kb_names.specs.declared.types.Target.{Target}
 use Rattle.kb_semantics.specs.Machine.{Method}
-use Rattle.kb_semantics.specs.Types.{IsMethod, IsTypeCorrect, AgreeEach, AgreeWith}
+use Rattle.kb_semantics.specs.Types.{IsMethod, IsTypeCorrect, AreValuesOf, AreArgumentsFor}
 use Rattle.kb_world.specs.declared.world.GivenClass.{GivenClass}
 use Rattle.kb_world.specs.declared.world.MethodId.{MethodId}
 use Rattle.kb_world.specs.declared.world.MethodInfo.{MethodInfo}
@@ -65,9 +65,9 @@ fits_nothing world id input none correct = none correct.target correct.declared
 static_is : (method : ClassMethod) (access : ℕ) → access ≡ method.access → (bit_and access 8 ≡ 0 → ⊥) → is_static method ≡ true
 static_is method access same flag = ap (λ (n : ℕ). not (bit_and n 8 == 0)) (sym same) ∙ ap not (ne_eqb (bit_and access 8) 0 flag)
 
--- an input of a static method is type-correct where its arguments agree
+-- an input of a static method is type-correct where its arguments are values of its parameters' types
 pub fits_where : (world : List GivenClass) (id : MethodId) (input : Input) (info : MethodInfo) (agree : Bool) → Describes world id info →
-    (bit_and info.access 8 ≡ 0 → ⊥) → input.heap.objects ≡ [] → IsTrue agree ↔ AgreeEach info.target.now.kind.params input.args →
+    (bit_and info.access 8 ≡ 0 → ⊥) → input.heap.objects ≡ [] → IsTrue agree ↔ AreValuesOf info.target.now.kind.params input.args →
     IsTrue agree ↔ IsTypeCorrect world id input
 fits_where world id input info agree d flag objects each =
     let static : is_static d.declared.names.method ≡ true = static_is d.declared.names.method info.access d.access flag in
@@ -76,14 +76,14 @@ fits_where world id input info agree d flag objects each =
         target = info.target.now;
         declared = d.declared;
         objects = objects;
-        arguments = subst (λ (b : Bool). AgreeWith b params input.args) (sym static) (each.0 h);
+        arguments = subst (λ (b : Bool). AreArgumentsFor b params input.args) (sym static) (each.0 h);
       },
       λ correct.
           let target = same_target world id correct.target info.target.now correct.declared d.declared in
           let method = same_method world id correct.target info.target.now correct.declared d.declared in
-          let named = subst (λ (t : Target). AgreeWith (is_static correct.declared.names.method) t.kind.params input.args) target correct.arguments in
-          let flagged = subst (λ (m : ClassMethod). AgreeWith (is_static m) params input.args) method named in
-          each.1 (subst (λ (b : Bool). AgreeWith b params input.args) static flagged),
+          let named = subst (λ (t : Target). AreArgumentsFor (is_static correct.declared.names.method) t.kind.params input.args) target correct.arguments in
+          let flagged = subst (λ (m : ClassMethod). AreArgumentsFor (is_static m) params input.args) method named in
+          each.1 (subst (λ (b : Bool). AreArgumentsFor b params input.args) static flagged),
     )
 
 pub no_objects : {A : Type 0} (empty : Bool) (told objects : List A) → empty ≡ (length told == 0) → empty ≡ true → told ≡ objects → objects ≡ []

@@ -15,7 +15,7 @@ use Rattle.kb_machine.specs.declared.frame.Step.TheVariants as steps_of
 use Rattle.kb_machine.specs.declared.machine.MethodCode.{MethodCode}
 use Rattle.kb_machine.specs.declared.machine.Stop.{Stop}
 use Rattle.kb_machine.specs.declared.machine.Stop.TheVariants as stops
-use Rattle.kb_machine.specs.Frames.{config_of, ended_of, outcome_of, Follows, HasCode, HasLimits, IsSound}
+use Rattle.kb_machine.specs.Frames.{config_of, ended_of, outcome_of, Follows, HasCode, HasLimits, IsSound, locals_of}
 
 -- The frame has carried out so many instructions, and stands at the instruction of an index: the run goes on from there.
 pub record IsRun (code : MethodCode) (args : List Value) (steps carried i : ℕ) (f : Frame) : Type 0 where
@@ -28,7 +28,7 @@ pub record IsRun (code : MethodCode) (args : List Value) (steps carried i : ℕ)
 
 -- the beginning
 pub run_begins : (code : MethodCode) (args : List Value) (steps : ℕ) (f : Frame) → IsLaidOut code.listing.now code.size → IsSound f → f.limits ≡ code.limits →
-    f.locals.items ≡ first_locals args code.limits.locals → f.stack ≡ [] → IsRun code args steps 0 0 f
+    locals_of f ≡ first_locals args code.limits.locals → f.stack ≡ [] → IsRun code args steps 0 0 f
 run_begins code args steps f laid_out sound limits locals stack = record {
   sound = sound;
   limits = limits;

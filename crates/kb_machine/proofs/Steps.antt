@@ -1,7 +1,7 @@
 -- How the steps of a frame follow the machine's.
-use Rattle.std.proofs.Common.{◌≡◌, ℕ, ◌≤◌, List, length, drop, length-drop, ℤ, Some, None, Result, Ok, Err, IfOk, sym, refl, ◌∙◌, ap, arith, nat_le, true, ◌∷◌, w32, to_z, of_z, FitsSigned}
+use Rattle.std.proofs.Common.{◌≡◌, ℕ, ◌+◌, ◌-◌, ◌<◌, ◌≤◌, List, [], ◌++◌, replicate, slice_set, Option, nat_lt, length, drop, length-drop, ℤ, Some, None, Result, Ok, Err, IfOk, sym, refl, ◌∙◌, ap, arith, nat_le, true, ◌∷◌, w32, to_z, of_z, FitsSigned}
 use Rattle.std.proofs.lemmas.Int.{to_z-of_z}
-use Rattle.std.proofs.lemmas.Bool.{le-leb}
+use Rattle.std.proofs.lemmas.Bool.{le-leb, lt-ltb}
 use Rattle.kb_arith.specs.Word.{word_add, word_neg}
 use Rattle.kb_code.specs.declared.instruction.IntOp.{IntOp}
 use Rattle.kb_code.specs.declared.instruction.IntCut.{IntCut}
@@ -14,7 +14,8 @@ use Rattle.kb_machine.specs.declared.NoMemory.{NoMemory}
 use Rattle.kb_machine.specs.declared.frame.Frame.{Frame}
 use Rattle.kb_machine.specs.declared.frame.Step.{Step}
 use Rattle.kb_machine.specs.declared.frame.Step.TheVariants as steps
-use Rattle.kb_machine.specs.Frames.{Effect, Follows, HasLimits, IsSound, config_of, local_value, popped, pushing, setting}
+use Rattle.kb_machine.specs.Frames.{Effect, Follows, HasLimits, IsSound, config_of, local_value, locals_of, with_unwritten, popped, pushing, setting}
+use Rattle.kb_machine.proofs.Locals.{same_read, same_write}
 
 -- Two effects that are the same at the configurations of the old frame and of one between.
 pub record IsSame (old between : Frame) (f g : Effect) : Type 0 where
@@ -43,19 +44,31 @@ follows_ok (Err e) old between new f g is h = tt
 
 pub same_load : (old : Frame) (k : ℕ) (z pushed : ℤ) → Some z ≡ int_of (local_value old k) → pushed ≡ z → IsSame old old (pushing (Int pushed)) (effect (LoadInt k))
 unfolding effect
-same_load old k z pushed local e = record { limits = refl; same = λ method at next carried heap has. rw (has.locals, ← local, e) refl }
+same_load old k z pushed local e = record { limits = refl; same = λ method at next carried heap has. rw (has.locals, same_read old.locals.items (old.limits.locals - length old.locals.items) k, ← local, e) refl }
 
 pub ill_load : (old new : Frame) (k : ℕ) → None ≡ int_of (local_value old k) → Follows steps.IllTyped old new (effect (LoadInt k))
 unfolding effect
-ill_load old new k local = λ method at next carried heap has. rw (has.locals, ← local) refl
+ill_load old new k local = λ method at next carried heap has. rw (has.locals, same_read old.locals.items (old.limits.locals - length old.locals.items) k, ← local) refl
 
 pub same_increase : (old : Frame) (k : ℕ) (a z sum : ℤ) → Some a ≡ int_of (local_value old k) → sum ≡ word_add a z → IsSame old old (setting k (Int sum)) (effect (Inc k z))
 unfolding effect
-same_increase old k a z sum local e = record { limits = refl; same = λ method at next carried heap has. rw (has.locals, ← local, e) refl }
+same_increase old k a z sum local e = record { limits = refl; same = λ method at next carried heap has. rw (has.locals, same_read old.locals.items (old.limits.locals - length old.locals.items) k, ← local, e) refl }
 
 pub ill_increase : (old new : Frame) (k : ℕ) (z : ℤ) → None ≡ int_of (local_value old k) → Follows steps.IllTyped old new (effect (Inc k z))
 unfolding effect
-ill_increase old new k z local = λ method at next carried heap has. rw (has.locals, ← local) refl
+ill_increase old new k z local = λ method at next carried heap has. rw (has.locals, same_read old.locals.items (old.limits.locals - length old.locals.items) k, ← local) refl
+
+-- the local is written, and the locals were grown up to it
+pub follows_set : (old new : Frame) (k : ℕ) (v : Value) (grown : List (Option Value)) → IsSound old → k < old.limits.locals →
+    grown ≡ old.locals.items ++ replicate (k + 1 - length old.locals.items) None →
+    new.locals.items ≡ slice_set grown k (Some v) → new.stack ≡ old.stack → new.limits ≡ old.limits → Follows steps.Goes old new (setting k v)
+follows_set old new k v grown sound below grows items stack limits = λ method at next carried heap has.
+    let inside : nat_lt k method.max_locals ≡ true = lt-ltb k method.max_locals (rw has.locals below) in
+    let fits : nat_le (length old.stack) method.max_stack ≡ true = le-leb (length old.stack) method.max_stack (rw has.stack sound.stack_limit) in
+    let same : slice_set (locals_of old) k (Some v) ≡ locals_of new =
+    same_write old.limits.locals k old.locals.items grown (Some v) below grows ∙ ap (with_unwritten old.limits.locals) (sym items)
+    ∙ ap (λ l. with_unwritten l.locals new.locals.items) (sym limits) in
+    rw (inside, fits, same, stack) refl
 
 -- ---- a value on the top
 
@@ -135,7 +148,7 @@ same_apply_two old middle between op a b v first second top below e = rw (second
       let next_int : Some a ≡ int_of (top_of (drop 1 old.stack)) = below ∙ ap (λ (f : Frame). int_of (top_of f.stack)) first in
       pops c old.stack b (λ b below. pops_int c below (λ a rest. goes_on c next c.frame.locals (Int (int2_value op a b) ∷ rest))) top
       ∙ pops c (drop 1 old.stack) a (λ a rest. goes_on c next c.frame.locals (Int (int2_value op a b) ∷ rest)) next_int
-      ∙ ap (λ (z : ℤ). goes_on c next old.locals.items (Int z ∷ drop 1 (drop 1 old.stack))) (sym e);
+      ∙ ap (λ (z : ℤ). goes_on c next (locals_of old) (Int z ∷ drop 1 (drop 1 old.stack))) (sym e);
 })
 
 pub ill_top : (old new : Frame) (op : IntOp) → None ≡ int_of (top_of old.stack) → Follows steps.IllTyped old new (effect (Int2 op))

@@ -1,5 +1,5 @@
 -- What a frame stands for: the configuration of its method, with no callers.
-use Rattle.std.specs.Prelude.{◌≡◌, ℕ, ◌+◌, ◌≤◌, [], ◌∷◌, length, drop, Option, Some, None, cond, nat_lt, slice_get, option_and_then}
+use Rattle.std.specs.Prelude.{◌≡◌, ℕ, ◌+◌, ◌-◌, ◌≤◌, List, [], ◌∷◌, ◌++◌, replicate, length, drop, Option, Some, None, cond, nat_lt, slice_get, option_and_then}
 use Rattle.std.specs.Option.{option_map_or}
 use Rattle.kb_heap.specs.declared.heap.Heap.{Heap}
 use Rattle.kb_heap.specs.declared.heap.Value.{Value}
@@ -13,11 +13,19 @@ use Rattle.kb_machine.specs.declared.machine.MethodCode.{MethodCode}
 use Rattle.kb_machine.specs.declared.machine.Stop.{Stop}
 use Rattle.kb_machine.specs.declared.machine.Stop.TheVariants as stops
 
+-- these locals, and behind them those that were never written, up to a limit
+abbrev pub with_unwritten : ℕ → List (Option Value) → List (Option Value)
+with_unwritten limit locals = locals ++ replicate (limit - length locals) None
+
+-- all locals of a frame
+abbrev pub locals_of : Frame → List (Option Value)
+locals_of f = with_unwritten f.limits.locals f.locals.items
+
 -- the configuration that a frame of a method stands for, at an offset
 abbrev pub config_of : Method → ℕ → ℕ → Heap → Frame → Config
 config_of method at carried heap f =
     record {
-      frame = record { method = method; at = at; locals = f.locals.items; stack = f.stack; transfers = 0 };
+      frame = record { method = method; at = at; locals = locals_of f; stack = f.stack; transfers = 0 };
       callers = [];
       heap = heap;
       carried = carried;
@@ -26,7 +34,11 @@ config_of method at carried heap f =
 -- what holds of every frame
 pub record IsSound (f : Frame) : Type 0 where
   pub stack_limit : length f.stack ≤ f.limits.stack
-  pub local_limit : f.limits.locals ≤ length f.locals.items
+
+-- what every call keeps of a frame
+pub record Keeps (old new : Frame) : Type 0 where
+  pub sound : IsSound new
+  pub limits : new.limits ≡ old.limits
 
 -- the value of a local, where it lies below the limit and was written
 abbrev pub local_value : Frame → ℕ → Option Value

@@ -1,4 +1,5 @@
-// What the instructions on ints compute (JVMS 8 section 6.5).
+//! What the instructions on ints compute (JVMS 8 section 6.5).
+
 ghost use Rattle.std.specs.Prelude.{◌≡◌};
 ghost use Rattle.kb_semantics.specs.Machine.{int2_value, narrowed};
 

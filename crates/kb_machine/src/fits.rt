@@ -1,13 +1,12 @@
-// Inputs that are type-correct.
-ghost use Rattle.std.specs.Prelude.{◌≡◌, ◌↔◌, IsTrue};
-ghost use Rattle.kb_semantics.specs.Types.{Agrees, AgreeEach, IsTypeCorrect};
+//! Which inputs are type-correct for a method.
 
+ghost use Rattle.std.specs.Prelude.{◌≡◌, ◌↔◌, IsTrue};
+ghost use Rattle.kb_semantics.specs.Types.{IsValueOf, AreValuesOf, IsTypeCorrect};
+
+use kb_classfile::STATIC;
 use kb_heap::{Input, Value};
 use kb_names::JType;
 use kb_world::{MethodId, World};
-
-// The bit of a static method's access flags (JVMS 8 table 4.6-A).
-const STATIC: u16 = 0x0008;
 
 /// Whether the input is type-correct for the method: as many arguments as parameters, each a value of its parameter's type,
 /// and no objects. By now methods that are not static have no such input, nor do parameters of other types than int, boolean,
@@ -26,11 +25,11 @@ pub fn fits_types(world: &World, target: MethodId, input: &Input) -> bool
     if !input.heap.objects.as_slice().is_empty() {
         return false;
     }
-    agree_each(info.target.kind.params.as_slice(), input.args.as_slice())
+    are_values_of(info.target.kind.params.as_slice(), input.args.as_slice())
 }
 
-pub(crate) fn agree_each(params: &[JType], args: &[Value]) -> bool
-    ensures { IsTrue result ↔ AgreeEach params.now args.now }
+pub(crate) fn are_values_of(params: &[JType], args: &[Value]) -> bool
+    ensures { IsTrue result ↔ AreValuesOf params.now args.now }
 {
     let mut types = params;
     let mut values = args;
@@ -38,7 +37,7 @@ pub(crate) fn agree_each(params: &[JType], args: &[Value]) -> bool
         let [value, rest @ ..] = values else {
             return false;
         };
-        if !agrees(of, value) {
+        if !is_value_of(of, value) {
             return false;
         }
         types = others;
@@ -47,11 +46,15 @@ pub(crate) fn agree_each(params: &[JType], args: &[Value]) -> bool
     values.is_empty()
 }
 
-fn agrees(of: &JType, value: &Value) -> bool
-    ensures { IsTrue result ↔ Agrees of.now value.now }
+fn is_value_of(of: &JType, value: &Value) -> bool
+    ensures { IsTrue result ↔ IsValueOf of.now value.now }
 {
     match (of, value) {
-        (JType::Int, Value::Int(_)) => true,
+        (JType::Int, Value::Int(number)) => {
+            // An `i32` is read, so it fits.
+            let _int = *number;
+            true
+        }
         (JType::Bool, Value::Int(number)) => *number == 0 || *number == 1,
         (JType::Class(_), Value::Null) => true,
         (JType::Array(_), Value::Null) => true,

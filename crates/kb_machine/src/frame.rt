@@ -1,7 +1,8 @@
-// The frame of a method that is run (JVMS 8 section 2.6).
-ghost use Rattle.std.specs.Prelude.{◌≡◌, ◌-◌, ◌++◌, [], length, map, replicate, Some, None, OnOk, IfOk};
+//! The frame of a method that is run (JVMS 8 section 2.6).
+
+ghost use Rattle.std.specs.Prelude.{◌≡◌, ◌-◌, ◌++◌, [], length, map, replicate, Some, None, OnOk, OnErr, IfOk};
 ghost use Rattle.kb_semantics.specs.Machine.{effect, first_locals, int_of, top_of};
-ghost use Rattle.kb_machine.specs.Frames.{IsSound, Follows, local_value, popped, pushing, setting};
+ghost use Rattle.kb_machine.specs.Frames.{IsSound, Keeps, Follows, local_value, locals_of, popped, pushing, setting};
 
 use crate::NoMemory;
 use crate::arithmetic::{int2_value, narrowed};
@@ -25,8 +26,8 @@ pub(crate) enum Step {
     IllTyped,
 }
 
-// The locals, of which those that were never written are None, and the operand stack. After an instruction that is
-// ill-typed they are of no use.
+// The locals up to the highest that was written, of which those that were never written are None, and the operand stack.
+// After an instruction that is ill-typed they are of no use.
 #[derive(Drop)]
 pub(crate) struct Frame {
     pub(crate) locals: Vec<Option<Value>>,
@@ -36,16 +37,15 @@ pub(crate) struct Frame {
 
 impl Frame {
     // The frame of a method that begins with these arguments. It holds them all, also where they are more than the limit.
+    #[tactic(auto, using(crate::proofs::Locals::same_first))]
     pub(crate) fn begin(alloc: Global, args: &[Value], limits: Limits) -> Result<Frame, NoMemory>
         ensures sound { IfOk result IsSound }
         ensures limits { IfOk result (λ f. f.limits ≡ limits) }
-        ensures locals { IfOk result (λ f. f.locals.items ≡ first_locals args.now limits.locals) }
+        ensures locals { IfOk result (λ f. locals_of f ≡ first_locals args.now limits.locals) }
         ensures stack { IfOk result (λ f. f.stack ≡ []) }
     {
-        let mut locals = arguments(alloc, args)?;
-        fill_up(&mut locals, usize::from(limits.locals))?;
         Ok(Frame {
-            locals,
+            locals: arguments(alloc, args)?,
             stack: ValueStack::new(alloc),
             limits,
         })
@@ -67,8 +67,7 @@ impl Frame {
     // Takes the value off the top, and gives its int, where it is one.
     fn take_int(&mut self) -> Option<i32>
         requires { IsSound self.old }
-        ensures sound { IsSound self.new }
-        ensures limits { self.new.limits ≡ self.old.limits }
+        ensures keeps { Keeps self.old self.new }
         ensures int { result ≡ int_of (top_of self.old.stack) }
         ensures rest { self.new ≡ popped self.old }
     {
@@ -81,8 +80,7 @@ impl Frame {
     // Pushes a value, where the stack is below its limit.
     fn push(&mut self, value: Value) -> Result<Step, NoMemory>
         requires { IsSound self.old }
-        ensures sound { IsSound self.new }
-        ensures limits { self.new.limits ≡ self.old.limits }
+        ensures keeps { Keeps self.old self.new }
         ensures step { IfOk result (λ step. Follows step self.old self.new (pushing value)) }
     {
         if self.stack.len() >= usize::from(self.limits.stack) {
@@ -93,24 +91,24 @@ impl Frame {
     }
 
     // Writes a value into a local, where it lies below the limit.
-    fn set_local(&mut self, local: u16, value: Value) -> Step
+    fn set_local(&mut self, local: u16, value: Value) -> Result<Step, NoMemory>
         requires { IsSound self.old }
-        ensures sound { IsSound self.new }
-        ensures limits { self.new.limits ≡ self.old.limits }
-        ensures step { Follows result self.old self.new (setting local value) }
+        ensures keeps { Keeps self.old self.new }
+        ensures step { IfOk result (λ step. Follows step self.old self.new (setting local value)) }
     {
         if local >= self.limits.locals {
-            return Step::IllTyped;
+            return Ok(Step::IllTyped);
         }
-        self.locals[usize::from(local)] = Some(value);
-        Step::Goes
+        let place = usize::from(local);
+        grow_to(&mut self.locals, place + 1)?;
+        self.locals[place] = Some(value);
+        Ok(Step::Goes)
     }
 
     #[tactic(auto, unfolding(kb_semantics::specs::Machine::effect))]
     fn nop(&mut self) -> Step
         requires { IsSound self.old }
-        ensures sound { IsSound self.new }
-        ensures limits { self.new.limits ≡ self.old.limits }
+        ensures keeps { Keeps self.old self.new }
         ensures step { Follows result self.old self.new (effect Instr.Nop) }
     {
         Step::Goes
@@ -119,8 +117,7 @@ impl Frame {
     #[tactic(auto, unfolding(kb_semantics::specs::Machine::effect))]
     fn push_int(&mut self, value: i32) -> Result<Step, NoMemory>
         requires { IsSound self.old }
-        ensures sound { IsSound self.new }
-        ensures limits { self.new.limits ≡ self.old.limits }
+        ensures keeps { Keeps self.old self.new }
         ensures step { IfOk result (λ step. Follows step self.old self.new (effect (Instr.PushInt value))) }
     {
         self.push(Value::Int(value))
@@ -128,8 +125,7 @@ impl Frame {
 
     fn load(&mut self, local: u16) -> Result<Step, NoMemory>
         requires { IsSound self.old }
-        ensures sound { IsSound self.new }
-        ensures limits { self.new.limits ≡ self.old.limits }
+        ensures keeps { Keeps self.old self.new }
         ensures step { IfOk result (λ step. Follows step self.old self.new (effect (Instr.LoadInt local))) }
     {
         match self.local_int(local) {
@@ -138,22 +134,20 @@ impl Frame {
         }
     }
 
-    fn store(&mut self, local: u16) -> Step
+    fn store(&mut self, local: u16) -> Result<Step, NoMemory>
         requires { IsSound self.old }
-        ensures sound { IsSound self.new }
-        ensures limits { self.new.limits ≡ self.old.limits }
-        ensures step { Follows result self.old self.new (effect (Instr.StoreInt local)) }
+        ensures keeps { Keeps self.old self.new }
+        ensures step { IfOk result (λ step. Follows step self.old self.new (effect (Instr.StoreInt local))) }
     {
         match self.take_int() {
             Some(value) => self.set_local(local, Value::Int(value)),
-            None => Step::IllTyped,
+            None => Ok(Step::IllTyped),
         }
     }
 
     fn pop(&mut self) -> Step
         requires { IsSound self.old }
-        ensures sound { IsSound self.new }
-        ensures limits { self.new.limits ≡ self.old.limits }
+        ensures keeps { Keeps self.old self.new }
         ensures step { Follows result self.old self.new (effect Instr.Pop) }
     {
         match self.stack.pop() {
@@ -164,8 +158,7 @@ impl Frame {
 
     fn duplicate(&mut self) -> Result<Step, NoMemory>
         requires { IsSound self.old }
-        ensures sound { IsSound self.new }
-        ensures limits { self.new.limits ≡ self.old.limits }
+        ensures keeps { Keeps self.old self.new }
         ensures step { IfOk result (λ step. Follows step self.old self.new (effect Instr.Dup)) }
     {
         match self.stack.top() {
@@ -177,8 +170,7 @@ impl Frame {
     // An operation on the two ints on the top.
     fn apply_two(&mut self, op: IntOp) -> Result<Step, NoMemory>
         requires { IsSound self.old }
-        ensures sound { IsSound self.new }
-        ensures limits { self.new.limits ≡ self.old.limits }
+        ensures keeps { Keeps self.old self.new }
         ensures step { IfOk result (λ step. Follows step self.old self.new (effect (Instr.Int2 op))) }
     {
         let Some(right) = self.take_int() else {
@@ -192,8 +184,7 @@ impl Frame {
 
     fn negate(&mut self) -> Result<Step, NoMemory>
         requires { IsSound self.old }
-        ensures sound { IsSound self.new }
-        ensures limits { self.new.limits ≡ self.old.limits }
+        ensures keeps { Keeps self.old self.new }
         ensures step { IfOk result (λ step. Follows step self.old self.new (effect Instr.Neg)) }
     {
         match self.take_int() {
@@ -204,8 +195,7 @@ impl Frame {
 
     fn narrow(&mut self, cut: IntCut) -> Result<Step, NoMemory>
         requires { IsSound self.old }
-        ensures sound { IsSound self.new }
-        ensures limits { self.new.limits ≡ self.old.limits }
+        ensures keeps { Keeps self.old self.new }
         ensures step { IfOk result (λ step. Follows step self.old self.new (effect (Instr.Narrow cut))) }
     {
         match self.take_int() {
@@ -215,22 +205,20 @@ impl Frame {
     }
 
     // Adds a constant to a local.
-    fn increase(&mut self, local: u16, by: i32) -> Step
+    fn increase(&mut self, local: u16, by: i32) -> Result<Step, NoMemory>
         requires { IsSound self.old }
-        ensures sound { IsSound self.new }
-        ensures limits { self.new.limits ≡ self.old.limits }
-        ensures step { Follows result self.old self.new (effect (Instr.Inc local by)) }
+        ensures keeps { Keeps self.old self.new }
+        ensures step { IfOk result (λ step. Follows step self.old self.new (effect (Instr.Inc local by))) }
     {
         match self.local_int(local) {
             Some(value) => self.set_local(local, Value::Int(kb_arith::add(value, by))),
-            None => Step::IllTyped,
+            None => Ok(Step::IllTyped),
         }
     }
 
     fn return_int(&mut self) -> Step
         requires { IsSound self.old }
-        ensures sound { IsSound self.new }
-        ensures limits { self.new.limits ≡ self.old.limits }
+        ensures keeps { Keeps self.old self.new }
         ensures step { Follows result self.old self.new (effect Instr.ReturnInt) }
     {
         match self.take_int() {
@@ -242,32 +230,32 @@ impl Frame {
     // Takes up an instruction.
     pub(crate) fn take(&mut self, instr: Instr) -> Result<Step, NoMemory>
         requires { IsSound self.old }
-        ensures sound { IsSound self.new }
-        ensures limits { self.new.limits ≡ self.old.limits }
+        ensures keeps { Keeps self.old self.new }
         ensures step { IfOk result (λ step. Follows step self.old self.new (effect instr)) }
     {
         match instr {
             Instr::Nop => Ok(self.nop()),
             Instr::PushInt(value) => self.push_int(value),
             Instr::LoadInt(local) => self.load(local),
-            Instr::StoreInt(local) => Ok(self.store(local)),
+            Instr::StoreInt(local) => self.store(local),
             Instr::Pop => Ok(self.pop()),
             Instr::Dup => self.duplicate(),
             Instr::Int2(op) => self.apply_two(op),
             Instr::Neg => self.negate(),
-            Instr::Inc(local, by) => Ok(self.increase(local, by)),
+            Instr::Inc(local, by) => self.increase(local, by),
             Instr::Narrow(cut) => self.narrow(cut),
             Instr::ReturnInt => Ok(self.return_int()),
         }
     }
 }
 
-// Adds locals that were never written, up to the limit.
-fn fill_up(locals: &mut Vec<Option<Value>>, limit: usize) -> Result<(), NoMemory>
-    ensures { OnOk result (locals.new.items ≡ locals.old.items ++ replicate (limit - length locals.old.items) None) }
+// Adds locals that were never written, up to that many.
+fn grow_to(locals: &mut Vec<Option<Value>>, count: usize) -> Result<(), NoMemory>
+    ensures ok { OnOk result (locals.new.items ≡ locals.old.items ++ replicate (count - length locals.old.items) None) }
+    ensures err { OnErr result (locals.new.items ≡ locals.old.items) }
 {
-    if locals.len() < limit {
-        let Ok(()) = locals.resize(limit, None) else {
+    if locals.len() < count {
+        let Ok(()) = locals.resize(count, None) else {
             return Err(NoMemory);
         };
     }

@@ -1,4 +1,5 @@
-// Runs of methods.
+//! Runs of methods.
+
 ghost use Rattle.std.specs.Prelude.{◌≡◌, IfOk};
 ghost use Rattle.kb_code.specs.Listing.{IsLaidOut};
 ghost use Rattle.kb_heap.specs.declared.heap.Heap.{Heap};

@@ -1,5 +1,6 @@
-// Code is spelled as `javap -c` shows it; expected values are those of the JVM (JVMS 8 section 6.5).
-use crate::fits::agree_each;
+//! Code is spelled as `javap -c` shows it; expected values are those of the JVM (JVMS 8 section 6.5).
+
+use crate::fits::are_values_of;
 use crate::frame::Limits;
 use crate::machine::{MethodCode, Stop, run_code};
 use kb_code::decode;
@@ -110,12 +111,26 @@ fn code_that_does_not_fit_its_values_is_ill_typed(rt: HostRuntime) {
 }
 
 #[test]
-fn arguments_agree_with_parameters(rt: HostRuntime) -> Result<(), Fail> {
+fn arguments_are_values_of_parameters_types(rt: HostRuntime) -> Result<(), Fail> {
     let types = vec![in rt.alloc(); JType::Int, JType::Bool]?;
-    assert!(rt; agree_each(&types, &[Value::Int(7), Value::Int(1)]));
-    assert!(rt; !agree_each(&types, &[Value::Int(7), Value::Int(2)]));
-    assert!(rt; !agree_each(&types, &[Value::Null, Value::Int(1)]));
-    assert!(rt; !agree_each(&types, &[Value::Int(7)]));
-    assert!(rt; !agree_each(&types, &[Value::Int(7), Value::Int(1), Value::Int(0)]));
+    assert!(rt; are_values_of(&types, &[Value::Int(7), Value::Int(1)]));
+    assert!(rt; !are_values_of(&types, &[Value::Int(7), Value::Int(2)]));
+    assert!(rt; !are_values_of(&types, &[Value::Null, Value::Int(1)]));
+    assert!(rt; !are_values_of(&types, &[Value::Int(7)]));
+    assert!(rt; !are_values_of(&types, &[Value::Int(7), Value::Int(1), Value::Int(0)]));
     Ok(())
+}
+
+#[test]
+fn locals_above_the_arguments_are_written_and_read(rt: HostRuntime) {
+    let alloc = rt.alloc();
+    // bipush 9, istore_1, iload_1, ireturn
+    let written = [0x10, 9, 0x3c, 0x1b, 0xac];
+    assert_eq!(rt; run_bytes(alloc, &written, &[], 2000), returned(9));
+    // iload_1: it was never written
+    let unwritten = [0x1b, 0xac];
+    assert_eq!(rt;
+        run_bytes(alloc, &unwritten, &[], 2000),
+        Some(Stop::IllTyped(0))
+    );
 }

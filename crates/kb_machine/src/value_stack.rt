@@ -1,4 +1,5 @@
-// An operand stack (JVMS 8 section 2.6.2).
+//! An operand stack (JVMS 8 section 2.6.2).
+
 ghost use Rattle.std.specs.Prelude.{◌≡◌, [], ◌∷◌, length, drop, OnOk, OnErr};
 ghost use Rattle.kb_semantics.specs.Machine.{top_of};
 

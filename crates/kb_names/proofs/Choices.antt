@@ -1,5 +1,5 @@
 -- Laws of tests.
-use Rattle.std.proofs.Common.{◌≡◌, Bool, true, false, if◌then◌else◌, ◌⊎◌, inl, inr, refl, Option, Some, None, IsSome, is_some, ◌&&◌}
+use Rattle.std.proofs.Common.{◌≡◌, Bool, true, false, if◌then◌else◌, ◌⊎◌, inl, inr, refl, Option, Some, None, IsSome, is_some, ◌&&◌, Result, Ok, Err, OnOk}
 use Rattle.std.specs.Option.{option_map, option_and_then}
 
 -- which way a test went
@@ -33,3 +33,8 @@ and_true false b p q = cc
 pub true_and : (a b : Bool) → (a && b) ≡ true → (a ≡ true) × (b ≡ true)
 true_and true b e = (refl, e)
 true_and false b e = cc
+
+-- a fact holds where all is well
+pub on_ok : {T E : Type 0} {P : Type 0} (r : Result T E) → P → OnOk r P
+on_ok (Ok x) p = p
+on_ok (Err e) p = tt

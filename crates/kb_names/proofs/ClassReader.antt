@@ -3,7 +3,8 @@ use Rattle.std.proofs.Common.{◌≡◌, ◌≢◌, ℕ, Bool, true, false, Opti
 use Rattle.std.specs.Option.{option_map, option_and_then}
 use Rattle.std.specs.List.{list_all}
 use Rattle.kb_names.specs.Reading.{reached}
-use Rattle.kb_names.specs.Escapes.{AreBytes, name_text, hex_value, with_escaped, name_step, name_read}
+use Rattle.kb_names.specs.Bytes.{AreBytes}
+use Rattle.kb_names.specs.Escapes.{name_text, hex_value, with_escaped, name_step, name_read}
 use Rattle.kb_names.specs.Descriptors.{may_stand, class_text, IsClassName}
 use Rattle.kb_names.specs.Stages.{class_start, some_bytes, class_read, class_step}
 use Rattle.kb_names.specs.declared.name_texts.NameStage.{NameStage}

@@ -3,10 +3,12 @@ use Rattle.std.proofs.Common.{◌≡◌, ℕ, ◌+◌, ◌*◌, ◌/◌, ◌%◌
 use Rattle.std.specs.Option.{option_and_then, option_map}
 use Rattle.std.proofs.lemmas.Bool.Decides.{nat_tests}
 use Rattle.std.proofs.lemmas.Grind.{flat_map-append}
-use Rattle.kb_names.specs.Escapes.{is_plain, hex_digit, hex_value, pair_value, byte_text, name_text, AreBytes, SpellsName, with_escaped, name_step, name_read}
+use Rattle.kb_names.specs.Bytes.{AreBytes}
+use Rattle.kb_names.specs.Escapes.{is_plain, hex_digit, hex_value, pair_value, byte_text, name_text, SpellsName, with_escaped, name_step, name_read}
 use Rattle.kb_names.specs.Reading.{reached}
 use Rattle.kb_names.specs.declared.name_texts.NameStage.{NameStage}
 use Rattle.kb_names.specs.declared.name_texts.NameStage.TheVariants.{Plain, Percent, High}
+use Rattle.kb_names.proofs.Bytes.{AreBytes-push}
 use Rattle.kb_names.proofs.Reading.{IsReader, reached-cons, reached-then}
 use Rattle.kb_names.proofs.Choices.{chosen, mapped, passed, some_value, is_some-IsSome}
 
@@ -21,10 +23,6 @@ hex_digit-value v lt = grind (arith, nat_tests)
 
 name_text-push : (n : List ℕ) (b : ℕ) → name_text (n ++ b ∷ []) ≡ name_text n ++ byte_text b
 name_text-push n b = flat_map-append byte_text n (b ∷ []) ∙ ap (λ (y : List ℕ). name_text n ++ y) (append-nil (byte_text b))
-
-AreBytes-push : (n : List ℕ) (b : ℕ) → AreBytes n → b < 256 → AreBytes (n ++ b ∷ [])
-AreBytes-push [] b h lt = (lt, tt)
-AreBytes-push (x ∷ xs) b h lt = (h.0, AreBytes-push xs b h.1 lt)
 
 abbrev pub text_so_far : NameStage → List ℕ
 text_so_far (Plain name) = name_text name

@@ -1,9 +1,10 @@
 -- Laws of readers that go on from byte to byte.
-use Rattle.std.proofs.Common.{◌≡◌, ℕ, suc, ◌<◌, Option, Some, None, List, [], ◌∷◌, ◌++◌, length, take, drop, get_or, refl, sym, ◌∙◌, ap, arith, append_assoc, append-nil, subst}
+use Rattle.std.proofs.Common.{◌≡◌, ℕ, suc, ◌<◌, Option, Some, None, List, [], ◌∷◌, ◌++◌, length, take, drop, get_or, ◌⊎◌, inl, inr, refl, sym, ◌∙◌, ap, arith, append_assoc, append-nil, subst}
 use Rattle.std.specs.Option.{option_and_then}
 use Rattle.std.proofs.Math.Seq.{take-suc}
 use Rattle.std.proofs.lemmas.List.{take-append-drop, take_all}
-use Rattle.kb_names.specs.Reading.{IsFirstBad, reached, StopsAt}
+use Rattle.kb_names.specs.Reading.{IsFirstBad, reached, StopsAt, value_of_text, EndsEarly}
+use Rattle.kb_names.proofs.Choices.{passed}
 
 some_step : {S : Type 0} (o : Option S) → option_and_then (λ (t : S). Some t) o ≡ o
 some_step None = refl
@@ -111,3 +112,21 @@ module _ {S V : Type 0} (step : S → ℕ → Option S) (start : S) (read : S �
         no_further = λ lt. absurd (omega (arith, lt));
         no_text = λ (v, spells). let again = r.only v text spells in let same : t ≡ again.0 = cc in cc;
       }
+
+  -- what a text is read as is spelled by it
+  pub text_value : (v : V) (text : List ℕ) → value_of_text step read start text ≡ Some v → Spells v text
+  text_value v text e =
+      let h = passed read (reached step start text) v e in
+      reads_value h.0 v text h.1 h.2
+
+  -- and nothing else is
+  pub text_only : (v w : V) (text : List ℕ) → value_of_text step read start text ≡ Some v → Spells w text → v ≡ w
+  text_only v w text e spells =
+      let h = passed read (reached step start text) v e in
+      reads_only h.0 v w text h.1 h.2 spells
+
+  -- a text that is not read is bad from that offset on
+  pub text_bad : (text : List ℕ) (at : ℕ) → (StopsAt step start text at ⊎ EndsEarly step read start text at) → IsFirstBad (λ (bytes : List ℕ). (v : V) × Spells v bytes) text at
+  text_bad text at (inl stops) = stops_bad text at stops
+  text_bad text at (inr ends) =
+      subst (IsFirstBad (λ (bytes : List ℕ). (v : V) × Spells v bytes) text) (sym ends.end) (ends_bad text ends.stage ends.all ends.none)

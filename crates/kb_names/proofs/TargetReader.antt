@@ -3,7 +3,8 @@ use Rattle.std.proofs.Common.{◌≡◌, ◌≢◌, ℕ, ◌+◌, ◌*◌, Bool,
 use Rattle.std.specs.Option.{option_map, option_and_then}
 use Rattle.std.proofs.lemmas.Bool.Decides.{nat_tests}
 use Rattle.kb_names.specs.Reading.{reached}
-use Rattle.kb_names.specs.Escapes.{is_plain, hex_value, with_escaped, AreBytes, name_text, name_step, name_read}
+use Rattle.kb_names.specs.Bytes.{AreBytes}
+use Rattle.kb_names.specs.Escapes.{is_plain, hex_value, with_escaped, name_text, name_step, name_read}
 use Rattle.kb_names.specs.Descriptors.{IsClassName, method_text}
 use Rattle.kb_names.specs.Stages.{some_bytes, method_step, method_read}
 use Rattle.kb_names.specs.Targets.{SpellsTarget, target_step, target_read}

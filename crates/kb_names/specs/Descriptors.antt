@@ -7,7 +7,8 @@ use Rattle.kb_names.specs.declared.types.JType.{JType}
 use Rattle.kb_names.specs.declared.types.MethodType.{MethodType}
 use Rattle.kb_names.specs.declared.class_names.Spelling.{Spelling}
 use Rattle.kb_names.specs.declared.class_names.Spelling.TheVariants.{Raw, Escaped}
-use Rattle.kb_names.specs.Escapes.{AreBytes, name_text}
+use Rattle.kb_names.specs.Bytes.{AreBytes}
+use Rattle.kb_names.specs.Escapes.{name_text}
 
 -- the byte may stand in a class's name in a descriptor: it is none of . ; [
 abbrev pub may_stand : ℕ → Bool
@@ -18,10 +19,15 @@ abbrev pub class_text : Spelling → List ℕ → List ℕ
 class_text Raw name = name
 class_text Escaped name = name_text name
 
--- a class's name that a descriptor can hold
+-- a class's name that may stand in a descriptor: it is not empty, and where it stands as it is, each byte may
+abbrev pub MayStand : Spelling → List ℕ → Type 0
+MayStand Raw name = (name ≢ []) × IsTrue (list_all may_stand name)
+MayStand Escaped name = name ≢ []
+
+-- a class's name that a descriptor holds: in texts it is of bytes
 abbrev pub IsClassName : Spelling → List ℕ → Type 0
-IsClassName Raw name = (name ≢ []) × IsTrue (list_all may_stand name)
-IsClassName Escaped name = (name ≢ []) × AreBytes name
+IsClassName Raw name = MayStand Raw name
+IsClassName Escaped name = MayStand Escaped name × AreBytes name
 
 abbrev pub base_text : Spelling → Base → List ℕ
 base_text spelling bool_base = codes "Z"
@@ -49,26 +55,53 @@ result_text spelling (Some type) = type_text spelling type
 abbrev pub method_text : Spelling → MethodType → List ℕ
 method_text spelling kind = codes "(" ++ (flat_map (type_text spelling) kind.params ++ (codes ")" ++ result_text spelling kind.result))
 
--- a type that has a descriptor: its class has such a name, and there are at most 255 dimensions
-abbrev pub HasText : Spelling → Base → Type 0
-HasText spelling (class_base name) = IsClassName spelling name
-HasText spelling base = Unit {0}
+-- the class's name, if it is a class
+abbrev pub HasNameOf : (List ℕ → Type 0) → Base → Type 0
+HasNameOf IsName (class_base name) = IsName name
+HasNameOf IsName base = Unit {0}
 
-pub record IsType (spelling : Spelling) (type : JType) : Type 0 where
-  pub base : HasText spelling (shape_of type).base
+-- a type with at most 255 dimensions, whose class has such a name
+pub record IsTypeOf (IsName : List ℕ → Type 0) (type : JType) : Type 0 where
+  pub base : HasNameOf IsName (shape_of type).base
   pub dims : (shape_of type).dims ≤ 255
 
+abbrev pub AreTypesOf : (List ℕ → Type 0) → List JType → Type 0
+AreTypesOf IsName [] = Unit {0}
+AreTypesOf IsName (type ∷ types) = IsTypeOf IsName type × AreTypesOf IsName types
+
+abbrev pub IsResultOf : (List ℕ → Type 0) → Option JType → Type 0
+IsResultOf IsName None = Unit {0}
+IsResultOf IsName (Some type) = IsTypeOf IsName type
+
+pub record IsMethodOf (IsName : List ℕ → Type 0) (kind : MethodType) : Type 0 where
+  pub params : AreTypesOf IsName kind.params
+  pub result : IsResultOf IsName kind.result
+
+-- what has a descriptor
+abbrev pub HasText : Spelling → Base → Type 0
+HasText spelling base = HasNameOf (IsClassName spelling) base
+
+abbrev pub IsType : Spelling → JType → Type 0
+IsType spelling type = IsTypeOf (IsClassName spelling) type
+
 abbrev pub AreTypes : Spelling → List JType → Type 0
-AreTypes spelling [] = Unit {0}
-AreTypes spelling (type ∷ types) = IsType spelling type × AreTypes spelling types
+AreTypes spelling types = AreTypesOf (IsClassName spelling) types
 
 abbrev pub IsResult : Spelling → Option JType → Type 0
-IsResult spelling None = Unit {0}
-IsResult spelling (Some type) = IsType spelling type
+IsResult spelling result = IsResultOf (IsClassName spelling) result
 
-pub record IsMethodType (spelling : Spelling) (kind : MethodType) : Type 0 where
-  pub params : AreTypes spelling kind.params
-  pub result : IsResult spelling kind.result
+abbrev pub IsMethodType : Spelling → MethodType → Type 0
+IsMethodType spelling kind = IsMethodOf (IsClassName spelling) kind
+
+-- what can be spelled, as far as it is not known that its names are of bytes
+abbrev pub CanSpellType : Spelling → JType → Type 0
+CanSpellType spelling type = IsTypeOf (MayStand spelling) type
+
+abbrev pub CanSpellTypes : Spelling → List JType → Type 0
+CanSpellTypes spelling types = AreTypesOf (MayStand spelling) types
+
+abbrev pub CanSpellMethod : Spelling → MethodType → Type 0
+CanSpellMethod spelling kind = IsMethodOf (MayStand spelling) kind
 
 -- the text is the descriptor of that type
 abbrev pub SpellsType : Spelling → JType → List ℕ → Type 0

@@ -1,7 +1,8 @@
 -- How names are written in texts: a byte that is not plain as a % and its two digits.
-use Rattle.std.specs.Prelude.{◌≡◌, ℕ, ◌+◌, ◌-◌, ◌*◌, ◌/◌, ◌%◌, Bool, ◌==◌, ◌&&◌, ◌||◌, nat_lt, nat_le, if◌then◌else◌, Option, Some, None, List, [], ◌∷◌, ◌++◌, ◌<◌, is_some}
+use Rattle.std.specs.Prelude.{◌≡◌, ℕ, ◌+◌, ◌-◌, ◌*◌, ◌/◌, ◌%◌, Bool, ◌==◌, ◌&&◌, ◌||◌, nat_lt, nat_le, if◌then◌else◌, Option, Some, None, List, [], ◌∷◌, ◌++◌, is_some}
 use Rattle.std.specs.Option.{option_map, option_and_then}
 use Rattle.std.specs.List.{flat_map}
+use Rattle.kb_names.specs.Bytes.{AreBytes}
 use Rattle.kb_names.specs.declared.name_texts.NameStage.{NameStage}
 use Rattle.kb_names.specs.declared.name_texts.NameStage.TheVariants.{Plain, Percent, High}
 
@@ -31,10 +32,6 @@ hex_value byte =
     if is_between 48 57 byte then Some (byte - 48)
     else if is_between 65 70 byte then Some (byte - 55)
     else None
-
-abbrev pub AreBytes : List ℕ → Type 0
-AreBytes [] = Unit {0}
-AreBytes (byte ∷ bytes) = (byte < 256) × AreBytes bytes
 
 -- the text spells the name
 abbrev pub SpellsName : List ℕ → List ℕ → Type 0

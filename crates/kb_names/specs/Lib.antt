@@ -1,3 +1,4 @@
+pub mod Bytes
 pub mod Shape
 pub mod Types
 pub mod Reading

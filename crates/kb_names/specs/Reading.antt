@@ -20,3 +20,14 @@ pub record StopsAt {S : Type 0} (step : S → ℕ → Option S) (start : S) (tex
   pub stage : S
   pub before : reached step start (take at text) ≡ Some stage
   pub none : step stage (slice_index text at) ≡ None
+
+-- what a text is read as
+abbrev pub value_of_text : {S V : Type 0} → (S → ℕ → Option S) → (S → Option V) → S → List ℕ → Option V
+value_of_text step read start text = option_and_then read (reached step start text)
+
+-- every byte has a place, and the text may not end there, at its length
+pub record EndsEarly {S V : Type 0} (step : S → ℕ → Option S) (read : S → Option V) (start : S) (text : List ℕ) (at : ℕ) : Type 0 where
+  pub end : at ≡ length text
+  pub stage : S
+  pub all : reached step start text ≡ Some stage
+  pub none : read stage ≡ None

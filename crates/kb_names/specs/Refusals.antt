@@ -1,6 +1,6 @@
 -- What the readers answer.
-use Rattle.std.specs.Prelude.{◌≡◌, ℕ, List, Result, Ok, Err, Option}
-use Rattle.kb_names.specs.Reading.{IsFirstBad, StopsAt}
+use Rattle.std.specs.Prelude.{◌≡◌, ℕ, List, Result, Ok, Err, Option, ◌⊎◌}
+use Rattle.kb_names.specs.Reading.{IsFirstBad, StopsAt, EndsEarly}
 use Rattle.kb_names.specs.declared.descriptors.NameRefusal.{NameRefusal}
 use Rattle.kb_names.specs.declared.descriptors.NameRefusal.TheVariants.{BadDescriptor, NoMemory as no_memory}
 use Rattle.kb_names.specs.declared.name_texts.NameTextRefusal.{NameTextRefusal}
@@ -12,6 +12,11 @@ use Rattle.kb_names.specs.declared.stages.Stop.TheVariants.{At, NoMemory as stop
 abbrev pub StopsAs : {S : Type 0} → (S → ℕ → Option S) → S → List ℕ → Stop → Type 0
 StopsAs step start text (At at) = StopsAt step start text at
 StopsAs step start text stop_for_memory = Unit {0}
+
+-- a byte has no place or the text ends too early, unless memory ran out
+abbrev pub RefusesAs : {S V : Type 0} → (S → ℕ → Option S) → (S → Option V) → S → List ℕ → Stop → Type 0
+RefusesAs step read start text (At at) = StopsAt step start text at ⊎ EndsEarly step read start text at
+RefusesAs step read start text stop_for_memory = Unit {0}
 
 -- the text is no descriptor of that kind from that offset on, unless memory ran out
 abbrev pub RefusesDescriptor : (List ℕ → Type 0) → List ℕ → NameRefusal → Type 0

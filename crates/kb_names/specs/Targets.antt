@@ -3,8 +3,9 @@
 use Rattle.std.specs.Prelude.{◌≡◌, ℕ, Option, None, List, [], ◌++◌, ◌==◌, if◌then◌else◌, codes, Result, Ok, Err}
 use Rattle.std.specs.Option.{option_map, option_and_then}
 use Rattle.kb_names.specs.Reading.{IsFirstBad}
-use Rattle.kb_names.specs.Escapes.{AreBytes, name_text, name_step, name_read}
-use Rattle.kb_names.specs.Descriptors.{IsClassName, method_text, IsMethodType}
+use Rattle.kb_names.specs.Bytes.{AreBytes}
+use Rattle.kb_names.specs.Escapes.{name_text, name_step, name_read}
+use Rattle.kb_names.specs.Descriptors.{MayStand, IsClassName, method_text, IsMethodType, CanSpellMethod}
 use Rattle.kb_names.specs.Stages.{some_bytes, method_step, method_read}
 use Rattle.kb_names.specs.declared.class_names.Spelling.TheVariants.{Escaped}
 use Rattle.kb_names.specs.declared.name_texts.NameStage.TheVariants.{Plain}
@@ -24,6 +25,11 @@ pub record IsTarget (target : Target) : Type 0 where
   pub class : IsClassName Escaped target.class
   pub name : AreBytes target.name
   pub kind : IsMethodType Escaped target.kind
+
+-- a target that can be spelled, as far as it is not known that its names are of bytes
+pub record CanSpellTarget (target : Target) : Type 0 where
+  pub class : MayStand Escaped target.class
+  pub kind : CanSpellMethod Escaped target.kind
 
 abbrev pub SpellsTarget : Target → List ℕ → Type 0
 SpellsTarget target text = IsTarget target × (text ≡ target_text target)

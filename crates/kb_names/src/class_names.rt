@@ -1,8 +1,8 @@
-// The names of classes in descriptors.
+//! The names of classes in descriptors.
 ghost use Rattle.std.specs.Prelude.{◌≡◌, [], ◌∷◌, ◌++◌, IfOk};
 ghost use Rattle.kb_names.specs.Stages.{class_start, class_read, class_step, some_bytes};
 
-use crate::name_texts::{NameStage, read_whole};
+use crate::name_texts::NameStage;
 use crate::stages::Stage;
 use crate::{Name, NoMemory};
 use std::alloc::Global;
@@ -24,7 +24,11 @@ pub(crate) enum ClassStage {
 }
 
 impl Stage for ClassStage {
+    type Value = Name;
+
     ghost step = { class_step };
+
+    ghost read = { class_read };
 
     #[tactic(auto, unfolding(crate::specs::Stages::class_step))]
     fn next(self, alloc: Global, byte: u8) -> Result<Option<ClassStage>, NoMemory> {
@@ -39,6 +43,14 @@ impl Stage for ClassStage {
             },
         }
     }
+
+    // A class's name is not empty.
+    fn whole(self) -> Option<Name> {
+        match self {
+            ClassStage::RawName(name) => unless_empty(name),
+            ClassStage::EscapedName(stage) => unless_empty(stage.whole()?),
+        }
+    }
 }
 
 // Where a class's name begins.
@@ -48,19 +60,6 @@ pub(crate) fn class_begins(alloc: Global, spelling: Spelling) -> ClassStage
     match spelling {
         Spelling::Raw => ClassStage::RawName(Name::new(alloc)),
         Spelling::Escaped => ClassStage::EscapedName(NameStage::Plain(Name::new(alloc))),
-    }
-}
-
-// The class's name that is read, if it may end here.
-pub(crate) fn class_name(stage: ClassStage) -> Option<Name>
-    ensures { result ≡ class_read stage }
-{
-    match stage {
-        ClassStage::RawName(name) => unless_empty(name),
-        ClassStage::EscapedName(stage) => match read_whole(stage) {
-            Some(name) => unless_empty(name),
-            None => None,
-        },
     }
 }
 

@@ -1,4 +1,4 @@
-// Descriptors (JVMS 8 section 4.3).
+//! Descriptors are read (JVMS 8 section 4.3).
 ghost use Rattle.std.specs.Prelude.{◌≡◌, ℕ, ◌+◌, Option, List, [], ◌∷◌, ◌++◌, IfOk, IfErr};
 ghost use Rattle.std.specs.Option.{option_map};
 ghost use Rattle.kb_names.specs.Types.{shape_of, base_type, arrays_of};
@@ -8,8 +8,8 @@ ghost use Rattle.kb_names.specs.Refusals.{RefusesDescriptor, ReadsDescriptor};
 ghost use Rattle.kb_names.specs.declared.types.JType.{JType};
 ghost use Rattle.kb_names.specs.declared.types.MethodType.{MethodType};
 
-use crate::class_names::{ClassStage, class_begins, class_name};
-use crate::stages::{Stage, Stop, read_all};
+use crate::class_names::{ClassStage, class_begins};
+use crate::stages::{Stage, Stop, read_text};
 use crate::{Component, JType, MethodType, NoMemory, Row, Spelling};
 use std::alloc::Global;
 
@@ -34,7 +34,11 @@ pub(crate) enum TypeStage {
 }
 
 impl Stage for TypeStage {
+    type Value = JType;
+
     ghost step = { type_step };
+
+    ghost read = { type_read };
 
     #[tactic(auto, unfolding(crate::specs::Stages::type_step))]
     fn next(self, alloc: Global, byte: u8) -> Result<Option<TypeStage>, NoMemory> {
@@ -42,6 +46,13 @@ impl Stage for TypeStage {
             TypeStage::Dims(spelling, dims) => after_dims(alloc, spelling, dims, byte),
             TypeStage::InName(dims, class) => in_name(alloc, dims, class, byte),
             TypeStage::Whole(_) => Ok(None),
+        }
+    }
+
+    fn whole(self) -> Option<JType> {
+        match self {
+            TypeStage::Whole(of) => Some(of),
+            _ => None,
         }
     }
 }
@@ -88,7 +99,7 @@ fn in_name(
             None => Ok(None),
         };
     }
-    match class_name(class) {
+    match class.whole() {
         Some(name) => Ok(Some(TypeStage::Whole(arrays(alloc, dims, JType::Class(name))?))),
         None => Ok(None),
     }
@@ -138,7 +149,11 @@ pub(crate) enum MethodStage {
 }
 
 impl Stage for MethodStage {
+    type Value = MethodType;
+
     ghost step = { method_step };
+
+    ghost read = { method_read };
 
     #[tactic(auto, unfolding(crate::specs::Stages::method_step))]
     fn next(self, alloc: Global, byte: u8) -> Result<Option<MethodStage>, NoMemory> {
@@ -169,6 +184,13 @@ impl Stage for MethodStage {
             }
             MethodStage::Returned(params, stage) => returned(alloc, params, stage, byte),
             MethodStage::Method(_) => Ok(None),
+        }
+    }
+
+    fn whole(self) -> Option<MethodType> {
+        match self {
+            MethodStage::Method(kind) => Some(kind),
+            _ => None,
         }
     }
 }
@@ -227,23 +249,10 @@ pub fn read_type_as(alloc: Global, spelling: Spelling, text: &[u8]) -> Result<JT
     ensures only { (type : JType) → SpellsType spelling type text.now → ReadsDescriptor result type }
     ensures bad { IfErr result (RefusesDescriptor (IsTypeText spelling) text.now) }
 {
-    match read_all(alloc, TypeStage::Dims(spelling, 0), text) {
-        Ok(stage) => match whole_type(stage) {
-            Some(of) => Ok(of),
-            None => Err(NameRefusal::BadDescriptor(text.len())),
-        },
+    match read_text(alloc, TypeStage::Dims(spelling, 0), text) {
+        Ok(of) => Ok(of),
         Err(Stop::At(at)) => Err(NameRefusal::BadDescriptor(at)),
         Err(Stop::NoMemory) => Err(NameRefusal::NoMemory),
-    }
-}
-
-// The type that is read, if the text may end here.
-fn whole_type(stage: TypeStage) -> Option<JType>
-    ensures { result ≡ type_read stage }
-{
-    match stage {
-        TypeStage::Whole(of) => Some(of),
-        _ => None,
     }
 }
 
@@ -267,22 +276,9 @@ pub fn read_method_type_as(
     ensures only { (kind : MethodType) → SpellsMethod spelling kind text.now → ReadsDescriptor result kind }
     ensures bad { IfErr result (RefusesDescriptor (IsMethodText spelling) text.now) }
 {
-    match read_all(alloc, MethodStage::Opening(spelling), text) {
-        Ok(stage) => match whole_method(stage) {
-            Some(kind) => Ok(kind),
-            None => Err(NameRefusal::BadDescriptor(text.len())),
-        },
+    match read_text(alloc, MethodStage::Opening(spelling), text) {
+        Ok(kind) => Ok(kind),
         Err(Stop::At(at)) => Err(NameRefusal::BadDescriptor(at)),
         Err(Stop::NoMemory) => Err(NameRefusal::NoMemory),
-    }
-}
-
-// The type that is read, if the text may end here.
-pub(crate) fn whole_method(stage: MethodStage) -> Option<MethodType>
-    ensures { result ≡ method_read stage }
-{
-    match stage {
-        MethodStage::Method(kind) => Some(kind),
-        _ => None,
     }
 }

@@ -6,7 +6,6 @@ mod class_names;
 mod descriptors;
 mod name;
 mod name_texts;
-mod row;
 mod same;
 mod stages;
 mod targets;
@@ -19,10 +18,11 @@ pub use class_names::Spelling;
 pub use descriptors::{
     NameRefusal, read_method_type, read_method_type_as, read_type, read_type_as,
 };
+pub use kb_rows::Row;
 pub use name::Name;
 pub use name_texts::{NameTextRefusal, read_name, write_name};
-pub use row::Row;
 pub use same::{Same, are_same};
+use std::alloc::AllocError;
 pub use targets::{TargetRefusal, read_target, write_target};
 pub use types::{Component, ExactType, JType, MethodType, Target};
 pub use writing::{write_method_type, write_type};
@@ -30,3 +30,9 @@ pub use writing::{write_method_type, write_type};
 /// Memory ran out.
 #[derive(Clone, Copy, Debug, PartialEq, Eq)]
 pub struct NoMemory;
+
+impl From<AllocError> for NoMemory {
+    fn from(_error: AllocError) -> NoMemory {
+        NoMemory
+    }
+}

@@ -1,11 +1,13 @@
-// Names, which are lists of bytes.
-ghost use Rattle.std.specs.Prelude.{◌≡◌, ◌↔◌, [], ◌∷◌, ◌++◌, IfOk, IsTrue};
+//! Names, which are lists of bytes.
+ghost use Rattle.std.specs.Prelude.{◌≡◌, ◌↔◌, ◌<◌, [], ◌∷◌, ◌++◌, IfOk, IsTrue};
+ghost use Rattle.kb_names.specs.Bytes.{AreBytes};
 
 use crate::NoMemory;
 use std::alloc::Global;
 use std::marker::Model;
 
-/// The name of a class, a field or a method: any bytes.
+/// The name of a class, a field or a method: any bytes. That each item of a name is a byte, below 256, is an
+/// invariant.
 #[derive(Debug, Drop)]
 pub struct Name {
     bytes: Vec<u8>,
@@ -17,6 +19,10 @@ impl Model for Name {
     ghost Value = { List ℕ };
 
     ghost view = { λ name. name.bytes.items };
+
+    ghost use Rattle.kb_names.specs.Bytes.{AreBytes};
+
+    ghost invariant = { λ name. AreBytes name.bytes.items };
 }
 
 impl Name {
@@ -51,6 +57,7 @@ impl Name {
     pub fn from_vec(bytes: Vec<u8>) -> Name
         ensures { result ≡ bytes.items }
     {
+        look_at_each(bytes.as_slice());
         Name { bytes }
     }
 
@@ -59,14 +66,15 @@ impl Name {
         ensures { IfOk result (λ name. name ≡ bytes.now) }
     {
         match bytes.to_vec(alloc) {
-            Ok(bytes) => Ok(Name { bytes }),
+            Ok(bytes) => Ok(Name::from_vec(bytes)),
             Err(_) => Err(NoMemory),
         }
     }
 
     /// Its bytes.
     pub fn as_slice(&self) -> &[u8]
-        ensures { result.now ≡ self.now }
+        ensures same { result.now ≡ self.now }
+        ensures bytes { AreBytes self.now }
     {
         self.bytes.as_slice()
     }
@@ -78,6 +86,19 @@ impl Name {
         Name::from_slice(alloc, self.as_slice())
     }
 }
+
+// Does nothing. That an item of a list is a byte is known once it is read.
+fn look_at_each(bytes: &[u8])
+    ensures { AreBytes bytes.now }
+{
+    for byte in bytes {
+        look_at(*byte);
+    }
+}
+
+fn look_at(_byte: u8)
+    ensures { _byte < 256 }
+{}
 
 impl PartialEq for Name {
     ghost use Rattle.std.specs.Str.{bytes_eq};

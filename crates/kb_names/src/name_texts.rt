@@ -1,9 +1,10 @@
-// The spelling of names in texts.
+//! The spelling of names in texts.
 ghost use Rattle.std.specs.Prelude.{◌≡◌, ℕ, ◌+◌, ◌*◌, ◌<◌, Option, Some, List, [], ◌∷◌, ◌++◌, IfOk, IfErr, IfSome, OnOk, OnErr, slice_index};
 ghost use Rattle.kb_names.specs.Escapes.{is_plain as is_plain_byte, hex_digit, hex_value, pair_value as byte_of_pair, with_escaped, byte_text, name_text, SpellsName, IsNameText, name_step, name_read};
+ghost use Rattle.std.specs.Io.{appended_bytes};
 ghost use Rattle.kb_names.specs.Refusals.{RefusesName, ReadsName};
 
-use crate::stages::{Stage, Stop, read_all};
+use crate::stages::{Stage, Stop, read_text};
 use crate::{Name, NoMemory};
 use std::alloc::Global;
 
@@ -28,7 +29,11 @@ pub(crate) enum NameStage {
 }
 
 impl Stage for NameStage {
+    type Value = Name;
+
     ghost step = { name_step };
+
+    ghost read = { name_read };
 
     #[tactic(auto, unfolding(crate::specs::Escapes::name_step))]
     fn next(self, _alloc: Global, byte: u8) -> Result<Option<NameStage>, NoMemory> {
@@ -50,6 +55,13 @@ impl Stage for NameStage {
                 Some(value) => escaped(name, value),
                 None => Ok(None),
             },
+        }
+    }
+
+    fn whole(self) -> Option<Name> {
+        match self {
+            NameStage::Plain(name) => Some(name),
+            NameStage::Percent(_) | NameStage::High(_, _) => None,
         }
     }
 }
@@ -96,6 +108,7 @@ fn pair_value(first: u8, second: u8) -> Option<u8>
 /// each other byte as `%` and two digits in base 16, in upper case.
 pub fn write_name(name: &Name, into: &mut Vec<u8>) -> Result<(), NoMemory>
     ensures ok { OnOk result (into.new.items ≡ into.old.items ++ name_text name.now) }
+    ensures spelled { OnOk result (SpellsName name.now (appended_bytes into.old.items into.new.items)) }
     ensures err { OnErr result (into.new.items ≡ into.old.items) }
 {
     let start = into.len();
@@ -142,22 +155,9 @@ pub fn read_name(alloc: Global, text: &[u8]) -> Result<Name, NameTextRefusal>
     ensures only { (name : List ℕ) → SpellsName name text.now → ReadsName result name }
     ensures bad { IfErr result (RefusesName IsNameText text.now) }
 {
-    match read_all(alloc, NameStage::Plain(Name::new(alloc)), text) {
-        Ok(stage) => match read_whole(stage) {
-            Some(name) => Ok(name),
-            None => Err(NameTextRefusal::BadName(text.len())),
-        },
+    match read_text(alloc, NameStage::Plain(Name::new(alloc)), text) {
+        Ok(name) => Ok(name),
         Err(Stop::At(at)) => Err(NameTextRefusal::BadName(at)),
         Err(Stop::NoMemory) => Err(NameTextRefusal::NoMemory),
-    }
-}
-
-// The name that is read, if the text may end here.
-pub(crate) fn read_whole(stage: NameStage) -> Option<Name>
-    ensures { result ≡ name_read stage }
-{
-    match stage {
-        NameStage::Plain(name) => Some(name),
-        NameStage::Percent(_) | NameStage::High(_, _) => None,
     }
 }

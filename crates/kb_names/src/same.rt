@@ -1,4 +1,4 @@
-// Lists whose items are equal one by one.
+//! Lists whose items are equal one by one.
 ghost use Rattle.std.specs.Prelude.{◌≡◌, ◌↔◌, IsTrue};
 
 /// What is told apart from all others of its kind.

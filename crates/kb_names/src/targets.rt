@@ -1,12 +1,13 @@
-// Targets in texts.
+//! Targets in texts.
 ghost use Rattle.std.specs.Prelude.{◌≡◌, ◌++◌, IfOk, IfErr, OnOk, OnErr, length, take};
-ghost use Rattle.kb_names.specs.Targets.{target_text, SpellsTarget, IsTargetText, ReadsTarget, RefusesTarget, target_step, target_read};
+ghost use Rattle.std.specs.Io.{appended_bytes};
+ghost use Rattle.kb_names.specs.Targets.{target_text, CanSpellTarget, IsTarget, SpellsTarget, IsTargetText, ReadsTarget, RefusesTarget, target_step, target_read};
 ghost use Rattle.kb_names.specs.declared.types.Target.{Target};
 
 use crate::class_names::unless_empty;
-use crate::descriptors::{MethodStage, whole_method};
-use crate::name_texts::{NameStage, read_whole};
-use crate::stages::{Stage, Stop, read_all};
+use crate::descriptors::MethodStage;
+use crate::name_texts::NameStage;
+use crate::stages::{Stage, Stop, read_text};
 use crate::writing::append_byte;
 use crate::{Name, NoMemory, Row, Spelling, Target, write_method_type, write_name};
 use std::alloc::Global;
@@ -32,7 +33,11 @@ pub(crate) enum TargetStage {
 }
 
 impl Stage for TargetStage {
+    type Value = Target;
+
     ghost step = { target_step };
+
+    ghost read = { target_read };
 
     #[tactic(auto, unfolding(crate::specs::Targets::target_step))]
     fn next(self, alloc: Global, byte: u8) -> Result<Option<TargetStage>, NoMemory> {
@@ -43,6 +48,16 @@ impl Stage for TargetStage {
                 Some(next) => Ok(Some(TargetStage::InKind(class, name, next))),
                 None => Ok(None),
             },
+        }
+    }
+
+    fn whole(self) -> Option<Target> {
+        match self {
+            TargetStage::InClass(_) | TargetStage::InMethod(_, _) => None,
+            TargetStage::InKind(class, name, stage) => {
+                let kind = stage.whole()?;
+                Some(Target { class, name, kind })
+            }
         }
     }
 }
@@ -57,7 +72,7 @@ fn in_class(alloc: Global, stage: NameStage, byte: u8) -> Result<Option<TargetSt
             None => Ok(None),
         };
     }
-    let Some(name) = read_whole(stage) else {
+    let Some(name) = stage.whole() else {
         return Ok(None);
     };
     match unless_empty(name) {
@@ -81,7 +96,7 @@ fn in_method(
             None => Ok(None),
         };
     }
-    match read_whole(stage) {
+    match stage.whole() {
         Some(name) => Ok(Some(TargetStage::InKind(
             class,
             name,
@@ -98,37 +113,18 @@ pub fn read_target(alloc: Global, text: &[u8]) -> Result<Target, TargetRefusal>
     ensures only { (target : Target) → SpellsTarget target text.now → ReadsTarget result target }
     ensures bad { IfErr result (RefusesTarget text.now) }
 {
-    match read_all(
-        alloc,
-        TargetStage::InClass(NameStage::Plain(Name::new(alloc))),
-        text,
-    ) {
-        Ok(stage) => match whole_target(stage) {
-            Some(target) => Ok(target),
-            None => Err(TargetRefusal::BadTarget(text.len())),
-        },
+    let start = TargetStage::InClass(NameStage::Plain(Name::new(alloc)));
+    match read_text(alloc, start, text) {
+        Ok(target) => Ok(target),
         Err(Stop::At(at)) => Err(TargetRefusal::BadTarget(at)),
         Err(Stop::NoMemory) => Err(TargetRefusal::NoMemory),
-    }
-}
-
-// The target that is read, if the text may end here.
-fn whole_target(stage: TargetStage) -> Option<Target>
-    ensures { result ≡ target_read stage }
-{
-    match stage {
-        TargetStage::InClass(_) => None,
-        TargetStage::InMethod(_, _) => None,
-        TargetStage::InKind(class, name, stage) => match whole_method(stage) {
-            Some(kind) => Some(Target { class, name, kind }),
-            None => None,
-        },
     }
 }
 
 /// Appends the one spelling of the target.
 pub fn write_target(target: &Target, into: &mut Vec<u8>) -> Result<(), NoMemory>
     ensures ok { OnOk result (into.new.items ≡ into.old.items ++ target_text target.now) }
+    ensures spelled { OnOk result (CanSpellTarget target.now → SpellsTarget target.now (appended_bytes into.old.items into.new.items)) }
     ensures err { OnErr result (into.new.items ≡ into.old.items) }
 {
     let start = into.len();
@@ -142,6 +138,7 @@ pub fn write_target(target: &Target, into: &mut Vec<u8>) -> Result<(), NoMemory>
 // Appends the target. After an `Err` a part of it may stand there.
 fn append_target(target: &Target, into: &mut Vec<u8>) -> Result<(), NoMemory>
     ensures ok { OnOk result (into.new.items ≡ into.old.items ++ target_text target.now) }
+    ensures is { OnOk result (CanSpellTarget target.now → IsTarget target.now) }
     ensures kept { take (length into.old.items) into.new.items ≡ into.old.items }
 {
     write_name(&target.class, into)?;

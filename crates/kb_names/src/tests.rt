@@ -1,3 +1,5 @@
+//! Names, types and targets are read, written, copied and told apart.
+
 use crate::{
     JType, Name, NameRefusal, NameTextRefusal, Spelling, TargetRefusal, read_method_type,
     read_name, read_target, read_type, write_method_type, write_name, write_target, write_type,

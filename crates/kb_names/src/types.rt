@@ -1,4 +1,4 @@
-// Types of the Java virtual machine.
+//! Types of the Java virtual machine.
 ghost use Rattle.std.specs.Prelude.{◌≡◌, ◌↔◌, IfOk, IsTrue};
 ghost use Rattle.kb_names.specs.Types.{shape_of, arrays_of};
 
@@ -123,7 +123,7 @@ fn copied_types(alloc: Global, types: &[JType]) -> Result<Row<JType>, NoMemory>
 {
     let mut copy = Row::new(alloc);
     for of in types {
-        copy = copy.with(of.copied(alloc)?)?;
+        copy.push(of.copied(alloc)?)?;
     }
     Ok(copy)
 }

@@ -1,14 +1,16 @@
-// Descriptors are written.
+//! Descriptors are written.
 ghost use Rattle.std.specs.Prelude.{◌≡◌, ℕ, ◌∷◌, [], ◌++◌, length, take, OnOk, OnErr};
+ghost use Rattle.std.specs.Io.{appended_bytes};
 ghost use Rattle.std.specs.List.{flat_map};
 ghost use Rattle.kb_names.specs.Types.{shape_of};
-ghost use Rattle.kb_names.specs.Descriptors.{class_text, type_text, result_text, method_text};
+ghost use Rattle.kb_names.specs.Descriptors.{class_text, type_text, result_text, method_text, MayStand, IsClassName, HasNameOf, CanSpellType, CanSpellTypes, CanSpellMethod, IsType, AreTypes, IsMethodType, SpellsType, SpellsMethod};
 
 use crate::{JType, MethodType, Name, NoMemory, Spelling, write_name};
 
 /// Appends the descriptor of the type, with the names of classes spelled so.
 pub fn write_type(of: &JType, spelling: Spelling, into: &mut Vec<u8>) -> Result<(), NoMemory>
     ensures ok { OnOk result (into.new.items ≡ into.old.items ++ type_text spelling of.now) }
+    ensures spelled { OnOk result (CanSpellType spelling of.now → SpellsType spelling of.now (appended_bytes into.old.items into.new.items)) }
     ensures err { OnErr result (into.new.items ≡ into.old.items) }
 {
     let start = into.len();
@@ -26,6 +28,7 @@ pub fn write_method_type(
     into: &mut Vec<u8>,
 ) -> Result<(), NoMemory>
     ensures ok { OnOk result (into.new.items ≡ into.old.items ++ method_text spelling kind.now) }
+    ensures spelled { OnOk result (CanSpellMethod spelling kind.now → SpellsMethod spelling kind.now (appended_bytes into.old.items into.new.items)) }
     ensures err { OnErr result (into.new.items ≡ into.old.items) }
 {
     let start = into.len();
@@ -40,6 +43,7 @@ pub fn write_method_type(
 
 fn append_method(kind: &MethodType, spelling: Spelling, into: &mut Vec<u8>) -> Result<(), NoMemory>
     ensures ok { OnOk result (into.new.items ≡ into.old.items ++ method_text spelling kind.now) }
+    ensures is { OnOk result (CanSpellMethod spelling kind.now → IsMethodType spelling kind.now) }
     ensures kept { take (length into.old.items) into.new.items ≡ into.old.items }
 {
     append_byte(b'(', into)?;
@@ -53,6 +57,7 @@ fn append_method(kind: &MethodType, spelling: Spelling, into: &mut Vec<u8>) -> R
 
 fn append_types(types: &[JType], spelling: Spelling, into: &mut Vec<u8>) -> Result<(), NoMemory>
     ensures ok { OnOk result (into.new.items ≡ into.old.items ++ flat_map (type_text spelling) types.now) }
+    ensures are { OnOk result (CanSpellTypes spelling types.now → AreTypes spelling types.now) }
     ensures kept { take (length into.old.items) into.new.items ≡ into.old.items }
 {
     let mut rest = types;
@@ -65,6 +70,7 @@ fn append_types(types: &[JType], spelling: Spelling, into: &mut Vec<u8>) -> Resu
 
 fn append_type(of: &JType, spelling: Spelling, into: &mut Vec<u8>) -> Result<(), NoMemory>
     ensures ok { OnOk result (into.new.items ≡ into.old.items ++ type_text spelling of.now) }
+    ensures is { OnOk result (CanSpellType spelling of.now → IsType spelling of.now) }
     ensures kept { take (length into.old.items) into.new.items ≡ into.old.items }
 {
     let mut base = of;
@@ -78,6 +84,7 @@ fn append_type(of: &JType, spelling: Spelling, into: &mut Vec<u8>) -> Result<(),
 fn append_base(base: &JType, spelling: Spelling, into: &mut Vec<u8>) -> Result<(), NoMemory>
     requires { (shape_of base.now).dims ≡ 0 }
     ensures ok { OnOk result (into.new.items ≡ into.old.items ++ type_text spelling base.now) }
+    ensures is { OnOk result (HasNameOf (MayStand spelling) (shape_of base.now).base → HasNameOf (IsClassName spelling) (shape_of base.now).base) }
     ensures kept { take (length into.old.items) into.new.items ≡ into.old.items }
 {
     match base {
@@ -96,6 +103,7 @@ fn append_base(base: &JType, spelling: Spelling, into: &mut Vec<u8>) -> Result<(
 
 fn append_class(name: &Name, spelling: Spelling, into: &mut Vec<u8>) -> Result<(), NoMemory>
     ensures ok { OnOk result (into.new.items ≡ into.old.items ++ 76 ∷ (class_text spelling name.now ++ 59 ∷ [])) }
+    ensures is { OnOk result (MayStand spelling name.now → IsClassName spelling name.now) }
     ensures kept { take (length into.old.items) into.new.items ≡ into.old.items }
 {
     append_byte(b'L', into)?;
@@ -105,6 +113,7 @@ fn append_class(name: &Name, spelling: Spelling, into: &mut Vec<u8>) -> Result<(
 
 fn append_name(name: &Name, spelling: Spelling, into: &mut Vec<u8>) -> Result<(), NoMemory>
     ensures ok { OnOk result (into.new.items ≡ into.old.items ++ class_text spelling name.now) }
+    ensures is { OnOk result (MayStand spelling name.now → IsClassName spelling name.now) }
     ensures kept { take (length into.old.items) into.new.items ≡ into.old.items }
 {
     match spelling {

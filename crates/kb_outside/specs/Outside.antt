@@ -21,3 +21,8 @@ Grows before now piece = now ≡ option_map (λ (bytes : List ℕ). bytes ++ pie
 -- the bytes, where they are told, have gained a front of the text that is not the whole of it
 abbrev pub GrowsByPart : Option (List ℕ) → Option (List ℕ) → List ℕ → Type 0
 GrowsByPart before now text = (n : ℕ) × (n < length text) × Grows before now (take n text)
+
+-- a sink over a writer: the writer, and the faults so far
+pub record OutState (W : Type 0) : Type 0 where
+  pub to : W
+  pub faults : ℕ

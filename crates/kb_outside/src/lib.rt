@@ -4,6 +4,7 @@
 
 mod memory_shelf;
 mod memory_sink;
+mod reading;
 mod real;
 mod shelves;
 mod sinks;
@@ -12,6 +13,7 @@ mod tests;
 
 pub use memory_shelf::MemoryShelf;
 pub use memory_sink::MemorySink;
+pub use reading::read_up_to;
 pub use real::{FileShelf, OutSink};
 pub use shelves::{Shelf, ShelfStop};
 pub use sinks::{Sink, SinkFailed, send_all};

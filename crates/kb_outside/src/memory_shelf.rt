@@ -1,4 +1,4 @@
-// A shelf in memory.
+//! A shelf in memory.
 ghost use Rattle.std.specs.Prelude.{◌≡◌, ◌≢◌, ℕ, ◌+◌, ◌≤◌, ◌↔◌, Option, List, ◌++◌, length, map, take, IfSome, IsErrOf, OnOk, OnErr, string_bytes};
 ghost use Rattle.std.specs.Option.{option_copied};
 ghost use Rattle.kb_outside.specs.Outside.{Rose};

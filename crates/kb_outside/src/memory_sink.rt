@@ -1,4 +1,4 @@
-// A sink in memory.
+//! A sink in memory.
 ghost use Rattle.std.specs.Prelude.{◌≡◌, ℕ, ◌<◌, ◌≤◌, ◌↔◌, Some, List, [], length, take, IsErr, IfOk, OnErr};
 ghost use Rattle.kb_outside.specs.Outside.{Rose, Grows};
 ghost use Rattle.kb_outside.specs.Memory.{FailsNext, taken_of, with_taken, with_failed_write};

@@ -1,16 +1,19 @@
-// The shelf and the sink over the system.
+//! The shelf and the sink over the system.
 ghost use Rattle.std.specs.Prelude.{◌≡◌, ◌≢◌, ℕ, ◌+◌, ◌<◌, ◌≤◌, ◌↔◌, Option, List, ◌++◌, length, take, IfOk, IfSome, IsErrOf, OnOk, OnErr};
+ghost use Rattle.std.specs.Io.KnownBytes.{Appends, Keeps};
 ghost use Rattle.kb_outside.specs.Outside.{Rose, Grows, next_count, untold};
 
+use crate::reading::read_up_to;
 use crate::shelves::{Shelf, ShelfStop};
 use crate::sinks::{Sink, SinkFailed};
 use std::fs;
-use std::io::{Read, Write};
+use std::io::Write;
 use std::marker::Model;
 use std::rt::Files;
 
-/// The files of the system, by their paths. It tells nothing of their bytes. A missing file is a failed
-/// read, and so is every error of the system, at the opening or in the middle of the file.
+/// The files of the system, by their paths. It tells nothing of their bytes, since no contract can: what it
+/// does with a file is [`read_up_to`]. A missing file is a failed read, and so is every error of the system,
+/// at the opening or in the middle of the file.
 #[derive(Drop)]
 pub struct FileShelf<'a, R> {
     rt: &'a R,
@@ -82,45 +85,14 @@ fn read_file<R: Files>(
     ensures within { length into.new.items ≤ length into.old.items + (limit + 1) }
     ensures refused { OnErr result (into.new.items ≡ into.old.items) }
 {
-    let Ok(mut file) = fs::open(rt, name) else {
-        return Err(ShelfStop::Failed);
-    };
-    let start = into.len();
-    let read = fill(&mut file, limit, into);
-    if read.is_err() {
-        into.truncate(start);
+    match fs::open(rt, name) {
+        Ok(mut file) => read_up_to(&mut file, limit, into),
+        Err(_) => Err(ShelfStop::Failed),
     }
-    read
 }
 
-// How many bytes a read asks for.
-const BLOCK: usize = 8192;
-
-// Appends what the reader gives, at most `limit + 1` bytes. After an `Err` some bytes may stand there.
-fn fill<F: Read>(file: &mut F, limit: usize, into: &mut Vec<u8>) -> Result<(), ShelfStop>
-    ensures appended { take (length into.old.items) into.new.items ≡ into.old.items }
-    ensures within { length into.new.items ≤ length into.old.items + (limit + 1) }
-{
-    let mut block = [0; BLOCK];
-    let start = into.len();
-    while into.len() - start <= limit {
-        let most = (limit - (into.len() - start)).min(BLOCK - 1) + 1;
-        let count = match file.read(&mut block[..most]) {
-            Ok(count) => count,
-            Err(_) => return Err(ShelfStop::Failed),
-        };
-        if count == 0 {
-            return Ok(());
-        }
-        match into.extend_from_slice(&block[..count]) {
-            Ok(()) => {}
-            Err(_) => return Err(ShelfStop::NoMemory),
-        }
-    }
-    Ok(())
-}
-
-/// A sink over a writer, as the standard output. It tells nothing of its bytes.
+/// A sink over a writer, as the standard output. It tells nothing of its bytes; what the writer itself tells
+/// of its contents has gained what each write reports.
 #[derive(Drop)]
 pub struct OutSink<W> {
     to: W,
@@ -128,24 +100,24 @@ pub struct OutSink<W> {
 }
 
 impl<W> Model for OutSink<W> {
-    ghost use Rattle.std.specs.Prelude.{ℕ};
+    ghost use Rattle.kb_outside.specs.Outside.{OutState};
 
-    ghost Value = { ℕ };
+    ghost Value = { OutState W };
 
-    ghost view = { λ s. s.faults };
+    ghost view = { λ s. record { to = s.to; faults = s.faults } };
 }
 
 impl<W: Write> OutSink<W> {
     /// A sink with no faults so far.
     pub fn new(to: W) -> OutSink<W>
-        ensures { result ≡ 0 }
+        ensures { result ≡ record { to = to; faults = 0 } }
     {
         OutSink { to, faults: 0 }
     }
 
     /// How many writes have failed or taken nothing.
     pub fn faults(&self) -> u64
-        ensures { result ≡ self.now }
+        ensures { result ≡ self.now.faults }
     {
         self.faults
     }
@@ -154,7 +126,7 @@ impl<W: Write> OutSink<W> {
 impl<W: Write> Sink for OutSink<W> {
     ghost written = { λ _. untold };
 
-    ghost faults = { λ faults. faults };
+    ghost faults = { λ sink. sink.faults };
 
     fn write(&mut self, piece: &[u8]) -> Result<usize, SinkFailed>
         requires { 0 < length piece.now }
@@ -162,12 +134,16 @@ impl<W: Write> Sink for OutSink<W> {
         ensures within { IfOk result (λ n. n ≤ length piece.now) }
         ensures taken { IfOk result (λ n. Grows untold untold (take n piece.now)) }
         ensures nothing { OnErr result (untold ≡ untold) }
-        ensures counted { OnErr result (Rose self.old self.new) }
-        ensures later { self.old ≤ self.new }
+        ensures counted { OnErr result (Rose self.old.faults self.new.faults) }
+        ensures later { self.old.faults ≤ self.new.faults }
 
         // It counts each write that failed or took nothing once, and nothing else.
-        ensures failed { OnErr result (self.new ≡ next_count self.old) }
-        ensures ok { OnOk result (self.new ≡ self.old) }
+        ensures failed { OnErr result (self.new.faults ≡ next_count self.old.faults) }
+        ensures ok { OnOk result (self.new.faults ≡ self.old.faults) }
+
+        // The writer's bytes, where it tells them, have gained what is said to be taken, and nothing else.
+        ensures gained { IfOk result (λ n. Appends (W.contents self.old.to) (W.contents self.new.to) (take n piece.now)) }
+        ensures kept { OnErr result (Keeps (W.contents self.old.to) (W.contents self.new.to)) }
     {
         match self.to.write(piece) {
             Ok(0) | Err(_) => {

@@ -1,4 +1,4 @@
-// What files are read from.
+//! What files are read from.
 ghost use Rattle.std.specs.Prelude.{◌≡◌, ℕ, ◌+◌, ◌≤◌, ◌↔◌, Option, List, ◌++◌, length, take, IfSome, IsErrOf, OnOk, OnErr};
 ghost use Rattle.kb_outside.specs.Outside.{Rose};
 

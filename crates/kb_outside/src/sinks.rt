@@ -1,4 +1,4 @@
-// What bytes are written to.
+//! What bytes are written to.
 ghost use Rattle.std.specs.Prelude.{◌≡◌, ℕ, ◌<◌, ◌≤◌, Option, List, length, take, IfOk, OnOk, OnErr};
 ghost use Rattle.kb_outside.specs.Outside.{Rose, Grows, GrowsByPart};
 

@@ -1,7 +1,11 @@
+//! Shelves and sinks over files of the system and in memory, and readers and writers that fail.
+
 use crate::{
-    FileShelf, MemoryShelf, MemorySink, OutSink, Shelf, ShelfStop, Sink, SinkFailed, send_all,
+    FileShelf, MemoryShelf, MemorySink, OutSink, Shelf, ShelfStop, Sink, SinkFailed, read_up_to,
+    send_all,
 };
 use std::alloc::{AllocError, Global};
+use std::io::{self, ErrorKind, Read};
 use std::path::PathBuf;
 use std::test::Fail;
 use std::{env, fs, process};
@@ -107,23 +111,109 @@ fn path_of(rt: &HostRuntime, name: &str) -> Result<PathBuf, Fail> {
     Ok(env::temp_dir(rt)?.join(rt.alloc(), own.as_str())?)
 }
 
+// So many bytes, with a period that no power of two has.
+fn varied(alloc: Global, count: usize) -> Result<Vec<u8>, AllocError> {
+    let mut bytes = Vec::new(alloc);
+    for i in 0..count {
+        bytes.push((i % 251) as u8)?;
+    }
+    Ok(bytes)
+}
+
 #[test]
 fn files_are_read_up_to_the_limit(rt: HostRuntime) -> Result<(), Fail> {
     let alloc = rt.alloc();
     let path = path_of(&rt, "read")?;
     let name = path.as_path().as_str();
-    let text = vec![in alloc; 7u8; 20000]?;
-    fs::write(&rt, name, text.as_slice())?;
     let mut shelf = FileShelf::new(&rt);
-    let whole = read_all(alloc, &mut shelf, name, 20000).expect(&rt, "a read");
-    assert_eq!(rt; whole.len(), 20001);
-    assert_eq!(rt; &whole[1..], text.as_slice());
-    let front = read_all(alloc, &mut shelf, name, 9999).expect(&rt, "a read");
-    assert_eq!(rt; front.len(), 10001);
+    // A file as long as the limit, one longer and two longer: of the last one byte is left out.
+    let cases = [
+        (8192, 8192, 8192),
+        (8193, 8192, 8193),
+        (8194, 8192, 8193),
+        (1_048_576, 1_048_576, 1_048_576),
+        (1_048_577, 1_048_576, 1_048_577),
+        (1_048_578, 1_048_576, 1_048_577),
+        (20_000, 9999, 10_000),
+        (0, 9, 0),
+    ];
+    for (length, limit, want) in cases {
+        let text = varied(alloc, length)?;
+        fs::write(&rt, name, text.as_slice())?;
+        let read = read_all(alloc, &mut shelf, name, limit).expect(&rt, "a read");
+        let front = varied(alloc, want)?;
+        let [_, behind @ ..] = read.as_slice() else {
+            assert!(rt; false, "what was there is lost");
+            return Ok(());
+        };
+        assert!(rt;
+            behind == front.as_slice(),
+            "{length} bytes, at most {limit}"
+        );
+    }
     assert_eq!(rt; shelf.faults(), 0);
     fs::remove_file(&rt, name)?;
     assert!(rt; matches!(read_all(alloc, &mut shelf, name, 9), Err(ShelfStop::Failed)));
     assert_eq!(rt; shelf.faults(), 1);
+    Ok(())
+}
+
+// Gives its bytes in blocks of at most `most`, and fails at the call of that number, which counts from 0.
+#[derive(Drop)]
+struct Blocks<'a> {
+    rest: &'a [u8],
+    most: usize,
+    fails: u64,
+    calls: u64,
+}
+
+impl<'a> Read for Blocks<'a> {
+    fn read(&mut self, buf: &mut [u8]) -> io::Result<usize> {
+        let call = self.calls;
+        self.calls = call.saturating_add(1);
+        if call == self.fails {
+            return Err(io::Error::from(ErrorKind::Other));
+        }
+        let count = self.most.min(self.rest.len()).min(buf.len());
+        buf[..count].copy_from_slice(&self.rest[..count]);
+        self.rest = &self.rest[count..];
+        Ok(count)
+    }
+}
+
+#[test]
+fn short_blocks_are_read_and_an_error_in_the_middle_refuses(rt: HostRuntime) -> Result<(), Fail> {
+    let alloc = rt.alloc();
+    let text = varied(alloc, 1000)?;
+    // 1000 bytes in blocks of 7 are 143 blocks, and a call that gives nothing.
+    let cases = [
+        (999, u64::MAX, Ok(1000)),
+        (998, u64::MAX, Ok(999)),
+        (5000, u64::MAX, Ok(1000)),
+        (5000, 144, Ok(1000)),
+        (5000, 0, Err(ShelfStop::Failed)),
+        (5000, 70, Err(ShelfStop::Failed)),
+        (5000, 143, Err(ShelfStop::Failed)),
+    ];
+    for (limit, fails, want) in cases {
+        let mut blocks = Blocks {
+            rest: text.as_slice(),
+            most: 7,
+            fails,
+            calls: 0,
+        };
+        let mut into = b"<".to_vec(alloc)?;
+        let read = read_up_to(&mut blocks, limit, &mut into);
+        assert_eq!(rt;
+            read,
+            want.map(|_| ()),
+            "at most {limit}, call {fails} fails"
+        );
+        let count = want.unwrap_or(0);
+        let mut wanted = b"<".to_vec(alloc)?;
+        wanted.extend_from_slice(varied(alloc, count)?.as_slice())?;
+        assert_eq!(rt; into, wanted, "at most {limit}, call {fails} fails");
+    }
     Ok(())
 }
 
@@ -140,5 +230,18 @@ fn writer_takes_the_text_and_its_refusals_are_counted(rt: HostRuntime) -> Result
     assert_eq!(rt; send_all(&mut read_only, b"more"), Err(SinkFailed));
     assert_eq!(rt; read_only.faults(), 1);
     fs::remove_file(&rt, name)?;
+    Ok(())
+}
+
+#[test]
+fn writer_has_what_is_said_to_be_taken(rt: HostRuntime) -> Result<(), Fail> {
+    let alloc = rt.alloc();
+    let text = varied(alloc, 100)?;
+    let front = varied(alloc, 64)?;
+    let mut room = [0u8; 64];
+    let mut out = OutSink::new(room.as_mut_slice());
+    assert_eq!(rt; send_all(&mut out, text.as_slice()), Err(SinkFailed));
+    assert_eq!(rt; out.faults(), 1);
+    assert_eq!(rt; room.as_slice(), front.as_slice());
     Ok(())
 }

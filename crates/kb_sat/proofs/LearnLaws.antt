@@ -11,18 +11,18 @@ use Rattle.kb_chain.proofs.LiteralLaws.{same-true, same_refl, has_head, negated-
 use Rattle.kb_chain.proofs.PropagationLaws.{IsPart, all_negated-at, has-others, taken_part, place_of-negated}
 use Rattle.kb_chain.proofs.LogLaws.{derived-push, EachEntry-push}
 use Rattle.kb_chain.proofs.LeastSets.{Misses-by}
-use Rattle.kb_sat.specs.Trail.{Assigned, IsTrail, level_zero, start_of, before_level, cut_back}
-use Rattle.kb_sat.specs.Store.{IsRow, IsJustified}
+use Rattle.kb_eliminate.specs.Trail.{Assigned, IsTrail, level_zero, start_of, before_level, cut_back}
+use Rattle.kb_eliminate.specs.Store.{IsRow, IsJustified}
 use Rattle.kb_sat.specs.Search.{IsLearned}
-use Rattle.kb_sat.specs.Watches.{Quiet, paired, put_pair}
-use Rattle.kb_sat.specs.Solver.{IsSearch, IsSecond}
-use Rattle.kb_sat.specs.declared.watch.Pair.{Pair}
-use Rattle.kb_sat.specs.declared.watch.Watch.{Watch}
-use Rattle.kb_sat.proofs.Places.{at_pushed, at_kept, at_last, at_inside, at_has}
-use Rattle.kb_sat.proofs.TrailLaws.{length_taken, has_pushed, IsTrail-cut, start_taken}
-use Rattle.kb_sat.proofs.WatchLaws.{is_met-from, IsWatching-push, AllListed-push, AllAwake-push, Quiet-push, Quiet_more}
-use Rattle.kb_sat.proofs.JustifyLaws.{pushed, IsJustified-push, IsJustified-cut, level_zero-cut, push_part}
-use Rattle.kb_sat.proofs.SearchLaws.{before_part, before_cut, cut_settled, closed_from, IsSearch-cut}
+use Rattle.kb_eliminate.specs.Watches.{Quiet, paired, put_pair}
+use Rattle.kb_eliminate.specs.Base.{IsBase, IsSecond}
+use Rattle.kb_eliminate.specs.declared.watch.Pair.{Pair}
+use Rattle.kb_eliminate.specs.declared.watch.Watch.{Watch}
+use Rattle.kb_eliminate.proofs.Places.{at_pushed, at_kept, at_last, at_inside, at_has}
+use Rattle.kb_eliminate.proofs.TrailLaws.{length_taken, has_pushed, IsTrail-cut, start_taken}
+use Rattle.kb_eliminate.proofs.WatchLaws.{is_met-from, IsWatching-push, AllListed-push, AllAwake-push, Quiet-push, Quiet_more}
+use Rattle.kb_eliminate.proofs.JustifyLaws.{IsJustified-grow, pushed, IsJustified-push, IsJustified-cut, level_zero-cut, push_part}
+use Rattle.kb_eliminate.proofs.BaseLaws.{before_part, before_cut, cut_settled, closed_from, IsBase-cut}
 
 -- a clause that is false, but for one literal before a level whose set is closed, is new
 pub IsNew-from : (clauses : List (List Literal)) (clause : List Literal) (x : Literal) (all set : Literal → Bool)
@@ -45,34 +45,6 @@ IsNew-from clauses clause x all set consistent part member false_x earlier settl
       | inl s ↦ ap (λ z. all (negated z)) (same-true m x s) ∙ false_x
       | inr n ↦ part (negated m) (all_negated-at set (others x clause) earlier m (has-others x clause m ∙ and_from _ _ e (ap not n)))
     ]
-
--- the clauses with one more, and its row
-pub IsJustified-grow : (clauses rows : List (List Literal)) (t : Assigned) (clause row : List Literal) → IsJustified clauses rows t → IsRow (has (level_zero t)) row clause
-    → IsJustified (clauses ++ clause ∷ []) (rows ++ row ∷ []) t
-IsJustified-grow clauses rows t clause row j r =
-    let more_clauses : length (clauses ++ clause ∷ []) ≡ length clauses + 1 = length_push clauses clause in
-    let more_rows : length (rows ++ row ∷ []) ≡ length rows + 1 = length_push rows row in
-    let count : length rows ≡ length clauses = j.stored.count in record {
-      stored = record {
-        count = omega (arith, more_clauses, more_rows, count);
-        each = λ k c w e f. elim (at_pushed clauses clause k c e) [
-          | inl a ↦ elim (at_pushed rows row k w f) [
-            | inl b ↦ j.stored.each k c w a b
-            | inr b ↦ absurd (let lt : k < length clauses = at_inside clauses k c a in let at : k ≡ length rows = b.0 in omega (arith, lt, at, count))
-          ]
-          | inr a ↦ elim (at_pushed rows row k w f) [
-            | inl b ↦ absurd (let lt : k < length rows = at_inside rows k w b in let at : k ≡ length clauses = a.0 in omega (arith, lt, at, count))
-            | inr b ↦ subst (λ z. IsRow (has (level_zero t)) z c) b.1 (subst (λ z. IsRow (has (level_zero t)) row z) a.1 r)
-          ]
-        ];
-      };
-      reasons = λ i n l e f. (let q = j.reasons i n l e f in record {
-        clause = q.clause;
-        numbered = at_kept clauses (clause ∷ []) n q.clause q.numbered;
-        member = q.member;
-        forced = q.forced;
-      });
-    }
 
 -- where the two watched literals of a learned clause stand
 pub record IsAsserting (t : Assigned) (row : List Literal) (level : ℕ) (a b : Literal) : Type 0 where
@@ -137,14 +109,14 @@ IsAsserting-from clauses t chain row level a b h k at_a at_b =
 abbrev pub learned_trail : Assigned → ℕ → Literal → ℕ → Assigned
 learned_trail t level a n = pushed (cut_back t level) a (Some n) (take level t.starts)
 
-pub IsSearch-learn : (formula : Cnf) (entries : List Chain) (rows : List (List Literal)) (pairs : List Pair) (lists : List (List Watch)) (t : Assigned)
-    (whole : Bool) (s : IsSearch formula entries rows pairs lists t whole) (chain : Chain) (row : List Literal) (level : ℕ) (a b : Literal) (n : ℕ)
+pub IsBase-learn : (formula : Cnf) (entries : List Chain) (rows : List (List Literal)) (pairs : List Pair) (lists : List (List Watch)) (t : Assigned)
+    (whole : Bool) (s : IsBase formula entries rows pairs lists t whole) (chain : Chain) (row : List Literal) (level : ℕ) (a b : Literal) (n : ℕ)
     → IsTrail t → IsLearned s.clauses t chain row level → IsAsserting t row level a b → n ≡ length rows
-    → IsSearch formula (entries ++ chain ∷ []) (rows ++ row ∷ []) (pairs ++ paired a b ∷ []) (put_pair lists a b n) (learned_trail t level a n) whole
-IsSearch-learn formula entries rows pairs lists t whole s chain row level a b n h k p at =
+    → IsBase formula (entries ++ chain ∷ []) (rows ++ row ∷ []) (pairs ++ paired a b ∷ []) (put_pair lists a b n) (learned_trail t level a n) whole
+IsBase-learn formula entries rows pairs lists t whole s chain row level a b n h k p at =
     let lt : level < length t.starts = k.below in
     let inside : length t.starts - 1 < length t.starts = omega (arith, lt) in
-    let cut = IsSearch-cut formula entries rows pairs lists t level whole s h lt in
+    let cut = IsBase-cut formula entries rows pairs lists t level whole s h lt in
     let zero_same = level_zero-cut t level h lt in
     let row_cut : IsRow (has (level_zero (cut_back t level))) row k.clause = subst (λ z. IsRow (has z) row k.clause) (sym zero_same) k.stored in
     let justified = IsJustified-grow s.clauses rows (cut_back t level) k.clause row (IsJustified-cut s.clauses rows t level h s.justified lt) row_cut in
@@ -188,7 +160,7 @@ IsSearch-learn formula entries rows pairs lists t whole s chain row level a b n 
     }
 
 pub ready-learn : (formula : Cnf) (entries : List Chain) (rows : List (List Literal)) (pairs : List Pair) (lists : List (List Watch)) (t : Assigned) (whole : Bool)
-    → IsSearch formula entries rows pairs lists t whole → (row : List Literal) (level : ℕ) (a b : Literal) → IsTrail t → level < length t.starts → IsAsserting t row level a b
+    → IsBase formula entries rows pairs lists t whole → (row : List Literal) (level : ℕ) (a b : Literal) → IsTrail t → level < length t.starts → IsAsserting t row level a b
     → (start_of t.starts level ≤ length (before_level t level ++ a ∷ []))
     × Quiet (rows ++ row ∷ []) (pairs ++ paired a b ∷ []) (has (take (start_of t.starts level) (before_level t level ++ a ∷ []))) (has (before_level t level ++ a ∷ []))
 ready-learn formula entries rows pairs lists t whole s row level a b h lt p =

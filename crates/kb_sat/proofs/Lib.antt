@@ -1,10 +1,3 @@
-pub mod Places
-pub mod ClausesLaws
-pub mod TrailLaws
-pub mod WatchLaws
-pub mod JustifyLaws
-pub mod BeginLaws
-pub mod SearchLaws
 pub mod MarkLaws
 pub mod HeldLaws
 pub mod MarkedLaws
@@ -14,5 +7,3 @@ pub mod MinimiseLaws
 pub mod AnalysisLaws
 pub mod RefuteLaws
 pub mod LearnLaws
-pub mod ResolventLaws
-pub mod ForgetLaws

@@ -4,7 +4,8 @@ use Rattle.kb_chain.specs.Cnf.{Cnf}
 use Rattle.kb_chain.specs.Clause.{Satisfies, assignment_of}
 use Rattle.kb_chain.specs.Chains.{IsRefutation}
 use Rattle.kb_chain.specs.Propagation.{IsFresh, UnitRefutes}
-use Rattle.kb_sat.specs.Solver.{Searches, Equipped, IsComplete, IsDoomed, IsReady}
+use Rattle.kb_eliminate.specs.Base.{Stands, IsComplete, IsConflict, IsDoomed, IsReady}
+use Rattle.kb_sat.specs.Solver.{Equipped}
 use Rattle.kb_sat.specs.declared.search.Search.{Search}
 use Rattle.kb_sat.specs.declared.solver.Begun.{Begun}
 use Rattle.kb_sat.specs.declared.solver.Ended.{Ended}
@@ -39,29 +40,37 @@ Answers formula budget (Undecided log) =
 -- a search of this formula at its start
 abbrev pub BegunIs : Cnf → Bool → Begun → Type 0
 BegunIs formula lets_go (Begun.Doomed search number) =
-    IsDoomed search number × (search.formula.now ≡ formula) × (search.entries ≡ [])
+    IsDoomed search.base number × (search.base.formula.now ≡ formula) × (search.base.entries ≡ [])
 BegunIs formula lets_go (Begun.Ready search eliminated) =
-    Searches search × Equipped search × IsReady search × (search.formula.now ≡ formula)
-    × (search.whole ≡ true → search.entries ≡ []) × (lets_go ≡ false → search.whole ≡ true)
+    Stands search.base × Equipped search × IsReady search.base × (search.base.formula.now ≡ formula)
+    × (search.base.whole ≡ true → search.base.entries ≡ []) × (lets_go ≡ false → search.base.whole ≡ true)
 
--- a search of this formula at its end
+-- a search of this formula at its end: where the budget is spent, a clause is false
 abbrev pub EndedIs : Cnf → ℕ → Ended → Type 0
-EndedIs formula budget (Ended.Complete search) = Searches search × IsComplete search × (search.formula.now ≡ formula)
+EndedIs formula budget (Ended.Complete search) = Stands search.base × IsComplete search.base × (search.base.formula.now ≡ formula)
 EndedIs formula budget (Ended.Doomed search number) =
-    IsDoomed search number × (search.formula.now ≡ formula) × (length search.entries < budget)
-EndedIs formula budget (Ended.Spent search) =
-    Searches search × (search.formula.now ≡ formula)
-    × (search.whole ≡ true → (length search.entries ≡ budget) × (UnitRefutes formula.clauses → ⊥))
+    IsDoomed search.base number × (search.base.formula.now ≡ formula) × (length search.base.entries < budget)
+EndedIs formula budget (Ended.Spent search number) =
+    Stands search.base × (search.base.formula.now ≡ formula)
+    × (search.base.whole ≡ true → (length search.base.entries ≡ budget) × (UnitRefutes formula.clauses → ⊥))
+    × IsConflict search.base.clauses search.base.trail number
 
 -- no clause was let go, or the search ended with a refutation
 abbrev pub KeepsAll : Ended → Type 0
-KeepsAll (Ended.Complete search) = search.whole ≡ true
+KeepsAll (Ended.Complete search) = search.base.whole ≡ true
 KeepsAll (Ended.Doomed search number) = Unit {0}
-KeepsAll (Ended.Spent search) = search.whole ≡ true
+KeepsAll (Ended.Spent search number) = search.base.whole ≡ true
+
+-- the answer is undecided only where the search ended at a false clause
+abbrev pub IsOpenOnly : Ended → Solved → Type 0
+IsOpenOnly (Ended.Complete search) solved = IfUndecided (λ log. ⊥) solved
+IsOpenOnly (Ended.Doomed search number) solved = IfUndecided (λ log. ⊥) solved
+IsOpenOnly (Ended.Spent search number) solved = Unit {0}
 
 -- how far a search came by its next conflict
 abbrev pub ProgressIs : Search → Search → Progress → Type 0
-ProgressIs old new Complete = IsComplete new
-ProgressIs old new (Doomed number) = IsDoomed new number × (new.entries ≡ old.entries)
+ProgressIs old new Complete = IsComplete new.base
+ProgressIs old new (Doomed number) = IsDoomed new.base number × (new.base.entries ≡ old.base.entries)
 ProgressIs old new Learned =
-    IsReady new × (length new.entries ≡ length old.entries + 1) × (new.whole ≡ true → UnitRefutes new.formula.now.clauses → ⊥)
+    IsReady new.base × (length new.base.entries ≡ length old.base.entries + 1)
+    × (new.base.whole ≡ true → UnitRefutes new.base.formula.now.clauses → ⊥)

@@ -1,13 +1,5 @@
-pub mod Trail
 pub mod Order
 pub mod Analysis
-pub mod Tables
-pub mod Store
-pub mod Rows
+pub mod Search
 pub mod Solver
 pub mod Answer
-pub mod Watches
-pub mod Search
-pub mod Resolvents
-pub mod Forgetting
-pub mod Elimination

@@ -4,14 +4,8 @@ use Rattle.kb_chain.specs.Literal.{Literal, has, negated}
 use Rattle.kb_chain.specs.Propagation.{all_negated, others}
 use Rattle.kb_chain.specs.Chains.{entry_of}
 use Rattle.kb_chain.specs.declared.log.Chain.{Chain}
-use Rattle.kb_sat.specs.Trail.{Assigned, before_level, level_zero}
-use Rattle.kb_sat.specs.Store.{IsRow}
-
--- all literals of the row of this number are false
-pub record IsConflict (rows : List (List Literal)) (t : Assigned) (number : ℕ) : Type 0 where
-  pub row : List Literal
-  pub numbered : slice_get rows number ≡ Some row
-  pub false_all : all_negated (has t.literals) row ≡ true
+use Rattle.kb_eliminate.specs.Trail.{Assigned, before_level, level_zero}
+use Rattle.kb_eliminate.specs.Store.{IsRow}
 
 -- the chain gives a clause with one literal of the last level, which is free again below that level and then the only one
 -- that is not false, as soon as the trail is cut back to that level below it at which the last of the others became false

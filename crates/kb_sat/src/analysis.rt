@@ -1,3 +1,5 @@
+//! Conflict analysis: the clause of the first unique implication point (Marques-Silva and Sakallah, 1999), with local minimisation
+//! (Sörensson and Biere, 2009), and the refutation from a conflict at level 0. Under proof: the chain of each clause gives it.
 ghost use Rattle.std.specs.Prelude.{◌≡◌, ℕ, ◌+◌, ◌-◌, ◌<◌, ◌≤◌, ◌==◌, ◌&&◌, ◌||◌, ◌⊎◌, not, true, false, List, [], ◌∷◌, length, take, slice_get, Some, None, OnOk, IfOk, IfSome, MatchOption};
 ghost use Rattle.std.specs.Bool.{OnTrue};
 ghost use Rattle.std.specs.List.{list_any};
@@ -7,16 +9,15 @@ ghost use Rattle.kb_chain.specs.Propagation.{all_negated};
 ghost use Rattle.kb_chain.specs.Index.{has_number};
 ghost use Rattle.kb_chain.specs.Chains.{derived};
 ghost use Rattle.kb_chain.specs.Needed.{cites};
-ghost use Rattle.kb_sat.specs.Trail.{start_of, before_level, HasReasons};
-ghost use Rattle.kb_sat.specs.Store.{IsJustified};
-ghost use Rattle.kb_sat.specs.Search.{IsConflict, IsLearned, IsRefuting};
+ghost use Rattle.kb_eliminate.specs.Trail.{start_of, before_level, HasReasons};
+ghost use Rattle.kb_eliminate.specs.Store.{IsJustified};
+ghost use Rattle.kb_eliminate.specs.Base.{IsConflict};
+ghost use Rattle.kb_sat.specs.Search.{IsLearned, IsRefuting};
 ghost use Rattle.kb_sat.specs.Analysis.{is_seen, is_pivot, AreFalseBefore, AreMarked, IsClean, MarksOthers, IsLevels, AreCovered, IsReached, IsLastSeen, NoneSeen, ArePut, MayCite, literal_at};
 
-use crate::clauses::Clauses;
-use crate::memory::NoMemory;
 use crate::order::Order;
-use crate::trail::Trail;
 use kb_chain::{Chain, Formula, Lit, Row, Store, derive_needed};
+use kb_eliminate::{Clauses, NoMemory, Trail};
 use std::alloc::Global;
 
 /// What a conflict teaches: a clause by its chain, without the literals that are false at level 0. The first one becomes true as

@@ -1,14 +1,14 @@
+//! Clause database reduction: learned clauses of little use are let go (as in Glucose: Audemard and Simon, 2009). Which ones is
+//! free; that nothing relies on them any longer is under proof.
 ghost use Rattle.std.specs.Prelude.{◌≡◌, ◌<◌, length, OnOk};
-ghost use Rattle.kb_sat.specs.Solver.{Searches, Equipped, IsReady};
+ghost use Rattle.kb_eliminate.specs.Base.{Stands, IsReady, Forgets};
+ghost use Rattle.kb_sat.specs.Solver.{Equipped};
 
-use crate::memory::NoMemory;
+use crate::parameters::STAYING_LEVELS;
 use crate::search::Search;
-use crate::trail::Trail;
 use kb_chain::Lit;
+use kb_eliminate::{NoMemory, Trail};
 use std::alloc::Global;
-
-/// Up to how many levels a learned clause stays whatever its use.
-const FEW_LEVELS: u32 = 2;
 
 /// A learned clause that may be let go.
 #[derive(Clone, Copy, Drop)]
@@ -18,52 +18,14 @@ struct Candidate {
     length: usize,
 }
 
-/// Lets a clause go: it is watched no longer. The search is whole no longer.
-pub(crate) fn let_go(search: &mut Search<'_>, number: u32)
-    requires searches { Searches search.old }
-    requires equipped { Equipped search.old }
-    requires ready { IsReady search.old }
-    ensures searches { Searches search.new }
-    ensures equipped { Equipped search.new }
-    ensures ready { IsReady search.new }
-    ensures trail { search.new.trail ≡ search.old.trail }
-    ensures clauses { search.new.clauses ≡ search.old.clauses }
-    ensures entries { search.new.entries ≡ search.old.entries }
-    ensures formula { search.new.formula.now ≡ search.old.formula.now }
-{
-    search.whole = false;
-    search.watches.let_go(number);
-}
-
-/// Takes the watches of clauses that were let go out of the lists.
-pub(crate) fn purge(search: &mut Search<'_>)
-    requires searches { Searches search.old }
-    requires equipped { Equipped search.old }
-    requires ready { IsReady search.old }
-    ensures searches { Searches search.new }
-    ensures equipped { Equipped search.new }
-    ensures ready { IsReady search.new }
-    ensures trail { search.new.trail ≡ search.old.trail }
-    ensures clauses { search.new.clauses ≡ search.old.clauses }
-    ensures entries { search.new.entries ≡ search.old.entries }
-    ensures formula { search.new.formula.now ≡ search.old.formula.now }
-    ensures whole { search.new.whole ≡ search.old.whole }
-{
-    search.watches.purge();
-}
-
 /// Lets learned clauses go that were of little help: half of those that are on more than two levels, were not used since the last
 /// time and are no reason of a true literal. The search is whole no longer.
 pub(crate) fn forget(alloc: Global, search: &mut Search<'_>) -> Result<(), NoMemory>
-    requires searches { Searches search.old }
+    requires stands { Stands search.old.base }
     requires equipped { Equipped search.old }
-    requires ready { IsReady search.old }
-    ensures searches { OnOk result (Searches search.new) }
+    requires ready { IsReady search.old.base }
     ensures equipped { OnOk result (Equipped search.new) }
-    ensures ready { OnOk result (IsReady search.new) }
-    ensures trail { OnOk result (search.new.trail ≡ search.old.trail) }
-    ensures entries { OnOk result (search.new.entries ≡ search.old.entries) }
-    ensures formula { OnOk result (search.new.formula.now ≡ search.old.formula.now) }
+    ensures forgets { OnOk result (Forgets search.old.base search.new.base) }
 {
     let mut candidates = candidates(alloc, search)?;
     search.ranks.clear_uses();
@@ -73,14 +35,14 @@ pub(crate) fn forget(alloc: Global, search: &mut Search<'_>) -> Result<(), NoMem
     candidates.sort_unstable_by_key(|candidate| (candidate.levels, candidate.length));
     let kept = candidates.len() - candidates.len() / 2;
     let_all_go(search, &candidates[kept..]);
-    purge(search);
+    search.base.purge();
     Ok(())
 }
 
 /// The learned clauses that may be let go.
 fn candidates(alloc: Global, search: &Search<'_>) -> Result<Vec<Candidate>, NoMemory> {
     let mut found = Vec::new(alloc);
-    for number in 0..search.clauses.len() {
+    for number in 0..search.base.clauses.len() {
         if let Some(candidate) = as_candidate(search, number) {
             found.push(candidate)?;
         }
@@ -90,23 +52,23 @@ fn candidates(alloc: Global, search: &Search<'_>) -> Result<Vec<Candidate>, NoMe
 
 /// The clause of this number, if it is one that may be let go.
 fn as_candidate(search: &Search<'_>, number: u32) -> Option<Candidate>
-    requires { number < length search.now.clauses }
+    requires { number < length search.now.base.clauses }
 {
     let rank = search.ranks.ranks.get(number as usize)?;
-    if rank.used || rank.levels <= FEW_LEVELS {
+    if rank.used || rank.levels <= STAYING_LEVELS {
         return None;
     }
-    let pair = search.watches.pairs.get(number as usize)?;
+    let pair = search.base.watches.pairs.get(number as usize)?;
     if !pair.awake
-        || forces(&search.trail, number, pair.first)
-        || forces(&search.trail, number, pair.second)
+        || forces(&search.base.trail, number, pair.first)
+        || forces(&search.base.trail, number, pair.second)
     {
         return None;
     }
     Some(Candidate {
         number,
         levels: rank.levels,
-        length: search.clauses.literals(number).len(),
+        length: search.base.clauses.literals(number).len(),
     })
 }
 
@@ -117,17 +79,13 @@ fn forces(trail: &Trail, number: u32, literal: Lit) -> bool {
 
 /// Lets clauses go.
 fn let_all_go(search: &mut Search<'_>, candidates: &[Candidate])
-    requires searches { Searches search.old }
+    requires stands { Stands search.old.base }
     requires equipped { Equipped search.old }
-    requires ready { IsReady search.old }
-    ensures searches { Searches search.new }
+    requires ready { IsReady search.old.base }
     ensures equipped { Equipped search.new }
-    ensures ready { IsReady search.new }
-    ensures trail { search.new.trail ≡ search.old.trail }
-    ensures entries { search.new.entries ≡ search.old.entries }
-    ensures formula { search.new.formula.now ≡ search.old.formula.now }
+    ensures forgets { Forgets search.old.base search.new.base }
 {
     for candidate in candidates {
-        let_go(search, candidate.number);
+        search.base.let_go(candidate.number);
     }
 }

@@ -3,27 +3,18 @@
 #![tactic(auto)]
 
 mod analysis;
-mod begin;
-mod clauses;
-mod elimination;
+mod counts;
 mod forgetting;
-mod memory;
-mod model;
-mod occurrences;
 mod order;
 mod pace;
+mod parameters;
 mod pick;
-mod propagation;
 mod ranks;
-mod resolvents;
-mod restoring;
 mod search;
 mod solver;
 #[cfg(test)]
 mod tests;
-mod trail;
-mod watch;
-mod watches;
 
-pub use memory::NoMemory;
-pub use solver::{Solved, solve};
+pub use counts::Counts;
+pub use kb_eliminate::NoMemory;
+pub use solver::{Solved, solve, solve_counted};

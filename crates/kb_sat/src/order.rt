@@ -1,18 +1,17 @@
+//! The order in which variables are decided, by their activity in conflicts (VSIDS of Chaff: Moskewicz and others, 2001, in MiniSat's
+//! form). Free: contracts see only that it holds variables.
 ghost use Rattle.std.specs.Prelude.{◌≡◌, ◌+◌, ◌<◌, ◌≤◌, length, IfOk, IfSome};
 ghost use Rattle.kb_sat.specs.Order.{AreVariables};
 
-use crate::memory::NoMemory;
+use crate::parameters::{
+    ACTIVITY_FIRST, ACTIVITY_GROWTH, ACTIVITY_LEAST, ACTIVITY_LIMIT, ACTIVITY_SCALE,
+};
+use kb_eliminate::NoMemory;
 use std::alloc::Global;
 use std::marker::Model;
 
 /// The place of a variable that is not in the heap.
 const ABSENT: usize = usize::MAX;
-
-/// Where activities are scaled down: far enough below the greatest number that no sum wraps.
-const GREATEST: u64 = 1 << 62;
-
-/// By how many bits they are scaled down.
-const SCALE: u32 = 32;
 
 /// Variables by activity, the most active first: how often they took part in a conflict, where later conflicts count for more
 /// (the decaying sums of Chaff, in MiniSat's form with a growing increment). A binary heap with the place of each variable.
@@ -57,8 +56,14 @@ impl Order {
             heap,
             places,
             activities,
-            increment: 1 << 20,
+            increment: ACTIVITY_FIRST,
         })
+    }
+
+    pub(crate) fn vars(&self) -> u32
+        ensures { result ≡ self.now }
+    {
+        self.limit
     }
 
     /// Takes out the most active variable.
@@ -109,7 +114,7 @@ impl Order {
     {
         let raised = self.activities[variable as usize].saturating_add(self.increment);
         self.activities[variable as usize] = raised;
-        if raised > GREATEST {
+        if raised > ACTIVITY_LIMIT {
             self.rescale();
         }
         let place = self.places[variable as usize];
@@ -127,8 +132,10 @@ impl Order {
     pub(crate) fn decay(&mut self)
         ensures { self.new ≡ self.old }
     {
-        self.increment = self.increment.saturating_add(self.increment / 16);
-        if self.increment > GREATEST {
+        self.increment = self
+            .increment
+            .saturating_add(self.increment / ACTIVITY_GROWTH);
+        if self.increment > ACTIVITY_LIMIT {
             self.rescale();
         }
     }
@@ -138,9 +145,9 @@ impl Order {
         ensures { self.new ≡ self.old }
     {
         for activity in self.activities.iter_mut() {
-            *activity >>= SCALE;
+            *activity >>= ACTIVITY_SCALE;
         }
-        self.increment = (self.increment >> SCALE).max(1 << 10);
+        self.increment = (self.increment >> ACTIVITY_SCALE).max(ACTIVITY_LEAST);
     }
 }
 

@@ -1,3 +1,6 @@
+//! When a search restarts, and when it reduces its clause database. Both are free: any time would do.
+use crate::parameters::{REDUCTION_FIRST, REDUCTION_GROWTH, RESTART_UNIT};
+
 /// After how many conflicts a search goes back to level 0: Luby's sequence, in hundreds (Luby, Sinclair and Zuckerman, 1993), by
 /// Knuth's reluctant doubling.
 #[derive(Clone, Copy, Drop)]
@@ -7,13 +10,10 @@ pub(crate) struct Pace {
     factor: u32,
 }
 
-/// The shortest interval.
-const UNIT: u32 = 100;
-
 impl Pace {
     pub(crate) fn new() -> Pace {
         Pace {
-            left: UNIT,
+            left: RESTART_UNIT,
             turn: 1,
             factor: 1,
         }
@@ -26,7 +26,7 @@ impl Pace {
             return false;
         }
         self.step();
-        self.left = UNIT.saturating_mul(self.factor);
+        self.left = RESTART_UNIT.saturating_mul(self.factor);
         true
     }
 
@@ -48,17 +48,11 @@ pub(crate) struct Crowding {
     interval: u32,
 }
 
-/// How many clauses are learned before some are let go for the first time.
-const FIRST: u32 = 1000;
-
-/// By how much each interval is longer than the one before.
-const GROWTH: u32 = 200;
-
 impl Crowding {
     pub(crate) fn new() -> Crowding {
         Crowding {
-            left: FIRST,
-            interval: FIRST,
+            left: REDUCTION_FIRST,
+            interval: REDUCTION_FIRST,
         }
     }
 
@@ -68,7 +62,7 @@ impl Crowding {
             self.left -= 1;
             return false;
         }
-        self.interval = self.interval.saturating_add(GROWTH);
+        self.interval = self.interval.saturating_add(REDUCTION_GROWTH);
         self.left = self.interval;
         true
     }

@@ -1,11 +1,12 @@
+//! How much each learned clause is worth: on how many levels its literals stood (literal block distance: Audemard and Simon, 2009),
+//! and whether it was of use lately. Free.
 ghost use Rattle.std.specs.Prelude.{◌≡◌, ◌-◌, ◌<◌, ◌≤◌, true, length};
 ghost use Rattle.kb_chain.specs.Literal.{Literal, has, negated};
-ghost use Rattle.kb_sat.specs.Trail.{start_of};
+ghost use Rattle.kb_eliminate.specs.Trail.{start_of};
 
 use crate::analysis::level_of;
-use crate::memory::NoMemory;
-use crate::trail::Trail;
 use kb_chain::{Chain, Lit};
+use kb_eliminate::{NoMemory, Trail};
 use std::alloc::Global;
 
 /// What is known of a clause's use.

@@ -1,41 +1,33 @@
-ghost use Rattle.std.specs.Prelude.{◌≡◌, ℕ, ◌+◌, ◌*◌, ◌<◌, ◌≤◌, ◌^◌, true, false, List, [], ◌∷◌, ◌++◌, length, take, Some, OnOk, IfOk, IfSome, IfNone};
-ghost use Rattle.kb_chain.specs.Literal.{Literal, has, negated, place_of, literal};
-ghost use Rattle.kb_sat.specs.Trail.{Assigned, Grows, start_of, cut_back};
-ghost use Rattle.kb_sat.specs.Search.{IsConflict};
-ghost use Rattle.kb_sat.specs.Watches.{IsAwake};
-ghost use Rattle.kb_sat.specs.Solver.{Searches, Equipped, IsReady, IsComplete, IsSettledSearch, StepIs, IsSecond, IsDoomed};
+//! The search (conflict-driven clause learning: Marques-Silva and Sakallah, 1999): propagate, decide, learn from a conflict, jump
+//! back. That it stays within what the log derives is under proof; which literals it tries is free.
+ghost use Rattle.std.specs.Prelude.{◌≡◌, ℕ, ◌+◌, ◌*◌, ◌<◌, ◌≤◌, true, [], length, OnOk, IfOk, IfSome, IfNone};
+ghost use Rattle.kb_chain.specs.Literal.{Literal, has, place_of};
+ghost use Rattle.kb_eliminate.specs.Trail.{Grows, start_of, cut_back};
+ghost use Rattle.kb_eliminate.specs.Watches.{IsAwake};
+ghost use Rattle.kb_eliminate.specs.Base.{Stands, IsReady, IsConflict, IsComplete, IsPropagated, IsDoomed};
+ghost use Rattle.kb_sat.specs.Solver.{Equipped, GoesOn, Keeps, StepIs};
 
 use crate::analysis::{Marks, analyse};
-use crate::begin::{watch_all, watch_pair};
-use crate::clauses::Clauses;
-use crate::memory::NoMemory;
+use crate::counts::Counts;
 use crate::order::Order;
+use crate::parameters::FIRST_PHASE;
 use crate::pick::pick;
-use crate::propagation::propagate;
 use crate::ranks::{Ranks, levels_of};
-use crate::trail::Trail;
-use crate::watches::Watches;
-use kb_chain::{Chain, Formula, Lit, Row};
+use kb_chain::{Formula, Lit};
+use kb_eliminate::{Base, NoMemory, second_of, watch_pair};
 use std::alloc::Global;
 
 /// The state of a search.
 #[derive(Drop)]
 pub(crate) struct Search<'a> {
-    pub(crate) formula: &'a Formula,
-    pub(crate) entries: Row<Chain>,
-    pub(crate) clauses: Clauses,
-    pub(crate) watches: Watches,
-    pub(crate) trail: Trail,
-    /// How many literals of the trail were taken up.
-    pub(crate) head: usize,
+    pub(crate) base: Base<'a>,
     pub(crate) order: Order,
     /// The sign that each variable had last.
     pub(crate) phases: Vec<bool>,
     pub(crate) marks: Marks,
     /// How much the learned clauses were of use.
     pub(crate) ranks: Ranks,
-    /// Whether every clause is watched still.
-    pub(crate) whole: bool,
+    pub(crate) counts: Counts,
 }
 
 impl<'a> Search<'a> {
@@ -44,51 +36,36 @@ impl<'a> Search<'a> {
         alloc: Global,
         formula: &'a Formula,
     ) -> Result<(Search<'a>, Option<u32>), NoMemory>
-        ensures formula { IfOk result (λ begun. begun.0.formula.now ≡ formula.now) }
-        ensures entries { IfOk result (λ begun. begun.0.entries ≡ []) }
-        ensures searches { IfOk result (λ begun. IfNone begun.1 (Searches begun.0)) }
+        ensures formula { IfOk result (λ begun. begun.0.base.formula.now ≡ formula.now) }
+        ensures entries { IfOk result (λ begun. begun.0.base.entries ≡ []) }
+        ensures stands { IfOk result (λ begun. IfNone begun.1 (Stands begun.0.base)) }
         ensures equipped { IfOk result (λ begun. Equipped begun.0) }
-        ensures ready { IfOk result (λ begun. IfNone begun.1 (IsReady begun.0)) }
-        ensures conflict { IfOk result (λ begun. IfSome begun.1 (IsDoomed begun.0)) }
-        ensures whole { IfOk result (λ begun. begun.0.whole ≡ true) }
-        ensures level { IfOk result (λ begun. begun.0.trail.starts ≡ []) }
+        ensures ready { IfOk result (λ begun. IfNone begun.1 (IsReady begun.0.base)) }
+        ensures conflict { IfOk result (λ begun. IfSome begun.1 (IsDoomed begun.0.base)) }
+        ensures whole { IfOk result (λ begun. begun.0.base.whole ≡ true) }
+        ensures level { IfOk result (λ begun. begun.0.base.trail.starts ≡ []) }
     {
         let vars = formula.vars();
-        let mut clauses = Clauses::new(alloc);
-        for clause in formula.clauses() {
-            clauses.push(clause.literals())?;
-        }
-        let mut watches = Watches::new(alloc, vars)?;
-        let mut trail = Trail::new(alloc, vars)?;
-        let conflict = watch_all(&clauses, &mut watches, &mut trail)?;
+        let (base, conflict) = Base::new(alloc, formula)?;
         let search = Search {
-            formula,
-            entries: Row::new(alloc),
-            clauses,
-            watches,
-            trail,
-            head: 0,
+            base,
             order: Order::new(alloc, vars)?,
-            phases: vec![in alloc; false; vars as usize + 1]?,
+            phases: vec![in alloc; FIRST_PHASE; vars as usize + 1]?,
             marks: Marks::new(alloc, vars)?,
             ranks: Ranks::new(alloc),
-            whole: true,
+            counts: Counts::default(),
         };
         Ok((search, conflict))
     }
 
     /// Decides until a clause is false, and answers its number; none where all variables have a value.
     pub(crate) fn run(&mut self) -> Result<Option<u32>, NoMemory>
-        requires searches { Searches self.old }
+        requires stands { Stands self.old.base }
         requires equipped { Equipped self.old }
-        requires ready { IsReady self.old }
-        ensures searches { OnOk result (Searches self.new) }
-        ensures equipped { OnOk result (Equipped self.new) }
-        ensures conflict { IfOk result (λ conflict. IfSome conflict (λ number. IsConflict self.new.clauses self.new.trail number × IsAwake self.new.watches.pairs.items number)) }
-        ensures complete { IfOk result (λ conflict. IfNone conflict (IsComplete self.new)) }
-        ensures entries { OnOk result (self.new.entries ≡ self.old.entries) }
-        ensures formula { OnOk result (self.new.formula.now ≡ self.old.formula.now) }
-        ensures whole { OnOk result (self.new.whole ≡ self.old.whole) }
+        requires ready { IsReady self.old.base }
+        ensures keeps { OnOk result (Keeps self.old self.new) }
+        ensures conflict { IfOk result (λ conflict. IfSome conflict (λ number. IsConflict self.new.base.clauses self.new.base.trail number × IsAwake self.new.base.watches.pairs.items number)) }
+        ensures complete { IfOk result (λ conflict. IfNone conflict (IsComplete self.new.base)) }
     {
         loop {
             match self.step()? {
@@ -101,132 +78,119 @@ impl<'a> Search<'a> {
 
     /// Propagates; the number of a clause that is false, where it meets one.
     pub(crate) fn settle(&mut self) -> Result<Option<u32>, NoMemory>
-        requires searches { Searches self.old }
+        requires stands { Stands self.old.base }
         requires equipped { Equipped self.old }
-        requires ready { IsReady self.old }
-        ensures searches { OnOk result (Searches self.new) }
-        ensures equipped { OnOk result (Equipped self.new) }
-        ensures conflict { IfOk result (λ conflict. IfSome conflict (λ number. IsConflict self.new.clauses self.new.trail number × IsAwake self.new.watches.pairs.items number)) }
-        ensures settled { IfOk result (λ conflict. IfNone conflict (IsSettledSearch self.new)) }
-        ensures grows { OnOk result (Grows self.old.trail self.new.trail) }
-        ensures entries { OnOk result (self.new.entries ≡ self.old.entries) }
-        ensures formula { OnOk result (self.new.formula.now ≡ self.old.formula.now) }
-        ensures whole { OnOk result (self.new.whole ≡ self.old.whole) }
+        requires ready { IsReady self.old.base }
+        ensures keeps { OnOk result (Keeps self.old self.new) }
+        ensures conflict { IfOk result (λ conflict. IfSome conflict (λ number. IsConflict self.new.base.clauses self.new.base.trail number × IsAwake self.new.base.watches.pairs.items number)) }
+        ensures settled { IfOk result (λ conflict. IfNone conflict (IsPropagated self.new.base)) }
+        ensures grows { OnOk result (Grows self.old.base.trail self.new.base.trail) }
     {
-        self.trail.facts();
-        let conflict = propagate(&self.clauses, &mut self.watches, &mut self.trail, self.head)?;
-        if let Some(number) = conflict {
-            return Ok(Some(number));
-        }
-        self.trail.facts();
-        self.head = self.trail.literals().len();
-        Ok(None)
+        let before = self.base.trail.literals().len();
+        let conflict = self.base.settle()?;
+        let after = self.base.trail.literals().len();
+        self.counts
+            .note_propagation(after.saturating_sub(before), conflict.is_some());
+        Ok(conflict)
     }
 
     /// Propagates, and decides one literal.
     fn step(&mut self) -> Result<Step, NoMemory>
-        requires searches { Searches self.old }
+        requires stands { Stands self.old.base }
         requires equipped { Equipped self.old }
-        requires ready { IsReady self.old }
-        ensures searches { OnOk result (Searches self.new) }
-        ensures equipped { OnOk result (Equipped self.new) }
+        requires ready { IsReady self.old.base }
+        ensures keeps { OnOk result (Keeps self.old self.new) }
         ensures step { IfOk result (StepIs self.old self.new) }
-        ensures vars { OnOk result (self.new.trail.vars ≡ self.old.trail.vars) }
-        ensures entries { OnOk result (self.new.entries ≡ self.old.entries) }
-        ensures formula { OnOk result (self.new.formula.now ≡ self.old.formula.now) }
-        ensures whole { OnOk result (self.new.whole ≡ self.old.whole) }
+        ensures vars { OnOk result (self.new.base.trail.vars ≡ self.old.base.trail.vars) }
     {
-        self.trail.facts();
+        self.base.trail.facts();
         if let Some(number) = self.settle()? {
             return Ok(Step::Conflict(number));
         }
-        self.trail.facts();
-        let Some(literal) = pick(&mut self.order, self.phases.as_slice(), &self.trail) else {
+        self.base.trail.facts();
+        let Some(literal) = pick(&mut self.order, self.phases.as_slice(), &self.base.trail) else {
             return Ok(Step::Complete);
         };
-        self.trail.decide(literal)?;
-        self.trail.facts();
+        self.counts.note_decision();
+        self.base.trail.decide(literal)?;
+        self.base.trail.facts();
         Ok(Step::Decided)
     }
 
     /// Learns from a false clause, and goes back to the level at which what it learned forces a literal.
     pub(crate) fn learn(&mut self, alloc: Global, conflict: u32) -> Result<(), NoMemory>
-        requires searches { Searches self.old }
+        requires stands { Stands self.old.base }
         requires equipped { Equipped self.old }
-        requires conflict { IsConflict self.old.clauses self.old.trail conflict }
-        requires awake { IsAwake self.old.watches.pairs.items conflict }
-        requires level { 0 < length self.old.trail.starts }
-        ensures searches { OnOk result (Searches self.new) }
-        ensures equipped { OnOk result (Equipped self.new) }
-        ensures ready { OnOk result (IsReady self.new) }
-        ensures entries { OnOk result (length self.new.entries ≡ length self.old.entries + 1) }
-        ensures formula { OnOk result (self.new.formula.now ≡ self.old.formula.now) }
-        ensures whole { OnOk result (self.new.whole ≡ self.old.whole) }
+        requires conflict { IsConflict self.old.base.clauses self.old.base.trail conflict }
+        requires awake { IsAwake self.old.base.watches.pairs.items conflict }
+        requires level { 0 < length self.old.base.trail.starts }
+        ensures goes_on { OnOk result (GoesOn self.old self.new) }
+        ensures ready { OnOk result (IsReady self.new.base) }
+        ensures entries { OnOk result (length self.new.base.entries ≡ length self.old.base.entries + 1) }
+        ensures whole { OnOk result (self.new.base.whole ≡ self.old.base.whole) }
     {
-        self.trail.facts();
+        self.base.trail.facts();
+        let base = &self.base;
         let learned = analyse(
             alloc,
-            &self.clauses,
-            &self.trail,
+            &base.clauses,
+            &base.trail,
             &mut self.order,
             &mut self.marks,
             conflict,
         )?;
         let level = learned.level;
         let literals = learned.literals;
-        let levels = levels_of(&self.trail, literals.as_slice());
+        let levels = levels_of(&self.base.trail, literals.as_slice());
         self.ranks.note(&learned.chain);
-        self.entries.push(learned.chain)?;
+        self.base.entries.push(learned.chain)?;
         self.go_back(level)?;
-        let number = self.clauses.len();
+        let number = self.base.clauses.len();
         let row = literals.as_slice();
         let first = row[0];
         let second = second_of(row);
-        self.clauses.push(row)?;
-        watch_pair(&mut self.watches, number, first, second)?;
+        self.base.clauses.push(row)?;
+        watch_pair(&mut self.base.watches, number, first, second)?;
         self.ranks.set(number, levels)?;
-        self.trail.assign(first, number);
+        self.base.trail.assign(first, number);
         Ok(())
     }
 
     /// Goes back to level 0.
     pub(crate) fn restart(&mut self) -> Result<(), NoMemory>
-        requires searches { Searches self.old }
+        requires stands { Stands self.old.base }
         requires equipped { Equipped self.old }
-        requires ready { IsReady self.old }
-        ensures searches { OnOk result (Searches self.new) }
-        ensures equipped { OnOk result (Equipped self.new) }
-        ensures ready { OnOk result (IsReady self.new) }
-        ensures entries { OnOk result (self.new.entries ≡ self.old.entries) }
-        ensures formula { OnOk result (self.new.formula.now ≡ self.old.formula.now) }
-        ensures whole { OnOk result (self.new.whole ≡ self.old.whole) }
+        requires ready { IsReady self.old.base }
+        ensures keeps { OnOk result (Keeps self.old self.new) }
+        ensures ready { OnOk result (IsReady self.new.base) }
     {
-        self.trail.facts();
-        if self.trail.level() == 0 {
+        self.base.trail.facts();
+        if self.base.trail.level() == 0 {
             return Ok(());
         }
+        self.counts.note_restart();
         self.go_back(0)?;
         Ok(())
     }
 
     /// Takes back what came after this level.
     fn go_back(&mut self, level: usize) -> Result<(), NoMemory>
-        requires level { level < length self.old.trail.starts }
+        requires level { level < length self.old.base.trail.starts }
         requires equipped { Equipped self.old }
-        ensures trail { OnOk result (self.new.trail ≡ cut_back self.old.trail level) }
-        ensures head { OnOk result (self.new.head ≡ start_of self.old.trail.starts level) }
-        ensures clauses { OnOk result (self.new.clauses ≡ self.old.clauses) }
-        ensures watches { OnOk result (self.new.watches ≡ self.old.watches) }
-        ensures entries { OnOk result (self.new.entries ≡ self.old.entries) }
-        ensures formula { OnOk result (self.new.formula.now ≡ self.old.formula.now) }
-        ensures whole { OnOk result (self.new.whole ≡ self.old.whole) }
+        ensures trail { OnOk result (self.new.base.trail ≡ cut_back self.old.base.trail level) }
+        ensures head { OnOk result (self.new.base.head ≡ start_of self.old.base.trail.starts level) }
+        ensures clauses { OnOk result (self.new.base.clauses ≡ self.old.base.clauses) }
+        ensures watches { OnOk result (self.new.base.watches ≡ self.old.base.watches) }
+        ensures entries { OnOk result (self.new.base.entries ≡ self.old.base.entries) }
+        ensures formula { OnOk result (self.new.base.formula.now ≡ self.old.base.formula.now) }
+        ensures whole { OnOk result (self.new.base.whole ≡ self.old.base.whole) }
         ensures equipped { OnOk result (Equipped self.new) }
     {
-        let start = self.trail.start(level);
-        let undone = &self.trail.literals()[start..];
+        let start = self.base.trail.start(level);
+        let undone = &self.base.trail.literals()[start..];
         release(&mut self.order, &mut self.phases, undone)?;
-        self.trail.back_to(level);
-        self.head = start;
+        self.base.trail.back_to(level);
+        self.base.head = start;
         Ok(())
     }
 }
@@ -254,16 +218,4 @@ enum Step {
     Complete,
     /// A level began.
     Decided,
-}
-
-/// The second literal of a clause, or the first one where there is no other.
-pub(crate) fn second_of(literals: &[Lit]) -> Lit
-    requires { 0 < length literals.now }
-    ensures { IsSecond literals.now result }
-{
-    if literals.len() > 1 {
-        literals[1]
-    } else {
-        literals[0]
-    }
 }

@@ -1,20 +1,23 @@
+//! The call `solve`: which searches it makes, and what their ends say of the formula. Its answers are under proof; how many searches
+//! there are and what they let go is free.
 ghost use Rattle.std.specs.Prelude.{◌≡◌, ℕ, ◌+◌, ◌<◌, ◌≤◌, true, false, [], IsSome, length, IfOk, IfSome, OnOk};
 ghost use Rattle.kb_chain.specs.Clause.{Satisfies, assignment_of};
 ghost use Rattle.kb_chain.specs.Chains.{IsRefutation};
 ghost use Rattle.kb_chain.specs.Cnf.{Cnf};
 ghost use Rattle.kb_chain.specs.Propagation.{IsFresh, UnitRefutes};
-ghost use Rattle.kb_sat.specs.Solver.{Searches, Equipped, IsReady, IsComplete, IsDoomed};
-ghost use Rattle.kb_sat.specs.Answer.{Answers, BegunIs, EndedIs, KeepsAll, IfSat, IfUnsat, IfUndecided, ProgressIs};
+ghost use Rattle.kb_eliminate.specs.Base.{Stands, IsReady, IsComplete, IsDoomed};
+ghost use Rattle.kb_sat.specs.Solver.{Equipped, GoesOn};
+ghost use Rattle.kb_sat.specs.Answer.{Answers, BegunIs, EndedIs, KeepsAll, IfSat, IfUnsat, IfUndecided, IsOpenOnly, ProgressIs};
 
 use crate::analysis::refute;
-use crate::elimination::{Eliminated, eliminate};
+use crate::counts::Counts;
 use crate::forgetting::forget;
-use crate::memory::NoMemory;
-use crate::model::model;
+use crate::order::Order;
 use crate::pace::{Crowding, Pace};
-use crate::restoring::restored;
+use crate::parameters::{ELIMINATION, ELIMINATION_CLAUSES, SMALL_BUDGET};
 use crate::search::Search;
 use kb_chain::{Formula, Log, Row};
+use kb_eliminate::{Eliminated, NoMemory, eliminate, model, restored};
 use std::alloc::Global;
 
 /// What became of a formula.
@@ -40,40 +43,59 @@ pub fn solve(alloc: Global, formula: &Formula, budget: u32) -> Result<Solved, No
     ensures undecided { IfOk result (IfUndecided (λ log. IsFresh formula.now.clauses log.entries × (length log.entries ≡ budget)
         × (UnitRefutes formula.now.clauses → ⊥))) }
 {
+    let (solved, _counts) = solve_counted(alloc, formula, budget)?;
+    Ok(solved)
+}
+
+/// What `solve` answers, with what its searches did.
+pub fn solve_counted(
+    alloc: Global,
+    formula: &Formula,
+    budget: u32,
+) -> Result<(Solved, Counts), NoMemory>
+    requires { 0 < budget }
+    ensures sat { IfOk result (λ found. IfSat (λ bits. (length bits ≡ formula.now.vars) × Satisfies (assignment_of bits) formula.now.clauses) found.0) }
+    ensures unsat { IfOk result (λ found. IfUnsat (λ log. IsRefutation formula.now.clauses log.entries × (length log.entries ≤ budget)) found.0) }
+    ensures undecided { IfOk result (λ found. IfUndecided (λ log. IsFresh formula.now.clauses log.entries × (length log.entries ≡ budget)
+        × (UnitRefutes formula.now.clauses → ⊥)) found.0) }
+{
+    let mut before = Counts::default();
     if budget > SMALL_BUDGET {
-        if let Some(solved) = attempt(alloc, formula, budget, true)? {
-            return Ok(solved);
+        let (found, counts) = attempt(alloc, formula, budget, true)?;
+        if let Some(solved) = found {
+            return Ok((solved, counts));
         }
+        before = counts;
     }
-    match attempt(alloc, formula, budget, false)? {
-        Some(solved) => Ok(solved),
+    let (found, counts) = attempt(alloc, formula, budget, false)?;
+    match found {
+        Some(solved) => Ok((solved, before.plus(counts))),
         None => unreachable!(),
     }
 }
 
-/// Up to this budget there is one attempt, which keeps all clauses: what it would gain otherwise is less than a second one costs.
-const SMALL_BUDGET: u32 = 4_000;
-
-/// One search, which may let clauses go if that is wanted. None comes only then: where the budget is spent, or where what was
-/// found is no model of the formula.
-fn attempt(
+/// One search with what it did; it may let clauses go if that is wanted. None comes only then: where the budget is spent, or where
+/// what was found is no model of the formula.
+pub(crate) fn attempt(
     alloc: Global,
     formula: &Formula,
     budget: u32,
     lets_go: bool,
-) -> Result<Option<Solved>, NoMemory>
+) -> Result<(Option<Solved>, Counts), NoMemory>
     requires { 0 < budget }
-    ensures answers { IfOk result (λ found. IfSome found (Answers formula.now budget)) }
-    ensures some { IfOk result (λ found. lets_go ≡ false → IsSome found) }
+    ensures answers { IfOk result (λ found. IfSome found.0 (Answers formula.now budget)) }
+    ensures some { IfOk result (λ found. lets_go ≡ false → IsSome found.0) }
 {
-    match begin(alloc, formula, budget, lets_go)? {
+    match begin(alloc, formula, lets_go)? {
         Begun::Doomed(search, number) => {
+            let counts = search.counts;
             let log = refutation(alloc, search, number)?;
-            Ok(Some(Solved::Unsat(log)))
+            Ok((Some(Solved::Unsat(log)), counts))
         }
         Begun::Ready(search, eliminated) => {
             let ended = search_on(alloc, search, budget, lets_go)?;
-            conclude(alloc, ended, &eliminated)
+            let counts = counts_of(&ended);
+            Ok((conclude(alloc, ended, &eliminated)?, counts))
         }
     }
 }
@@ -85,11 +107,11 @@ pub(crate) enum Begun<'a> {
     Ready(Search<'a>, Eliminated),
 }
 
-/// Begins a search; where clauses may be let go, with an elimination of variables, if half of the budget suffices for that.
-fn begin<'a>(
+/// Begins a search; where clauses may be let go, with an elimination of variables, unless the formula is very long. What it does
+/// depends on the formula and not on the budget, so that an answer stays one with a greater budget.
+pub(crate) fn begin<'a>(
     alloc: Global,
     formula: &'a Formula,
-    budget: u32,
     lets_go: bool,
 ) -> Result<Begun<'a>, NoMemory>
     ensures { IfOk result (BegunIs formula.now lets_go) }
@@ -101,28 +123,40 @@ fn begin<'a>(
     if !lets_go {
         return Ok(Begun::Ready(search, Eliminated::new(alloc)));
     }
-    if search.clauses.len() > budget / 2 {
+    if search.base.clauses.len() > ELIMINATION_CLAUSES {
         return Ok(Begun::Ready(search, Eliminated::new(alloc)));
     }
-    prepare(alloc, search, budget / 2)
+    prepare(alloc, search)
 }
 
-/// Makes true what the clauses force, and eliminates variables with about so many entries at most.
-fn prepare<'a>(alloc: Global, search: Search<'a>, most: u32) -> Result<Begun<'a>, NoMemory>
-    requires searches { Searches search }
+/// Makes true what the clauses force, and eliminates variables.
+fn prepare<'a>(alloc: Global, search: Search<'a>) -> Result<Begun<'a>, NoMemory>
+    requires stands { Stands search.base }
     requires equipped { Equipped search }
-    requires ready { IsReady search }
-    requires level { search.trail.starts ≡ [] }
-    requires entries { search.entries ≡ [] }
-    ensures { IfOk result (BegunIs search.entry.formula.now true) }
+    requires ready { IsReady search.base }
+    requires level { search.base.trail.starts ≡ [] }
+    requires entries { search.base.entries ≡ [] }
+    ensures { IfOk result (BegunIs search.entry.base.formula.now true) }
 {
     let mut search = search;
     if let Some(number) = search.settle()? {
         return Ok(Begun::Doomed(search, number));
     }
-    let eliminated = eliminate(alloc, &mut search, most as usize)?;
-    search.whole = false;
+    let eliminated = eliminate(alloc, &mut search.base, ELIMINATION)?;
+    prefer(&mut search.order, eliminated.left.as_slice());
+    search.base.whole = false;
     Ok(Begun::Ready(search, eliminated))
+}
+
+/// Lets variables be decided before all others.
+fn prefer(order: &mut Order, variables: &[u32])
+    ensures { order.new ≡ order.old }
+{
+    for variable in variables {
+        if *variable <= order.vars() {
+            order.bump(*variable);
+        }
+    }
 }
 
 /// A search at its end.
@@ -131,8 +165,16 @@ pub(crate) enum Ended<'a> {
     Complete(Search<'a>),
     /// The clause of this number is false at level 0.
     Doomed(Search<'a>, u32),
-    /// The log has as many entries as the budget allows.
-    Spent(Search<'a>),
+    /// The log has as many entries as the budget allows, and the clause of this number is false.
+    Spent(Search<'a>, u32),
+}
+
+fn counts_of(ended: &Ended<'_>) -> Counts {
+    match ended {
+        Ended::Complete(search) => search.counts,
+        Ended::Doomed(search, _) => search.counts,
+        Ended::Spent(search, _) => search.counts,
+    }
 }
 
 /// Searches until all variables have a value, a clause is false at level 0, or the budget is spent.
@@ -143,17 +185,17 @@ fn search_on<'a>(
     lets_go: bool,
 ) -> Result<Ended<'a>, NoMemory>
     requires budget { 0 < budget }
-    requires searches { Searches search }
+    requires stands { Stands search.base }
     requires equipped { Equipped search }
-    requires ready { IsReady search }
-    requires entries { search.whole ≡ true → search.entries ≡ [] }
-    ensures ended { IfOk result (EndedIs search.entry.formula.now budget) }
-    ensures whole { IfOk result (λ ended. lets_go ≡ false → search.entry.whole ≡ true → KeepsAll ended) }
+    requires ready { IsReady search.base }
+    requires entries { search.base.whole ≡ true → search.base.entries ≡ [] }
+    ensures ended { IfOk result (EndedIs search.entry.base.formula.now budget) }
+    ensures whole { IfOk result (λ ended. lets_go ≡ false → search.entry.base.whole ≡ true → KeepsAll ended) }
 {
     let mut search = search;
     let mut pace = Pace::new();
     let mut crowding = Crowding::new();
-    while search.entries.as_slice().len() < budget as usize {
+    while search.base.entries.as_slice().len() < budget as usize {
         match advance(alloc, &mut search, &mut pace)? {
             Progress::Complete => return Ok(Ended::Complete(search)),
             Progress::Doomed(number) => return Ok(Ended::Doomed(search, number)),
@@ -162,7 +204,7 @@ fn search_on<'a>(
     }
     match search.run()? {
         None => Ok(Ended::Complete(search)),
-        Some(_) => Ok(Ended::Spent(search)),
+        Some(number) => Ok(Ended::Spent(search, number)),
     }
 }
 
@@ -173,16 +215,14 @@ fn make_room(
     crowding: &mut Crowding,
     lets_go: bool,
 ) -> Result<(), NoMemory>
-    requires searches { Searches search.old }
+    requires stands { Stands search.old.base }
     requires equipped { Equipped search.old }
-    requires ready { IsReady search.old }
-    ensures searches { OnOk result (Searches search.new) }
-    ensures equipped { OnOk result (Equipped search.new) }
-    ensures ready { OnOk result (IsReady search.new) }
-    ensures entries { OnOk result (search.new.entries ≡ search.old.entries) }
-    ensures formula { OnOk result (search.new.formula.now ≡ search.old.formula.now) }
-    ensures kept { OnOk result (lets_go ≡ false → search.new.whole ≡ search.old.whole) }
-    ensures whole { OnOk result (search.new.whole ≡ true → search.old.whole ≡ true) }
+    requires ready { IsReady search.old.base }
+    ensures goes_on { OnOk result (GoesOn search.old search.new) }
+    ensures ready { OnOk result (IsReady search.new.base) }
+    ensures entries { OnOk result (search.new.base.entries ≡ search.old.base.entries) }
+    ensures kept { OnOk result (lets_go ≡ false → search.new.base.whole ≡ search.old.base.whole) }
+    ensures whole { OnOk result (search.new.base.whole ≡ true → search.old.base.whole ≡ true) }
 {
     if !lets_go {
         return Ok(());
@@ -191,7 +231,7 @@ fn make_room(
         return Ok(());
     }
     forget(alloc, search)?;
-    search.whole = false;
+    search.base.whole = false;
     Ok(())
 }
 
@@ -205,6 +245,7 @@ fn conclude(
     requires ended { (formula : Cnf) × (budget : ℕ) × EndedIs formula budget ended }
     ensures answers { IfOk result (λ found. IfSome found (λ solved. (formula : Cnf) (budget : ℕ) → EndedIs formula budget ended.entry → Answers formula budget solved)) }
     ensures some { IfOk result (λ found. KeepsAll ended.entry → IsSome found) }
+    ensures undecided { IfOk result (λ found. IfSome found (IsOpenOnly ended.entry)) }
 {
     match ended {
         Ended::Complete(search) => match model_of(alloc, &search, eliminated)? {
@@ -215,12 +256,13 @@ fn conclude(
             let log = refutation(alloc, search, number)?;
             Ok(Some(Solved::Unsat(log)))
         }
-        Ended::Spent(search) => {
-            if !search.whole {
+        Ended::Spent(search, _) => {
+            let base = search.base;
+            if !base.whole {
                 return Ok(None);
             }
             Ok(Some(Solved::Undecided(Log {
-                entries: search.entries,
+                entries: base.entries,
             })))
         }
     }
@@ -238,22 +280,20 @@ pub(crate) enum Progress {
 
 /// Searches up to the next conflict, and learns from it.
 fn advance(alloc: Global, search: &mut Search<'_>, pace: &mut Pace) -> Result<Progress, NoMemory>
-    requires searches { Searches search.old }
+    requires stands { Stands search.old.base }
     requires equipped { Equipped search.old }
-    requires ready { IsReady search.old }
-    ensures searches { OnOk result (Searches search.new) }
-    ensures equipped { OnOk result (Equipped search.new) }
-    ensures formula { OnOk result (search.new.formula.now ≡ search.old.formula.now) }
-    ensures whole { OnOk result (search.new.whole ≡ search.old.whole) }
+    requires ready { IsReady search.old.base }
+    ensures goes_on { OnOk result (GoesOn search.old search.new) }
+    ensures whole { OnOk result (search.new.base.whole ≡ search.old.base.whole) }
     ensures advance { IfOk result (ProgressIs search.old search.new) }
 {
     let Some(number) = search.run()? else {
         return Ok(Progress::Complete);
     };
-    if search.trail.level() == 0 {
+    if search.base.trail.level() == 0 {
         return Ok(Progress::Doomed(number));
     }
-    search.trail.facts();
+    search.base.trail.facts();
     search.learn(alloc, number)?;
     if !pace.is_due() {
         return Ok(Progress::Learned);
@@ -268,35 +308,36 @@ fn model_of(
     search: &Search<'_>,
     eliminated: &Eliminated,
 ) -> Result<Option<Row<bool>>, NoMemory>
-    requires searches { Searches search.now }
-    requires complete { IsComplete search.now }
-    ensures length { IfOk result (λ found. IfSome found (λ bits. length bits ≡ search.now.formula.now.vars)) }
-    ensures satisfies { IfOk result (λ found. IfSome found (λ bits. Satisfies (assignment_of bits) search.now.formula.now.clauses)) }
-    ensures some { IfOk result (λ found. search.now.whole ≡ true → IsSome found) }
+    requires stands { Stands search.now.base }
+    requires complete { IsComplete search.now.base }
+    ensures length { IfOk result (λ found. IfSome found (λ bits. length bits ≡ search.now.base.formula.now.vars)) }
+    ensures satisfies { IfOk result (λ found. IfSome found (λ bits. Satisfies (assignment_of bits) search.now.base.formula.now.clauses)) }
+    ensures some { IfOk result (λ found. search.now.base.whole ≡ true → IsSome found) }
 {
-    if !search.whole {
-        return restored(alloc, search, eliminated);
+    if !search.base.whole {
+        return restored(alloc, &search.base, eliminated);
     }
-    search.trail.facts();
-    search.clauses.facts();
-    let bits = model(alloc, &search.trail)?;
+    search.base.trail.facts();
+    search.base.clauses.facts();
+    let bits = model(alloc, &search.base.trail)?;
     Ok(Some(bits))
 }
 
 /// The refutation by a clause that is false at level 0.
 fn refutation(alloc: Global, search: Search<'_>, number: u32) -> Result<Log, NoMemory>
-    requires { IsDoomed search number }
-    ensures refutes { IfOk result (λ log. IsRefutation search.entry.formula.now.clauses log.entries) }
-    ensures length { IfOk result (λ log. length log.entries ≡ length search.entry.entries + 1) }
+    requires { IsDoomed search.base number }
+    ensures refutes { IfOk result (λ log. IsRefutation search.entry.base.formula.now.clauses log.entries) }
+    ensures length { IfOk result (λ log. length log.entries ≡ length search.entry.base.entries + 1) }
 {
+    let base = search.base;
     let chain = refute(
         alloc,
-        search.formula,
-        search.entries.as_slice(),
-        &search.trail,
+        base.formula,
+        base.entries.as_slice(),
+        &base.trail,
         number,
     )?;
-    let mut entries = search.entries;
+    let mut entries = base.entries;
     entries.push(chain)?;
     Ok(Log { entries })
 }

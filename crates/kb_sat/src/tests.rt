@@ -1,7 +1,8 @@
 //! Small formulas whose answers are known by hand, pigeonhole formulas, and formulas against a count by all assignments.
 ghost use Rattle.std.specs.Prelude.{◌<◌};
 
-use crate::{NoMemory, Solved, solve};
+use crate::solver::{Begun, attempt, begin};
+use crate::{Counts, NoMemory, Solved, solve, solve_counted};
 use kb_chain::{Clause, Formula, Lit, Log, Row, Verdict, check_fresh, check_refutation};
 use std::alloc::Global;
 use std::process::Abort;
@@ -245,10 +246,10 @@ fn satisfies(clauses: &[Signs], values: u32) -> bool {
     true
 }
 
-/// How many assignments satisfy every clause.
-fn count_models(clauses: &[Signs]) -> u32 {
+/// How many assignments of the variables satisfy every clause.
+fn count_models(clauses: &[Signs], vars: u32) -> u32 {
     let mut count = 0u32;
-    for values in 0..1u32 << VARS {
+    for values in 0..1u32.wrapping_shl(vars) {
         if satisfies(clauses, values) {
             count = count.wrapping_add(1);
         }
@@ -292,23 +293,21 @@ const SMALL_BUDGET: u32 = 4_000;
 /// With this one it eliminates variables and lets clauses go.
 const GREAT_BUDGET: u32 = 100_000;
 
-/// Checks that the formula is decided within the budget, as the count of its models says and by a model or a log that is good;
-/// whether it has a model.
-fn check_decided(
+/// Checks that an answer decides the formula, as the count of its models says and by a model or a log that is good; whether it
+/// has a model.
+fn check_answer(
     rt: &impl Abort,
     alloc: Global,
     formula: &Formula,
-    budget: u32,
-) -> Result<bool, NoMemory>
-    requires { 0 < budget }
-{
-    let solved = solve(alloc, formula, budget)?;
+    solved: Solved,
+    keeps_all: bool,
+) -> Result<bool, NoMemory> {
     let clauses = all_signs(alloc, formula)?;
-    let models = count_models(clauses.as_slice());
+    let models = count_models(clauses.as_slice(), formula.vars());
     match solved {
         Solved::Sat(bits) => {
             assert!(rt; models > 0);
-            assert_eq!(rt; bits.as_slice().len(), VARS as usize);
+            assert_eq!(rt; bits.as_slice().len(), formula.vars() as usize);
             assert!(rt; satisfies(clauses.as_slice(), values_of(bits.as_slice())));
             Ok(true)
         }
@@ -316,7 +315,7 @@ fn check_decided(
             assert_eq!(rt; models, 0);
             let verdict = check_refutation(alloc, formula, &log)?;
             assert!(rt; verdict == Verdict::Good);
-            if budget <= SMALL_BUDGET {
+            if keeps_all {
                 check_front(rt, alloc, formula, log)?;
             }
             Ok(false)
@@ -326,6 +325,87 @@ fn check_decided(
             Ok(false)
         }
     }
+}
+
+/// Checks that the formula is decided within the budget.
+fn check_decided(
+    rt: &impl Abort,
+    alloc: Global,
+    formula: &Formula,
+    budget: u32,
+) -> Result<bool, NoMemory>
+    requires { 0 < budget }
+{
+    let solved = solve(alloc, formula, budget)?;
+    check_answer(rt, alloc, formula, solved, budget <= SMALL_BUDGET)
+}
+
+/// Checks that the search that eliminates variables and lets clauses go decides the formula, with no other search behind it.
+fn check_first(rt: &impl Abort, alloc: Global, formula: &Formula) -> Result<bool, NoMemory> {
+    let (found, _counts) = attempt(alloc, formula, GREAT_BUDGET, true)?;
+    let Some(solved) = found else {
+        assert!(rt; false);
+        return Ok(false);
+    };
+    check_answer(rt, alloc, formula, solved, false)
+}
+
+/// How many clauses are let go as variables are eliminated.
+fn eliminated(alloc: Global, formula: &Formula) -> Result<usize, NoMemory> {
+    match begin(alloc, formula, true)? {
+        Begun::Doomed(_, _) => Ok(0),
+        Begun::Ready(_, eliminated) => Ok(eliminated.clauses.len()),
+    }
+}
+
+/// Variables in a ring, each unlike the next one: an odd ring has no model.
+fn ring(alloc: Global, size: u8) -> Result<Formula, NoMemory> {
+    let mut made = Formula::new(alloc, u32::from(size));
+    for place in 0..size {
+        let here = i32::from(place).wrapping_add(1);
+        let next = i32::from((place.wrapping_add(1)) % size.max(1)).wrapping_add(1);
+        add(alloc, &mut made, &[here, next])?;
+        add(
+            alloc,
+            &mut made,
+            &[here.wrapping_neg(), next.wrapping_neg()],
+        )?;
+    }
+    Ok(made)
+}
+
+#[test]
+fn the_first_search_decides_what_it_eliminates_from(rt: HostRuntime) -> Result<(), Fail> {
+    let alloc = rt.alloc();
+    for size in 3..14u8 {
+        let made = ring(alloc, size)?;
+        assert!(rt; eliminated(alloc, &made)? > 0);
+        assert_eq!(rt; check_first(&rt, alloc, &made)?, size % 2 == 0);
+    }
+    for seed in 1..5u64 {
+        let sparse = random(alloc, seed, 44)?;
+        assert!(rt; eliminated(alloc, &sparse)? > 0);
+        let _sparse = check_first(&rt, alloc, &sparse)?;
+        let _dense = check_first(&rt, alloc, &random(alloc, seed, 88)?)?;
+    }
+    Ok(())
+}
+
+#[test]
+fn counts_what_it_does(rt: HostRuntime) -> Result<(), Fail> {
+    let alloc = rt.alloc();
+    let square = formula(alloc, 2, &[&[1, 2], &[1, -2], &[-1, 2], &[-1, -2]])?;
+    // the first literal that is tried forces one more, which makes a clause false; what is learned forces another, and a second
+    // clause is false
+    let (_solved, counts) = solve_counted(alloc, &square, 9)?;
+    let want = Counts {
+        decisions: 1,
+        propagations: 2,
+        conflicts: 2,
+        restarts: 0,
+    };
+    assert!(rt; counts == want);
+    Ok(())
 }
 
 #[test]

@@ -1,10 +1,12 @@
 -- What the world says of the methods that the machine runs, and which inputs are type-correct (JVMS 8 sections 2.3, 2.4 and
 -- 4.3.3).
-use Rattle.std.specs.Prelude.{◌≡◌, ℕ, ◌⊎◌, pos, List, [], ◌∷◌, length, Bool, true, false, Option, Some, None, slice_get}
+use Rattle.std.specs.Prelude.{◌≡◌, ◌⊎◌, pos, List, [], ◌∷◌, length, Bool, true, false, Some, slice_get}
+use Rattle.std.specs.Int.{w32}
+use Rattle.std.specs.Int.RustNames.{FitsSigned}
 use Rattle.kb_classfile.specs.declared.file.Code.{Code}
 use Rattle.kb_code.specs.declared.listing.Listing.{Listing}
 use Rattle.kb_heap.specs.declared.heap.Value.{Value}
-use Rattle.kb_heap.specs.declared.heap.Value.TheVariants.{Int as IntValue, Null, Ref}
+use Rattle.kb_heap.specs.declared.heap.Value.TheVariants.{Int as IntValue, Null}
 use Rattle.kb_heap.specs.declared.heap.Input.{Input}
 use Rattle.kb_names.specs.declared.types.JType.{JType}
 use Rattle.kb_names.specs.declared.types.JType.TheVariants.{Bool as BoolType, Int as IntType, Class as ClassType, Array as ArrayType}
@@ -26,31 +28,31 @@ pub record IsMethod (world : List GivenClass) (id : MethodId) (method : Method) 
   pub max_stack : method.max_stack ≡ code.max_stack
   pub max_locals : method.max_locals ≡ code.max_locals
 
--- The value is one of the type: an int for I, 0 or 1 for Z, null for a class or an array. Objects of an input are not built
--- by now, nor are values of other types.
-abbrev pub Agrees : JType → Value → Type 0
-Agrees IntType (IntValue z) = Unit {0}
-Agrees BoolType (IntValue z) = (z ≡ pos 0) ⊎ (z ≡ pos 1)
-Agrees (ClassType name) Null = Unit {0}
-Agrees (ArrayType component) Null = Unit {0}
-Agrees type value = ⊥
+-- The value is one of the type: an int of 32 bits with sign for I (JVMS 8 section 2.3.1), 0 or 1 for Z (section 2.3.4), null
+-- for a class or an array. Objects of an input are not built by now, nor are values of other types.
+abbrev pub IsValueOf : JType → Value → Type 0
+IsValueOf IntType (IntValue z) = FitsSigned w32 z
+IsValueOf BoolType (IntValue z) = (z ≡ pos 0) ⊎ (z ≡ pos 1)
+IsValueOf (ClassType name) Null = Unit {0}
+IsValueOf (ArrayType component) Null = Unit {0}
+IsValueOf type value = ⊥
 
--- each argument agrees with its parameter
-abbrev pub AgreeEach : List JType → List Value → Type 0
-AgreeEach [] [] = Unit {0}
-AgreeEach (type ∷ types) (value ∷ values) = Agrees type value × AgreeEach types values
-AgreeEach [] (value ∷ values) = ⊥
-AgreeEach (type ∷ types) [] = ⊥
+-- each argument is a value of its parameter's type
+abbrev pub AreValuesOf : List JType → List Value → Type 0
+AreValuesOf [] [] = Unit {0}
+AreValuesOf (type ∷ types) (value ∷ values) = IsValueOf type value × AreValuesOf types values
+AreValuesOf [] (value ∷ values) = ⊥
+AreValuesOf (type ∷ types) [] = ⊥
 
--- The arguments agree with the parameters. The receiver of a method that is not static is an object of the input, and there
--- are none by now.
-abbrev pub AgreeWith : Bool → List JType → List Value → Type 0
-AgreeWith true params args = AgreeEach params args
-AgreeWith false params args = ⊥
+-- The arguments are those that the parameters take. The receiver of a method that is not static is an object of the input,
+-- and there are none by now.
+abbrev pub AreArgumentsFor : Bool → List JType → List Value → Type 0
+AreArgumentsFor true params args = AreValuesOf params args
+AreArgumentsFor false params args = ⊥
 
--- The input is one of the method: its arguments agree with the parameters, and it has no objects, which are not built by now.
+-- The input is one of the method: its arguments are those that the parameters take, and it has no objects, which are not built by now.
 pub record IsTypeCorrect (world : List GivenClass) (id : MethodId) (input : Input) : Type 0 where
   pub target : Target
   pub declared : Declares world id target
   pub objects : input.heap.objects ≡ []
-  pub arguments : AgreeWith (is_static declared.names.method) target.kind.params input.args
+  pub arguments : AreArgumentsFor (is_static declared.names.method) target.kind.params input.args

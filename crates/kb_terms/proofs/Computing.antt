@@ -9,7 +9,7 @@ use Rattle.kb_terms.specs.declared.node.TermId.{TermId}
 use Rattle.kb_terms.specs.declared.node.Node.{Node}
 use Rattle.kb_terms.specs.declared.node.Node.TheVariants.{Const, Var, Op as Apply}
 use Rattle.kb_terms.specs.Op.{is_binary}
-use Rattle.kb_terms.specs.Terms.{IsTerm, int_at, IsSecond, AreOperands, variables_of, NodeFits, IsWellFormed, node_value, values, value_of, CanCompute}
+use Rattle.kb_terms.specs.Terms.{IsTerm, int_at, IsSecond, AreOperands, variables_of, NodeFits, IsPool, node_value, values, value_of, CanCompute}
 use Rattle.kb_terms.proofs.Entries.{split_at, slice_get-take}
 use Rattle.kb_terms.proofs.Interned.{variables-append}
 use Rattle.kb_terms.proofs.Values.{values-append, before-value}
@@ -19,7 +19,7 @@ second-below before n b None h s = λ t e. absurd (cc)
 second-below before n true (Some r) h s = λ t e. let same : r ≡ t = cc in omega (arith, s, ap (λ x. x.0) same)
 second-below before n false (Some r) h s = absurd s
 
-pub can_compute : (nodes : List Node) (i : ℕ) (node : Node) (inputs done : List ℤ) → IsWellFormed nodes → slice_get nodes i ≡ Some node → variables_of nodes ≤ length inputs → length done ≡ i → CanCompute inputs done node
+pub can_compute : (nodes : List Node) (i : ℕ) (node : Node) (inputs done : List ℤ) → IsPool nodes → slice_get nodes i ≡ Some node → variables_of nodes ≤ length inputs → length done ≡ i → CanCompute inputs done node
 can_compute nodes i (Const c) inputs done formed e enough count = tt
 can_compute nodes i (Var v kind) inputs done formed e enough count =
     let fit : v ≡ variables_of (take i nodes) = formed.fits i (Var v kind) e in
@@ -46,8 +46,8 @@ take-within (suc i) (suc n) [] h = refl
 take-within (suc i) (suc n) (x ∷ xs) h = ap (λ ys. x ∷ ys) (take-within i n xs (omega arith))
 
 -- the first nodes of a pool are a pool
-pub IsWellFormed-take : (nodes : List Node) (n : ℕ) → IsWellFormed nodes → IsWellFormed (take n nodes)
-IsWellFormed-take nodes n formed = record {
+pub IsPool-take : (nodes : List Node) (n : ℕ) → IsPool nodes → IsPool (take n nodes)
+IsPool-take nodes n formed = record {
   small = omega (arith, length-take n nodes, formed.small);
   fits = λ i node e.
       let below : i < n = omega (arith, slice_get_within (take n nodes) i node e, length-take n nodes) in

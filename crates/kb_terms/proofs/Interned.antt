@@ -7,7 +7,7 @@ use Rattle.kb_terms.specs.declared.node.Node.TheVariants.{Var}
 use Rattle.kb_terms.specs.declared.node.TermId.{TermId}
 use Rattle.kb_terms.specs.declared.node.Node.{Node}
 use Rattle.kb_terms.specs.contracts.node.NodePartialEq.TheImpl.{eq-value}
-use Rattle.kb_terms.specs.Terms.{IsTerm, NodeFits, IsWellFormed, HasNode, Extends, variables_of, is_variable}
+use Rattle.kb_terms.specs.Terms.{IsTerm, NodeFits, IsPool, HasNode, Extends, variables_of, is_variable}
 use Rattle.kb_terms.proofs.Entries.{slice_get-append-end, split_at, end-cases}
 use Rattle.kb_terms.proofs.Equality.{absent-node}
 use Rattle.std.proofs.lemmas.List.Sums.{sum_by-append}
@@ -26,8 +26,8 @@ module _ (old new : List Node) (node : Node) (miss : list_any ((eq-value.it) nod
     added = inr pushed;
   }
 
-  pub formed : IsWellFormed old → NodeFits old node → length old + 1 < 2 ^ 32 → IsWellFormed new
-  formed f fit room = subst IsWellFormed (sym pushed) (grown old node f fit (absent-node old node miss) room)
+  pub formed : IsPool old → NodeFits old node → length old + 1 < 2 ^ 32 → IsPool new
+  formed f fit room = subst IsPool (sym pushed) (grown old node f fit (absent-node old node miss) room)
 
 -- ---- how many variables there are
 
@@ -43,7 +43,7 @@ pub variables-more : (nodes : List Node) (v : ℕ) (kind : VarKind) → variable
 variables-more nodes v kind = variables-append nodes (Var v kind ∷ [])
 
 -- the variable of the next number is not there
-next-absent : (nodes : List Node) (kind : VarKind) (i : ℕ) → IsWellFormed nodes → slice_get nodes i ≡ Some (Var (variables_of nodes) kind) → ⊥
+next-absent : (nodes : List Node) (kind : VarKind) (i : ℕ) → IsPool nodes → slice_get nodes i ≡ Some (Var (variables_of nodes) kind) → ⊥
 next-absent nodes kind i formed e =
     let node : Node = Var (variables_of nodes) kind in
     let fit : variables_of nodes ≡ variables_of (take i nodes) = formed.fits i node e in
@@ -51,7 +51,7 @@ next-absent nodes kind i formed e =
     omega (arith, fit, parts, variables-append (take i nodes) (node ∷ drop (suc i) nodes), variables-append (node ∷ []) (drop (suc i) nodes))
 
 -- so it stands at the end of the new pool
-pub new_variable : (old new : List Node) (t : TermId) (v : ℕ) (kind : VarKind) → IsWellFormed old → v ≡ variables_of old → HasNode old new t (Var v kind)
+pub new_variable : (old new : List Node) (t : TermId) (v : ℕ) (kind : VarKind) → IsPool old → v ≡ variables_of old → HasNode old new t (Var v kind)
     → (t.0 ≡ length old) × (new ≡ old ++ Var (variables_of old) kind ∷ [])
 new_variable old new t v kind formed next h =
     let node : Node = Var (variables_of old) kind in

@@ -11,7 +11,7 @@ use Rattle.kb_terms.specs.declared.node.Node.{Node}
 use Rattle.kb_terms.specs.declared.node.Node.TheVariants.{Const, Var, Op as Apply}
 use Rattle.kb_terms.proofs.Entries.{end-cases}
 use Rattle.kb_terms.proofs.Walking.{first-before, second-before}
-use Rattle.kb_terms.specs.Terms.{IsTerm, AreTerms, node_at, IsWellFormed}
+use Rattle.kb_terms.specs.Terms.{IsTerm, AreTerms, node_at, IsPool}
 use Rattle.kb_terms.specs.Numbering.{has_term, place_of, with_term, visit_node, visit, numbering, is_operation, IsOperandOf, IsNumbering}
 
 -- each of some terms
@@ -150,7 +150,7 @@ module _ (nodes : List Node) where
   leaf : {done : List TermId} {t : TermId} (n : Option Node) → node_at nodes t ≡ n → is_operation n ≡ false → InOrder done → Visited done t done
   leaf n e none h = record { ordered = h; numbered = λ operation. absurd (true≢false (sym operation ∙ ap is_operation e ∙ none)); keeps = λ o there. there }
 
-  module _ (formed : IsWellFormed nodes) where
+  module _ (formed : IsPool nodes) where
     node-visited : (walk : List TermId → TermId → List TermId) (done : List TermId) (t : TermId) (n : Option Node) → node_at nodes t ≡ n → InOrder done
         → ((d : List TermId) (u : TermId) → u.0 < t.0 → InOrder d → Visited d u (walk d u)) → Visited done t (visit_node walk done t n)
     node-visited walk done t None e h rec = leaf None e refl h

@@ -8,7 +8,7 @@ use Rattle.kb_terms.specs.declared.node.TermId.{TermId}
 use Rattle.kb_terms.specs.declared.node.Node.{Node}
 use Rattle.kb_terms.specs.declared.node.Node.TheVariants.{Const, Var, Op as Apply}
 use Rattle.kb_terms.specs.Op.{op_value}
-use Rattle.kb_terms.specs.Terms.{IsWellFormed, node_value, values, value_of}
+use Rattle.kb_terms.specs.Terms.{IsPool, node_value, values, value_of}
 use Rattle.kb_terms.proofs.Values.{with_value}
 
 pub op_value-fits : (op : Op) (a b : ℤ) → FitsSigned w32 a → FitsSigned w32 (op_value op a b)
@@ -47,10 +47,10 @@ run-fits inputs done (n ∷ ns) f g k =
     let value : FitsSigned w32 (node_value inputs done n) = node_value-fits inputs done n f g (λ c e. k 0 c (ap Some e)) in
     run-fits inputs (with_value inputs done n) ns f (AreInts-append done (node_value inputs done n ∷ []) g (value, tt)) (λ i c e. k (suc i) c e)
 
-pub values-fits : (inputs : List ℤ) (nodes : List Node) → IsWellFormed nodes → AreInts inputs → AreInts (values inputs nodes)
+pub values-fits : (inputs : List ℤ) (nodes : List Node) → IsPool nodes → AreInts inputs → AreInts (values inputs nodes)
 unfolding values ConstantsFit
 values-fits inputs nodes formed f = run-fits inputs [] nodes f tt (λ i c e. formed.fits i (Const c) e)
 
-pub value_of-fits : (nodes : List Node) (t : TermId) (inputs : List ℤ) → IsWellFormed nodes → AreInts inputs → FitsSigned w32 (value_of nodes t inputs)
+pub value_of-fits : (nodes : List Node) (t : TermId) (inputs : List ℤ) → IsPool nodes → AreInts inputs → FitsSigned w32 (value_of nodes t inputs)
 unfolding value_of
 value_of-fits nodes t inputs formed f = AreInts-get_or (values inputs nodes) t.0 (values-fits inputs nodes formed f)

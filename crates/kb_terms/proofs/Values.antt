@@ -9,7 +9,7 @@ use Rattle.kb_terms.specs.declared.node.VarKind.{VarKind}
 use Rattle.kb_terms.specs.declared.node.Node.{Node}
 use Rattle.kb_terms.specs.declared.node.Node.TheVariants.{Const, Var, Op as Apply}
 use Rattle.kb_terms.specs.Op.{is_binary, op_value}
-use Rattle.kb_terms.specs.Terms.{IsTerm, node_at, IsSecond, AreOperands, IsWellFormed, Extends, HasNode, int_at, second_value, node_value, values, value_of, operand_value, AreTerms, values_of, made_node, folded, constant_at, constant_of, second_constant}
+use Rattle.kb_terms.specs.Terms.{IsTerm, node_at, IsSecond, AreOperands, IsPool, Extends, HasNode, int_at, second_value, node_value, values, value_of, operand_value, AreTerms, values_of, made_node, folded, constant_at, constant_of, second_constant}
 use Rattle.kb_terms.proofs.Growth.{extends-same}
 use Rattle.kb_terms.proofs.Entries.{split_at}
 use Rattle.std.proofs.lemmas.Option.{slice_get_within}
@@ -110,7 +110,7 @@ second-before nodes n b None inputs h s = refl
 second-before nodes n true (Some r) inputs h s = before-value nodes n r inputs h (omega (arith, length-take n nodes))
 second-before nodes n false (Some r) inputs h s = absurd s
 
-pub value_of-operation : (nodes : List Node) (t : TermId) (op : Op) (left : TermId) (right : Option TermId) (inputs : List ℤ) → IsWellFormed nodes → node_at nodes t ≡ Some (Apply op left right)
+pub value_of-operation : (nodes : List Node) (t : TermId) (op : Op) (left : TermId) (right : Option TermId) (inputs : List ℤ) → IsPool nodes → node_at nodes t ≡ Some (Apply op left right)
     → value_of nodes t inputs ≡ op_value op (value_of nodes left inputs) (operand_value nodes right inputs)
 value_of-operation nodes t op left right inputs formed e =
     let inside : t.0 < length nodes = slice_get_within nodes t.0 (Apply op left right) e in
@@ -141,7 +141,7 @@ operand_value-extends old new false (Some r) inputs e s = absurd s
 
 -- the value of the term that has the node of an operation, folded or not
 pub value_of-made : (old new : List Node) (t : TermId) (op : Op) (left : TermId) (right : Option TermId) (inputs : List ℤ)
-    → IsWellFormed new → Extends old new → AreOperands old op left right → node_at new t ≡ Some (made_node old op left right)
+    → IsPool new → Extends old new → AreOperands old op left right → node_at new t ≡ Some (made_node old op left right)
     → value_of new t inputs ≡ op_value op (value_of old left inputs) (operand_value old right inputs)
 unfolding made_node
 value_of-made old new t op left right inputs formed grown operands e = go (constant_at old left) (second_constant old right) refl refl e
@@ -168,7 +168,7 @@ constant_value (Ok t) old new c d e h = λ inputs. value_of-constant new t d inp
 constant_value (Err x) old new c d e h = h
 
 pub made_value : {E : Type 0} (r : Result TermId E) (old new : List Node) (op : Op) (left : TermId) (right : Option TermId) (node : Node)
-    → node ≡ made_node old op left right → IsWellFormed new → Extends old new → AreOperands old op left right → IfOk r (λ t. HasNode old new t node)
+    → node ≡ made_node old op left right → IsPool new → Extends old new → AreOperands old op left right → IfOk r (λ t. HasNode old new t node)
     → IfOk r (λ t. (inputs : List ℤ) → value_of new t inputs ≡ op_value op (value_of old left inputs) (operand_value old right inputs))
 made_value (Ok t) old new op left right node e formed grown operands h = λ inputs. value_of-made old new t op left right inputs formed grown operands (h.node_is ∙ ap Some e)
 made_value (Err x) old new op left right node e formed grown operands h = h

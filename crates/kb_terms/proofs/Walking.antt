@@ -10,13 +10,13 @@ use Rattle.kb_terms.specs.declared.node.Node.TheVariants.{Const, Var, Op as Appl
 use Rattle.kb_terms.specs.declared.numbering.Task.{Task}
 use Rattle.kb_terms.specs.declared.numbering.Task.TheVariants.{Enter, Emit}
 use Rattle.kb_terms.specs.Op.{is_binary}
-use Rattle.kb_terms.specs.Terms.{IsTerm, IsSecond, AreOperands, node_at, IsWellFormed}
+use Rattle.kb_terms.specs.Terms.{IsTerm, IsSecond, AreOperands, node_at, IsPool}
 use Rattle.kb_terms.specs.Numbering.{has_term, with_term, visit_node, visit}
 use Rattle.kb_terms.specs.Walk.{task_term, node_tasks, tasks_left, terms_after}
 
 -- ---- operands stand before their operation
 
-pub first-before : (nodes : List Node) (t : TermId) (op : Op) (left : TermId) (right : Option TermId) → IsWellFormed nodes → node_at nodes t ≡ Some (Apply op left right) → left.0 < t.0
+pub first-before : (nodes : List Node) (t : TermId) (op : Op) (left : TermId) (right : Option TermId) → IsPool nodes → node_at nodes t ≡ Some (Apply op left right) → left.0 < t.0
 first-before nodes t op left right formed e =
     let operands : AreOperands (take t.0 nodes) op left right = (formed.fits t.0 (Apply op left right) e).0 in
     omega (arith, operands.first, length-take t.0 nodes)
@@ -25,14 +25,14 @@ second-within : (nodes : List Node) (b : Bool) (r : TermId) → IsSecond nodes b
 second-within nodes true r h = h
 second-within nodes false r h = absurd h
 
-pub second-before : (nodes : List Node) (t : TermId) (op : Op) (left right : TermId) → IsWellFormed nodes → node_at nodes t ≡ Some (Apply op left (Some right)) → right.0 < t.0
+pub second-before : (nodes : List Node) (t : TermId) (op : Op) (left right : TermId) → IsPool nodes → node_at nodes t ≡ Some (Apply op left (Some right)) → right.0 < t.0
 second-before nodes t op left right formed e =
     let operands : AreOperands (take t.0 nodes) op left (Some right) = (formed.fits t.0 (Apply op left (Some right)) e).0 in
     omega (arith, second-within (take t.0 nodes) (is_binary op) right operands.second, length-take t.0 nodes)
 
 -- ---- a visit looks no deeper than the term's number
 
-module _ (nodes : List Node) (formed : IsWellFormed nodes) where
+module _ (nodes : List Node) (formed : IsPool nodes) where
   visit_node-same : (walk go : List TermId → TermId → List TermId) (done : List TermId) (t : TermId) (n : Option Node) → node_at nodes t ≡ n
       → ((d : List TermId) (u : TermId) → u.0 < t.0 → walk d u ≡ go d u) → visit_node walk done t n ≡ visit_node go done t n
   visit_node-same walk go done t None e same = refl
@@ -113,7 +113,7 @@ unfolding task_weight
 task-positive (Enter t) = power-positive (t.0 + 1)
 task-positive (Emit t) = omega arith
 
-module _ (nodes : List Node) (formed : IsWellFormed nodes) where
+module _ (nodes : List Node) (formed : IsPool nodes) where
   node-finish : (done : List TermId) (t : TermId) (n : Option Node) → finish nodes (node_tasks t n) done ≡ visit_node (visit (length nodes) nodes) done t n
   unfolding finish
   node-finish done t None = refl
@@ -198,7 +198,7 @@ pub top_is_term : (nodes : List Node) (tasks rest : List Task) (k : Task) → ta
 unfolding AreTasks
 top_is_term nodes tasks rest k e h = (subst (AreTasks nodes) (popped tasks rest k e) h).0
 
-pub turn : (nodes : List Node) (tasks rest new : List Task) (k : Task) (done after all : List TermId) → IsWellFormed nodes
+pub turn : (nodes : List Node) (tasks rest new : List Task) (k : Task) (done after all : List TermId) → IsPool nodes
     → tasks ≡ rest ++ k ∷ [] → reverse new ≡ tasks_left nodes done k ++ reverse rest → after ≡ terms_after done k
     → AreTasks nodes (reverse tasks) × (finish nodes (reverse tasks) done ≡ all) → AreTasks nodes (reverse new) × (finish nodes (reverse new) after ≡ all)
 unfolding AreTasks
@@ -210,7 +210,7 @@ turn nodes tasks rest new k done after all formed e left terms h =
           ∙ task-finish nodes formed done k (reverse rest) both.0 ∙ ap (λ xs. finish nodes xs done) (sym ks) ∙ h.1,
     )
 
-pub turn-smaller : (nodes : List Node) (tasks rest new : List Task) (k : Task) (done : List TermId) → IsWellFormed nodes
+pub turn-smaller : (nodes : List Node) (tasks rest new : List Task) (k : Task) (done : List TermId) → IsPool nodes
     → tasks ≡ rest ++ k ∷ [] → reverse new ≡ tasks_left nodes done k ++ reverse rest → weight (reverse new) < weight (reverse tasks)
 turn-smaller nodes tasks rest new k done formed e left =
     omega (arith, ap weight left, ap weight (popped tasks rest k e), task-weight nodes formed done k (reverse rest))

@@ -82,7 +82,7 @@ NodeFits before (Var v kind) = v ≡ variables_of before
 NodeFits before (Apply op left right) = AreOperands before op left right × (made_node before op left right ≡ Apply op left right)
 
 -- what holds of every pool
-pub record IsWellFormed (nodes : List Node) : Type 0 where
+pub record IsPool (nodes : List Node) : Type 0 where
   pub small : length nodes < 2 ^ 32
   pub fits : (i : ℕ) (node : Node) → slice_get nodes i ≡ Some node → NodeFits (take i nodes) node
   pub distinct : (i j : ℕ) (node : Node) → slice_get nodes i ≡ Some node → slice_get nodes j ≡ Some node → i ≡ j

@@ -1,6 +1,6 @@
 //! The numbering of terms in texts.
 ghost use Rattle.std.specs.Prelude.{◌≡◌, ◌++◌, [], length, reverse, IfOk, OnOk};
-ghost use Rattle.kb_terms.specs.Terms.{IsTerm, AreTerms, IsWellFormed};
+ghost use Rattle.kb_terms.specs.Terms.{IsTerm, AreTerms, IsPool};
 ghost use Rattle.kb_terms.specs.Numbering.{numbering, visit, place_of, IsNumbering};
 ghost use Rattle.kb_terms.specs.declared.numbering.Task.TheVariants.{Enter};
 ghost use Rattle.kb_terms.specs.Walk.{task_term, tasks_left, terms_after};
@@ -83,7 +83,7 @@ fn walk(
     tasks: &mut Vec<Task>,
     terms: &mut IndexSet<TermId>,
 ) -> Result<(), NoMemory>
-    requires formed { IsWellFormed nodes.now }
+    requires formed { IsPool nodes.now }
     requires root { IsTerm nodes.now root }
     requires idle { tasks.old.items ≡ [] }
     ensures terms { OnOk result (terms.new.keys ≡ visit (length nodes.now) nodes.now terms.old.keys root) }

@@ -3,7 +3,7 @@ ghost use Rattle.std.specs.Prelude.{◌≡◌, ◌+◌, ◌<◌, ◌≤◌, ◌^
 ghost use Rattle.std.specs.Option.{ForSome};
 ghost use Rattle.kb_terms.specs.declared.node.Node.TheVariants.{Const, Var};
 ghost use Rattle.kb_terms.specs.Op.{op_value};
-ghost use Rattle.kb_terms.specs.Terms.{IsTerm, node_at, is_variable, variables_of, AreOperands, constant_at, second_constant, int_at, made_node, NodeFits, IsWellFormed, Extends, HasNode, value_of, operand_value, values, node_value, CanCompute};
+ghost use Rattle.kb_terms.specs.Terms.{IsTerm, node_at, is_variable, variables_of, AreOperands, constant_at, second_constant, int_at, made_node, NodeFits, IsPool, Extends, HasNode, value_of, operand_value, values, node_value, CanCompute};
 
 use crate::node::{Node, TermId, VarKind};
 use crate::op::Op;
@@ -40,20 +40,20 @@ pub struct Pool {
 impl Model for Pool {
     ghost use Rattle.std.specs.Prelude.{List, ◌≡◌};
     ghost use Rattle.kb_terms.specs.declared.node.Node.{Node};
-    ghost use Rattle.kb_terms.specs.Terms.{IsWellFormed, variables_of};
+    ghost use Rattle.kb_terms.specs.Terms.{IsPool, variables_of};
 
     ghost Value = { List Node };
 
     ghost view = { λ p. p.nodes.keys };
 
-    ghost invariant = { λ p. IsWellFormed p.nodes.keys × (p.variables ≡ variables_of p.nodes.keys) };
+    ghost invariant = { λ p. IsPool p.nodes.keys × (p.variables ≡ variables_of p.nodes.keys) };
 }
 
 impl Pool {
     /// A pool with no terms.
     pub fn new(alloc: Global) -> Pool
         ensures empty { result ≡ [] }
-        ensures formed { IsWellFormed result }
+        ensures formed { IsPool result }
     {
         Pool {
             nodes: IndexSet::new(alloc),
@@ -75,7 +75,7 @@ impl Pool {
     /// How many variables there are; they are numbered from 0.
     pub fn variables(&self) -> u32
         ensures count { result ≡ variables_of self.now }
-        ensures formed { IsWellFormed self.now }
+        ensures formed { IsPool self.now }
     {
         self.variables
     }
@@ -83,7 +83,7 @@ impl Pool {
     /// What the terms are, in the order of their numbers.
     pub fn nodes(&self) -> &[Node]
         ensures nodes { result.now ≡ self.now }
-        ensures formed { IsWellFormed result.now }
+        ensures formed { IsPool result.now }
     {
         self.nodes.as_slice()
     }
@@ -92,7 +92,7 @@ impl Pool {
     pub fn node(&self, term: TermId) -> Node
         requires { IsTerm self.now term }
         ensures node { node_at self.now term ≡ Some result }
-        ensures formed { IsWellFormed self.now }
+        ensures formed { IsPool self.now }
     {
         node_of(self.nodes(), term)
     }
@@ -116,7 +116,7 @@ impl Pool {
         ensures extends { Extends self.old self.new }
         ensures grows { length self.old ≤ length self.new }
         ensures variables { variables_of self.new ≡ variables_of self.old }
-        ensures formed { IsWellFormed self.new }
+        ensures formed { IsPool self.new }
         ensures err { OnErr result (self.new ≡ self.old) }
     {
         self.intern(Node::Const(value))
@@ -131,7 +131,7 @@ impl Pool {
         ensures extends { Extends self.old self.new }
         ensures grows { length self.old ≤ length self.new }
         ensures variables { OnOk result (variables_of self.new ≡ variables_of self.old + 1) }
-        ensures formed { IsWellFormed self.new }
+        ensures formed { IsPool self.new }
         ensures err { OnErr result (self.new ≡ self.old) }
     {
         let next = self.variables.checked_add(1).ok_or(NoMemory)?;
@@ -150,7 +150,7 @@ impl Pool {
         ensures extends { Extends self.old self.new }
         ensures grows { length self.old ≤ length self.new }
         ensures variables { variables_of self.new ≡ variables_of self.old }
-        ensures formed { IsWellFormed self.new }
+        ensures formed { IsPool self.new }
         ensures err { OnErr result (self.new ≡ self.old) }
     {
         let node = self.made_node(op, left, right);
@@ -165,7 +165,7 @@ impl Pool {
         ensures extends { Extends self.old self.new }
         ensures grows { length self.old ≤ length self.new }
         ensures variables { variables_of self.new ≡ variables_of self.old }
-        ensures formed { IsWellFormed self.new }
+        ensures formed { IsPool self.new }
         ensures err { OnErr result (self.new ≡ self.old) }
     {
         term_of(&mut self.nodes, node)
@@ -219,7 +219,7 @@ pub(crate) fn node_of(nodes: &[Node], term: TermId) -> Node
 
 // The values of the terms with these nodes, in order.
 fn compute(alloc: Global, nodes: &[Node], inputs: &[i32]) -> Result<Vec<i32>, NoMemory>
-    requires formed { IsWellFormed nodes.now }
+    requires formed { IsPool nodes.now }
     requires enough { variables_of nodes.now ≤ length inputs.now }
     ensures { IfOk result (λ computed. computed.items ≡ values inputs.now nodes.now) }
 {
@@ -248,11 +248,11 @@ fn node_value(node: Node, inputs: &[i32], computed: &[i32]) -> i32
 
 // The term of a node, which goes to the end of the nodes unless it is there.
 fn term_of(nodes: &mut IndexSet<Node>, node: Node) -> Result<TermId, NoMemory>
-    requires formed { IsWellFormed nodes.old.keys }
+    requires formed { IsPool nodes.old.keys }
     requires fits { NodeFits nodes.old.keys node }
     ensures node { IfOk result (λ t. HasNode nodes.old.keys nodes.new.keys t node) }
     ensures extends { Extends nodes.old.keys nodes.new.keys }
-    ensures formed { IsWellFormed nodes.new.keys }
+    ensures formed { IsPool nodes.new.keys }
     ensures err { OnErr result (nodes.new.keys ≡ nodes.old.keys) }
 {
     if let Some(index) = nodes.get_index_of(&node) {

@@ -10,7 +10,7 @@ use Rattle.kb_test.specs.declared.test_case.Test.{Test}
 use Rattle.kb_test.specs.declared.reading.Open.{Open}
 use Rattle.kb_test.specs.declared.reading.Open.TheVariants.{Between, Named, Args, Ended}
 use Rattle.kb_test.specs.declared.reading.Front.{Front}
-use Rattle.kb_test.specs.Texts.{arg_line, ending_line, end_line, test_lines, tests_lines, AreInts, IsEnding, IsTest, AreTests}
+use Rattle.kb_test.specs.Texts.{arg_line, ending_line, end_line, test_lines, tests_lines, AreIntValues, IsEnding, IsTest, AreTests}
 use Rattle.kb_test.specs.Fronts.{Phase, between, named, args, ended, phase_of, FitsAt, IsFront, front_lines, open_lines}
 
 abbrev pub advance : Phase → List ℕ → Phase
@@ -56,7 +56,7 @@ ending_advances (Past Alloc) h = absurd h
 ending_advances (Past Loops) h = absurd h
 ending_advances (Past Depth) h = absurd h
 
-args_accepted : (values : List Value) (rest : List (List ℕ)) → AreInts values → Accepts args rest → Accepts args (map arg_line values ++ rest)
+args_accepted : (values : List Value) (rest : List (List ℕ)) → AreIntValues values → Accepts args rest → Accepts args (map arg_line values ++ rest)
 args_accepted [] rest are h = h
 args_accepted (value ∷ values) rest are h =
     (inl (value, (are.0, refl)), subst (λ (p : Phase). Accepts p (map arg_line values ++ rest)) (sym (arg_advances value)) (args_accepted values rest are.1 h))

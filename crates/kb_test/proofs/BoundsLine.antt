@@ -4,9 +4,10 @@ use Rattle.std.specs.Prelude.{codes}
 use Rattle.std.specs.Fmt.{decimal}
 use Rattle.kb_heap.specs.declared.bounds.RunBounds.{RunBounds}
 use Rattle.kb_test.specs.Texts.{bounds_line, IsRunBounds}
-use Rattle.kb_test.specs.Fronts.{AreNumbers}
+use Rattle.kb_test.specs.Fronts.{IsAnyBounds}
 use Rattle.std.proofs.lemmas.Fmt.{decimal_injective}
-use Rattle.kb_test.proofs.Words.{same_number, same_behind}
+use Rattle.kb_grammar.proofs.WordLaws.{same_behind}
+use Rattle.kb_grammar.proofs.NumberLaws.{same_number}
 
 abbrev pub after_depth : RunBounds → List ℕ
 after_depth bounds = codes "steps " ++ decimal bounds.steps
@@ -25,14 +26,14 @@ bounds_line-is bounds = refl
 pub same_parts : (front text : List ℕ) (m n : ℕ) (us vs : List ℕ) → m < 2 ^ 32 → n < 2 ^ 32 → text ≡ front ++ (decimal m ++ 32 ∷ us) → text ≡ front ++ (decimal n ++ 32 ∷ vs) → (m ≡ n) × (us ≡ vs)
 same_parts front text m n us vs p q e f = same_number front m n us vs p q (sym e ∙ f)
 
-pub are_numbers : (bounds : RunBounds) → IsRunBounds bounds → AreNumbers bounds
+pub are_numbers : (bounds : RunBounds) → IsRunBounds bounds → IsAnyBounds bounds
 are_numbers bounds h = record { alloc = omega (arith, h.alloc); loops = omega (arith, h.loops); depth = omega (arith, h.depth); steps = omega (arith, h.steps) }
 
 abbrev bounds_of : ℕ → ℕ → ℕ → ℕ → RunBounds
 bounds_of alloc loops depth steps = record { alloc = alloc; loops = loops; depth = depth; steps = steps }
 
 -- one line has one list of bounds
-pub same_bounds : (a b : RunBounds) → AreNumbers a → AreNumbers b → bounds_line a ≡ bounds_line b → a ≡ b
+pub same_bounds : (a b : RunBounds) → IsAnyBounds a → IsAnyBounds b → bounds_line a ≡ bounds_line b → a ≡ b
 same_bounds a b p q e =
     let one = same_parts (codes "bounds alloc ") (bounds_line a) a.alloc b.alloc (after_alloc a) (after_alloc b) p.alloc q.alloc (bounds_line-is a) (e ∙ bounds_line-is b) in
     let two = same_parts (codes "loops ") (after_alloc a) a.loops b.loops (after_loops a) (after_loops b) p.loops q.loops refl one.1 in

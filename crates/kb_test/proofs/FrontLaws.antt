@@ -5,12 +5,12 @@ use Rattle.kb_heap.specs.declared.heap.Value.{Value}
 use Rattle.kb_heap.specs.declared.bounds.RunBounds.{RunBounds}
 use Rattle.kb_test.specs.declared.test_case.Test.{Test}
 use Rattle.kb_test.specs.declared.reading.Open.TheVariants.{Between, Args, Ended}
-use Rattle.kb_test.specs.Texts.{test_line, bounds_line, arg_line, ending_line, end_line, test_lines, tests_lines, AreInts, IsTest, AreTests}
+use Rattle.kb_test.specs.Texts.{test_line, bounds_line, arg_line, ending_line, end_line, test_lines, tests_lines, AreIntValues, IsTest, AreTests}
 use Rattle.kb_test.specs.Fronts.{IsFront, front_lines, SpellsArg}
 
-pub AreInts-++ : (xs ys : List Value) → AreInts xs → AreInts ys → AreInts (xs ++ ys)
-AreInts-++ [] ys p q = q
-AreInts-++ (x ∷ xs) ys p q = (p.0, AreInts-++ xs ys p.1 q)
+pub AreIntValues-++ : (xs ys : List Value) → AreIntValues xs → AreIntValues ys → AreIntValues (xs ++ ys)
+AreIntValues-++ [] ys p q = q
+AreIntValues-++ (x ∷ xs) ys p q = (p.0, AreIntValues-++ xs ys p.1 q)
 
 pub AreTests-++ : (literals : ℕ) (xs ys : List Test) → AreTests literals xs → AreTests literals ys → AreTests literals (xs ++ ys)
 AreTests-++ literals [] ys p q = q
@@ -33,7 +33,7 @@ pub arg_goes_on : (literals : ℕ) (tests : List Test) (target : Target) (bounds
     → IsFront literals (record { tests = tests; open_test = Args (record { target = target; bounds = bounds; args = more }) })
     × (front_lines (record { tests = tests; open_test = Args (record { target = target; bounds = bounds; args = more }) }) ≡ front_lines (record { tests = tests; open_test = Args (record { target = target; bounds = bounds; args = values }) }) ++ line ∷ [])
 arg_goes_on literals tests target bounds values more value line e spells good = (
-  (good.0, (good.1.0, (good.1.1.0, subst AreInts (sym e) (AreInts-++ values (value ∷ []) good.1.1.1 (spells.0, tt))))),
+  (good.0, (good.1.0, (good.1.1.0, subst AreIntValues (sym e) (AreIntValues-++ values (value ∷ []) good.1.1.1 (spells.0, tt))))),
   ap (λ (l : List (List ℕ)). tests_lines tests ++ test_line target ∷ bounds_line bounds ∷ l)
       (ap (map arg_line) e ∙ arg_lines-++ values (value ∷ []) ∙ ap (λ (l : List ℕ). map arg_line values ++ l ∷ []) (sym spells.1))
       ∙ sym (append_assoc (tests_lines tests) (test_line target ∷ bounds_line bounds ∷ map arg_line values) (line ∷ [])),

@@ -1,8 +1,7 @@
-pub mod Words
+pub mod WritingLaws
 pub mod BoundsLine
 pub mod FrontLaws
 pub mod Accepts
-pub mod LineLaws
 pub mod TestLines
 pub mod SameTests
 pub mod ReadLaws

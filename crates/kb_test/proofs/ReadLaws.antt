@@ -1,5 +1,5 @@
 -- What is known where the reader of tests stops.
-use Rattle.std.proofs.Common.{◌≡◌, ℕ, ◌+◌, List, [], ◌∷◌, ◌++◌, length, length-append, ◌≤◌, map, refl, sym, ◌∙◌, ap, arith, append_assoc, append-nil, subst}
+use Rattle.std.proofs.Common.{◌≡◌, ℕ, List, [], ◌∷◌, ◌++◌, Option, None, Some, MatchOption, Result, Ok, Err, IfOk, map, refl, sym, ◌∙◌, ap, arith, append_assoc, append-nil, subst}
 use Rattle.kb_heap.specs.declared.heap.Value.{Value}
 use Rattle.kb_names.specs.declared.types.Target.{Target}
 use Rattle.kb_heap.specs.declared.bounds.RunBounds.{RunBounds}
@@ -11,14 +11,14 @@ use Rattle.kb_test.specs.declared.reading.Open.{Open}
 use Rattle.kb_test.specs.declared.reading.Open.TheVariants.{Between, Named, Args, Ended}
 use Rattle.kb_test.specs.declared.reading.Front.{Front}
 use Rattle.kb_names.specs.Targets.{IsTarget}
-use Rattle.kb_test.specs.Lines.{Lacks, AreLines, IsFirstBadLine}
-use Rattle.kb_test.specs.Texts.{lines_text, test_line, bounds_line, arg_line, ending_line, end_line, test_lines, tests_lines, literal_heap, AreInts, IsRunBounds, IsEnding, IsTest, AreTests, SpellsTests, IsTestsText}
-use Rattle.kb_test.specs.Fronts.{between, phase_of, FitsAt, IsFront, front_lines, open_lines}
-use Rattle.kb_test.proofs.Words.{same_cut, not_lacking}
+use Rattle.kb_grammar.specs.Lines.{AreLines, IsFirstBadLine, lines_text}
+use Rattle.kb_grammar.specs.LineFormats.{IsLineFormat, SpellsByLines}
+use Rattle.kb_grammar.proofs.LineLaws.{same_bad_line}
+use Rattle.kb_test.specs.Texts.{test_line, bounds_line, arg_line, ending_line, end_line, test_lines, tests_lines, literal_heap, AreIntValues, IsRunBounds, IsEnding, IsTest, AreTests, SpellsTests, IsTestsText}
+use Rattle.kb_test.specs.Fronts.{between, phase_of, IsFront, open_lines, TakesLine, SpellsLines, StandsBehind}
 use Rattle.kb_test.proofs.FrontLaws.{AreTests-++, tests_lines-more}
 use Rattle.kb_test.proofs.Accepts.{next_fits, all_read}
-use Rattle.kb_test.proofs.LineLaws.{lines_text-++, lines_beyond, line_first, no_lines}
-use Rattle.kb_test.proofs.TestLines.{tests_are_lines, AreLines-++}
+use Rattle.kb_test.proofs.TestLines.{tests_are_lines}
 use Rattle.kb_test.proofs.SameTests.{same_tests}
 
 abbrev least_bounds : RunBounds
@@ -31,7 +31,7 @@ abbrev ended_test : ℕ → Target → RunBounds → List Value → Ending → T
 ended_test literals target bounds values ending =
     record { target = target; bounds = bounds; input = record { heap = record { objects = [] }; args = values }; ending = ending; heap = literal_heap literals }
 
-is_ended : (literals : ℕ) (target : Target) (bounds : RunBounds) (values : List Value) (ending : Ending) → IsTarget target → IsRunBounds bounds → AreInts values → IsEnding ending
+is_ended : (literals : ℕ) (target : Target) (bounds : RunBounds) (values : List Value) (ending : Ending) → IsTarget target → IsRunBounds bounds → AreIntValues values → IsEnding ending
     → IsTest literals (ended_test literals target bounds values ending)
 is_ended literals target bounds values ending t b v e = record { target = t; bounds = b; args = v; input = refl; ending = e; heap = refl }
 
@@ -60,80 +60,56 @@ ends literals tests (Ended begun ending) good =
     good.0 (is_ended literals begun.target begun.bounds begun.args ending good.1.0 good.1.1.0 good.1.1.1.0 good.1.1.1.1)
     (ap (λ (l : List (List ℕ)). test_line begun.target ∷ bounds_line begun.bounds ∷ l) (sym (append_assoc (map arg_line begun.args) (ending_line ending ∷ []) (end_line ∷ []))))
 
-goes_on : (literals : ℕ) (front : Front) → IsFront literals front → (more : List ℕ) × IsTestsText literals (lines_text (front_lines front) ++ more)
-goes_on literals front good =
-    let end = ends literals front.tests front.open_test good in
-    (lines_text end.0, (end.1, (end.2, sym (ap lines_text end.3 ∙ lines_text-++ (front_lines front) end.0))))
+-- the tests' laws as a format of lines
+front_goes_on : (literals : ℕ) (front : Front) (before : List (List ℕ)) → StandsBehind literals front before
+    → (after : List (List ℕ)) × (tests : List Test) × SpellsLines literals tests (before ++ after)
+front_goes_on literals front before stands =
+    let end = ends literals front.tests front.open_test stands.0 in
+    (end.0, end.1, (end.2, ap (λ (l : List (List ℕ)). l ++ end.0) stands.1 ∙ sym end.3))
 
--- a line that has no place
-pub bad_line : (literals : ℕ) (front : Front) (text rest line tail : List ℕ) (number : ℕ) → IsFront literals front → AreLines (front_lines front)
-    → text ≡ lines_text (front_lines front) ++ rest → number ≡ length (front_lines front) + 1
-    → Lacks 10 line → rest ≡ line ++ 10 ∷ tail → (FitsAt (phase_of front.open_test) line → ⊥) → IsFirstBadLine (IsTestsText literals) text number
-bad_line literals front text rest line tail number good lines is number_is lacks begins none = record {
-  before = front_lines front;
-  rest = rest;
-  are_lines = lines;
-  number_is = number_is;
-  is = is;
-  goes_on = goes_on literals front good;
-  no_further = no_further;
-  no_text = λ (tests, spells). no_further line tail tail lacks begins
-      (tests, (spells.0, ap (λ (r : List ℕ). lines_text (front_lines front) ++ r) (sym begins) ∙ sym is ∙ spells.1));
-}
-  where
-    no_further : (other behind more : List ℕ) → Lacks 10 other → rest ≡ other ++ 10 ∷ behind → IsTestsText literals (lines_text (front_lines front) ++ (other ++ 10 ∷ more)) → ⊥
-    no_further other behind more lacks_too begins_too (tests, spells) =
-        let same = same_cut 10 other line behind tail lacks_too lacks (sym begins_too ∙ begins) in
-        let beyond = lines_beyond (front_lines front) (tests_lines tests) (other ++ 10 ∷ more) lines (tests_are_lines literals tests spells.0) spells.1 in
-        let first = line_first other more beyond.0 lacks_too beyond.3 beyond.2 in
-        none (subst (FitsAt (phase_of front.open_test)) same.0
-        (next_fits literals front other first.0 tests good spells.0 (beyond.1 ∙ ap (λ (l : List (List ℕ)). front_lines front ++ l) first.1)))
+spelled_are_lines : (literals : ℕ) (tests : List Test) (lines : List (List ℕ)) → SpellsLines literals tests lines → AreLines lines
+spelled_are_lines literals tests lines spells = subst AreLines (sym spells.1) (tests_are_lines literals tests spells.0)
 
--- an end where the text may not end
-pub bad_end : (literals : ℕ) (front : Front) (text rest : List ℕ) (number : ℕ) → IsFront literals front → AreLines (front_lines front)
-    → text ≡ lines_text (front_lines front) ++ rest → number ≡ length (front_lines front) + 1
-    → Lacks 10 rest → (rest ≡ [] → phase_of front.open_test ≡ between → ⊥) → IsFirstBadLine (IsTestsText literals) text number
-bad_end literals front text rest number good lines is number_is lacks unfinished = record {
-  before = front_lines front;
-  rest = rest;
-  are_lines = lines;
-  number_is = number_is;
-  is = is;
-  goes_on = goes_on literals front good;
-  no_further = λ other behind more lacks_too begins _. not_lacking 10 other behind rest lacks (sym begins);
-  no_text = λ (tests, spells).
-      let beyond = lines_beyond (front_lines front) (tests_lines tests) rest lines (tests_are_lines literals tests spells.0) (sym is ∙ spells.1) in
-      let none = no_lines rest beyond.0 lacks beyond.2 in
-      unfinished none.1 (all_read literals front tests good spells.0
-      (beyond.1 ∙ ap (λ (l : List (List ℕ)). front_lines front ++ l) none.0 ∙ append-nil (front_lines front)));
-}
+spelled_once : (literals : ℕ) (one other : List Test) (lines : List (List ℕ)) → SpellsLines literals one lines → SpellsLines literals other lines → one ≡ other
+spelled_once literals one other lines p q = same_tests literals one other p.0 q.0 (sym p.1 ∙ q.1)
 
--- one line more
-pub one_more : (lines next : List (List ℕ)) (text rest line others : List ℕ) → text ≡ lines_text lines ++ rest → rest ≡ line ++ 10 ∷ others → next ≡ lines ++ line ∷ [] → text ≡ lines_text next ++ others
-one_more lines next text rest line others is begins more =
-    is ∙ ap (λ (r : List ℕ). lines_text lines ++ r) (begins ∙ sym (append_assoc line (10 ∷ []) others)) ∙ sym (append_assoc (lines_text lines) (line ++ 10 ∷ []) others)
-    ∙ ap (λ (l : List ℕ). l ++ others) (sym (lines_text-++ lines (line ∷ [])) ∙ ap lines_text (sym more))
+pub is_line_format : (literals : ℕ) → IsLineFormat (SpellsLines literals) (StandsBehind literals)
+is_line_format literals = record { goes_on = front_goes_on literals; are_lines = spelled_are_lines literals; spells_one = spelled_once literals }
 
-pub are_more : (lines next : List (List ℕ)) (line : List ℕ) → AreLines lines → Lacks 10 line → next ≡ lines ++ line ∷ [] → AreLines next
-are_more lines next line are lacks more = subst AreLines (sym more) (AreLines-++ lines (line ∷ []) are (lacks, tt))
+-- one line more, or none that fits
+pub line_taken : (literals : ℕ) (front : Front) (line : List ℕ) (taken : Option Front) → TakesLine literals front line taken → (before : List (List ℕ)) → StandsBehind literals front before
+    → MatchOption taken ((after : List (List ℕ)) (tests : List Test) → SpellsLines literals tests (before ++ line ∷ after) → ⊥) (λ next. StandsBehind literals next (before ++ line ∷ []))
+line_taken literals front line (Some next) takes before stands =
+    let more = takes stands.0 in
+    (more.0, ap (λ (l : List (List ℕ)). l ++ line ∷ []) stands.1 ∙ sym more.1)
+line_taken literals front line None takes before stands = λ after tests spells.
+    takes (next_fits literals front line after tests stands.0 spells.0 (sym spells.1 ∙ ap (λ (l : List (List ℕ)). l ++ line ∷ after) stands.1))
 
-pub one_longer : (lines next : List (List ℕ)) (line : List ℕ) (number : ℕ) → number ≡ length lines + 1 → next ≡ lines ++ line ∷ [] → number + 1 ≡ length next + 1
-one_longer lines next line number is more = omega (arith, ap length more, length-append lines (line ∷ []))
+pub if_taken : {E : Type 0} (literals : ℕ) (front : Front) (line : List ℕ) (r : Result (Option Front) E) → IfOk r (TakesLine literals front line)
+    → IfOk r (λ taken. (before : List (List ℕ)) → StandsBehind literals front before
+    → MatchOption taken ((after : List (List ℕ)) (tests : List Test) → SpellsLines literals tests (before ++ line ∷ after) → ⊥) (λ next. StandsBehind literals next (before ++ line ∷ [])))
+if_taken literals front line (Ok taken) h = line_taken literals front line taken h
+if_taken literals front line (Err e) h = tt
 
-pub shorter : (rest line others : List ℕ) (number all : ℕ) → rest ≡ line ++ 10 ∷ others → number + length rest ≤ all → number + 1 + length others ≤ all
-shorter rest line others number all begins le = omega (arith, ap length begins, length-append line (10 ∷ others))
-
--- where the text ends behind whole tests
-pub whole_read : (literals : ℕ) (front : Front) (tests : List Test) (text rest : List ℕ) → IsFront literals front → text ≡ lines_text (front_lines front) ++ rest → rest ≡ []
-    → front.open_test ≡ Between → tests ≡ front.tests → SpellsTests literals tests text
-whole_read literals front tests text rest good is none open_is same = (
-  subst (AreTests literals) (sym same) good.0,
-  is ∙ ap (λ (r : List ℕ). lines_text (front_lines front) ++ r) none ∙ append-nil (lines_text (front_lines front))
-      ∙ ap lines_text (ap (λ (o : Open). tests_lines front.tests ++ open_lines o) open_is ∙ append-nil (tests_lines front.tests) ∙ ap tests_lines (sym same)),
+-- an end behind whole tests, or none
+pub if_whole : (literals : ℕ) (front : Front) (whole : Option (List Test))
+    → MatchOption whole (phase_of front.open_test ≡ between → ⊥) (λ tests. (front.open_test ≡ Between) × (tests ≡ front.tests))
+    → (before : List (List ℕ)) → StandsBehind literals front before
+    → MatchOption whole ((tests : List Test) → SpellsLines literals tests before → ⊥) (λ tests. SpellsLines literals tests before)
+if_whole literals front (Some tests) h before stands = (
+  subst (AreTests literals) (sym h.1) stands.0.0,
+  stands.1 ∙ ap (λ (o : Open). tests_lines front.tests ++ open_lines o) h.0 ∙ append-nil (tests_lines front.tests) ∙ ap tests_lines (sym h.1),
 )
+if_whole literals front None h before stands = λ tests spells. h (all_read literals front tests stands.0 spells.0 (sym spells.1 ∙ stands.1))
 
-pub only_read : (literals : ℕ) (xs ys : List Test) (text : List ℕ) → SpellsTests literals xs text → SpellsTests literals ys text → xs ≡ ys
-only_read literals xs ys text p q =
-    let beyond = lines_beyond (tests_lines xs) (tests_lines ys) [] (tests_are_lines literals xs p.0) (tests_are_lines literals ys q.0) (append-nil (lines_text (tests_lines xs)) ∙ sym p.1 ∙ q.1) in
-    let none = no_lines [] beyond.0 tt beyond.2 in
-    same_tests literals xs ys p.0 q.0 (sym (beyond.1 ∙ ap (λ (l : List (List ℕ)). tests_lines xs ++ l) none.0 ∙ append-nil (tests_lines xs)))
+-- the text of lines that are those of tests, both ways
+pub spells_tests : (literals : ℕ) (tests : List Test) (text : List ℕ) → SpellsByLines (SpellsLines literals) tests text → SpellsTests literals tests text
+spells_tests literals tests text spells = (spells.spelled.0, spells.is ∙ ap lines_text spells.spelled.1)
+
+pub by_lines : (literals : ℕ) (tests : List Test) (text : List ℕ) → SpellsTests literals tests text → SpellsByLines (SpellsLines literals) tests text
+by_lines literals tests text spells = record { lines = tests_lines tests; spelled = (spells.0, refl); is = spells.1 }
+
+pub bad_line_of_tests : (literals : ℕ) (text : List ℕ) (number : ℕ) → IsFirstBadLine (λ t. (tests : List Test) × SpellsByLines (SpellsLines literals) tests t) text number
+    → IsFirstBadLine (IsTestsText literals) text number
+bad_line_of_tests literals text number =
+    same_bad_line _ (IsTestsText literals) (λ t (tests, spells). (tests, spells_tests literals tests t spells)) (λ t (tests, spells). (tests, by_lines literals tests t spells)) text number

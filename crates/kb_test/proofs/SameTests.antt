@@ -14,8 +14,9 @@ use Rattle.kb_heap.specs.declared.bounds.Bound.TheVariants.{K, Array, Alloc, Loo
 use Rattle.kb_heap.specs.declared.ending.Ending.{Ending}
 use Rattle.kb_heap.specs.declared.ending.Ending.TheVariants.{Returned, Threw, IllTyped, Past}
 use Rattle.kb_test.specs.declared.test_case.Test.{Test}
-use Rattle.kb_test.specs.Texts.{test_line, bounds_line, value_text, arg_line, ending_line, end_line, test_lines, tests_lines, IsInt, AreInts, IsEnding, IsTest, AreTests}
-use Rattle.kb_test.proofs.Words.{same_behind, int_mag}
+use Rattle.kb_test.specs.Texts.{test_line, bounds_line, value_text, arg_line, ending_line, end_line, test_lines, tests_lines, IsIntValue, AreIntValues, IsEnding, IsTest, AreTests}
+use Rattle.kb_grammar.proofs.WordLaws.{same_behind}
+use Rattle.kb_grammar.proofs.NumberLaws.{int_mag}
 use Rattle.kb_test.proofs.BoundsLine.{are_numbers, same_bounds}
 use Rattle.kb_names.specs.Targets.{IsTarget}
 
@@ -27,7 +28,7 @@ same_target a b p q e =
     let two = target_reader.only b (target_text a) (q, text) in
     cc
 
-same_value : (a b : Value) → IsInt a → IsInt b → value_text a ≡ value_text b → a ≡ b
+same_value : (a b : Value) → IsIntValue a → IsIntValue b → value_text a ≡ value_text b → a ≡ b
 unfolding value_text
 same_value (Int a) (Int b) p q e = ap (λ (z : ℤ). Int z) (signed_decimal_injective a b (int_mag a p) (int_mag b q) e)
 same_value (Int a) Null p q e = absurd q
@@ -35,7 +36,7 @@ same_value (Int a) (Ref b) p q e = absurd q
 same_value Null b p q e = absurd p
 same_value (Ref a) b p q e = absurd p
 
-same_arg : (a b : Value) → IsInt a → IsInt b → arg_line a ≡ arg_line b → a ≡ b
+same_arg : (a b : Value) → IsIntValue a → IsIntValue b → arg_line a ≡ arg_line b → a ≡ b
 unfolding arg_line
 same_arg a b p q e = same_value a b p q (same_behind (codes "arg ") (value_text a) (value_text b) e)
 
@@ -90,7 +91,7 @@ no_ending value (Past Depth) is e = is
 heads : {A : Type 0} (x y : A) (xs ys : List A) → x ∷ xs ≡ y ∷ ys → (x ≡ y) × (xs ≡ ys)
 heads x y xs ys e = (cc, cc)
 
-same_args : (xs ys : List Value) (a b : Ending) (us vs : List (List ℕ)) → AreInts xs → AreInts ys → IsEnding a → IsEnding b
+same_args : (xs ys : List Value) (a b : Ending) (us vs : List (List ℕ)) → AreIntValues xs → AreIntValues ys → IsEnding a → IsEnding b
     → map arg_line xs ++ ending_line a ∷ us ≡ map arg_line ys ++ ending_line b ∷ vs → (xs ≡ ys) × (a ≡ b) × (us ≡ vs)
 same_args [] [] a b us vs p q h k e = let parts = heads (ending_line a) (ending_line b) us vs e in (refl, same_ending a b h k parts.0, parts.1)
 same_args [] (y ∷ ys) a b us vs p q h k e = absurd (no_ending y a h (sym (heads (ending_line a) (arg_line y) us _ e).0))

@@ -18,9 +18,11 @@ use Rattle.kb_heap.specs.declared.bounds.Bound.TheVariants.{K, Array, Alloc, Loo
 use Rattle.kb_heap.specs.declared.ending.Ending.{Ending}
 use Rattle.kb_heap.specs.declared.ending.Ending.TheVariants.{Returned, Threw, IllTyped, Past}
 use Rattle.kb_test.specs.declared.test_case.Test.{Test}
-use Rattle.kb_test.specs.Lines.{Lacks, AreLines}
-use Rattle.kb_test.specs.Texts.{test_line, bounds_line, value_text, arg_line, ending_line, end_line, test_lines, tests_lines, IsInt, AreInts, IsRunBounds, IsEnding, AreTests}
-use Rattle.kb_test.proofs.Words.{Lacks-++, Lacks-decimal, Lacks-signed}
+use Rattle.kb_grammar.specs.Lines.{Lacks, AreLines}
+use Rattle.kb_test.specs.Texts.{test_line, bounds_line, value_text, arg_line, ending_line, end_line, test_lines, tests_lines, IsIntValue, AreIntValues, IsRunBounds, IsEnding, AreTests}
+use Rattle.kb_grammar.proofs.WordLaws.{Lacks-++}
+use Rattle.kb_grammar.proofs.NumberLaws.{Lacks-decimal, Lacks-signed}
+use Rattle.kb_grammar.proofs.LineLaws.{AreLines-++}
 
 hex_above : (digit : ℕ) → hex_digit digit ≢ 10
 hex_above digit = go (nat_lt digit 10)
@@ -129,13 +131,13 @@ bounds_line-lacks bounds is =
     digits : (n : ℕ) → n < 2 ^ 64 → Lacks 10 (decimal n)
     digits n small = Lacks-decimal 10 n (omega arith) small
 
-value_lacks : (value : Value) → IsInt value → Lacks 10 (value_text value)
+value_lacks : (value : Value) → IsIntValue value → Lacks 10 (value_text value)
 unfolding value_text
 value_lacks (Int number) is = Lacks-signed 10 number (omega arith) is
 value_lacks Null is = absurd is
 value_lacks (Ref object) is = absurd is
 
-arg_line-lacks : (value : Value) → IsInt value → Lacks 10 (arg_line value)
+arg_line-lacks : (value : Value) → IsIntValue value → Lacks 10 (arg_line value)
 unfolding arg_line
 arg_line-lacks value is = Lacks-++ 10 (codes "arg ") (value_text value) arg_word (value_lacks value is)
 
@@ -156,11 +158,7 @@ end_line-lacks : Lacks 10 end_line
 unfolding end_line
 end_line-lacks = end_word
 
-pub AreLines-++ : (xs ys : List (List ℕ)) → AreLines xs → AreLines ys → AreLines (xs ++ ys)
-AreLines-++ [] ys p q = q
-AreLines-++ (x ∷ xs) ys p q = (p.0, AreLines-++ xs ys p.1 q)
-
-args_are_lines : (values : List Value) → AreInts values → AreLines (map arg_line values)
+args_are_lines : (values : List Value) → AreIntValues values → AreLines (map arg_line values)
 args_are_lines [] are = tt
 args_are_lines (value ∷ values) are = (arg_line-lacks value are.0, args_are_lines values are.1)
 

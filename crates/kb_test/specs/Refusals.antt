@@ -1,6 +1,6 @@
 -- What the reader of tests answers.
 use Rattle.std.specs.Prelude.{◌≡◌, ℕ, List, Result, Ok, Err}
-use Rattle.kb_test.specs.Lines.{IsFirstBadLine}
+use Rattle.kb_grammar.specs.Lines.{IsFirstBadLine}
 use Rattle.kb_test.specs.Texts.{IsTestsText}
 use Rattle.kb_test.specs.declared.test_case.Test.{Test}
 use Rattle.kb_test.specs.declared.reading.TestRefusal.{TestRefusal}

@@ -4,6 +4,7 @@ use Rattle.std.specs.List.{flat_map}
 use Rattle.std.specs.Fmt.{decimal, signed_decimal}
 use Rattle.std.specs.Int.RustNames.{FitsSigned}
 use mir.Syntax.{w32}
+use Rattle.kb_grammar.specs.Lines.{lines_text}
 use Rattle.kb_names.specs.Targets.{target_text, IsTarget}
 use Rattle.kb_names.specs.declared.types.Target.{Target}
 use Rattle.kb_names.specs.declared.types.ExactType.TheVariants.{Class}
@@ -16,11 +17,6 @@ use Rattle.kb_heap.specs.declared.bounds.Bound.TheVariants.{K, Array, Alloc, Loo
 use Rattle.kb_heap.specs.declared.ending.Ending.{Ending}
 use Rattle.kb_heap.specs.declared.ending.Ending.TheVariants.{Returned, Threw, IllTyped, Past}
 use Rattle.kb_test.specs.declared.test_case.Test.{Test}
-
--- each line with a line feed behind it
-abbrev pub lines_text : List (List ℕ) → List ℕ
-lines_text [] = []
-lines_text (line ∷ lines) = line ++ 10 ∷ lines_text lines
 
 unfoldable pub test_line : Target → List ℕ
 test_line target = codes "test " ++ target_text target
@@ -76,18 +72,18 @@ pub record IsRunBounds (bounds : RunBounds) : Type 0 where
   pub some_steps : 1 ≤ bounds.steps
   pub steps : bounds.steps ≤ 100000
 
-abbrev pub IsInt : Value → Type 0
-IsInt (Int number) = FitsSigned w32 number
-IsInt Null = ⊥
-IsInt (Ref object) = ⊥
+abbrev pub IsIntValue : Value → Type 0
+IsIntValue (Int number) = FitsSigned w32 number
+IsIntValue Null = ⊥
+IsIntValue (Ref object) = ⊥
 
-abbrev pub AreInts : List Value → Type 0
-AreInts [] = Unit {0}
-AreInts (value ∷ values) = IsInt value × AreInts values
+abbrev pub AreIntValues : List Value → Type 0
+AreIntValues [] = Unit {0}
+AreIntValues (value ∷ values) = IsIntValue value × AreIntValues values
 
 -- an ending that has a text
 abbrev pub IsEnding : Ending → Type 0
-IsEnding (Returned (Some value)) = IsInt value
+IsEnding (Returned (Some value)) = IsIntValue value
 IsEnding (Returned None) = ⊥
 IsEnding (Threw object) = ⊥
 IsEnding (IllTyped place) = ⊥
@@ -110,7 +106,7 @@ literal_heap literals = record { objects = replicate literals string_object }
 pub record IsTest (literals : ℕ) (test : Test) : Type 0 where
   pub target : IsTarget test.target
   pub bounds : IsRunBounds test.bounds
-  pub args : AreInts test.input.args
+  pub args : AreIntValues test.input.args
   pub input : test.input.heap.objects ≡ []
   pub ending : IsEnding test.ending
   pub heap : test.heap ≡ literal_heap literals

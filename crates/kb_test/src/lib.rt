@@ -1,7 +1,6 @@
 //! Tests of methods, written as texts and read back.
 #![tactic(auto)]
 
-mod lines;
 mod memory;
 mod reading;
 mod test_case;

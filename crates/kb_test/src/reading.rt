@@ -1,14 +1,16 @@
-// Tests are read.
-ghost use Rattle.std.specs.Prelude.{◌≡◌, ◌↔◌, ℕ, List, ◌++◌, IfOk, IfErr, IsTrue, MatchOption};
+//! Tests are read, line by line.
+ghost use Rattle.std.specs.Prelude.{◌≡◌, ◌↔◌, List, IfOk, IfErr, IsTrue, MatchOption};
 ghost use Rattle.kb_test.specs.Texts.{SpellsTests, IsRunBounds};
-ghost use Rattle.kb_test.specs.Lines.{IsRead};
-ghost use Rattle.kb_test.specs.Fronts.{SpellsTarget, SpellsBounds, SpellsAnyBounds, SpellsValueBehind, SpellsEnding, GoesOn, between, phase_of};
+ghost use Rattle.kb_grammar.specs.Lines.{IsRead};
+ghost use Rattle.kb_test.specs.Fronts.{SpellsTestLine, SpellsBounds, SpellsAnyBounds, SpellsValueBehind, SpellsEnding, TakesLine, SpellsLines, StandsBehind, between, phase_of};
 ghost use Rattle.kb_test.specs.Refusals.{ReadsTests, RefusesTests};
 ghost use Rattle.kb_test.specs.declared.test_case.Test.{Test};
 
-use crate::lines::{behind, cut, int_of, is_at_end, is_line, number_behind, number_of};
 use crate::test_case::literal_heap;
 use crate::{NoMemory, Test};
+use kb_grammar::{
+    LineFormat, LineRefusal, behind, is_line, number_behind, read_int, read_lines, read_number,
+};
 use kb_heap::{Bound, Ending, Heap, Input, Row, RunBounds, Value};
 use kb_names::{Target, TargetRefusal, read_target};
 use std::alloc::Global;
@@ -52,7 +54,7 @@ pub(crate) struct Front {
 
 #[tactic(auto, unfolding(crate::specs::Texts::test_line))]
 fn read_target_line(alloc: Global, line: &[u8]) -> Result<Option<Target>, NoMemory>
-    ensures { IfOk result (IsRead SpellsTarget line.now) }
+    ensures { IfOk result (IsRead SpellsTestLine line.now) }
 {
     let Some(word) = behind(line, b"test ") else {
         return Ok(None);
@@ -77,185 +79,187 @@ fn are_in_range(bounds: RunBounds) -> bool
 }
 
 // The bounds, in whatever ranges.
-fn read_numbers(alloc: Global, line: &[u8]) -> Result<Option<RunBounds>, NoMemory>
-    ensures { IfOk result (IsRead SpellsAnyBounds line.now) }
+fn read_any_bounds(line: &[u8]) -> Option<RunBounds>
+    ensures { IsRead SpellsAnyBounds line.now result }
 {
-    let Some((longest, rest)) = number_behind(alloc, line, b"bounds alloc ")? else {
-        return Ok(None);
-    };
-    let Some((loops, rest)) = number_behind(alloc, rest, b"loops ")? else {
-        return Ok(None);
-    };
-    let Some((depth, rest)) = number_behind(alloc, rest, b"depth ")? else {
-        return Ok(None);
-    };
-    let Some(word) = behind(rest, b"steps ") else {
-        return Ok(None);
-    };
-    match number_of(alloc, word)? {
-        Some(steps) => Ok(Some(RunBounds {
-            alloc: longest,
-            loops,
-            depth,
-            steps,
-        })),
-        None => Ok(None),
-    }
+    let (alloc, rest) = number_behind(line, b"bounds alloc ")?;
+    let (loops, rest) = number_behind(rest, b"loops ")?;
+    let (depth, rest) = number_behind(rest, b"depth ")?;
+    let steps = read_number(behind(rest, b"steps ")?)?;
+    Some(RunBounds {
+        alloc,
+        loops,
+        depth,
+        steps,
+    })
 }
 
-fn read_bounds(alloc: Global, line: &[u8]) -> Result<Option<RunBounds>, NoMemory>
-    ensures { IfOk result (IsRead SpellsBounds line.now) }
+fn read_bounds(line: &[u8]) -> Option<RunBounds>
+    ensures { IsRead SpellsBounds line.now result }
 {
-    let Some(bounds) = read_numbers(alloc, line)? else {
-        return Ok(None);
-    };
+    let bounds = read_any_bounds(line)?;
     if !are_in_range(bounds) {
-        return Ok(None);
+        return None;
     }
-    Ok(Some(bounds))
+    Some(bounds)
 }
 
 #[tactic(auto, unfolding(crate::specs::Texts::value_text))]
-fn read_int(alloc: Global, line: &[u8], front: &[u8]) -> Result<Option<Value>, NoMemory>
-    ensures { IfOk result (IsRead (SpellsValueBehind front.now) line.now) }
+fn read_value(line: &[u8], front: &[u8]) -> Option<Value>
+    ensures { IsRead (SpellsValueBehind front.now) line.now result }
 {
-    let Some(word) = behind(line, front) else {
-        return Ok(None);
-    };
-    match int_of(alloc, word)? {
-        Some(number) => Ok(Some(Value::Int(number))),
-        None => Ok(None),
-    }
+    let number = read_int(behind(line, front)?)?;
+    Some(Value::Int(number))
 }
 
 #[tactic(auto, unfolding(crate::specs::Texts::ending_line))]
-fn read_ending(alloc: Global, line: &[u8]) -> Result<Option<Ending>, NoMemory>
-    ensures { IfOk result (IsRead SpellsEnding line.now) }
+fn read_ending(line: &[u8]) -> Option<Ending>
+    ensures { IsRead SpellsEnding line.now result }
 {
     if is_line(line, b"past steps") {
-        return Ok(Some(Ending::Past(Bound::Steps)));
+        return Some(Ending::Past(Bound::Steps));
     }
-    match read_int(alloc, line, b"returns ")? {
-        Some(value) => Ok(Some(Ending::Returned(Some(value)))),
-        None => Ok(None),
-    }
+    let value = read_value(line, b"returns ")?;
+    Some(Ending::Returned(Some(value)))
 }
 
-impl Front {
-    // Where a reader stands after one more line, or `None` where that line has no place.
-    fn next(self, alloc: Global, literals: u32, line: &[u8]) -> Result<Option<Front>, NoMemory>
-        ensures { IfOk result (GoesOn literals self line.now) }
+// The texts of tests, for a world of so many literals.
+#[derive(Drop)]
+struct TestTexts {
+    alloc: Global,
+    literals: u32,
+}
+
+impl TestTexts {
+    fn after_tests(&self, tests: Row<Test>, line: &[u8]) -> Result<Option<Front>, NoMemory>
+        ensures { IfOk result (TakesLine self.now.literals (record { tests = tests; open_test = Open.Between }) line.now) }
     {
-        let Front { tests, open_test } = self;
+        match read_target_line(self.alloc, line)? {
+            Some(target) => Ok(Some(Front {
+                tests,
+                open_test: Open::Named(target),
+            })),
+            None => Ok(None),
+        }
+    }
+
+    fn after_target(&self, tests: Row<Test>, target: Target, line: &[u8]) -> Option<Front>
+        ensures { TakesLine self.now.literals (record { tests = tests; open_test = Open.Named target }) line.now result }
+    {
+        let bounds = read_bounds(line)?;
+        Some(Front {
+            tests,
+            open_test: Open::Args(BegunTest {
+                target,
+                bounds,
+                args: Row::new(self.alloc),
+            }),
+        })
+    }
+
+    #[tactic(auto, unfolding(crate::specs::Texts::arg_line))]
+    fn after_args(
+        &self,
+        tests: Row<Test>,
+        begun: BegunTest,
+        line: &[u8],
+    ) -> Result<Option<Front>, NoMemory>
+        ensures { IfOk result (TakesLine self.now.literals (record { tests = tests; open_test = Open.Args begun }) line.now) }
+    {
+        if let Some(value) = read_value(line, b"arg ") {
+            let BegunTest {
+                target,
+                bounds,
+                mut args,
+            } = begun;
+            args.push(value)?;
+            return Ok(Some(Front {
+                tests,
+                open_test: Open::Args(BegunTest {
+                    target,
+                    bounds,
+                    args,
+                }),
+            }));
+        }
+        match read_ending(line) {
+            Some(ending) => Ok(Some(Front {
+                tests,
+                open_test: Open::Ended(begun, ending),
+            })),
+            None => Ok(None),
+        }
+    }
+
+    #[tactic(auto, unfolding(crate::specs::Texts::end_line))]
+    fn after_ending(
+        &self,
+        mut tests: Row<Test>,
+        begun: BegunTest,
+        ending: Ending,
+        line: &[u8],
+    ) -> Result<Option<Front>, NoMemory>
+        ensures { IfOk result (TakesLine self.now.literals (record { tests = tests; open_test = Open.Ended begun ending }) line.now) }
+    {
+        if !is_line(line, b"end") {
+            return Ok(None);
+        }
+        let heap = literal_heap(self.alloc, self.literals)?;
+        let input = Input {
+            heap: Heap::new(self.alloc),
+            args: begun.args,
+        };
+        tests.push(Test {
+            target: begun.target,
+            bounds: begun.bounds,
+            input,
+            ending,
+            heap,
+        })?;
+        Ok(Some(Front {
+            tests,
+            open_test: Open::Between,
+        }))
+    }
+
+    fn take_line(&self, front: Front, line: &[u8]) -> Result<Option<Front>, NoMemory>
+        ensures { IfOk result (TakesLine self.now.literals front line.now) }
+    {
+        let Front { tests, open_test } = front;
         match open_test {
-            Open::Between => after_tests(alloc, tests, line),
-            Open::Named(target) => after_target(alloc, tests, target, line),
-            Open::Args(begun) => after_args(alloc, tests, begun, line),
-            Open::Ended(begun, ending) => {
-                after_ending(alloc, literals, tests, begun, ending, line)
-            }
+            Open::Between => self.after_tests(tests, line),
+            Open::Named(target) => Ok(self.after_target(tests, target, line)),
+            Open::Args(begun) => self.after_args(tests, begun, line),
+            Open::Ended(begun, ending) => self.after_ending(tests, begun, ending, line),
         }
     }
 }
 
-fn after_tests(alloc: Global, tests: Row<Test>, line: &[u8]) -> Result<Option<Front>, NoMemory>
-    ensures { (literals : ℕ) → IfOk result (GoesOn literals (record { tests = tests; open_test = Open.Between }) line.now) }
-{
-    match read_target_line(alloc, line)? {
-        Some(target) => Ok(Some(Front {
-            tests,
-            open_test: Open::Named(target),
-        })),
-        None => Ok(None),
-    }
-}
+impl LineFormat for TestTexts {
+    type Front = Front;
 
-fn after_target(
-    alloc: Global,
-    tests: Row<Test>,
-    target: Target,
-    line: &[u8],
-) -> Result<Option<Front>, NoMemory>
-    ensures { (literals : ℕ) → IfOk result (GoesOn literals (record { tests = tests; open_test = Open.Named target }) line.now) }
-{
-    match read_bounds(alloc, line)? {
-        Some(bounds) => Ok(Some(Front {
-            tests,
-            open_test: Open::Args(BegunTest {
-                target,
-                bounds,
-                args: Row::new(alloc),
-            }),
-        })),
-        None => Ok(None),
-    }
-}
+    type Whole = Row<Test>;
 
-#[tactic(auto, unfolding(crate::specs::Texts::arg_line))]
-fn after_args(
-    alloc: Global,
-    tests: Row<Test>,
-    begun: BegunTest,
-    line: &[u8],
-) -> Result<Option<Front>, NoMemory>
-    ensures { (literals : ℕ) → IfOk result (GoesOn literals (record { tests = tests; open_test = Open.Args begun }) line.now) }
-{
-    if let Some(value) = read_int(alloc, line, b"arg ")? {
-        let BegunTest {
-            target,
-            bounds,
-            mut args,
-        } = begun;
-        args.push(value)?;
-        return Ok(Some(Front {
-            tests,
-            open_test: Open::Args(BegunTest {
-                target,
-                bounds,
-                args,
-            }),
-        }));
-    }
-    match read_ending(alloc, line)? {
-        Some(ending) => Ok(Some(Front {
-            tests,
-            open_test: Open::Ended(begun, ending),
-        })),
-        None => Ok(None),
-    }
-}
+    type Stop = NoMemory;
 
-#[tactic(auto, unfolding(crate::specs::Texts::end_line))]
-fn after_ending(
-    alloc: Global,
-    literals: u32,
-    tests: Row<Test>,
-    begun: BegunTest,
-    ending: Ending,
-    line: &[u8],
-) -> Result<Option<Front>, NoMemory>
-    ensures { IfOk result (GoesOn literals (record { tests = tests; open_test = Open.Ended begun ending }) line.now) }
-{
-    if !is_line(line, b"end") {
-        return Ok(None);
+    ghost spells = { λ format. SpellsLines format.literals };
+
+    ghost stands_behind = { λ format. StandsBehind format.literals };
+
+    fn start(&self) -> Front {
+        Front {
+            tests: Row::new(self.alloc),
+            open_test: Open::Between,
+        }
     }
-    let heap = literal_heap(alloc, literals)?;
-    let input = Input {
-        heap: Heap::new(alloc),
-        args: begun.args,
-    };
-    let mut tests = tests;
-    tests.push(Test {
-        target: begun.target,
-        bounds: begun.bounds,
-        input,
-        ending,
-        heap,
-    })?;
-    Ok(Some(Front {
-        tests,
-        open_test: Open::Between,
-    }))
+
+    fn read_line(&self, front: Front, line: &[u8]) -> Result<Option<Front>, NoMemory> {
+        self.take_line(front, line)
+    }
+
+    fn end(&self, front: Front) -> Option<Row<Test>> {
+        whole_tests(front)
+    }
 }
 
 // The tests that are read, if the text may end here.
@@ -276,26 +280,9 @@ pub fn read_tests(alloc: Global, text: &[u8], literals: u32) -> Result<Row<Test>
     ensures only { (tests : List Test) → SpellsTests literals tests text.now → ReadsTests result tests }
     ensures bad { IfErr result (RefusesTests literals text.now) }
 {
-    let mut front = Front {
-        tests: Row::new(alloc),
-        open_test: Open::Between,
-    };
-    let mut rest = text;
-    let mut number = 1;
-    while let Some((line, others)) = cut(rest, b'\n') {
-        front = match front.next(alloc, literals, line) {
-            Ok(Some(next)) => next,
-            Ok(None) => return Err(TestRefusal::TestLine(number)),
-            Err(NoMemory) => return Err(TestRefusal::NoMemory),
-        };
-        rest = others;
-        number += 1;
-    }
-    if !is_at_end(rest) {
-        return Err(TestRefusal::TestLine(number));
-    }
-    match whole_tests(front) {
-        Some(tests) => Ok(tests),
-        None => Err(TestRefusal::TestLine(number)),
+    match read_lines(&TestTexts { alloc, literals }, text) {
+        Ok(tests) => Ok(tests),
+        Err(LineRefusal::BadLine(number)) => Err(TestRefusal::TestLine(number)),
+        Err(LineRefusal::Stopped(NoMemory)) => Err(TestRefusal::NoMemory),
     }
 }

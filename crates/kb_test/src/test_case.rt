@@ -1,4 +1,4 @@
-// Tests, and the heap of the literals.
+//! Tests, and the heap of the literals.
 ghost use Rattle.std.specs.Prelude.{◌≡◌, IfOk};
 ghost use Rattle.kb_test.specs.Texts.{string_object, literal_heap};
 

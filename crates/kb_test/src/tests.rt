@@ -1,3 +1,4 @@
+//! Tests of the reader and the writer of tests.
 use crate::{TestRefusal, read_tests, write_test};
 use kb_heap::{Bound, Ending, Value};
 use std::alloc::Global;
@@ -119,20 +120,23 @@ fn tests_in(alloc: Global, text: &[u8]) -> Result<usize, TestRefusal> {
     }
 }
 
+// Behind whole tests a text may end; elsewhere the line in which it is cut is the first bad one.
 #[test]
-fn a_test_that_is_cut_is_refused_where_it_is_cut(rt: HostRuntime) {
+fn a_text_that_is_cut_is_refused_where_it_is_cut(rt: HostRuntime) {
     let alloc = rt.alloc();
     let mut line = 1;
-    for (end, byte) in ONE.iter().enumerate() {
+    for (end, byte) in SUM.iter().enumerate() {
         let want = if end == 0 {
             Ok(0)
+        } else if end == ONE.len() {
+            Ok(1)
         } else {
             Err(TestRefusal::TestLine(line))
         };
-        assert_eq!(rt; tests_in(alloc, &ONE[..end]), want, "cut to {end} bytes");
+        assert_eq!(rt; tests_in(alloc, &SUM[..end]), want, "cut to {end} bytes");
         if *byte == b'\n' {
             line = line.saturating_add(1);
         }
     }
-    assert_eq!(rt; tests_in(alloc, ONE), Ok(1));
+    assert_eq!(rt; tests_in(alloc, SUM), Ok(2));
 }

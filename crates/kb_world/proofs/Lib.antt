@@ -1,5 +1,6 @@
 pub mod Declared
 pub mod Listings
+pub mod Numbers
 pub mod Places
 pub mod Targets
 pub mod Worlds

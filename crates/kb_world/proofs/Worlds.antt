@@ -2,12 +2,10 @@
 use Rattle.std.proofs.Common.{◌≡◌, ◌≢◌, ℕ, zero, suc, ◌<◌, ◌⊎◌, inl, inr, Bool, true, false, List, [], ◌∷◌, ◌++◌, length, map, Option, Some, None, IsSome, is_some, true≢false, slice_get, get_or, refl, sym, ap, subst, ◌∙◌, arith, length-append}
 use Rattle.std.specs.Borrow.{Bor}
 use Rattle.std.specs.HashMap.{HashMap, UpdatesBy}
-use Rattle.std.specs.Map.{KeepsOthers, IsKeyTest, AreApart, lookup}
 use Rattle.std.specs.Option.{option_copied}
 use Rattle.std.specs.Str.{bytes_eq}
 use Rattle.std.specs.declared.vec.Vec.{Vec}
 use Rattle.std.specs.declared.alloc.Global.{Global}
-use Rattle.std.proofs.lemmas.Cmp.{nat_list_eq_equiv}
 use Rattle.std.proofs.lemmas.List.{map-append, get_or_append_left}
 use Rattle.std.proofs.lemmas.Option.{slice_get-map, slice_get_within, get_or_from_slice_get, same_Some, none-some}
 use Rattle.std.proofs.lemmas.Slice.Eq.{bytes_eq-Decides}
@@ -17,11 +15,12 @@ use Rattle.kb_classfile.specs.Small.{AllDiffer}
 use Rattle.kb_code.specs.declared.listing.Listing.{Listing}
 use Rattle.kb_names.specs.declared.types.Target.{Target}
 use Rattle.kb_world.specs.World.{IsGiven, AreGiven, Names, Declares, Describes, IsTargetOf}
-use Rattle.kb_world.specs.Linked.{name_of, number_at, AddsName, IsNumbered, TellsMethod}
+use Rattle.kb_world.specs.Linked.{own_name_of, number_at, AddsName, IsNumbered, TellsMethod}
 use Rattle.kb_world.specs.declared.world.GivenClass.{GivenClass}
 use Rattle.kb_world.specs.declared.world.MethodId.{MethodId}
 use Rattle.kb_world.specs.declared.world.MethodInfo.{MethodInfo}
 use Rattle.kb_world.proofs.Places.{get_kept, get_last, get_pushed, one_place, differ_front}
+use Rattle.kb_world.proofs.Numbers.{others_kept}
 use Rattle.kb_world.proofs.Targets.{one_number, listed_at}
 
 -- a class of the world is such
@@ -31,11 +30,11 @@ given_at world i class are at =
 
 -- one class has a name
 pub one_class : (world : List GivenClass) (i j : ℕ) (one other : GivenClass) (name : List ℕ) → AreGiven world
-    → slice_get world i ≡ Some one → slice_get world j ≡ Some other → name_of one ≡ Some name → name_of other ≡ Some name → i ≡ j
+    → slice_get world i ≡ Some one → slice_get world j ≡ Some other → own_name_of one ≡ Some name → own_name_of other ≡ Some name → i ≡ j
 one_class world i j one other name are first second named again =
-    let a : slice_get (map name_of world) i ≡ Some (Some name) = slice_get-map name_of world i ∙ rw (first, named) refl in
-    let b : slice_get (map name_of world) j ≡ Some (Some name) = slice_get-map name_of world j ∙ rw (second, again) refl in
-    one_place (map name_of world) i j (Some name) are.differ a b
+    let a : slice_get (map own_name_of world) i ≡ Some (Some name) = slice_get-map own_name_of world i ∙ rw (first, named) refl in
+    let b : slice_get (map own_name_of world) j ≡ Some (Some name) = slice_get-map own_name_of world j ∙ rw (second, again) refl in
+    one_place (map own_name_of world) i j (Some name) are.differ a b
 
 same_id : (a b : MethodId) → a.class ≡ b.class → a.number ≡ b.number → a ≡ b
 same_id a b classes numbers = λ i. record { class = classes i; number = numbers i }
@@ -89,26 +88,26 @@ has_no_code world id other target info known none same is =
 pub given_front : (xs ys : List GivenClass) → AreGiven (xs ++ ys) → AreGiven xs
 given_front xs ys are = record {
   each = λ k d within. subst IsGiven (get_or_append_left xs ys d k within) (are.each k d (omega (arith, length-append xs ys)));
-  differ = differ_front (map name_of xs) (map name_of ys) (subst AllDiffer (map-append name_of xs ys) are.differ);
+  differ = differ_front (map own_name_of xs) (map own_name_of ys) (subst AllDiffer (map-append own_name_of xs ys) are.differ);
 }
 
 -- ---- the numbers at names
 
 module _ (before after : List ℕ → Option ℕ) (classes : List GivenClass) (class : GivenClass) (are : AreGiven (classes ++ class ∷ []))
-    (adds : AddsName before after (name_of class) (length classes)) (numbered : IsNumbered before classes) where
+    (adds : AddsName before after (own_name_of class) (length classes)) (numbered : IsNumbered before classes) where
   -- the last class stands at a name, or the number is that of before
-  at_name : (name : List ℕ) → ((name_of class ≡ Some name) × (after name ≡ Some (length classes))) ⊎ ((name_of class ≢ Some name) × (after name ≡ before name))
-  at_name name = go (name_of class) refl where
-    apart : name_of class ≢ Some name → ((name_of class ≡ Some name) × (after name ≡ Some (length classes))) ⊎ ((name_of class ≢ Some name) × (after name ≡ before name))
+  at_name : (name : List ℕ) → ((own_name_of class ≡ Some name) × (after name ≡ Some (length classes))) ⊎ ((own_name_of class ≢ Some name) × (after name ≡ before name))
+  at_name name = go (own_name_of class) refl where
+    apart : own_name_of class ≢ Some name → ((own_name_of class ≡ Some name) × (after name ≡ Some (length classes))) ⊎ ((own_name_of class ≢ Some name) × (after name ≡ before name))
     apart other = inr (other, adds.others name other)
 
-    go : (own : Option (List ℕ)) → name_of class ≡ own → ((name_of class ≡ Some name) × (after name ≡ Some (length classes))) ⊎ ((name_of class ≢ Some name) × (after name ≡ before name))
+    go : (own : Option (List ℕ)) → own_name_of class ≡ own → ((own_name_of class ≡ Some name) × (after name ≡ Some (length classes))) ⊎ ((own_name_of class ≢ Some name) × (after name ≡ before name))
     go None is = apart (λ e. absurd cc)
     go (Some own) is = by (bytes_eq own name) refl where
-      by : (b : Bool) → bytes_eq own name ≡ b → ((name_of class ≡ Some name) × (after name ≡ Some (length classes))) ⊎ ((name_of class ≢ Some name) × (after name ≡ before name))
+      by : (b : Bool) → bytes_eq own name ≡ b → ((own_name_of class ≡ Some name) × (after name ≡ Some (length classes))) ⊎ ((own_name_of class ≢ Some name) × (after name ≡ before name))
       by true e =
           let same : own ≡ name = (bytes_eq-Decides own name).0 e in
-          let named : name_of class ≡ Some name = is ∙ ap (λ (n : List ℕ). Some n) same in
+          let named : own_name_of class ≡ Some name = is ∙ ap (λ (n : List ℕ). Some n) same in
           inl (named, adds.here name named)
       by false e = apart (λ same. absurd (let t : bytes_eq own name ≡ true = (bytes_eq-Decides own name).1 cc in cc))
 
@@ -116,47 +115,34 @@ module _ (before after : List ℕ → Option ℕ) (classes : List GivenClass) (c
   pub numbered_pushed : IsNumbered after (classes ++ class ∷ [])
   numbered_pushed = record { right = right; whole = whole }
     where
-      right : (name : List ℕ) (number : ℕ) → after name ≡ Some number → (c : GivenClass) × (slice_get (classes ++ class ∷ []) number ≡ Some c) × (name_of c ≡ Some name)
+      right : (name : List ℕ) (number : ℕ) → after name ≡ Some number → (c : GivenClass) × (slice_get (classes ++ class ∷ []) number ≡ Some c) × (own_name_of c ≡ Some name)
       right name number at =
           elim (at_name name) [
             | inl h ↦ (let last : length classes ≡ number = cc in (class, subst (λ (n : ℕ). slice_get (classes ++ class ∷ []) n ≡ Some class) last (get_last classes class), h.0))
             | inr h ↦ (let old = numbered.right name number (sym h.1 ∙ at) in (old.0, get_kept classes class number old.0 old.1, old.2))
           ]
 
-      whole : (name : List ℕ) (number : ℕ) (c : GivenClass) → slice_get (classes ++ class ∷ []) number ≡ Some c → name_of c ≡ Some name → after name ≡ Some number
+      whole : (name : List ℕ) (number : ℕ) (c : GivenClass) → slice_get (classes ++ class ∷ []) number ≡ Some c → own_name_of c ≡ Some name → after name ≡ Some number
       whole name number c at named =
           elim (at_name name) [
             | inl h ↦ h.1 ∙ ap (λ (n : ℕ). Some n) (one_class (classes ++ class ∷ []) (length classes) number class c name are (get_last classes class) at h.0 named)
             | inr h ↦ elim (get_pushed classes class number c at) [
               | inl old ↦ h.1 ∙ numbered.whole name number c old named
-              | inr new ↦ absurd (h.0 (ap name_of new.1 ∙ named))
+              | inr new ↦ absurd (h.0 (ap own_name_of new.1 ∙ named))
             ]
           ]
 
 -- ---- a number that is put at a name
 
-other_entries : {K X : Type 0} (eq : K → K → Bool) (test : K → Bool) (old new : List (K × X)) → KeepsOthers eq test old new → (other : K → Bool) → IsKeyTest eq other → AreApart test other → lookup other new ≡ lookup other old
-unfolding KeepsOthers
-other_entries eq test old new keeps = keeps
-
 module _ {S : Type 0} (old new : HashMap (Vec ℕ Global) ℕ S) (key : Vec ℕ Global) (number : ℕ)
     (updates : UpdatesBy (λ (x y : Vec ℕ Global). bytes_eq x.items y.items) (λ (k : Vec ℕ Global). bytes_eq key.items k.items) old new (Some number)) where
-  apart : (name : List ℕ) → key.items ≢ name → (k : Vec ℕ Global) → bytes_eq key.items k.items ≡ true → bytes_eq name k.items ≡ false
-  apart name other k here = go (bytes_eq name k.items) refl where
-    go : (b : Bool) → bytes_eq name k.items ≡ b → bytes_eq name k.items ≡ false
-    go true e = absurd (other ((bytes_eq-Decides key.items k.items).0 here ∙ sym ((bytes_eq-Decides name k.items).0 e)))
-    go false e = e
-
   -- it stands there, and other names keep theirs
   pub adds_name : (name : Option (List ℕ)) → name ≡ Some key.items → AddsName (number_at old) (number_at new) name number
   adds_name name is = record {
     here = λ own same.
         let keys : key.items ≡ own = same_Some key.items own (sym is ∙ same) in
         subst (λ (n : List ℕ). number_at new n ≡ Some number) keys updates.1;
-    others = λ other differs.
-        other_entries (λ (x y : Vec ℕ Global). bytes_eq x.items y.items) (λ (k : Vec ℕ Global). bytes_eq key.items k.items) old.entries new.entries updates.3 (λ (k : Vec ℕ Global). bytes_eq other k.items)
-        (λ x y. nat_list_eq_equiv.congr other x.items y.items)
-        (apart other (λ same. differs (is ∙ ap (λ (n : List ℕ). Some n) same)));
+    others = λ other differs. others_kept old new key.items (Some number) updates other (λ same. differs (is ∙ ap (λ (n : List ℕ). Some n) same));
   }
 
 -- where no class has the name, no method of the world is the target
@@ -177,7 +163,7 @@ none_at world id class at none target declared =
     none target (subst (λ (c : GivenClass). Names c id.number target) (same_Some declared.class class (sym declared.class_is ∙ at)) declared.names)
 
 -- two classes of different names
-pub two_given : (first second : GivenClass) → IsGiven first → IsGiven second → name_of first ≢ name_of second → AreGiven (first ∷ second ∷ [])
+pub two_given : (first second : GivenClass) → IsGiven first → IsGiven second → own_name_of first ≢ own_name_of second → AreGiven (first ∷ second ∷ [])
 two_given first second one other apart = record { each = each; differ = ((apart, tt), (tt, tt)) }
   where
     each : (k : ℕ) (d : GivenClass) → k < 2 → IsGiven (get_or (first ∷ second ∷ []) k d)

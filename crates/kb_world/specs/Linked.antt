@@ -1,5 +1,5 @@
 -- What a linked class knows of its methods, and a world of its classes.
-use Rattle.std.specs.Prelude.{◌≡◌, ◌≢◌, ℕ, ◌<◌, ◌^◌, List, Option, Some, length, slice_get}
+use Rattle.std.specs.Prelude.{◌≡◌, ◌≢◌, ℕ, ◌<◌, ◌^◌, List, [], ◌∷◌, ◌++◌, Option, Some, length, slice_get, unwrap_or}
 use Rattle.std.specs.List.{AllZip}
 use Rattle.std.specs.HashMap.{HashMap, get_by}
 use Rattle.std.specs.Option.{option_copied}
@@ -38,6 +38,28 @@ pub record HasTargets (file : ClassFile) (targets : List (Option Target)) : Type
   pub each : AllZip (TellsTarget file) file.methods targets
   pub fits : length targets < 2 ^ 32
 
+-- the entry at a name
+abbrev pub entry_at : {V S : Type 0} → HashMap (Vec ℕ Global) V S → List ℕ → Option V
+entry_at table name = get_by (λ key. bytes_eq name key.items) table
+
+-- the numbers at a name: none where it has no entry
+abbrev pub numbers_at : {S : Type 0} → HashMap (Vec ℕ Global) (List ℕ) S → List ℕ → List ℕ
+numbers_at table name = unwrap_or (entry_at table name) []
+
+-- the number is one of these
+abbrev pub Holds : List ℕ → ℕ → Type 0
+Holds numbers number = (place : ℕ) × (slice_get numbers place ≡ Some number)
+
+-- the number is behind those of the name after that, and other names have the numbers that they had
+pub record AddsNumber (before after : List ℕ → List ℕ) (name : List ℕ) (number : ℕ) : Type 0 where
+  pub here : after name ≡ before name ++ number ∷ []
+  pub others : (other : List ℕ) → name ≢ other → after other ≡ before other
+
+-- at each name are the numbers of the methods of that name, and no others
+pub record Indexes (numbers_of : List ℕ → List ℕ) (targets : List (Option Target)) : Type 0 where
+  pub right : (name : List ℕ) (number : ℕ) → Holds (numbers_of name) number → (target : Target) × (slice_get targets number ≡ Some (Some target)) × (target.name ≡ name)
+  pub whole : (number : ℕ) (target : Target) → slice_get targets number ≡ Some (Some target) → Holds (numbers_of target.name) number
+
 -- what a class tells of its method of that number
 pub record TellsMethod (class : GivenClass) (number : ℕ) (info : MethodInfo) : Type 0 where
   pub names : Names class number info.target.now
@@ -45,12 +67,13 @@ pub record TellsMethod (class : GivenClass) (number : ℕ) (info : MethodInfo) :
   pub code : option_copied info.code ≡ names.method.code
   pub listing : slice_get class.listings number ≡ Some (option_copied info.listing)
 
-abbrev pub name_of : GivenClass → Option (List ℕ)
-name_of class = class_name_of class.file class.file.this
+-- the name of a class, as its file has it
+abbrev pub own_name_of : GivenClass → Option (List ℕ)
+own_name_of class = class_name_of class.file class.file.this
 
 -- the number at a name
 abbrev pub number_at : {S : Type 0} → HashMap (Vec ℕ Global) ℕ S → List ℕ → Option ℕ
-number_at numbers name = get_by (λ key. bytes_eq name key.items) numbers
+number_at numbers name = entry_at numbers name
 
 -- the number is at the name after that, if there is one, and other names have the numbers that they had
 pub record AddsName (before after : List ℕ → Option ℕ) (name : Option (List ℕ)) (number : ℕ) : Type 0 where
@@ -59,5 +82,5 @@ pub record AddsName (before after : List ℕ → Option ℕ) (name : Option (Lis
 
 -- at the name of each class is its number, and at no other name is one
 pub record IsNumbered (number_of : List ℕ → Option ℕ) (classes : List GivenClass) : Type 0 where
-  pub right : (name : List ℕ) (number : ℕ) → number_of name ≡ Some number → (class : GivenClass) × (slice_get classes number ≡ Some class) × (name_of class ≡ Some name)
-  pub whole : (name : List ℕ) (number : ℕ) (class : GivenClass) → slice_get classes number ≡ Some class → name_of class ≡ Some name → number_of name ≡ Some number
+  pub right : (name : List ℕ) (number : ℕ) → number_of name ≡ Some number → (class : GivenClass) × (slice_get classes number ≡ Some class) × (own_name_of class ≡ Some name)
+  pub whole : (name : List ℕ) (number : ℕ) (class : GivenClass) → slice_get classes number ≡ Some class → own_name_of class ≡ Some name → number_of name ≡ Some number

@@ -45,7 +45,7 @@ pub record IsTargetOf (world : List GivenClass) (target : Target) (id : MethodId
 
 -- whether the flags have the bit ACC_STATIC (JVMS 8 table 4.6-A)
 abbrev pub is_static : ClassMethod → Bool
-is_static method = not (bit_and method.access 8 == 0)
+is_static method = not (bit_and method.access 0x0008 == 0)
 
 -- The listing of each method's code is given, where it has one.
 abbrev pub AreListings : List ClassMethod → List (Option Listing) → Type 0

@@ -1,4 +1,5 @@
-// Items of lists by their numbers.
+//! Items of lists by their numbers.
+
 ghost use Rattle.std.specs.Prelude.{◌≡◌, slice_get};
 ghost use Rattle.std.specs.Option.{option_copied};
 

@@ -1,6 +1,7 @@
 //! The world of the given classes: where a method is found.
 #![tactic(auto)]
 
+mod by_name;
 mod entries;
 mod linked;
 mod linking;

@@ -1,14 +1,17 @@
-// A class with the targets that name its methods.
-ghost use Rattle.std.specs.Prelude.{◌≡◌, ◌↔◌, ℕ, ◌<◌, ◌^◌, Some, length, slice_get, IsTrue, IfSome, IfNone, IfOk};
+//! A class with the targets that name its methods.
+
+ghost use Rattle.std.specs.Prelude.{◌≡◌, ℕ, IfSome, IfNone, IfOk};
 ghost use Rattle.kb_names.specs.declared.types.Target.{Target};
 ghost use Rattle.kb_world.specs.World.{Names, IsGiven};
 ghost use Rattle.kb_world.specs.Linked.{TellsKind, TellsTarget, HasTargets, TellsMethod};
 
+use crate::by_name::{number_among, numbers_by_name};
 use crate::entries::entry;
 use crate::world::{GivenClass, MethodInfo};
 use kb_classfile::{ClassFile, Method};
-use kb_names::{MethodType, Name, NameRefusal, NoMemory, Target, read_method_type};
+use kb_names::{MethodType, Name, NameRefusal, NoMemory, Row, Target, read_method_type};
 use std::alloc::Global;
+use std::collections::HashMap;
 use std::marker::Model;
 
 /// A given class with the target that names each of its methods, None where the method's descriptor is none. Contracts
@@ -17,6 +20,8 @@ use std::marker::Model;
 pub(crate) struct LinkedClass {
     given: GivenClass,
     targets: Vec<Option<Target>>,
+    // The numbers of the methods of each name.
+    by_name: HashMap<Vec<u8>, Row<u32>>,
 }
 
 impl Model for LinkedClass {
@@ -25,21 +30,26 @@ impl Model for LinkedClass {
     ghost Value = { GivenClass };
 
     ghost use Rattle.kb_world.specs.World.{IsGiven};
-    ghost use Rattle.kb_world.specs.Linked.{HasTargets};
+    ghost use Rattle.kb_world.specs.Linked.{HasTargets, Indexes, numbers_at};
 
     ghost view = { λ class. class.given };
 
-    ghost invariant = { λ class. IsGiven class.given × HasTargets class.given.file class.targets.items };
+    ghost invariant = { λ class. IsGiven class.given × HasTargets class.given.file class.targets.items × Indexes (numbers_at class.by_name) class.targets.items };
 }
 
 impl LinkedClass {
-    /// The class, with each descriptor read once.
+    /// The class, with each descriptor read once and its methods put into a table.
     pub(crate) fn new(alloc: Global, given: GivenClass) -> Result<LinkedClass, NoMemory>
         requires { IsGiven given }
         ensures { IfOk result (λ class. class ≡ given) }
     {
         let targets = targets_of(alloc, &given.file)?;
-        Ok(LinkedClass { given, targets })
+        let by_name = numbers_by_name(alloc, targets.as_slice())?;
+        Ok(LinkedClass {
+            given,
+            targets,
+            by_name,
+        })
     }
 
     /// The number of the method that the target names.
@@ -47,7 +57,8 @@ impl LinkedClass {
         ensures found { IfSome result (λ number. Names self.now number target.now) }
         ensures none { IfNone result ((number : ℕ) → Names self.now number target.now → ⊥) }
     {
-        place_of(self.targets.as_slice(), target)
+        let numbers = self.by_name.get(target.name.as_slice())?;
+        number_among(self.targets.as_slice(), numbers.as_slice(), target)
     }
 
     /// What is known of the method of that number.
@@ -64,30 +75,6 @@ impl LinkedClass {
             code: method.code.as_ref(),
             listing: listing.as_ref(),
         })
-    }
-}
-
-// The place of the target among these.
-fn place_of(targets: &[Option<Target>], target: &Target) -> Option<u32>
-    requires { length targets.now < 2 ^ 32 }
-    ensures found { IfSome result (λ place. slice_get targets.now place ≡ Some (Some target.now)) }
-    ensures none { IfNone result ((place : ℕ) → slice_get targets.now place ≡ Some (Some target.now) → ⊥) }
-{
-    for (place, told) in targets.iter().enumerate() {
-        if is_target(told, target) {
-            return Some(place as u32);
-        }
-    }
-    None
-}
-
-// Whether the target is the one that is told.
-fn is_target(told: &Option<Target>, target: &Target) -> bool
-    ensures { IsTrue result ↔ (told.now ≡ Some target.now) }
-{
-    match told {
-        Some(told) => told.is_same(target),
-        None => false,
     }
 }
 

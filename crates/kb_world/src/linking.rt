@@ -1,3 +1,5 @@
+//! From classes to the world of them, and why there is none.
+
 ghost use Rattle.std.specs.Prelude.{◌≡◌, IfOk, IfErr};
 ghost use Rattle.kb_world.specs.World.{AreGiven};
 ghost use Rattle.kb_world.specs.declared.linking.LinkRefusal.TheVariants.{NoMemory as no_memory};

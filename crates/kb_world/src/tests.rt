@@ -1,28 +1,20 @@
+//! Worlds of two classes that are spelled byte by byte; what is expected is what `javap` shows of them.
+
 ghost use Rattle.std.specs.Prelude.{◌≡◌, ◌≢◌, [], ◌∷◌, IsTrue, IfOk, IfSome};
 ghost use Rattle.kb_world.specs.World.{AreListings, IsGiven, AreGiven};
-ghost use Rattle.kb_world.specs.Linked.{name_of};
+ghost use Rattle.kb_world.specs.Linked.{own_name_of};
 
 use super::*;
 use kb_classfile::{ClassFile, Method, Row, read_class};
 use kb_code::{CodeRefusal, Instr, Listing, decode};
 use kb_names::{NoMemory, Target, read_target};
+use kb_samples::CLASS_A;
 use std::alloc::Global;
 use std::test::Fail;
 
-/// A class file of the small form: `static int f(int, int)`, which adds its arguments.
-const CLASS_A: [u8; 102] = [
-    0xca, 0xfe, 0xba, 0xbe, 0x00, 0x00, 0x00, 0x34, 0x00, 0x08, 0x01, 0x00, 0x01, 0x41, 0x07, 0x00,
-    0x01, 0x01, 0x00, 0x10, 0x6a, 0x61, 0x76, 0x61, 0x2f, 0x6c, 0x61, 0x6e, 0x67, 0x2f, 0x4f, 0x62,
-    0x6a, 0x65, 0x63, 0x74, 0x07, 0x00, 0x03, 0x01, 0x00, 0x01, 0x66, 0x01, 0x00, 0x05, 0x28, 0x49,
-    0x49, 0x29, 0x49, 0x01, 0x00, 0x04, 0x43, 0x6f, 0x64, 0x65, 0x00, 0x21, 0x00, 0x02, 0x00, 0x04,
-    0x00, 0x00, 0x00, 0x00, 0x00, 0x01, 0x00, 0x09, 0x00, 0x05, 0x00, 0x06, 0x00, 0x01, 0x00, 0x07,
-    0x00, 0x00, 0x00, 0x10, 0x00, 0x02, 0x00, 0x02, 0x00, 0x00, 0x00, 0x04, 0x1a, 0x1b, 0x60, 0xac,
-    0x00, 0x00, 0x00, 0x00, 0x00, 0x00,
-];
-
 /// A class file of the small form, with a method `h` whose descriptor is `x`, which is none, and then, as javap shows them,
 /// a constructor of an int, `static int f(int, int)`, `private static int f(int)` and `int g(int, int)`.
-const CLASS_B: [u8; 249] = [
+const OTHER_CLASS: [u8; 249] = [
     0xca, 0xfe, 0xba, 0xbe, 0x00, 0x00, 0x00, 0x34, 0x00, 0x0e, 0x01, 0x00, 0x01, 0x42, 0x07, 0x00,
     0x01, 0x01, 0x00, 0x10, 0x6a, 0x61, 0x76, 0x61, 0x2f, 0x6c, 0x61, 0x6e, 0x67, 0x2f, 0x4f, 0x62,
     0x6a, 0x65, 0x63, 0x74, 0x07, 0x00, 0x03, 0x01, 0x00, 0x04, 0x43, 0x6f, 0x64, 0x65, 0x01, 0x00,
@@ -67,7 +59,7 @@ fn listings_of(alloc: Global, file: &ClassFile) -> Result<Vec<Option<Listing>>, 
     Ok(listings)
 }
 
-fn given(alloc: Global, bytes: &[u8]) -> Option<GivenClass>
+fn given_class(alloc: Global, bytes: &[u8]) -> Option<GivenClass>
     ensures { IfSome result IsGiven }
 {
     let Ok(file) = read_class(alloc, bytes) else {
@@ -83,7 +75,7 @@ fn given(alloc: Global, bytes: &[u8]) -> Option<GivenClass>
 }
 
 fn names_differ(one: &GivenClass, other: &GivenClass) -> bool
-    ensures { IsTrue result → name_of one.now ≢ name_of other.now }
+    ensures { IsTrue result → own_name_of one.now ≢ own_name_of other.now }
 {
     let Some(name) = one.file.class_name(one.file.this) else {
         return false;
@@ -97,7 +89,7 @@ fn names_differ(one: &GivenClass, other: &GivenClass) -> bool
 fn both(alloc: Global, first: GivenClass, second: GivenClass) -> Option<Vec<GivenClass>>
     requires first_given { IsGiven first }
     requires second_given { IsGiven second }
-    requires differ { name_of first ≢ name_of second }
+    requires differ { own_name_of first ≢ own_name_of second }
     ensures { IfSome result (λ classes. AreGiven classes.items) }
 {
     let mut classes = Vec::new(alloc);
@@ -112,8 +104,8 @@ fn both(alloc: Global, first: GivenClass, second: GivenClass) -> Option<Vec<Give
 
 /// The world of classes A and B, in that order.
 fn world(alloc: Global) -> Option<World> {
-    let first = given(alloc, &CLASS_A)?;
-    let second = given(alloc, &CLASS_B)?;
+    let first = given_class(alloc, &CLASS_A)?;
+    let second = given_class(alloc, &OTHER_CLASS)?;
     if !names_differ(&first, &second) {
         return None;
     }

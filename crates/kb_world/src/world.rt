@@ -1,3 +1,5 @@
+//! The world of the given classes, in which methods are found by their targets.
+
 ghost use Rattle.std.specs.Prelude.{◌≡◌, [], ◌∷◌, ◌++◌, IfOk, IfErr, OnOk, IfSome, IfNone};
 ghost use Rattle.kb_classfile.specs.Pool.{class_name_of};
 ghost use Rattle.kb_names.specs.declared.types.Target.{Target};
@@ -169,8 +171,8 @@ fn add_name(
     Ok(())
 }
 
-// The key of a name.
-fn key_of(alloc: Global, name: &[u8]) -> Result<Vec<u8>, NoMemory>
+/// The key of a name.
+pub(crate) fn key_of(alloc: Global, name: &[u8]) -> Result<Vec<u8>, NoMemory>
     ensures { IfOk result (λ key. key.items ≡ name.now) }
 {
     match name.to_vec(alloc) {

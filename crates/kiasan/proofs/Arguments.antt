@@ -1,11 +1,14 @@
 -- How the arguments of a method become variables.
 use Rattle.std.proofs.Common.{◌≡◌, ℕ, ◌+◌, ◌<◌, ◌≤◌, List, [], ◌∷◌, ◌++◌, length, map, take, replicate, ◌-◌, ℤ, pos, Option, Some, None, refl, sym, ◌∙◌, ap, arith, length-append, add-one, cond, zero, suc}
 use Rattle.std.specs.List.{AllByRecursion as ByRecursion}
-use Rattle.std.proofs.lemmas.List.{map-append, length-map, take_all}
+use Rattle.std.proofs.lemmas.List.{map-append, length-map, replicate_more, take_all}
 use Rattle.std.proofs.lemmas.List.Sums.{fold-append}
 use Rattle.std.proofs.Math.Seq.{take-suc}
 use Rattle.kb_terms.specs.declared.node.TermId.{TermId}
+use Rattle.kb_terms.specs.declared.node.VarKind.{VarKind}
 use Rattle.kb_terms.specs.declared.node.VarKind.TheVariants.{Int as IntVariable}
+use Rattle.std.proofs.lemmas.List.Elements.{filter_map-append}
+use Rattle.kiasan.specs.Paths.{node_kind, variable_kinds}
 use Rattle.kb_terms.specs.declared.node.Node.{Node}
 use Rattle.kb_terms.specs.declared.node.Node.TheVariants.{Var}
 use Rattle.kb_terms.specs.Terms.{Extends, value_of, int_at, is_variable, variables_of}
@@ -20,10 +23,11 @@ pub record HoldsArguments (pool : List Node) (locals : List (Option TermId)) (n 
   pub terms : ByRecursion (IsLocalTerm pool) locals
   pub count : length locals ≡ n
   pub variables : variables_of pool ≡ n
+  pub kinds : variable_kinds pool ≡ replicate n IntVariable
   pub values : (inputs : List ℤ) → n ≤ length inputs → local_values pool inputs locals ≡ map (λ v. Some (Int v)) (take n inputs)
 
 pub no_arguments : HoldsArguments [] [] 0
-no_arguments = record { terms = tt; count = refl; variables = refl; values = λ inputs h. refl }
+no_arguments = record { terms = tt; count = refl; variables = refl; kinds = refl; values = λ inputs h. refl }
 
 grown_terms : (old new : List Node) (xs : List (Option TermId)) → Extends old new → ByRecursion (IsLocalTerm old) xs → ByRecursion (IsLocalTerm new) xs
 grown_terms old new [] more h = tt
@@ -37,6 +41,9 @@ all_and P (y ∷ ys) x h p = (h.0, all_and P ys x h.1 p)
 count_variable : (pool : List Node) (v : ℕ) → variables_of (pool ++ Var v IntVariable ∷ []) ≡ variables_of pool + 1
 count_variable pool v = fold-append (λ (n : ℕ) (x : Node). n + cond (is_variable x) 1 0) 0 pool (Var v IntVariable ∷ [])
 
+kind_added : (pool : List Node) (v n : ℕ) → variable_kinds pool ≡ replicate n IntVariable → variable_kinds (pool ++ Var v IntVariable ∷ []) ≡ replicate (n + 1) IntVariable
+kind_added pool v n e = filter_map-append node_kind pool (Var v IntVariable ∷ []) ∙ ap (λ (ks : List VarKind). ks ++ IntVariable ∷ []) e ∙ replicate_more n IntVariable
+
 pub one_more : (pool new : List Node) (locals : List (Option TermId)) (n : ℕ) (t : TermId) → HoldsArguments pool locals n →
     new ≡ pool ++ Var (variables_of pool) IntVariable ∷ [] → t.0 ≡ length pool → Extends pool new →
     ((inputs : List ℤ) → value_of new t inputs ≡ int_at inputs (variables_of pool)) →
@@ -47,6 +54,7 @@ one_more pool new locals n t holds added number more value = record {
       let below : t.0 < length new = omega (arith, number, long) in below);
   count = length-append locals (Some t ∷ []) ∙ ap (λ (k : ℕ). k + 1) holds.count;
   variables = ap variables_of added ∙ count_variable pool (variables_of pool) ∙ ap (λ (k : ℕ). k + 1) holds.variables;
+  kinds = ap variable_kinds added ∙ kind_added pool (variables_of pool) n holds.kinds;
   values = λ inputs enough.
       let before : local_values pool inputs locals ≡ map (λ v. Some (Int v)) (take n inputs) = holds.values inputs (omega arith) in
       let kept : local_values new inputs locals ≡ local_values pool inputs locals = grown_locals pool new inputs locals more holds.terms in

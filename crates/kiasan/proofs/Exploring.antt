@@ -1,11 +1,14 @@
 -- How an exploration follows the run of a straight method.
-use Rattle.std.proofs.Common.{◌≡◌, ℕ, ◌+◌, ◌-◌, ◌<◌, ◌≤◌, List, [], ◌∷◌, length, drop, get_or, ℤ, Option, Some, None, Result, Ok, IfSome, IfNone, refl, sym, ◌∙◌, ap, arith, zero, suc, true, false}
+use Rattle.std.proofs.Common.{◌≡◌, ℕ, ◌+◌, ◌-◌, ◌<◌, ◌≤◌, List, [], ◌∷◌, length, drop, get_or, replicate, ℤ, Option, Some, None, Result, Ok, IfSome, IfNone, refl, sym, ◌∙◌, ap, arith, zero, suc, true, false}
 use Rattle.std.proofs.Math.Nat.{sub-zero}
 use Rattle.std.proofs.Math.ListN.{drop_of_length-le}
 use Rattle.kb_terms.specs.Terms.{value_of}
+use Rattle.kb_terms.specs.declared.node.VarKind.TheVariants.{Int as IntKind}
+use Rattle.kiasan.specs.Paths.{variable_kinds}
 use Rattle.kiasan.specs.declared.memory.NoMemory.{NoMemory}
 use Rattle.kiasan.specs.declared.explore.Explored.{Explored}
 use Rattle.kiasan.specs.declared.state.State.{State}
+use Rattle.kb_arith.specs.Word.{AreInts}
 use Rattle.kb_code.specs.declared.instruction.Instr.{Instr}
 use Rattle.kb_code.specs.declared.instruction.Instr.TheVariants.{Nop, PushInt, LoadInt, StoreInt, Pop, Dup, Int2, Neg, Inc, Narrow, ReturnInt}
 use Rattle.kiasan.specs.declared.explore.StraightCode.{StraightCode}
@@ -17,7 +20,7 @@ use Rattle.kb_heap.specs.declared.ending.Ending.TheVariants.{Returned}
 use Rattle.kb_semantics.specs.Machine.{Method, Outcome, Goes, Ends, effect, step, follow, run, start_of, ill_typed}
 use Rattle.kiasan.specs.Straight.{ints_input, run_over}
 use Rattle.kiasan.specs.Straight.{HasCode, IsIllTyped, is_return, ends_by_return}
-use Rattle.kiasan.specs.Symbolic.{config_of, IsSound, HasLimits, Follows, Returns, ReturnsNone}
+use Rattle.kiasan.specs.Symbolic.{config_of, IsSound, Keeps, HasLimits, Follows, Returns, ReturnsNone}
 use Rattle.kiasan.specs.declared.state.Step.TheVariants.{Goes as StepGoes, IllTyped as StepIllTyped}
 
 -- ---- runs
@@ -26,6 +29,7 @@ use Rattle.kiasan.specs.declared.state.Step.TheVariants.{Goes as StepGoes, IllTy
 pub record IsRun (code : StraightCode) (params i : ℕ) (s : State) : Type 0 where
   pub sound : IsSound s
   pub limits : s.limits ≡ code.limits
+  pub variables : variable_kinds s.pool ≡ replicate params IntKind
   pub goes_on : (steps : ℕ) (method : Method) (heap : Heap) (inputs : List ℤ) → HasCode method code → length code.listing.now ≤ steps → length inputs ≡ params →
       run_over steps method heap inputs ≡ run (steps - i) (config_of method (offset_of (drop i code.listing.now) code.size) i heap inputs s)
 
@@ -33,12 +37,13 @@ has_limits : (code : StraightCode) (params i : ℕ) (s : State) (method : Method
 has_limits code params i s method is has = record { stack = has.max_stack ∙ ap (λ l. l.stack) (sym is.limits); locals = has.max_locals ∙ ap (λ l. l.locals) (sym is.limits) }
 
 -- the beginning
-pub run_begins : (code : StraightCode) (params : ℕ) (s : State) → IsLaidOut code.listing.now code.size → IsSound s → s.limits ≡ code.limits →
+pub run_begins : (code : StraightCode) (params : ℕ) (s : State) → IsLaidOut code.listing.now code.size → IsSound s → s.limits ≡ code.limits → variable_kinds s.pool ≡ replicate params IntKind →
     ((method : Method) (heap : Heap) (inputs : List ℤ) → HasLimits method s → length inputs ≡ params → config_of method 0 0 heap inputs s ≡ start_of method (ints_input heap inputs)) →
     IsRun code params 0 s
-run_begins code params s laid_out sound limits start = record {
+run_begins code params s laid_out sound limits variables start = record {
   sound = sound;
   limits = limits;
+  variables = variables;
   goes_on = λ steps method heap inputs has enough long.
       let limited : HasLimits method s = record { stack = has.max_stack ∙ ap (λ l. l.stack) (sym limits); locals = has.max_locals ∙ ap (λ l. l.locals) (sym limits) } in
       rw (laid_out.first, start method heap inputs limited long, sub-zero) refl;
@@ -73,10 +78,11 @@ run_of_step code params i s item o steps method heap inputs laid_out is inside e
 
 pub run_goes_on : (code : StraightCode) (params i : ℕ) (s new : State) →
     IsLaidOut code.listing.now code.size → IsRun code params i s → i < length code.listing.now →
-    IsSound new → new.limits ≡ s.limits → Follows StepGoes s new (λ inputs. effect (item_at code.listing.now i).1) → IsRun code params (i + 1) new
-run_goes_on code params i s new laid_out is inside sound limits follows = record {
-  sound = sound;
-  limits = limits ∙ is.limits;
+    Keeps s new → Follows StepGoes s new (λ inputs. effect (item_at code.listing.now i).1) → IsRun code params (i + 1) new
+run_goes_on code params i s new laid_out is inside keeps follows = record {
+  sound = keeps.sound;
+  limits = keeps.limits ∙ is.limits;
+  variables = keeps.variables ∙ is.variables;
   goes_on = λ steps method heap inputs has enough long.
       run_of_step code params i s (item_at code.listing.now i) (Goes (config_of method (offset_of (drop (i + 1) code.listing.now) code.size) (i + 1) heap inputs new)) steps method heap inputs
       laid_out is inside (item_is code.listing.now i (0, Nop) inside) has enough long
@@ -87,9 +93,9 @@ run_goes_on code params i s new laid_out is inside sound limits follows = record
 pub run_is_ill_typed : (code : StraightCode) (params i : ℕ) (s new : State) →
     IsLaidOut code.listing.now code.size → IsRun code params i s → i < length code.listing.now →
     Follows StepIllTyped s new (λ inputs. effect (item_at code.listing.now i).1) →
-    (steps : ℕ) (method : Method) (heap : Heap) (inputs : List ℤ) → HasCode method code → length code.listing.now ≤ steps → length inputs ≡ params →
+    (steps : ℕ) (method : Method) (heap : Heap) (inputs : List ℤ) → HasCode method code → length code.listing.now ≤ steps → length inputs ≡ params → AreInts inputs →
     IsIllTyped (run_over steps method heap inputs).ending
-run_is_ill_typed code params i s new laid_out is inside follows steps method heap inputs has enough long =
+run_is_ill_typed code params i s new laid_out is inside follows steps method heap inputs has enough long fit =
     rw (run_of_step code params i s (item_at code.listing.now i) (ill_typed (config_of method (offset_of (drop i code.listing.now) code.size) i heap inputs s)) steps method heap inputs
     laid_out is inside (item_is code.listing.now i (0, Nop) inside) has enough long
     (follows method (offset_of (drop i code.listing.now) code.size) (offset_of (drop (i + 1) code.listing.now) code.size) i heap inputs (has_limits code params i s method is has))) tt
@@ -97,18 +103,18 @@ run_is_ill_typed code params i s new laid_out is inside follows steps method hea
 -- the run returns what a return gives
 pub run_returns : (code : StraightCode) (params i : ℕ) (s : State) (value : List ℤ → ℤ) →
     IsLaidOut code.listing.now code.size → IsRun code params i s → i < length code.listing.now → (item_at code.listing.now i).1 ≡ ReturnInt → Returns s value →
-    (steps : ℕ) (method : Method) (heap : Heap) (inputs : List ℤ) → HasCode method code → length code.listing.now ≤ steps → length inputs ≡ params →
+    (steps : ℕ) (method : Method) (heap : Heap) (inputs : List ℤ) → HasCode method code → length code.listing.now ≤ steps → length inputs ≡ params → AreInts inputs →
     run_over steps method heap inputs ≡ record { ending = Returned (Some (Int (value inputs))); heap = heap }
-run_returns code params i s value laid_out is inside return returns steps method heap inputs has enough long =
+run_returns code params i s value laid_out is inside return returns steps method heap inputs has enough long fit =
     run_of_step code params i s (item_at code.listing.now i) (Ends (record { ending = Returned (Some (Int (value inputs))); heap = heap })) steps method heap inputs laid_out is inside (item_is code.listing.now i (0, Nop) inside) has enough long
     (rw return (returns method (offset_of (drop i code.listing.now) code.size) (offset_of (drop (i + 1) code.listing.now) code.size) i heap inputs))
 
 -- a return without an int is ill-typed
 pub run_returns_none : (code : StraightCode) (params i : ℕ) (s : State) →
     IsLaidOut code.listing.now code.size → IsRun code params i s → i < length code.listing.now → (item_at code.listing.now i).1 ≡ ReturnInt → ReturnsNone s →
-    (steps : ℕ) (method : Method) (heap : Heap) (inputs : List ℤ) → HasCode method code → length code.listing.now ≤ steps → length inputs ≡ params →
+    (steps : ℕ) (method : Method) (heap : Heap) (inputs : List ℤ) → HasCode method code → length code.listing.now ≤ steps → length inputs ≡ params → AreInts inputs →
     IsIllTyped (run_over steps method heap inputs).ending
-run_returns_none code params i s laid_out is inside return none steps method heap inputs has enough long =
+run_returns_none code params i s laid_out is inside return none steps method heap inputs has enough long fit =
     rw (run_of_step code params i s (item_at code.listing.now i) (ill_typed (config_of method (offset_of (drop i code.listing.now) code.size) i heap inputs s)) steps method heap inputs laid_out is inside (item_is code.listing.now i (0, Nop) inside) has enough long
     (rw return (none method (offset_of (drop i code.listing.now) code.size) (offset_of (drop (i + 1) code.listing.now) code.size) i heap inputs))) tt
 
@@ -144,10 +150,15 @@ never_ends listing i ends passed = let none : drop i listing ≡ [] = drop_of_le
 pub return_some : (r : Option Explored) (code : StraightCode) (params i : ℕ) (s : State) →
     IsLaidOut code.listing.now code.size → IsRun code params i s → i < length code.listing.now → (item_at code.listing.now i).1 ≡ ReturnInt →
     IfSome r (λ e. Returns s (value_of e.pool e.result)) →
-    IfSome r (λ e. (steps : ℕ) (method : Method) (heap : Heap) (inputs : List ℤ) → HasCode method code → length code.listing.now ≤ steps → length inputs ≡ params →
+    IfSome r (λ e. (steps : ℕ) (method : Method) (heap : Heap) (inputs : List ℤ) → HasCode method code → length code.listing.now ≤ steps → length inputs ≡ params → AreInts inputs →
     run_over steps method heap inputs ≡ record { ending = Returned (Some (Int (value_of e.pool e.result inputs))); heap = heap })
 return_some None code params i s laid_out is inside return h = tt
 return_some (Some e) code params i s laid_out is inside return h = run_returns code params i s (value_of e.pool e.result) laid_out is inside return h
+
+pub return_variables : (r : Option Explored) (code : StraightCode) (params i : ℕ) (s : State) → IsRun code params i s → IfSome r (λ e. e.pool ≡ s.pool) →
+    IfSome r (λ e. variable_kinds e.pool ≡ replicate params IntKind)
+return_variables None code params i s is h = tt
+return_variables (Some e) code params i s is h = ap variable_kinds h ∙ is.variables
 
 -- what is answered where there is no term
 abbrev pub IsNothing : Option Explored → Type 0
@@ -156,7 +167,7 @@ IsNothing r = let given : Result (Option Explored) NoMemory = Ok r in given ≡ 
 pub return_none : (r : Option Explored) (code : StraightCode) (params i : ℕ) (s : State) →
     IsLaidOut code.listing.now code.size → IsRun code params i s → i < length code.listing.now → (item_at code.listing.now i).1 ≡ ReturnInt →
     IfNone r (ReturnsNone s) → IsNothing r →
-    (steps : ℕ) (method : Method) (heap : Heap) (inputs : List ℤ) → HasCode method code → length code.listing.now ≤ steps → length inputs ≡ params →
+    (steps : ℕ) (method : Method) (heap : Heap) (inputs : List ℤ) → HasCode method code → length code.listing.now ≤ steps → length inputs ≡ params → AreInts inputs →
     IsIllTyped (run_over steps method heap inputs).ending
 return_none None code params i s laid_out is inside return h nothing = run_returns_none code params i s laid_out is inside return h
 return_none (Some e) code params i s laid_out is inside return h nothing = cc

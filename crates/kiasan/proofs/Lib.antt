@@ -1,9 +1,17 @@
 pub mod AnswerLaws
 pub mod Arguments
 pub mod ClassLaws
+pub mod CoveringLaws
 pub mod Exploring
+pub mod JobLaws
+pub mod OneListing
+pub mod OneReply
 pub mod PathLaws
+pub mod ReadLaws
 pub mod ReplayLaws
+pub mod StageLaws
 pub mod Stepping
 pub mod StraightLaws
+pub mod TestTexts
+pub mod TopLaws
 pub mod WordsLaws

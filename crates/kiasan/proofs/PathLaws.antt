@@ -14,7 +14,7 @@ use Rattle.kb_terms.specs.declared.node.TermId.{TermId}
 use Rattle.kb_terms.specs.declared.node.Node.{Node}
 use Rattle.kb_terms.specs.declared.node.Node.TheVariants.{Const as Constant, Var as Variable, Op as Apply}
 use Rattle.kb_terms.specs.Op.{is_binary, op_value}
-use Rattle.kb_terms.specs.Terms.{IsTerm, node_at, int_at, IsSecond, AreOperands, IsWellFormed, value_of, operand_value}
+use Rattle.kb_terms.specs.Terms.{IsTerm, node_at, int_at, IsSecond, AreOperands, IsPool, value_of, operand_value}
 use Rattle.kb_terms.specs.Numbering.{is_operation, IsOperandOf, place_of, IsNumbering}
 use Rattle.kb_terms.proofs.Values.{value_of-constant, value_of-variable, value_of-operation}
 use Rattle.kb_terms.proofs.Entries.{slice_get-append-end}
@@ -64,7 +64,7 @@ operation_inside nodes t e = elim (slice_get_cases nodes t.0).1 [ inl a ↦ a.1 
 
 -- ---- operands are terms
 
-module _ (nodes : List Node) (formed : IsWellFormed nodes) where
+module _ (nodes : List Node) (formed : IsPool nodes) where
   second_inside : (n : ℕ) (b : Bool) (right : Option TermId) (o : TermId) → n ≤ length nodes → IsSecond (take n nodes) b right → right ≡ Some o → IsTerm nodes o
   second_inside n true (Some r) o h s e = let same : r.0 ≡ o.0 = cc in omega (arith, length-take n nodes, s)
   second_inside n true None o h s e = absurd s

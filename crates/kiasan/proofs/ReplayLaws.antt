@@ -1,21 +1,25 @@
 -- How tests are run one after another.
-use Rattle.std.proofs.Common.{◌≡◌, ◌⊎◌, ◌↔◌, ℕ, ◌+◌, ◌<◌, ◌≤◌, List, [], ◌∷◌, ◌++◌, length, take, drop, get_or, Result, Ok, Err, IfOk, refl, sym, ◌∙◌, ap, subst, arith, inl, inr, true, false, length-append, drop-cons, zero, suc}
+use Rattle.std.proofs.Common.{◌≡◌, ◌⊎◌, ◌↔◌, ℕ, ◌+◌, ◌<◌, ◌≤◌, List, [], ◌∷◌, ◌++◌, length, take, drop, get_or, Result, Ok, Err, refl, sym, ◌∙◌, ap, subst, arith, inl, inr, true, false, length-append, drop-cons, zero, suc}
 use Rattle.std.specs.Prelude.{slice_index_or}
 use Rattle.std.proofs.lemmas.List.{take_all, take-append-drop}
 use Rattle.std.proofs.Math.Seq.{take-suc}
+use Rattle.kb_names.specs.declared.types.Target.{Target}
 use Rattle.kb_semantics.specs.Machine.{Method}
+use Rattle.kb_semantics.specs.Types.{IsTypeCorrect}
 use Rattle.kb_test.specs.declared.test_case.Test.{Test}
 use Rattle.kb_world.specs.declared.world.GivenClass.{GivenClass}
 use Rattle.kb_world.specs.declared.world.MethodId.{MethodId}
-use Rattle.kiasan.specs.declared.memory.NoMemory.{NoMemory}
-use Rattle.kiasan.specs.declared.refusals.Answer.{Answer}
+use Rattle.kb_world.specs.World.{IsTargetOf}
+use Rattle.kb_world.proofs.Declared.{same_target}
+use Rattle.kiasan.specs.declared.refusals.Refusal.{Refusal}
+use Rattle.kiasan.specs.declared.refusals.Stop.{Stop}
 use Rattle.kiasan.specs.declared.replay.Replayed.{Replayed}
 use Rattle.kiasan.specs.declared.replay.Replayed.TheVariants.{Passes, Differs as DiffersFrom}
-use Rattle.kiasan.specs.declared.replay.TestFault.{TestFault}
-use Rattle.kiasan.specs.declared.status.Status.{Status}
-use Rattle.kiasan.specs.declared.status.Status.TheVariants.{Complete, Differs}
-use Rattle.kiasan.specs.Answers.{Replays, fault_status, refused_test}
-use Rattle.kiasan.specs.Tests.{AreRunnable, AreVerdicts, FirstFault, HasFault, IsRunnable, IsVerdict, passes, count_passes, count_differs, replay_text}
+use Rattle.kiasan.specs.Reach.{TargetRefuses}
+use Rattle.kiasan.specs.Refusals.{Gives}
+use Rattle.kiasan.specs.Tests.{AreBuilt, AreRunnable, AreVerdicts, IsAmong, IsRunnable, IsVerdict, RefusesTest, RefusesTests, passes, count_passes, count_differs}
+use Rattle.kiasan.specs.Unbuilt.{IsBuiltMethod}
+use Rattle.kiasan.proofs.StageLaws.{gives_by}
 
 -- ---- the tests are found fit
 
@@ -38,22 +42,46 @@ runnable_next world tests ids i test id inside at are is =
     let next : i + 1 ≡ suc i = omega arith in
     rw (next, take-suc tests i test inside, ← at) (runnable_more world (take i tests) ids test id are is)
 
-pub first_fault : (world : List GivenClass) (tests : List Test) (ids : List MethodId) (i : ℕ) (test : Test) (number : ℕ) (fault : TestFault) → i < length tests → test ≡ get_or tests i test →
-    AreRunnable world (take i tests) ids → HasFault world test fault → number ≡ length ids → FirstFault world tests number fault
-first_fault world tests ids i test number fault inside at are bad n =
-    let next : suc i ≡ i + 1 = omega arith in
-    let behind : drop i tests ≡ test ∷ drop (i + 1) tests =
-    drop-cons tests i test inside ∙ ap (λ (x : Test). x ∷ drop (suc i) tests) (sym at) ∙ ap (λ (n : ℕ). test ∷ drop n tests) next in
-    record {
-      before = take i tests;
-      test = test;
-      after = drop (i + 1) tests;
-      tests_are = sym (take-append-drop i tests) ∙ ap (λ (rest : List Test). take i tests ++ rest) behind;
-      number_is = n ∙ sym (as_many world (take i tests) ids are);
-      ids = ids;
-      good = are;
-      bad = bad;
-    }
+pub first_fault : (world : List GivenClass) (tests : List Test) (ids : List MethodId) (i : ℕ) (test : Test) (number : ℕ) (stop : Stop) → i < length tests → test ≡ get_or tests i test →
+    AreRunnable world (take i tests) ids → number ≡ length ids → Gives {A = MethodId} ⊥ (RefusesTest world number test) (λ id. (method : Method) × IsRunnable world test id method) (Err stop) →
+    {A : Type 0} (Fine : A → Type 0) → Gives {A = A} ⊥ (RefusesTests world tests) Fine (Err stop)
+first_fault world tests ids i test number stop inside at are n given Fine =
+    gives_by ⊥ ⊥ (RefusesTest world number test) (RefusesTests world tests) (λ id. (method : Method) × IsRunnable world test id method) Fine stop (λ wrong. wrong) more given
+  where
+    more : (refusal : Refusal) → RefusesTest world number test refusal → RefusesTests world tests refusal
+    more refusal bad =
+        let next : suc i ≡ i + 1 = omega arith in
+        let behind : drop i tests ≡ test ∷ drop (i + 1) tests =
+        drop-cons tests i test inside ∙ ap (λ (x : Test). x ∷ drop (suc i) tests) (sym at) ∙ ap (λ (n : ℕ). test ∷ drop n tests) next in
+        let before : number ≡ length (take i tests) = n ∙ sym (as_many world (take i tests) ids are) in
+        record {
+          before = take i tests;
+          test = test;
+          after = drop (i + 1) tests;
+          tests_are = sym (take-append-drop i tests) ∙ ap (λ (rest : List Test). take i tests ++ rest) behind;
+          ids = ids;
+          good = are;
+          bad = subst (λ (m : ℕ). RefusesTest world m test refusal) before bad;
+        }
+
+-- a method that is built for some target is so for the target of the test
+pub built_among : (world : List GivenClass) (ids : List MethodId) (id : MethodId) (test : Test) → AreBuilt world ids → IsAmong id ids → IsTargetOf world test.target id →
+    IsTypeCorrect world id test.input → (method : Method) × IsRunnable world test id method
+built_among world [] id test are among found correct = absurd among
+built_among world (other ∷ others) id test are (inl same) found correct =
+    let built = are.0.1 in
+    let here : IsBuiltMethod world are.0.0 id = subst (λ (i : MethodId). IsBuiltMethod world are.0.0 i) same built in
+    let targets : are.0.0 ≡ test.target = same_target world id are.0.0 test.target here.1.found.declared found.declared in
+    let known : IsBuiltMethod world test.target id = subst (λ (t : Target). IsBuiltMethod world t id) targets here in
+    (known.0, record { straight = known.1; correct = correct })
+built_among world (other ∷ others) id test are (inr among) found correct = built_among world others id test are.1 among found correct
+
+pub built_more : (world : List GivenClass) (ids now : List MethodId) (id : MethodId) (target : Target) → AreBuilt world ids → IsBuiltMethod world target id → now ≡ ids ++ id ∷ [] → AreBuilt world now
+built_more world ids now id target are built e = subst (AreBuilt world) (sym e) (go ids are)
+  where
+    go : (ids : List MethodId) → AreBuilt world ids → AreBuilt world (ids ++ id ∷ [])
+    go [] are = ((target, built), tt)
+    go (other ∷ others) are = (are.0, go others are.1)
 
 -- ---- the tests are run
 
@@ -124,25 +152,6 @@ pub differ_counted : (verdict : Replayed) (rest all : List Replayed) (count : �
 differ_counted verdict rest all count so_far fail =
     let counted : count + (1 + count_differs rest) ≡ count_differs all = rw fail at so_far.counted in
     record { counted = omega (arith, counted); within = omega (arith, so_far.within) }
-
--- ---- answers
-
-pub replays : (world : List GivenClass) (tests : List Test) (verdicts : List Replayed) (status : Status) (text : List ℕ) → AreVerdicts world tests verdicts →
-    text ≡ replay_text verdicts → status ≡ Complete ↔ (count_differs verdicts ≡ 0) → (status ≡ Complete) ⊎ (status ≡ Differs) → Replays world tests status text
-replays world tests verdicts status text are e passed (inl complete) = inr (verdicts, are, e, inl (passed.0 complete, complete))
-replays world tests verdicts status text are e passed (inr differs) = inr (verdicts, are, e, inr (some, differs))
-  where
-    not_zero : (n : ℕ) → (n ≡ 0 → ⊥) → 0 < n
-    not_zero zero none = absurd (none refl)
-    not_zero (suc n) none = omega arith
-
-    some : 0 < count_differs verdicts
-    some = not_zero (count_differs verdicts) (λ none. let wrong = passed.1 none in cc)
-
-pub refuses : (world : List GivenClass) (tests : List Test) (number : ℕ) (fault : TestFault) (r : Result Answer NoMemory) → FirstFault world tests number fault →
-    IfOk r (λ a. a.status ≡ fault_status fault) → IfOk r (λ a. a.text.items ≡ refused_test fault number) → IfOk r (λ a. Replays world tests a.status a.text.items)
-refuses world tests number fault (Ok a) first status text = inl (number, fault, first, status, text)
-refuses world tests number fault (Err e) first status text = tt
 
 pub others_pass : (rest all : List Replayed) (count : ℕ) → AreCounted rest all count → length rest ≡ 0 → count_passes all + count ≡ length all
 others_pass [] all count so_far end = omega (arith, so_far.counted, passes_and_differs all)

@@ -1,5 +1,5 @@
 -- How the steps of a state of terms follow the machine's.
-use Rattle.std.proofs.Common.{◌≡◌, ℕ, ◌<◌, ◌≤◌, List, [], ◌∷◌, length, map, take, drop, ℤ, pos, Option, Some, None, Result, Ok, Err, refl, sym, ◌∙◌, ap, subst, cond, nat_lt, nat_le, slice_get, IfOk, IfSome, IfNone, arith, Bool, true, false}
+use Rattle.std.proofs.Common.{◌≡◌, ℕ, ◌<◌, ◌≤◌, List, [], ◌∷◌, length, map, take, drop, ℤ, pos, Option, Some, None, Result, Ok, Err, refl, sym, ◌∙◌, ap, subst, cond, ◌++◌, ◌⊎◌, inl, inr, OnErr, nat_lt, nat_le, slice_get, IfOk, IfSome, IfNone, arith, Bool, true, false}
 use Rattle.std.specs.Option.{option_map, option_and_then}
 use Rattle.kb_arith.specs.Word.{word_add}
 use Rattle.std.specs.List.{AllByRecursion as ByRecursion}
@@ -12,7 +12,13 @@ use Rattle.kb_terms.specs.declared.node.TermId.{TermId}
 use Rattle.kb_terms.specs.declared.node.Node.{Node}
 use Rattle.kb_terms.specs.declared.op.Op.{Op}
 use Rattle.kb_terms.specs.Op.{op_value}
-use Rattle.kb_terms.specs.Terms.{IsTerm, Extends, value_of}
+use Rattle.kb_terms.specs.Terms.{IsTerm, Extends, HasNode, constant_at, folded, made_node, second_constant, value_of}
+use Rattle.kb_terms.specs.declared.node.Node.TheVariants.{Const as Constant}
+use Rattle.kb_terms.specs.declared.pool.NoMemory.{NoMemory as TermsNoMemory}
+use Rattle.std.specs.List.{cons_option}
+use Rattle.std.proofs.lemmas.List.Elements.{filter_map-append}
+use Rattle.std.proofs.lemmas.List.{append-nil}
+use Rattle.kiasan.specs.Paths.{node_kind, variable_kinds}
 use Rattle.kb_terms.proofs.Values.{value_of-extends}
 use Rattle.kiasan.specs.declared.memory.NoMemory.{NoMemory}
 use Rattle.kiasan.specs.declared.state.State.{State}
@@ -289,3 +295,32 @@ pub returned_none : (s : State) (r : Option TermId) → r ≡ slice_get s.stack 
 unfolding effect
 returned_none s None e = λ method at next carried heap inputs. rw (no_top s.stack e) refl
 returned_none s (Some t) e = tt
+
+-- ---- the variables of a pool
+
+-- a node that is no variable adds none
+pub kinds_kept : (old new : List Node) (t : TermId) (node : Node) → HasNode old new t node → node_kind node ≡ None → variable_kinds new ≡ variable_kinds old
+kinds_kept old new t node has none = added has.added
+  where
+    added : (new ≡ old) ⊎ (new ≡ old ++ node ∷ []) → variable_kinds new ≡ variable_kinds old
+    added (inl e) = ap variable_kinds e
+    added (inr e) = ap variable_kinds e ∙ filter_map-append node_kind old (node ∷ []) ∙ ap (λ o. variable_kinds old ++ cons_option o []) none ∙ append-nil (variable_kinds old)
+
+folded_kind : (op : Op) (left : TermId) (right : Option TermId) (a b : Option ℤ) → node_kind (folded op left right a b) ≡ None
+folded_kind op left right (Some a) (Some b) = refl
+folded_kind op left right (Some a) None = refl
+folded_kind op left right None b = refl
+
+pub made_kind : (nodes : List Node) (op : Op) (left : TermId) (right : Option TermId) → node_kind (made_node nodes op left right) ≡ None
+unfolding made_node
+made_kind nodes op left right = folded_kind op left right (constant_at nodes left) (second_constant nodes right)
+
+pub make_keeps : (r : Result TermId TermsNoMemory) (old new : List Node) (op : Op) (left : TermId) (right : Option TermId) → IfOk r (λ t. HasNode old new t (made_node old op left right)) →
+    OnErr r (new ≡ old) → variable_kinds new ≡ variable_kinds old
+make_keeps (Ok t) old new op left right node err = kinds_kept old new t (made_node old op left right) node (made_kind old op left right)
+make_keeps (Err e) old new op left right node err = ap variable_kinds err
+
+pub constant_keeps : (r : Result TermId TermsNoMemory) (old new : List Node) (value : ℤ) → IfOk r (λ t. HasNode old new t (Constant value)) → OnErr r (new ≡ old) →
+    variable_kinds new ≡ variable_kinds old
+constant_keeps (Ok t) old new value node err = kinds_kept old new t (Constant value) node refl
+constant_keeps (Err e) old new value node err = ap variable_kinds err

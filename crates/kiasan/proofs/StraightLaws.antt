@@ -1,6 +1,7 @@
 -- When a method of a world is straight.
-use Rattle.std.proofs.Common.{◌≡◌, ℕ, ◌≤◌, ℤ, pos, List, [], length, replicate, Option, Some, None, Result, Ok, Err, IfOk, IfSome, IfNone, refl, sym, ◌∙◌, ap, true, not, nat_eq, bit_and}
+use Rattle.std.proofs.Common.{◌≡◌, ℕ, ◌≤◌, ℤ, pos, List, [], length, replicate, Option, Some, None, Result, Ok, Err, IfOk, IfSome, IfNone, refl, sym, ◌∙◌, ap, true, not, nat_eq, bit_and, rules, zero, suc}
 use Rattle.std.proofs.lemmas.List.{length-replicate}
+use Rattle.kb_arith.specs.Word.{AreInts}
 use Rattle.kb_code.proofs.Listings.{listed_laid_out}
 use Rattle.kb_code.specs.Listing.{IsLaidOut}
 use Rattle.kb_heap.specs.declared.heap.Heap.{Heap}
@@ -14,22 +15,26 @@ use Rattle.kb_world.specs.World.{Declares, Describes, IsTargetOf}
 use Rattle.kiasan.specs.declared.explore.Explored.{Explored}
 use Rattle.kiasan.specs.declared.explore.StraightCode.{StraightCode}
 use Rattle.kiasan.specs.declared.memory.NoMemory.{NoMemory}
-use Rattle.kiasan.specs.Explored.{IsExplored, IsCarriedOut, IsStraightRun, IsCodeOf, Returns}
+use Rattle.kiasan.specs.Explored.{IsExplored, IsCarriedOut, IsStraightRun, IsCodeOf, RunsReturn}
 use Rattle.kiasan.specs.Straight.{HasCode, IsIllTyped, IsStraight, ends_by_return, most_instructions, run_over}
 use Rattle.kiasan.specs.Target.{takes_ints, params_of}
 
 no_objects : Heap
 no_objects = record { objects = [] }
 
+pub zeros_fit : (n : ℕ) → AreInts (replicate n (pos 0))
+zeros_fit zero = tt
+zeros_fit (suc n) = (search rules, zeros_fit n)
+
 -- what was explored to nothing is not straight
 pub none_straight : (r : Result (Option Explored) NoMemory) (code : StraightCode) (params : ℕ) → length code.listing.now ≤ most_instructions →
-    (r ≡ Ok None → (steps : ℕ) (method : Method) (heap : Heap) (inputs : List ℤ) → HasCode method code → length code.listing.now ≤ steps → length inputs ≡ params →
+    (r ≡ Ok None → (steps : ℕ) (method : Method) (heap : Heap) (inputs : List ℤ) → HasCode method code → length code.listing.now ≤ steps → length inputs ≡ params → AreInts inputs →
     IsIllTyped (run_over steps method heap inputs).ending) →
     IfOk r (λ o. IfNone o ((method : Method) → IsStraightRun code params method → ⊥))
 none_straight (Ok None) code params few ill = λ method s.
     let inputs : List ℤ = replicate params (pos 0) in
     let long : length inputs ≡ params = length-replicate params (pos 0) in
-    s.typed no_objects inputs long (ill refl most_instructions method no_objects inputs s.has few long)
+    s.typed no_objects inputs long (zeros_fit params) (ill refl most_instructions method no_objects inputs s.has few long (zeros_fit params))
 none_straight (Ok (Some e)) code params few ill = tt
 none_straight (Err e) code params few ill = tt
 
@@ -108,7 +113,7 @@ explored_is world target id info straight explored f d ints is c =
     } in
     let flags : info.access ≡ f.declared.names.method.access = d.access ∙ ap (λ m. m.access) methods in
     let few : length method.listing ≤ most_instructions = rw (← is.items) c.few in
-    let returns : Returns method (params_of target) explored = c.returns method has in
+    let returns : RunsReturn method (params_of target) explored = c.returns method has in
     record {
       term = c.term;
       method = method;
@@ -120,8 +125,10 @@ explored_is world target id info straight explored f d ints is c =
         ints = ints;
         few = few;
         ends = ap ends_by_return (sym is.items) ∙ c.ends;
-        typed = λ heap inputs long ill. let wrong = rw (returns most_instructions heap inputs few long) at ill in wrong;
+        typed = λ heap inputs long fit ill. let wrong = rw (returns most_instructions heap inputs few long fit) at ill in wrong;
       };
+      count = c.count ∙ ap length is.items;
+      variables = c.variables;
       returns = returns;
     }
 

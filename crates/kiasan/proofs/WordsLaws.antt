@@ -1,14 +1,19 @@
--- Words ask for one thing.
+-- Words have one order or one fault.
 use Rattle.std.specs.Prelude.{codes}
-use Rattle.std.proofs.Common.{◌≡◌, ℕ, ◌<◌, ◌≤◌, List, [], ◌∷◌, length, get_or, refl, sym, ◌∙◌, ap, subst, arith, Option, Some, Result, Ok, Err, IfOk}
+use Rattle.std.proofs.Common.{◌≡◌, ◌⊎◌, ℕ, ◌<◌, ◌≤◌, List, [], ◌∷◌, length, get_or, refl, sym, ◌∙◌, ap, subst, arith, Option, Some, Result, Ok, Err, inl, inr}
 use Rattle.kb_names.specs.declared.types.Target.{Target}
 use Rattle.kb_names.specs.Targets.{SpellsTarget, target_read}
 use Rattle.kb_names.proofs.TargetReader.{target_reader}
-use Rattle.kiasan.specs.Words.{Asked, no_command, not_built, bad_target, about_method, replay, command_of, AreMethodWords, AreReplayWords, MethodTarget, MethodNone, Asks, asked_by}
-use Rattle.kiasan.specs.declared.words.Task.{Task}
-use Rattle.kiasan.specs.declared.words.Task.TheVariants.{Explore, Tests}
+use Rattle.kb_test.specs.Texts.{IsRunBounds}
+use Rattle.kiasan.specs.Answers.{IsBuiltOrder, IsWritable}
+use Rattle.kiasan.specs.Words.{IsJobCommand, AreJobWords, AreReplayWords, default_job, default_run_bounds}
+use Rattle.kiasan.specs.Orders.{Orders, OrdersJob, OrdersReplay, HasBadTarget, classes_of}
+use Rattle.kiasan.specs.Unbuilt.{AreUnbuiltWords}
+use Rattle.kiasan.specs.declared.words.Job.{Job}
 use Rattle.kiasan.specs.declared.words.Order.{Order}
-use Rattle.kiasan.specs.declared.memory.NoMemory.{NoMemory}
+use Rattle.kiasan.specs.declared.words.Order.TheVariants.{Explore, Tests, Diagrams, Replay, Assemble, Sample}
+use Rattle.kiasan.specs.declared.words.WordFault.{WordFault}
+use Rattle.kiasan.specs.declared.words.WordFault.TheVariants.{NoCommand, BadTarget, Unbuilt, NoMemory}
 
 -- the elements of a list of four
 pub four_items : {A : Type 0} (xs : List A) (a b c d : A) → 4 ≤ length xs → length xs < 5
@@ -37,78 +42,142 @@ spells_one text target other one two =
     read_as : Target → Option Target
     read_as t = Some t
 
-target_or_none : (words : List (List ℕ)) (word : ℕ) (task : Task) (target : Target) (file : List ℕ) → MethodNone words word → MethodTarget words task target file → ⊥
-target_or_none words word task target file none some =
+-- ---- the forms exclude one another
+
+no_replay : (command : List ℕ) → IsJobCommand command → codes "replay" ≡ command → ⊥
+no_replay command (inl explore) e = omega (arith, ap length e, ap length explore)
+no_replay command (inr tests) e = omega (arith, ap length e, ap length tests)
+
+job_or_replay : (words : List (List ℕ)) (command method file tests another : List ℕ) → IsJobCommand command → AreJobWords words command method file →
+    AreReplayWords words tests another → ⊥
+job_or_replay words command method file tests another is one two =
+    let words-one = one.words_are in
+    let words-two = two.words_are in
+    let commands : codes "replay" ≡ command = cc in
+    no_replay command is commands
+
+explore_or_tests : (words : List (List ℕ)) (job other : Job) → OrdersJob words (codes "explore") job → OrdersJob words (codes "tests") other → ⊥
+explore_or_tests words job other one two =
+    let words-one = one.form.words_are in
+    let words-two = two.form.words_are in
+    let commands : codes "explore" ≡ codes "tests" = cc in
+    omega (arith, ap length commands)
+
+job_or_fault : (words : List (List ℕ)) (command : List ℕ) (job : Job) (word : ℕ) → OrdersJob words command job → HasBadTarget words word → ⊥
+job_or_fault words command job word some none =
     let words-one = none.form.words_are in
     let words-two = some.form.words_are in
     let methods : some.method ≡ none.method = cc in
-    none.no_target (target, (some.spelled.0, sym methods ∙ some.spelled.1))
+    none.no_target (job.target, (some.spelled.0, sym methods ∙ some.spelled.1))
 
--- a command is of one task, and `replay` is of none
-one_task : (a b : Task) → command_of a ≡ command_of b → a ≡ b
-one_task Explore Explore e = refl
-one_task Explore Tests e = absurd (omega (arith, ap length e))
-one_task Tests Explore e = absurd (omega (arith, ap length e))
-one_task Tests Tests e = refl
+-- ---- each form has one order
 
-pub no_task : (task : Task) → codes "replay" ≡ command_of task → ⊥
-no_task Explore e = omega (arith, ap length e)
-no_task Tests e = omega (arith, ap length e)
-
-method_one : (words : List (List ℕ)) (task job : Task) (target other : Target) (file another : List ℕ)
-    → MethodTarget words task target file → MethodTarget words job other another → about_method task target file ≡ about_method job other another
-method_one words task job target other file another one two =
+one_job : (words : List (List ℕ)) (command : List ℕ) (job other : Job) → OrdersJob words command job → OrdersJob words command other → job ≡ other
+one_job words command job other one two =
     let words-one = one.form.words_are in
     let words-two = two.form.words_are in
     let methods : one.method ≡ two.method = cc in
-    let files : file ≡ another = cc in
-    let commands : command_of task ≡ command_of job = cc in
-    let tasks : task ≡ job = one_task task job commands in
-    let targets : target ≡ other = spells_one two.method target other (subst (λ (text : List ℕ). SpellsTarget target text) methods one.spelled) two.spelled in
-    cc
+    let files : one.file ≡ two.file = cc in
+    let targets : job.target ≡ other.target =
+    spells_one two.method job.target other.target (subst (λ (text : List ℕ). SpellsTarget job.target text) methods one.spelled) two.spelled in
+    let jobs : default_job job.target (one.file ∷ []) ≡ default_job other.target (two.file ∷ []) = rw (targets, files) refl in
+    one.job_is ∙ jobs ∙ sym two.job_is
 
-method_or_replay : (words : List (List ℕ)) (task : Task) (value file given another : List ℕ) → AreMethodWords words task value file → AreReplayWords words given another → ⊥
-method_or_replay words task value file given another one two =
-    let words-one = one.words_are in
-    let words-two = two.words_are in
-    let commands : codes "replay" ≡ command_of task = cc in
-    no_task task commands
+one_replay : (words : List (List ℕ)) (tests others : List ℕ) (files more : List (List ℕ)) → OrdersReplay words tests files → OrdersReplay words others more →
+    (tests ≡ others) × (files ≡ more)
+one_replay words tests others files more one two =
+    let words-one = one.form.words_are in
+    let words-two = two.form.words_are in
+    let given : tests ≡ others = cc in
+    let last : one.file ≡ two.file = cc in
+    (given, one.files_are ∙ ap (λ (file : List ℕ). file ∷ []) last ∙ sym two.files_are)
 
-replay_one : (words : List (List ℕ)) (given other file another : List ℕ) → AreReplayWords words given file → AreReplayWords words other another → replay given file ≡ replay other another
-replay_one words given other file another one two =
-    let words-one = one.words_are in
-    let words-two = two.words_are in
-    cc
+-- ---- a fault and another answer
 
-pub asks_one : (words : List (List ℕ)) (one other : Asked) → Asks words one → Asks words other → other ≡ one
-asks_one words no_command no_command a b = refl
-asks_one words no_command not_built a b = absurd (b.some a)
-asks_one words no_command (bad_target word) a b = let words-are = b.form.words_are in cc
-asks_one words no_command (about_method task target file) a b = let words-are = b.form.words_are in cc
-asks_one words no_command (replay given file) a b = let words-are = b.words_are in cc
-asks_one words not_built no_command a b = absurd (a.some b)
-asks_one words not_built not_built a b = refl
-asks_one words not_built (bad_target word) a b = absurd (a.no_method b.task b.method b.file b.form)
-asks_one words not_built (about_method task target file) a b = absurd (a.no_method task b.method file b.form)
-asks_one words not_built (replay given file) a b = absurd (a.no_replay given file b)
-asks_one words (bad_target word) no_command a b = let words-are = a.form.words_are in cc
-asks_one words (bad_target word) not_built a b = absurd (b.no_method a.task a.method a.file a.form)
-asks_one words (bad_target word) (bad_target other) a b = ap bad_target (b.place ∙ sym a.place)
-asks_one words (bad_target word) (about_method task target file) a b = absurd (target_or_none words word task target file a b)
-asks_one words (bad_target word) (replay given file) a b = absurd (method_or_replay words a.task a.method a.file given file a.form b)
-asks_one words (about_method task target file) no_command a b = let words-are = a.form.words_are in cc
-asks_one words (about_method task target file) not_built a b = absurd (b.no_method task a.method file a.form)
-asks_one words (about_method task target file) (bad_target word) a b = absurd (target_or_none words word task target file b a)
-asks_one words (about_method task target file) (about_method job other another) a b = method_one words job task other target another file b a
-asks_one words (about_method task target file) (replay given another) a b = absurd (method_or_replay words task a.method file given another a.form b)
-asks_one words (replay given file) no_command a b = let words-are = a.words_are in cc
-asks_one words (replay given file) not_built a b = absurd (b.no_replay given file a)
-asks_one words (replay given file) (bad_target word) a b = absurd (method_or_replay words b.task b.method b.file given file b.form a)
-asks_one words (replay given file) (about_method task target another) a b = absurd (method_or_replay words task b.method another given file b.form a)
-asks_one words (replay given file) (replay other another) a b = replay_one words other given another file b a
+none_or_job : (words : List (List ℕ)) (command : List ℕ) (job : Job) → words ≡ [] → OrdersJob words command job → ⊥
+none_or_job words command job a b = let words-are = b.form.words_are in cc
 
--- so what was read is all that the words ask for
-pub alone : (words : List (List ℕ)) (r : Result Order NoMemory) → IfOk r (λ order. Asks words (asked_by order)) →
-    IfOk r (λ order. (other : Asked) → Asks words other → other ≡ asked_by order)
-alone words (Ok order) asks = λ other h. asks_one words (asked_by order) other asks h
-alone words (Err refusal) asks = tt
+unbuilt_or_job : (words : List (List ℕ)) (command : List ℕ) (job : Job) → IsJobCommand command → AreUnbuiltWords words → OrdersJob words command job → ⊥
+unbuilt_or_job words command job is a b = a.no_job command b.method b.file is b.form
+
+pub one_order : (words : List (List ℕ)) (one other : Order) → Orders words (Ok one) → Orders words (Ok other) → one ≡ other
+one_order words (Explore job) (Explore other) a b = ap Explore (one_job words (codes "explore") job other a b)
+one_order words (Tests job) (Tests other) a b = ap Tests (one_job words (codes "tests") job other a b)
+one_order words (Explore job) (Tests other) a b = absurd (explore_or_tests words job other a b)
+one_order words (Tests job) (Explore other) a b = absurd (explore_or_tests words other job b a)
+one_order words (Explore job) (Replay tests files) a b =
+    absurd (job_or_replay words (codes "explore") a.method a.file tests b.file (inl refl) a.form b.form)
+one_order words (Tests job) (Replay tests files) a b = absurd (job_or_replay words (codes "tests") a.method a.file tests b.file (inr refl) a.form b.form)
+one_order words (Replay tests files) (Explore job) a b =
+    absurd (job_or_replay words (codes "explore") b.method b.file tests a.file (inl refl) b.form a.form)
+one_order words (Replay tests files) (Tests job) a b = absurd (job_or_replay words (codes "tests") b.method b.file tests a.file (inr refl) b.form a.form)
+one_order words (Replay tests files) (Replay others more) a b = let same = one_replay words tests others files more a b in rw (same.0, same.1) refl
+one_order words (Diagrams job) other a b = absurd a
+one_order words (Assemble text) other a b = absurd a
+one_order words (Sample blocks) other a b = absurd a
+one_order words one (Diagrams job) a b = absurd b
+one_order words one (Assemble text) a b = absurd b
+one_order words one (Sample blocks) a b = absurd b
+
+one_fault : (words : List (List ℕ)) (one other : WordFault) → Orders words (Err one) → Orders words (Err other) → one ≡ other
+one_fault words NoCommand NoCommand a b = refl
+one_fault words NoCommand (BadTarget word) a b = let words-are = b.form.words_are in cc
+one_fault words NoCommand Unbuilt a b = absurd (b.some a)
+one_fault words (BadTarget word) NoCommand a b = let words-are = a.form.words_are in cc
+one_fault words (BadTarget word) (BadTarget other) a b = ap BadTarget (a.place ∙ sym b.place)
+one_fault words (BadTarget word) Unbuilt a b = absurd (b.no_job a.command a.method a.file a.takes_method a.form)
+one_fault words Unbuilt NoCommand a b = absurd (a.some b)
+one_fault words Unbuilt (BadTarget word) a b = absurd (a.no_job b.command b.method b.file b.takes_method b.form)
+one_fault words Unbuilt Unbuilt a b = refl
+one_fault words NoMemory other a b = absurd a
+one_fault words one NoMemory a b = absurd b
+
+pub fault_or_order : (words : List (List ℕ)) (fault : WordFault) (order : Order) → Orders words (Err fault) → Orders words (Ok order) → ⊥
+fault_or_order words NoCommand (Explore job) a b = none_or_job words (codes "explore") job a b
+fault_or_order words NoCommand (Tests job) a b = none_or_job words (codes "tests") job a b
+fault_or_order words NoCommand (Replay tests files) a b = let words-are = b.form.words_are in cc
+fault_or_order words (BadTarget word) (Explore job) a b = job_or_fault words (codes "explore") job word b a
+fault_or_order words (BadTarget word) (Tests job) a b = job_or_fault words (codes "tests") job word b a
+fault_or_order words (BadTarget word) (Replay tests files) a b = job_or_replay words a.command a.method a.file tests b.file a.takes_method a.form b.form
+fault_or_order words Unbuilt (Explore job) a b = unbuilt_or_job words (codes "explore") job (inl refl) a b
+fault_or_order words Unbuilt (Tests job) a b = unbuilt_or_job words (codes "tests") job (inr refl) a b
+fault_or_order words Unbuilt (Replay tests files) a b = a.no_replay tests b.file b.form
+fault_or_order words NoMemory order a b = a
+fault_or_order words fault (Diagrams job) a b = b
+fault_or_order words fault (Assemble text) a b = b
+fault_or_order words fault (Sample blocks) a b = b
+
+-- words have one order or one fault
+pub orders_one : (words : List (List ℕ)) (one other : Result Order WordFault) → Orders words one → Orders words other → one ≡ other
+orders_one words (Ok one) (Ok other) a b = ap Ok (one_order words one other a b)
+orders_one words (Err one) (Err other) a b = ap Err (one_fault words one other a b)
+orders_one words (Ok one) (Err other) a b = absurd (fault_or_order words other one b a)
+orders_one words (Err one) (Ok other) a b = absurd (fault_or_order words one other a b)
+
+-- ---- what orders are built
+
+-- the bounds where the words say nothing else are those of a test
+default_runs : IsRunBounds default_run_bounds
+default_runs = record { alloc = omega arith; loops = omega arith; some_depth = omega arith; depth = omega arith; some_steps = omega arith; steps = omega arith }
+
+job_writable : (words : List (List ℕ)) (command : List ℕ) (job : Job) → OrdersJob words command job → IsWritable job × (length job.files ≡ 1)
+job_writable words command job ordered =
+    let runs : job.bounds.run ≡ default_run_bounds = ap (λ (j : Job). j.bounds.run) ordered.job_is in
+    (record { target = ordered.spelled.0; bounds = subst IsRunBounds (sym runs) default_runs }, ap (λ (j : Job). length j.files) ordered.job_is)
+
+pub built_order : (words : List (List ℕ)) (order : Order) → Orders words (Ok order) → IsBuiltOrder order
+built_order words (Explore job) h = job_writable words (codes "explore") job h
+built_order words (Tests job) h = job_writable words (codes "tests") job h
+built_order words (Replay tests files) h = ap length h.files_are
+built_order words (Diagrams job) h = absurd h
+built_order words (Assemble text) h = absurd h
+built_order words (Sample blocks) h = absurd h
+
+-- so each has one class file
+pub one_class : (words : List (List ℕ)) (order : Order) → Orders words (Ok order) → length (classes_of order) ≡ 1
+one_class words (Explore job) h = (job_writable words (codes "explore") job h).1
+one_class words (Tests job) h = (job_writable words (codes "tests") job h).1
+one_class words (Replay tests files) h = ap length h.files_are
+one_class words (Diagrams job) h = absurd h
+one_class words (Assemble text) h = absurd h
+one_class words (Sample blocks) h = absurd h

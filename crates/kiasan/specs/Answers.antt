@@ -1,144 +1,124 @@
--- What the program answers: the status and the text of a run without faults of what it reads from and writes to.
-use Rattle.std.specs.Prelude.{◌≡◌, ℕ, ◌+◌, ◌<◌, ◌≤◌, ◌⊎◌, ℤ, List, [], ◌∷◌, length, take, Option, Some, codes, IfSome}
-use Rattle.std.specs.Fmt.{decimal}
+-- What the program answers. It goes by stages: the words, the reading of their files, the classes, their world, the texts, the
+-- methods that are reached, and the exploration or the runs. The first stage that refuses gives the answer.
+use Rattle.std.specs.Prelude.{◌≡◌, ℕ, ◌+◌, ◌<◌, ◌≤◌, ◌⊎◌, List, [], ◌∷◌, ◌++◌, length, map, take, Option, Some, IfSome, IsSome, Result, Ok, Err}
+use Rattle.std.specs.List.{AllByRecursion}
 use Rattle.kb_classfile.specs.declared.file.ClassFile.{ClassFile}
-use Rattle.kb_classfile.specs.Small.{SpellsSmall}
+use Rattle.kb_classfile.specs.declared.refusal.ClassRefusal.{ClassRefusal}
+use Rattle.kb_classfile.specs.declared.refusal.ClassRefusal.TheVariants as class_faults
+use Rattle.kb_classfile.specs.Small.{SpellsSmall, IsSmallForm}
 use Rattle.kb_classfile.specs.Answers.{BeginsAsClass, IsNotBuilt}
 use Rattle.kb_code.specs.declared.listing.Listing.{Listing}
-use Rattle.kb_heap.specs.declared.heap.Value.TheVariants.{Int}
-use Rattle.kb_heap.specs.declared.heap.Heap.{Heap}
-use Rattle.kb_heap.specs.declared.ending.Ending.TheVariants.{Returned}
 use Rattle.kb_names.specs.declared.types.Target.{Target}
-use Rattle.kb_names.specs.Targets.{target_text}
+use Rattle.kb_outside.specs.Outside.{Rose, Grows, GrowsByPart}
 use Rattle.kb_semantics.specs.Machine.{Method}
-use Rattle.kb_terms.specs.declared.node.TermId.{TermId}
-use Rattle.kb_terms.specs.declared.node.Node.{Node}
-use Rattle.kb_terms.specs.Numbering.{numbering}
 use Rattle.kb_test.specs.declared.test_case.Test.{Test}
-use Rattle.kb_test.specs.Lines.{IsFirstBadLine}
-use Rattle.kb_test.specs.Texts.{SpellsTests, IsTestsText}
+use Rattle.kb_grammar.specs.Lines.{IsFirstBadLine}
+use Rattle.kb_names.specs.Targets.{IsTarget}
+use Rattle.kb_test.specs.Texts.{SpellsTests, IsTestsText, AreTests, IsRunBounds}
 use Rattle.kb_world.specs.declared.world.GivenClass.{GivenClass}
 use Rattle.kb_world.specs.declared.world.MethodId.{MethodId}
 use Rattle.kb_world.specs.World.{IsTargetOf, AreListings}
-use Rattle.kiasan.specs.declared.path.Operand.{Operand}
-use Rattle.kiasan.specs.declared.path.Term.{Term}
-use Rattle.kiasan.specs.declared.classes.Opened.{Opened}
-use Rattle.kiasan.specs.declared.classes.Opened.TheVariants.{World as Linked, Refused}
+use Rattle.kiasan.specs.declared.answer.Contents.{Contents}
+use Rattle.kiasan.specs.declared.refusals.Answer.{Answer}
+use Rattle.kiasan.specs.declared.refusals.Refusal.{Refusal}
+use Rattle.kiasan.specs.declared.refusals.Refusal.TheVariants.{TestLine, LongText}
+use Rattle.kiasan.specs.declared.refusals.Stop.{Stop}
+use Rattle.kiasan.specs.declared.refusals.Stop.TheVariants.{Refused}
+use Rattle.kiasan.specs.declared.refusals.Stop.TheVariants as stops
 use Rattle.kiasan.specs.declared.replay.Replayed.{Replayed}
-use Rattle.kiasan.specs.declared.replay.TestFault.{TestFault}
-use Rattle.kiasan.specs.declared.replay.TestFault.TheVariants.{NoMethod, IllTypedInput, NotStraight}
-use Rattle.kiasan.specs.declared.words.Task.{Task}
-use Rattle.kiasan.specs.declared.words.Task.TheVariants.{Explore, Tests}
+use Rattle.kiasan.specs.declared.report.Report.{Report}
+use Rattle.kiasan.specs.declared.words.Job.{Job}
+use Rattle.kiasan.specs.declared.words.Order.{Order}
+use Rattle.kiasan.specs.declared.words.Order.TheVariants.{Explore, Tests, Diagrams, Replay, Assemble, Sample}
+use Rattle.kiasan.specs.declared.words.WordFault.{WordFault}
 use Rattle.kiasan.specs.declared.status.Status.{Status}
 use Rattle.kiasan.specs.declared.status.Status.TheVariants.{Complete, Words, Class, Link, Outside, ReadFault, WriteFault, Memory, Text, Differs}
-use Rattle.kiasan.specs.Path.{path_value, terms_of, operand_of}
-use Rattle.kiasan.specs.Report.{line, report_text, straight_report}
-use Rattle.kiasan.specs.Straight.{IsStraight, run_over, most_instructions}
-use Rattle.kiasan.specs.Target.{params_of}
-use Rattle.kiasan.specs.Tests.{FirstFault, EndsAsStated, AreVerdicts, test_of, no_literals, replay_text, count_differs}
-use Rattle.kiasan.specs.Words.{Asked, no_command, not_built, bad_target, about_method, replay, Asks, AsksFor}
+use Rattle.kiasan.specs.Orders.{Orders, texts_of, classes_of, files_of}
+use Rattle.kiasan.specs.Refusals.{Gives, class_refusal, refusal_status, refusal_line, word_refusal}
+use Rattle.kiasan.specs.Report.{report_text}
+use Rattle.kiasan.specs.Reach.{TargetRefuses}
+use Rattle.kiasan.specs.Covering.{IsReportOf, HasStatus, tests_of}
+use Rattle.kiasan.specs.Tests.{AreRunnable, AreVerdicts, EndsAsStated, RefusesTests, no_literals, replay_status}
+use Rattle.kiasan.specs.Unbuilt.{IsBuiltFor}
+use Rattle.kiasan.specs.Verdicts.{replay_text}
 
--- ---- refusals
+-- ---- replies and stages
 
-unfoldable pub refused_no_command : List ℕ
-refused_no_command = codes "refused 90\n"
+-- what the program has to say: a refusal, or a text with its status
+pub data Reply : Type 0 where
+  refuses : Refusal → Reply
+  ends : Status → List ℕ → Reply
 
-unfoldable pub refused_target : ℕ → List ℕ
-refused_target word = line (codes "refused 98 word " ∷ decimal word ∷ [])
+abbrev pub reply_status : Reply → Status
+reply_status (refuses refusal) = refusal_status refusal
+reply_status (ends status text) = status
 
-unfoldable pub refused_unbuilt : List ℕ
-refused_unbuilt = codes "refused 50\n"
+abbrev pub reply_text : Reply → List ℕ
+reply_text (refuses refusal) = refusal_line refusal
+reply_text (ends status text) = text
 
-unfoldable pub refused_magic : List ℕ
-refused_magic = codes "refused 10 file 0\n"
+-- A stage refuses, or something passes it and goes on to the next.
+abbrev pub Stage : {A : Type 0} → (Refusal → Type 0) → (A → Type 0) → (A → Reply → Type 0) → Reply → Type 0
+Stage Refuses Passes Next (refuses refusal) = Refuses refusal ⊎ ((a : _) × Passes a × Next a (refuses refusal))
+Stage Refuses Passes Next (ends status text) = (a : _) × Passes a × Next a (ends status text)
 
-unfoldable pub refused_method : Target → List ℕ
-refused_method target = line (codes "refused 45 " ∷ target_text target ∷ [])
+-- a stage that refuses nothing
+abbrev pub RefusesNothing : Refusal → Type 0
+RefusesNothing refusal = ⊥
 
-unfoldable pub refused_line : ℕ → List ℕ
-refused_line number = line (codes "refused 60 line " ∷ decimal number ∷ [])
+-- a last stage, whose end is this
+abbrev pub Last : (Status → List ℕ → Type 0) → Reply → Type 0
+Last Ends (refuses refusal) = ⊥
+Last Ends (ends status text) = Ends status text
 
-unfoldable pub refused_long_text : List ℕ
-refused_long_text = codes "refused 63\n"
+-- What carrying out comes to: a reply, unless memory ran out. `Fault` is what is known where a file could not be read.
+abbrev pub Carries : Type 0 → (Reply → Type 0) → Result Answer Stop → Type 0
+Carries Fault Replied result = Gives Fault (λ refusal. Replied (refuses refusal)) (λ answer. Replied (ends answer.status answer.text.items)) result
 
--- a test's method is not there, or its input is not type-correct
-unfoldable pub refused_test : TestFault → ℕ → List ℕ
-refused_test NoMethod number = line (codes "refused 61 test " ∷ decimal number ∷ [])
-refused_test IllTypedInput number = line (codes "refused 62 test " ∷ decimal number ∷ [])
-refused_test NotStraight number = refused_unbuilt
+-- ---- exploration, and runs
 
-abbrev pub fault_status : TestFault → Status
-fault_status NoMethod = Text
-fault_status IllTypedInput = Text
-fault_status NotStraight = Outside
+-- the target and the bounds of the job are those of a test
+pub record IsWritable (job : Job) : Type 0 where
+  pub target : IsTarget job.target
+  pub bounds : IsRunBounds job.bounds.run
 
--- ---- the path of a straight method
-
--- For each list of ints for the parameters, and whatever else the heap holds, the run of the method returns the value that the
--- path states, and leaves the heap as it was.
-abbrev pub States : Method → ℕ → List Term → Operand → Type 0
-States method params terms returned =
-    (heap : Heap) (inputs : List ℤ) → length inputs ≡ params →
-    run_over most_instructions method heap inputs ≡ record { ending = Returned (Some (Int (path_value terms returned inputs))); heap = heap }
-
--- The path's terms are those of what it returns, numbered in the order in which a walk meets them, operands first.
-pub record AreNumbered (terms : List Term) (returned : Operand) : Type 0 where
-  pub nodes : List Node
-  pub root : TermId
-  pub terms_are : terms ≡ terms_of nodes (numbering nodes (root ∷ []))
-  pub returned_is : returned ≡ operand_of nodes (numbering nodes (root ∷ [])) root
-
--- The one path of a straight method.
-pub record IsPath (world : List GivenClass) (target : Target) (terms : List Term) (returned : Operand) : Type 0 where
+-- a report for the job, whose tests have a text where the job's target and bounds are those of a test
+pub record IsWrittenReport (world : List GivenClass) (job : Job) (report : Report) : Type 0 where
+  pub reported : IsReportOf world job report
   pub id : MethodId
-  pub method : Method
-  pub straight : IsStraight world target id method
-  pub numbered : AreNumbered terms returned
-  pub states : States method (params_of target) terms returned
+  pub built : IsBuiltFor world job id
+  pub tests : IsWritable job → AreTests no_literals (tests_of report)
 
--- the text of the path: its report, or its test, which is read as it was written
-abbrev pub IsTextOf : Task → Target → List Term → Operand → List ℕ → Type 0
-IsTextOf Explore target terms returned text = text ≡ report_text (straight_report target terms returned)
-IsTextOf Tests target terms returned text = SpellsTests no_literals (test_of target terms returned ∷ []) text
+-- the end of a job: there is a report of the world for it, and the text is that of the task on it and on its method
+pub record EndsJob (IsTextOf : Method → Report → List ℕ → Type 0) (world : List GivenClass) (job : Job) (status : Status) (text : List ℕ) : Type 0 where
+  pub report : Report
+  pub reported : IsReportOf world job report
+  pub has_status : HasStatus report status
+  pub text_is : IsTextOf reported.method report text
 
--- the report of the one path
-pub record Reports (world : List GivenClass) (target : Target) (text : List ℕ) : Type 0 where
-  pub terms : List Term
-  pub returned : Operand
-  pub path : IsPath world target terms returned
-  pub text_is : text ≡ report_text (straight_report target terms returned)
+-- the text of the command `explore`
+abbrev pub IsReportText : Method → Report → List ℕ → Type 0
+IsReportText method report text = text ≡ report_text report
 
--- The test of the one path. Read from its text it is the test that was written, and the machine ends it as the path states.
-pub record WritesTest (world : List GivenClass) (target : Target) (text : List ℕ) : Type 0 where
-  pub terms : List Term
-  pub returned : Operand
-  pub path : IsPath world target terms returned
-  pub spelled : SpellsTests no_literals (test_of target terms returned ∷ []) text
-  pub ends : EndsAsStated path.method (test_of target terms returned)
+-- The text of the command `tests`: that of the report's tests. Each ends as it states, where the machine runs the method.
+pub record IsTestsTextOf (method : Method) (report : Report) (text : List ℕ) : Type 0 where
+  pub spelled : SpellsTests no_literals (tests_of report) text
+  pub end_as_stated : AllByRecursion (EndsAsStated method) (tests_of report)
 
--- ---- the answer
+-- the end of a replay: the verdicts on the tests, in order
+pub record EndsReplay (world : List GivenClass) (tests : List Test) (status : Status) (text : List ℕ) : Type 0 where
+  pub verdicts : List Replayed
+  pub verdicts_are : AreVerdicts world tests verdicts
+  pub status_is : status ≡ replay_status verdicts
+  pub text_is : text ≡ replay_text tests verdicts
 
--- The answer about a method of the world: it is not there, it is not straight, or what is given of it.
-abbrev pub AnswersMethod : (List ℕ → Type 0) → List GivenClass → Target → Status → List ℕ → Type 0
-AnswersMethod Gives world target status text =
-    ((status ≡ Link) × (text ≡ refused_method target) × ((id : MethodId) → IsTargetOf world target id → ⊥))
-    ⊎ ((status ≡ Outside) × (text ≡ refused_unbuilt) × ((id : MethodId) × IsTargetOf world target id) × ((id : MethodId) (method : Method) → IsStraight world target id method → ⊥))
-    ⊎ ((status ≡ Complete) × Gives text)
+-- a job, behind its classes' world: reach, and the exploration; what is reached is built by now
+unfoldable pub RepliesJob : (Method → Report → List ℕ → Type 0) → List GivenClass → Job → Reply → Type 0
+RepliesJob IsTextOf world job =
+    Stage (TargetRefuses (IsBuiltFor world job) world job.target) (λ id. IsTargetOf world job.target id × IsBuiltFor world job id) (λ id.
+    Last (EndsJob IsTextOf world job))
 
--- what is given of a method
-abbrev pub GivesTask : Task → List GivenClass → Target → List ℕ → Type 0
-GivesTask Explore world target text = Reports world target text
-GivesTask Tests world target text = WritesTest world target text
-
-abbrev pub AnswersTask : Task → List GivenClass → Target → Status → List ℕ → Type 0
-AnswersTask task world target status text = AnswersMethod (GivesTask task world target) world target status text
-
--- the replay of tests that were read: the first one that is not run, or the verdicts on all
-abbrev pub Replays : List GivenClass → List Test → Status → List ℕ → Type 0
-Replays world given status text =
-    ((number : ℕ) × (fault : TestFault) × FirstFault world given number fault × (status ≡ fault_status fault) × (text ≡ refused_test fault number))
-    ⊎ ((verdicts : List Replayed) × AreVerdicts world given verdicts × (text ≡ replay_text verdicts)
-    × (((count_differs verdicts ≡ 0) × (status ≡ Complete)) ⊎ ((0 < count_differs verdicts) × (status ≡ Differs))))
+-- ---- texts
 
 -- the most bytes of a class file, and of a text
 abbrev pub class_limit : ℕ
@@ -147,47 +127,182 @@ class_limit = 1048576
 abbrev pub text_limit : ℕ
 text_limit = 67108864
 
--- the answer about the bytes of a file of tests
-abbrev pub AnswersTests : List ℕ → List GivenClass → Status → List ℕ → Type 0
-AnswersTests bytes world status text =
-    ((status ≡ Text) × (text ≡ refused_long_text) × (text_limit < length bytes))
-    ⊎ ((length bytes ≤ text_limit) × (number : ℕ) × (status ≡ Text) × (text ≡ refused_line number) × IsFirstBadLine (IsTestsText no_literals) bytes number)
-    ⊎ ((length bytes ≤ text_limit) × (given : List Test) × SpellsTests no_literals given bytes × Replays world given status text)
+-- the bytes are no text of tests: they are too many, or no such text goes on at a line
+abbrev pub TextRefuses : List ℕ → Refusal → Type 0
+TextRefuses bytes refusal =
+    ((refusal ≡ LongText) × (text_limit < length bytes))
+    ⊎ ((number : ℕ) × (refusal ≡ TestLine number) × (length bytes ≤ text_limit) × IsFirstBadLine (IsTestsText no_literals) bytes number)
 
--- The world of one class file: with the listings of its methods, as far as they are built.
-abbrev pub IsWorldOf : ClassFile → List GivenClass → Type 0
-IsWorldOf file world = (listings : List (Option Listing)) × AreListings file.methods listings × (world ≡ record { file = file; listings = listings } ∷ [])
+abbrev pub AreTestsOf : List ℕ → List Test → Type 0
+AreTestsOf bytes tests = (length bytes ≤ text_limit) × SpellsTests no_literals tests bytes
 
--- the answer about the bytes of a class file, and about its world where it has one
-unfoldable pub AnswersFile : (List GivenClass → Status → List ℕ → Type 0) → List ℕ → Status → List ℕ → Type 0
-AnswersFile AnswersWorld bytes status text =
-    ((status ≡ Class) × (text ≡ refused_magic) × (4 ≤ length bytes) × (BeginsAsClass bytes → ⊥))
-    ⊎ ((status ≡ Outside) × (text ≡ refused_unbuilt) × IsNotBuilt bytes)
-    ⊎ ((file : ClassFile) × (world : List GivenClass) × SpellsSmall file bytes × IsWorldOf file world × AnswersWorld world status text)
+unfoldable pub RepliesReplay : List ℕ → List GivenClass → Reply → Type 0
+RepliesReplay bytes world =
+    Stage (TextRefuses bytes) (AreTestsOf bytes) (λ tests.
+    Stage (RefusesTests world tests) (AreRunnable world tests) (λ ids.
+    Last (EndsReplay world tests)))
 
--- what opening a class file comes to: its world, or the answer that refuses it
-abbrev pub Opens : List ℕ → Opened → Type 0
-Opens bytes (Linked world) = (file : ClassFile) × SpellsSmall file bytes × IsWorldOf file world
-Opens bytes (Refused answer) =
-    ((answer.status ≡ Class) × (answer.text.items ≡ refused_magic) × (4 ≤ length bytes) × (BeginsAsClass bytes → ⊥))
-    ⊎ ((answer.status ≡ Outside) × (answer.text.items ≡ refused_unbuilt) × IsNotBuilt bytes)
+-- the commands, each on its texts and the world of its classes
+abbrev pub RepliesIn : Order → List (List ℕ) → List GivenClass → Reply → Type 0
+RepliesIn (Explore job) texts world = RepliesJob IsReportText world job
+RepliesIn (Tests job) texts world = RepliesJob IsTestsTextOf world job
+RepliesIn (Replay name files) (bytes ∷ []) world = RepliesReplay bytes world
+RepliesIn _ texts world = λ reply. ⊥
 
--- the bytes that are read of a file, where the shelf tells what it holds: one more than the limit at the most
-abbrev pub Tells : ℕ → Option (List ℕ) → List ℕ → Type 0
-Tells limit told bytes = IfSome told (λ all. bytes ≡ take (limit + 1) all)
+-- the orders that come by now, each with one class file, and jobs with what a test may have
+abbrev pub IsBuiltOrder : Order → Type 0
+IsBuiltOrder (Explore job) = IsWritable job × (length job.files ≡ 1)
+IsBuiltOrder (Tests job) = IsWritable job × (length job.files ≡ 1)
+IsBuiltOrder (Diagrams job) = ⊥
+IsBuiltOrder (Replay tests files) = length files ≡ 1
+IsBuiltOrder (Assemble text) = ⊥
+IsBuiltOrder (Sample blocks) = ⊥
 
-abbrev pub AnswersAsked : Asked → (List ℕ → Option (List ℕ)) → Status → List ℕ → Type 0
-AnswersAsked no_command holds status text = (status ≡ Words) × (text ≡ refused_no_command)
-AnswersAsked (bad_target word) holds status text = (status ≡ Words) × (text ≡ refused_target word)
-AnswersAsked not_built holds status text = (status ≡ Outside) × (text ≡ refused_unbuilt)
-AnswersAsked (about_method task target file) holds status text =
-    (bytes : List ℕ) × Tells class_limit (holds file) bytes × AnswersFile (λ world. AnswersTask task world target) bytes status text
-AnswersAsked (replay given file) holds status text =
-    (lines : List ℕ) × (bytes : List ℕ) × Tells text_limit (holds given) lines × Tells class_limit (holds file) bytes × AnswersFile (AnswersTests lines) bytes status text
+-- ---- classes, and their world
+
+-- what is wrong with the bytes of a class file
+abbrev pub HasClassFault : List ℕ → ClassRefusal → Type 0
+HasClassFault bytes class_faults.Magic = (4 ≤ length bytes) × (BeginsAsClass bytes → ⊥)
+HasClassFault bytes class_faults.Unbuilt = IsNotBuilt bytes
+HasClassFault bytes _ = ⊥
+
+-- what refuses the class file of that number, from 0
+abbrev pub ClassRefuses : ℕ → List ℕ → Refusal → Type 0
+ClassRefuses number bytes refusal = (found : ClassRefusal) × HasClassFault bytes found × (class_refusal number found ≡ Refused refusal)
+
+-- each spells a class file
+abbrev pub AreClasses : List (List ℕ) → List ClassFile → Type 0
+AreClasses [] [] = Unit {0}
+AreClasses (bytes ∷ classes) (file ∷ files) = SpellsSmall file bytes × AreClasses classes files
+AreClasses [] (file ∷ files) = ⊥
+AreClasses (bytes ∷ classes) [] = ⊥
+
+-- The first class file that is refused, and its number.
+pub record RefusesClasses (classes : List (List ℕ)) (refusal : Refusal) : Type 0 where
+  pub before : List (List ℕ)
+  pub bytes : List ℕ
+  pub after : List (List ℕ)
+  pub classes_are : classes ≡ before ++ bytes ∷ after
+  pub files : List ClassFile
+  pub good : AreClasses before files
+  pub bad : ClassRefuses (length before) bytes refusal
+
+-- The world of class files: each with the listings of its methods, as far as they are built.
+abbrev pub file_of : GivenClass → ClassFile
+file_of class = class.file
+
+abbrev pub IsListed : GivenClass → Type 0
+IsListed class = AreListings class.file.methods class.listings
+
+pub record IsWorldOf (files : List ClassFile) (world : List GivenClass) : Type 0 where
+  pub files_are : map file_of world ≡ files
+  pub listed : AllByRecursion IsListed world
+
+-- by now there is one class file
+pub record IsOneSmall (files : List ClassFile) : Type 0 where
+  pub file : ClassFile
+  pub small : IsSmallForm file
+  pub files_are : files ≡ file ∷ []
+
+abbrev pub IsWorldOfBytes : List (List ℕ) → List GivenClass → Type 0
+IsWorldOfBytes classes world = (files : List ClassFile) × AreClasses classes files × IsWorldOf files world
+
+-- ---- reading
+
+-- The bytes that are read of a file, where the shelf tells what it holds: one more than the limit at the most.
+abbrev pub IsContents : ℕ → Option (List ℕ) → List ℕ → Type 0
+IsContents limit told bytes = IfSome told (λ all. bytes ≡ take (limit + 1) all)
+
+-- the bytes that are read of files, in order
+abbrev pub AreRead : ℕ → (List ℕ → Option (List ℕ)) → List (List ℕ) → List (List ℕ) → Type 0
+AreRead limit holds [] [] = Unit {0}
+AreRead limit holds (file ∷ files) (bytes ∷ read) = IsContents limit (holds file) bytes × AreRead limit holds files read
+AreRead limit holds [] (bytes ∷ read) = ⊥
+AreRead limit holds (file ∷ files) [] = ⊥
+
+-- what is read for an order
+pub record IsRead (holds : List ℕ → Option (List ℕ)) (order : Order) (contents : Contents) : Type 0 where
+  pub texts : AreRead text_limit holds (texts_of order) contents.texts
+  pub classes : AreRead class_limit holds (classes_of order) contents.classes
+
+-- a name among these is not sound
+abbrev pub HasUnsound : List (List ℕ) → (List ℕ → Type 0) → Type 0
+HasUnsound [] sound = ⊥
+HasUnsound (file ∷ files) sound = (sound file → ⊥) ⊎ HasUnsound files sound
+
+-- a name among these is not sound, and the count of faults rose
+abbrev pub IsReadFault : ℕ → ℕ → List (List ℕ) → (List ℕ → Type 0) → Type 0
+IsReadFault before now files sound = Rose before now × HasUnsound files sound
+
+-- a part that refuses nothing: what it comes to is this, unless memory ran out or a file could not be read
+abbrev pub IsOf : {A : Type 0} → Type 0 → (A → Type 0) → Result A Stop → Type 0
+IsOf Fault Passes result = Gives Fault RefusesNothing Passes result
+
+abbrev pub IsReadFaultOrNoMemory : Stop → Type 0
+IsReadFaultOrNoMemory (Refused refusal) = ⊥
+IsReadFaultOrNoMemory stops.ReadFault = Unit {0}
+IsReadFaultOrNoMemory stops.NoMemory = Unit {0}
+
+-- ---- the answer
+
+unfoldable pub RepliesOn : Order → Contents → Reply → Type 0
+RepliesOn order contents =
+    Stage (RefusesClasses contents.classes) (AreClasses contents.classes) (λ files.
+    Stage RefusesNothing (IsWorldOf files) (λ world.
+    RepliesIn order contents.texts world))
+
+unfoldable pub RepliesTo : Order → (List ℕ → Option (List ℕ)) → Reply → Type 0
+RepliesTo order holds = Stage RefusesNothing (IsRead holds order) (RepliesOn order)
+
+-- the words have a fault
+abbrev pub WordsRefuse : List (List ℕ) → Refusal → Type 0
+WordsRefuse words refusal = (fault : WordFault) × Orders words (Err fault) × (word_refusal fault ≡ Refused refusal)
+
+-- What the words come to, over what the shelf holds.
+unfoldable pub Replies : List (List ℕ) → (List ℕ → Option (List ℕ)) → Reply → Type 0
+Replies words holds = Stage (WordsRefuse words) (λ order. Orders words (Ok order)) (λ order. RepliesTo order holds)
 
 -- The status and the text that the words have over what the shelf holds.
-unfoldable pub Answers : List (List ℕ) → (List ℕ → Option (List ℕ)) → Status → List ℕ → Type 0
-Answers words holds status text = (asked : Asked) × Asks words asked × AnswersAsked asked holds status text
+pub record Answers (words : List (List ℕ)) (holds : List ℕ → Option (List ℕ)) (status : Status) (text : List ℕ) : Type 0 where
+  pub reply : Reply
+  pub replied : Replies words holds reply
+  pub status_is : status ≡ reply_status reply
+  pub text_is : text ≡ reply_text reply
+
+-- ---- exactly where
+
+-- the shelf tells what it holds of each file that the words order to be read
+abbrev pub AreTold : List (List ℕ) → (List ℕ → Option (List ℕ)) → Type 0
+AreTold words holds = (order : Order) → Orders words (Ok order) → AllByRecursion (λ file. IsSome (holds file)) (files_of order)
+
+abbrev pub IsReplay : List (List ℕ) → Type 0
+IsReplay words = (tests : List ℕ) × (files : List (List ℕ)) × Orders words (Ok (Replay tests files))
+
+-- the same refusal, or none of both is one; of a replay they are one status and one text
+abbrev pub IsSameReply : List (List ℕ) → Reply → Reply → Type 0
+IsSameReply words (refuses one) (refuses other) = one ≡ other
+IsSameReply words (ends one text) (ends other lines) = IsReplay words → (one ≡ other) × (text ≡ lines)
+IsSameReply words (refuses one) (ends other lines) = ⊥
+IsSameReply words (ends one text) (refuses other) = ⊥
+
+-- ---- the top call
+
+-- a status of what is told in whole
+abbrev pub IsDone : Status → Type 0
+IsDone Complete = Unit {0}
+IsDone _ = ⊥
+
+-- a status of verdicts
+abbrev pub IsOfVerdicts : Status → Type 0
+IsOfVerdicts Complete = Unit {0}
+IsOfVerdicts Differs = Unit {0}
+IsOfVerdicts _ = ⊥
+
+-- A call that was answered so ends with this status: that of the refusal; without one that of the replay, or else that of what
+-- is told.
+abbrev pub EndsAs : List (List ℕ) → Reply → Status → Type 0
+EndsAs words (refuses refusal) status = status ≡ refusal_status refusal
+EndsAs words (ends one text) status = (IsReplay words → (status ≡ one) × IsOfVerdicts status) × ((IsReplay words → ⊥) → IsDone status)
 
 -- a status that comes with a text
 abbrev pub IsAnswer : Status → Type 0
@@ -209,7 +324,24 @@ WritesNothing Memory = Unit {0}
 WritesNothing _ = ⊥
 
 -- a file of the order is not sound
-pub record SomeUnsound (words : List (List ℕ)) (sound : List ℕ → Type 0) : Type 0 where
-  pub file : List ℕ
-  pub asked : AsksFor words file
-  pub unsound : sound file → ⊥
+abbrev pub SomeUnsound : List (List ℕ) → (List ℕ → Type 0) → Type 0
+SomeUnsound words sound = (order : Order) × Orders words (Ok order) × HasUnsound (files_of order) sound
+
+-- What a call for these words owes over a shelf and a sink: what the shelf holds and which names are sound, how its count of
+-- faults went (before, now), how the sink's bytes and its count went, and the status that the call ends with.
+pub record Owes (words : List (List ℕ)) (holds : List ℕ → Option (List ℕ)) (sound : List ℕ → Type 0) (reads : ℕ × ℕ)
+    (written : Option (List ℕ) × Option (List ℕ)) (writes : ℕ × ℕ) (status : Status) : Type 0 where
+  -- Where there is an answer, its text was written, all of it and nothing else.
+  pub answers : IsAnswer status → (text : List ℕ) × Answers words holds status text × Grows written.0 written.1 text
+  -- A file was not read only where the shelf counted it and a file of the order is not sound.
+  pub read_counted : status ≡ ReadFault → Rose reads.0 reads.1
+  pub read_unsound : status ≡ ReadFault → SomeUnsound words sound
+  -- Writing failed only where the sink counted it. Then a front of an answer was written, and not the whole.
+  pub write_counted : status ≡ WriteFault → Rose writes.0 writes.1
+  pub write_part : status ≡ WriteFault → (other : Status) × (text : List ℕ) × Answers words holds other text × GrowsByPart written.0 written.1 text
+  -- Nothing was written without an answer.
+  pub nothing : WritesNothing status → written.1 ≡ written.0
+  -- Where neither count rose, the call ends with the status of what answers, or want of memory. Where the shelf tells what it
+  -- holds, every reply is the same as the one that answers.
+  pub certain : (Rose reads.0 reads.1 → ⊥) → (Rose writes.0 writes.1 → ⊥) → AreTold words holds → (reply : Reply) → Replies words holds reply →
+      (status ≡ Memory) ⊎ EndsAs words reply status

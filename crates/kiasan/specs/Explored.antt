@@ -1,6 +1,7 @@
 -- What the exploration of a straight method tells.
-use Rattle.std.specs.Prelude.{◌≡◌, ℕ, ◌≤◌, ◌⊎◌, ℤ, List, length, Some, None, true, false, bit_and, nat_eq}
+use Rattle.std.specs.Prelude.{◌≡◌, ℕ, ◌≤◌, ◌⊎◌, ℤ, List, length, replicate, Some, None, true, false, bit_and, nat_eq}
 use Rattle.std.specs.Option.{option_copied}
+use Rattle.kb_arith.specs.Word.{AreInts}
 use Rattle.kb_classfile.specs.declared.file.Code.{Code}
 use Rattle.kb_code.specs.declared.listing.Listing.{Listing}
 use Rattle.kb_heap.specs.declared.heap.Value.TheVariants.{Int}
@@ -9,6 +10,8 @@ use Rattle.kb_heap.specs.declared.ending.Ending.TheVariants.{Returned}
 use Rattle.kb_names.specs.declared.types.Target.{Target}
 use Rattle.kb_semantics.specs.Machine.{Method}
 use Rattle.kb_terms.specs.Terms.{IsTerm, value_of}
+use Rattle.kb_terms.specs.declared.node.VarKind.TheVariants.{Int as IntKind}
+use Rattle.kiasan.specs.Paths.{variable_kinds}
 use Rattle.kb_world.specs.declared.world.GivenClass.{GivenClass}
 use Rattle.kb_world.specs.declared.world.MethodId.{MethodId}
 use Rattle.kb_world.specs.declared.world.MethodInfo.{MethodInfo}
@@ -17,10 +20,11 @@ use Rattle.kiasan.specs.declared.explore.StraightCode.{StraightCode}
 use Rattle.kiasan.specs.Straight.{HasCode, IsIllTyped, IsStraight, ends_by_return, most_instructions, run_over}
 use Rattle.kiasan.specs.Target.{params_of}
 
--- Within enough steps, each run of the method over so many ints returns the value of the term, and leaves the heap as it was.
-abbrev pub Returns : Method → ℕ → Explored → Type 0
-Returns method params explored =
-    (steps : ℕ) (heap : Heap) (inputs : List ℤ) → length method.listing ≤ steps → length inputs ≡ params →
+-- Within enough steps, each run of the method over so many ints of 32 bits returns the value of the term, and leaves the heap
+-- as it was.
+abbrev pub RunsReturn : Method → ℕ → Explored → Type 0
+RunsReturn method params explored =
+    (steps : ℕ) (heap : Heap) (inputs : List ℤ) → length method.listing ≤ steps → length inputs ≡ params → AreInts inputs →
     run_over steps method heap inputs ≡ record { ending = Returned (Some (Int (value_of explored.pool explored.result inputs))); heap = heap }
 
 -- a straight method was explored
@@ -28,21 +32,25 @@ pub record IsExplored (world : List GivenClass) (target : Target) (id : MethodId
   pub term : IsTerm explored.pool explored.result
   pub method : Method
   pub straight : IsStraight world target id method
-  pub returns : Returns method (params_of target) explored
+  pub count : explored.instructions ≡ length method.listing
+  pub variables : variable_kinds explored.pool ≡ replicate (params_of target) IntKind
+  pub returns : RunsReturn method (params_of target) explored
 
 -- code was carried out, which is as long as that of a straight method may be, and ends as it must
 pub record IsCarriedOut (code : StraightCode) (params : ℕ) (explored : Explored) : Type 0 where
   pub term : IsTerm explored.pool explored.result
+  pub count : explored.instructions ≡ length code.listing.now
+  pub variables : variable_kinds explored.pool ≡ replicate params IntKind
   pub few : length code.listing.now ≤ most_instructions
   pub ends : ends_by_return code.listing.now ≡ true
-  pub returns : (method : Method) → HasCode method code → Returns method params explored
+  pub returns : (method : Method) → HasCode method code → RunsReturn method params explored
 
 -- the method has the code, and is straight as far as its code says
 pub record IsStraightRun (code : StraightCode) (params : ℕ) (method : Method) : Type 0 where
   pub has : HasCode method code
   pub few : length method.listing ≤ most_instructions
   pub ends : ends_by_return method.listing ≡ true
-  pub typed : (heap : Heap) (inputs : List ℤ) → length inputs ≡ params → IsIllTyped (run_over most_instructions method heap inputs).ending → ⊥
+  pub typed : (heap : Heap) (inputs : List ℤ) → length inputs ≡ params → AreInts inputs → IsIllTyped (run_over most_instructions method heap inputs).ending → ⊥
 
 -- the code of a static method, and its listing, are these
 pub record IsCodeOf (info : MethodInfo) (straight : StraightCode) : Type 0 where

@@ -1,5 +1,6 @@
 -- Straight methods.
 use Rattle.std.specs.Prelude.{◌≡◌, ℕ, ◌≤◌, ℤ, List, [], ◌∷◌, length, map, Bool, true, false, ◌==◌, if◌then◌else◌}
+use Rattle.kb_arith.specs.Word.{AreInts}
 use Rattle.kb_code.specs.declared.instruction.Instr.{Instr}
 use Rattle.kb_code.specs.declared.instruction.Instr.TheVariants.{ReturnInt}
 use Rattle.kb_heap.specs.declared.heap.Value.TheVariants.{Int}
@@ -53,7 +54,7 @@ most_instructions = 2000
 
 -- The target names a straight method of the world, which the machine runs as this method: it takes ints alone and gives an
 -- int, is static, has code that is a list of whole instructions of those that are built, not too many of them, a return at
--- the end alone, and no run that is ill-typed.
+-- the end alone, and no run over ints of 32 bits that is ill-typed.
 pub record IsStraight (world : List GivenClass) (target : Target) (id : MethodId) (method : Method) : Type 0 where
   pub found : IsTargetOf world target id
   pub runs : IsMethod world id method
@@ -62,4 +63,4 @@ pub record IsStraight (world : List GivenClass) (target : Target) (id : MethodId
   pub ints : takes_ints target.kind ≡ true
   pub few : length method.listing ≤ most_instructions
   pub ends : ends_by_return method.listing ≡ true
-  pub typed : (heap : Heap) (inputs : List ℤ) → length inputs ≡ params_of target → IsIllTyped (run_over most_instructions method heap inputs).ending → ⊥
+  pub typed : (heap : Heap) (inputs : List ℤ) → length inputs ≡ params_of target → AreInts inputs → IsIllTyped (run_over most_instructions method heap inputs).ending → ⊥

@@ -6,6 +6,7 @@ use Rattle.kb_terms.specs.declared.node.Node.{Node}
 use Rattle.kb_terms.specs.declared.op.Op.{Op}
 use Rattle.kb_terms.specs.Op.{op_value}
 use Rattle.kb_terms.specs.Terms.{IsTerm, value_of}
+use Rattle.kiasan.specs.Paths.{variable_kinds}
 use Rattle.kiasan.specs.declared.state.State.{State}
 use Rattle.kiasan.specs.declared.state.Step.{Step}
 use Rattle.kiasan.specs.declared.state.Step.TheVariants.{Goes as StepGoes, IllTyped as StepIllTyped}
@@ -51,6 +52,12 @@ pub record IsSound (s : State) : Type 0 where
   pub local_terms : All (IsLocalTerm s.pool) s.locals.items
   pub stack_limit : length s.stack ≤ s.limits.stack
   pub local_limit : s.limits.locals ≤ length s.locals.items
+
+-- What a call keeps of a state: it stays sound, and its limits and variables stay.
+pub record Keeps (old new : State) : Type 0 where
+  pub sound : IsSound new
+  pub limits : new.limits ≡ old.limits
+  pub variables : variable_kinds new.pool ≡ variable_kinds old.pool
 
 -- the term of a local, where it lies below the limit and was written
 abbrev pub local_term : State → ℕ → Option TermId

@@ -1,45 +1,35 @@
-//! What the program answers to its words.
+//! What the program answers to its words, stage by stage.
 
-ghost use Rattle.std.specs.Prelude.{◌≡◌, ℕ, ◌<◌, ◌≤◌, ◌^◌, ◌⊎◌, ◌↔◌, List, map, string_bytes, IfOk, IsErrOf};
+ghost use Rattle.std.specs.Prelude.{◌≡◌, ℕ, ◌<◌, ◌≤◌, ◌^◌, ◌↔◌, List, length, map, string_bytes, IfOk, IfErr, IsErrOf};
 ghost use Rattle.kb_outside.specs.Outside.{Rose};
-ghost use Rattle.kiasan.specs.Answers.{Answers, AnswersAsked, AnswersFile, AnswersTask, AnswersTests, IsAnswer, SomeUnsound, Tells};
-ghost use Rattle.kiasan.specs.Words.{about_method, replay};
+ghost use Rattle.kiasan.specs.Answers.{Answers, AreRead, Carries, IsAnswer, IsBuiltOrder, IsContents, IsOf, IsRead, IsReadFault, IsReadFaultOrNoMemory, Replies, RepliesIn, RepliesOn, RepliesTo, SomeUnsound, class_limit, text_limit};
+ghost use Rattle.kiasan.specs.Orders.{classes_of, files_of, texts_of};
 
-use crate::classes::{Opened, open_class};
-use crate::memory::NoMemory;
-use crate::methods::answer_method;
-use crate::refusals::{Answer, refuse_no_command, refuse_target, refuse_unbuilt};
-use crate::replay::answer_tests;
-use crate::target::SpelledTarget;
-use crate::words::{Order, Task, read_words};
+use crate::classes::open_classes;
+use crate::methods::{answer_report, answer_tests};
+use crate::refusals::{Answer, Stop, answer_refusal};
+use crate::replay::replay;
+use crate::words::{FileName, Order, read_words};
 use kb_outside::{Shelf, ShelfStop};
+use kb_rows::Row;
+use kb_world::World;
 use std::alloc::Global;
 
 /// The most bytes of a class file.
 const CLASS_LIMIT: usize = 1_048_576;
 
-/// The most bytes of a file of tests.
-const TEXT_LIMIT: usize = 67_108_864;
+/// The most bytes of a text.
+pub const TEXT_LIMIT: usize = 67_108_864;
 
-/// Why there is no answer.
-#[derive(Clone, Copy, Debug, PartialEq, Eq)]
-pub enum Stop {
-    ReadFault,
-    NoMemory,
-}
-
-impl From<NoMemory> for Stop {
-    ghost use Rattle.kiasan.specs.declared.answer.Stop.TheVariants.{NoMemory};
-
-    ghost from_gives = { λ _ e. e ≡ NoMemory };
-
-    fn from(_refusal: NoMemory) -> Stop {
-        Stop::NoMemory
-    }
+/// What was read of an order's files, in the order of the words.
+#[derive(Drop)]
+pub struct Contents {
+    pub texts: Row<Row<u8>>,
+    pub classes: Row<Row<u8>>,
 }
 
 /// What the program answers to its words.
-#[tactic(auto, unfolding(crate::specs::Answers::Answers))]
+#[tactic(auto, using(crate::proofs::TopLaws::ends_answer, crate::proofs::TopLaws::refusal_answers))]
 pub fn answer_words<S: Shelf>(
     alloc: Global,
     words: &[String],
@@ -47,48 +37,63 @@ pub fn answer_words<S: Shelf>(
 ) -> Result<Answer, Stop>
     ensures answers { IfOk result (λ a. Answers (map string_bytes words.now) (S.holds shelf.old) a.status a.text.items) }
     ensures answer { IfOk result (λ a. IsAnswer a.status) }
+    ensures stops { IfErr result IsReadFaultOrNoMemory }
     ensures counted { IsErrOf result Stop.ReadFault → Rose (S.faults shelf.old) (S.faults shelf.new) }
     ensures unsound { IsErrOf result Stop.ReadFault → SomeUnsound (map string_bytes words.now) (S.sound shelf.old) }
 {
-    match read_words(alloc, words)? {
-        Order::NoCommand => Ok(refuse_no_command(alloc)?),
-        Order::NotBuilt => Ok(refuse_unbuilt(alloc)?),
-        Order::BadTarget(word) => Ok(refuse_target(alloc, word)?),
-        Order::Method(task, target, file) => answer_task(alloc, task, &target, file, shelf),
-        Order::Replay(tests, file) => answer_replay(alloc, tests, file, shelf),
+    match carry_out(alloc, words, shelf) {
+        Err(Stop::Refused(refusal)) => Ok(answer_refusal(alloc, &refusal)?),
+        carried => carried,
     }
 }
 
-/// What the program answers where something is to be told of a method of a file.
-fn answer_task<S: Shelf>(
-    alloc: Global,
-    task: Task,
-    target: &SpelledTarget<'_>,
-    file: &str,
-    shelf: &mut S,
-) -> Result<Answer, Stop>
-    ensures answers { IfOk result (λ a. AnswersAsked (about_method task target.now file.now) (S.holds shelf.old) a.status a.text.items) }
-    ensures counted { IsErrOf result Stop.ReadFault → Rose (S.faults shelf.old) (S.faults shelf.new) }
-    ensures unsound { IsErrOf result Stop.ReadFault → S.sound shelf.old file.now → ⊥ }
+/// Does what the words order.
+#[tactic(auto, unfolding(crate::specs::Answers::Replies))]
+fn carry_out<S: Shelf>(alloc: Global, words: &[String], shelf: &mut S) -> Result<Answer, Stop>
+    ensures { Carries (Rose (S.faults shelf.old) (S.faults shelf.new) × SomeUnsound (map string_bytes words.now) (S.sound shelf.old)) (Replies (map string_bytes words.now) (S.holds shelf.old)) result }
 {
-    let bytes = read_file(alloc, file, CLASS_LIMIT, shelf)?;
-    Ok(answer_file(alloc, task, target, bytes.as_slice())?)
+    let order = read_words(alloc, words)?;
+    carry_out_order(alloc, &order, shelf)
 }
 
-/// What the program answers where the tests of a file are to be run.
-fn answer_replay<S: Shelf>(
-    alloc: Global,
-    tests: &str,
-    file: &str,
-    shelf: &mut S,
-) -> Result<Answer, Stop>
-    ensures answers { IfOk result (λ a. AnswersAsked (replay tests.now file.now) (S.holds shelf.old) a.status a.text.items) }
-    ensures counted { IsErrOf result Stop.ReadFault → Rose (S.faults shelf.old) (S.faults shelf.new) }
-    ensures unsound { IsErrOf result Stop.ReadFault → (S.sound shelf.old tests.now → ⊥) ⊎ (S.sound shelf.old file.now → ⊥) }
+/// Does what an order says.
+#[tactic(auto, unfolding(crate::specs::Answers::RepliesTo))]
+fn carry_out_order<S: Shelf>(alloc: Global, order: &Order, shelf: &mut S) -> Result<Answer, Stop>
+    requires { IsBuiltOrder order.now }
+    ensures { Carries (IsReadFault (S.faults shelf.old) (S.faults shelf.new) (files_of order.now) (S.sound shelf.old)) (RepliesTo order.now (S.holds shelf.old)) result }
 {
-    let lines = read_file(alloc, tests, TEXT_LIMIT, shelf)?;
-    let bytes = read_file(alloc, file, CLASS_LIMIT, shelf)?;
-    Ok(answer_lines(alloc, lines.as_slice(), bytes.as_slice())?)
+    let contents = read_contents(alloc, order, shelf)?;
+    answer_on(alloc, order, &contents)
+}
+
+/// Reads the files of an order.
+fn read_contents<S: Shelf>(alloc: Global, order: &Order, shelf: &mut S) -> Result<Contents, Stop>
+    ensures { IsOf (IsReadFault (S.faults shelf.old) (S.faults shelf.new) (files_of order.now) (S.sound shelf.old)) (IsRead (S.holds shelf.old) order.now) result }
+{
+    let texts = read_files(alloc, order.texts(), TEXT_LIMIT, shelf)?;
+    let classes = read_files(alloc, order.classes(), CLASS_LIMIT, shelf)?;
+    Ok(Contents { texts, classes })
+}
+
+/// The bytes of files, each up to one more than the limit.
+fn read_files<S: Shelf>(
+    alloc: Global,
+    names: &[FileName],
+    limit: usize,
+    shelf: &mut S,
+) -> Result<Row<Row<u8>>, Stop>
+    requires { limit < 2 ^ 32 }
+    ensures read { IsOf (IsReadFault (S.faults shelf.old) (S.faults shelf.new) names.now (S.sound shelf.old)) (AreRead limit (S.holds shelf.old) names.now) result }
+    ensures holds { (other : List ℕ) → S.holds shelf.new other ≡ S.holds shelf.old other }
+    ensures later { S.faults shelf.old ≤ S.faults shelf.new }
+    ensures sound { (other : List ℕ) → S.sound shelf.new other ↔ S.sound shelf.old other }
+{
+    let mut read = Row::new(alloc);
+    for name in names {
+        let bytes = read_file(alloc, name.as_str(), limit, shelf)?;
+        read.push(Row::from_vec(bytes))?;
+    }
+    Ok(read)
 }
 
 /// The bytes of a file, up to one more than the limit.
@@ -99,7 +104,8 @@ fn read_file<S: Shelf>(
     shelf: &mut S,
 ) -> Result<Vec<u8>, Stop>
     requires { limit < 2 ^ 32 }
-    ensures told { IfOk result (λ bytes. Tells limit (S.holds shelf.old file.now) bytes.items) }
+    ensures told { IfOk result (λ bytes. IsContents limit (S.holds shelf.old file.now) bytes.items) }
+    ensures stops { IfErr result IsReadFaultOrNoMemory }
     ensures holds { (other : List ℕ) → S.holds shelf.new other ≡ S.holds shelf.old other }
     ensures counted { IsErrOf result Stop.ReadFault → Rose (S.faults shelf.old) (S.faults shelf.new) }
     ensures later { S.faults shelf.old ≤ S.faults shelf.new }
@@ -114,29 +120,28 @@ fn read_file<S: Shelf>(
     }
 }
 
-/// What the program answers about a method, where the bytes are those of the class file.
-#[tactic(auto, unfolding(crate::specs::Answers::AnswersFile))]
-fn answer_file(
-    alloc: Global,
-    task: Task,
-    target: &SpelledTarget<'_>,
-    bytes: &[u8],
-) -> Result<Answer, NoMemory>
-    ensures { IfOk result (λ a. AnswersFile (λ world. AnswersTask task world target.now) bytes.now a.status a.text.items) }
+/// What the program answers to an order whose files are these.
+#[tactic(auto, unfolding(crate::specs::Answers::RepliesOn))]
+fn answer_on(alloc: Global, order: &Order, contents: &Contents) -> Result<Answer, Stop>
+    requires built { IsBuiltOrder order.now }
+    requires texts { length contents.now.texts ≡ length (texts_of order.now) }
+    requires classes { length contents.now.classes ≡ length (classes_of order.now) }
+    ensures { Carries ⊥ (RepliesOn order.now contents.now) result }
 {
-    match open_class(alloc, bytes)? {
-        Opened::World(world) => answer_method(alloc, task, &world, target),
-        Opened::Refused(answer) => Ok(answer),
-    }
+    let world = open_classes(alloc, contents.classes.as_slice())?;
+    answer_in(alloc, order, contents.texts.as_slice(), &world)
 }
 
-/// What the program answers about tests, where these are the bytes of their file and of the class file.
-#[tactic(auto, unfolding(crate::specs::Answers::AnswersFile))]
-fn answer_lines(alloc: Global, lines: &[u8], bytes: &[u8]) -> Result<Answer, NoMemory>
-    ensures { IfOk result (λ a. AnswersFile (AnswersTests lines.now) bytes.now a.status a.text.items) }
+/// What the program answers to an order on these texts and the world of its classes.
+fn answer_in(alloc: Global, order: &Order, texts: &[Row<u8>], world: &World) -> Result<Answer, Stop>
+    requires built { IsBuiltOrder order.now }
+    requires texts { length texts.now ≡ length (texts_of order.now) }
+    ensures { Carries ⊥ (RepliesIn order.now texts.now world.now) result }
 {
-    match open_class(alloc, bytes)? {
-        Opened::World(world) => answer_tests(alloc, &world, lines),
-        Opened::Refused(answer) => Ok(answer),
+    match order {
+        Order::Explore(job) => answer_report(alloc, world, job),
+        Order::Tests(job) => answer_tests(alloc, world, job),
+        Order::Replay(..) => replay(alloc, world, texts[0].as_slice()),
+        Order::Diagrams(_) | Order::Assemble(_) | Order::Sample(_) => unreachable!(),
     }
 }

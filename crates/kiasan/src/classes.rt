@@ -1,54 +1,69 @@
-//! From the bytes of a class file to its world.
+//! From the bytes of class files to their world.
 
-ghost use Rattle.std.specs.Prelude.{[], ◌∷◌, IfOk};
-ghost use Rattle.kb_classfile.specs.Small.{IsSmallForm};
+ghost use Rattle.std.specs.Prelude.{◌≡◌, [], ◌∷◌, length, IfOk};
+ghost use Rattle.kb_classfile.specs.Small.{SpellsSmall};
 ghost use Rattle.kb_world.specs.World.{AreListings};
-ghost use Rattle.kiasan.specs.Answers.{Opens, IsWorldOf};
+ghost use Rattle.kiasan.specs.Answers.{AreClasses, ClassRefuses, IsOneSmall, IsWorldOf, IsWorldOfBytes, RefusesClasses};
+ghost use Rattle.kiasan.specs.Refusals.{Gives};
 
 use crate::memory::NoMemory;
-use crate::refusals::{Answer, refuse_magic, refuse_unbuilt};
-use kb_classfile::{ClassFile, ClassRefusal, Method, Row, read_class};
+use crate::refusals::{Stop, class_refusal};
+use kb_classfile::{ClassFile, Method, read_class};
 use kb_code::{CodeRefusal, Listing, decode};
+use kb_rows::Row;
 use kb_world::{GivenClass, World, link};
 use std::alloc::Global;
 
-/// The world of a class file, or the answer that refuses the file.
-#[derive(Drop)]
-pub enum Opened {
-    World(World),
-    Refused(Answer),
+/// Reads and links class files: by now there is one.
+pub fn open_classes(alloc: Global, classes: &[Row<u8>]) -> Result<World, Stop>
+    requires { length classes.now ≡ 1 }
+    ensures { Gives ⊥ (RefusesClasses classes.now) (IsWorldOfBytes classes.now) result }
+{
+    let files = read_classes(alloc, classes)?;
+    Ok(world_of(alloc, files)?)
 }
 
-/// Reads and links one class file.
-pub fn open_class(alloc: Global, bytes: &[u8]) -> Result<Opened, NoMemory>
-    ensures { IfOk result (Opens bytes.now) }
+/// The class files of these bytes, in order.
+fn read_classes(alloc: Global, classes: &[Row<u8>]) -> Result<Vec<ClassFile>, Stop>
+    ensures { Gives ⊥ (RefusesClasses classes.now) (λ files. AreClasses classes.now files.items) result }
+{
+    let mut files = Vec::new(alloc);
+    for bytes in classes {
+        let file = read_one(alloc, files.len(), bytes.as_slice())?;
+        files.push(file)?;
+    }
+    Ok(files)
+}
+
+/// The class file of that number.
+#[tactic(auto, using(crate::proofs::ClassLaws::class_stops))]
+fn read_one(alloc: Global, number: usize, bytes: &[u8]) -> Result<ClassFile, Stop>
+    ensures { Gives ⊥ (ClassRefuses number bytes.now) (λ file. SpellsSmall file bytes.now) result }
 {
     match read_class(alloc, bytes) {
-        Ok(file) => Ok(Opened::World(world_of(alloc, file)?)),
-        Err(ClassRefusal::Magic) => Ok(Opened::Refused(refuse_magic(alloc)?)),
-        Err(ClassRefusal::Unbuilt) => Ok(Opened::Refused(refuse_unbuilt(alloc)?)),
-        Err(ClassRefusal::NoMemory) => Err(NoMemory),
-        Err(_) => unreachable!(),
+        Ok(file) => Ok(file),
+        Err(refusal) => Err(class_refusal(number, &refusal)),
     }
 }
 
-/// The world of a class file of the form that is built.
-fn world_of(alloc: Global, file: ClassFile) -> Result<World, NoMemory>
-    requires { IsSmallForm file }
-    ensures { IfOk result (IsWorldOf file) }
+/// The world of one class file of the form that is built.
+fn world_of(alloc: Global, files: Vec<ClassFile>) -> Result<World, NoMemory>
+    requires { IsOneSmall files.items }
+    ensures { IfOk result (IsWorldOf files.items) }
 {
-    let listings = list_methods(alloc, file.methods.as_slice())?;
     let mut given = Vec::new(alloc);
-    given.push(GivenClass {
-        file,
-        listings: Row::from_vec(listings),
-    })?;
+    for file in files {
+        let listings = list_methods(alloc, file.methods.as_slice())?;
+        given.push(GivenClass {
+            file,
+            listings: kb_classfile::Row::from_vec(listings),
+        })?;
+    }
     match link(alloc, given) {
         Ok(world) => Ok(world),
         Err(_) => Err(NoMemory),
     }
 }
-
 /// The listing of each method's code, where its instructions are built.
 fn list_methods(alloc: Global, methods: &[Method]) -> Result<Vec<Option<Listing>>, NoMemory>
     ensures { IfOk result (λ listings. AreListings methods.now listings.items) }

@@ -1,3 +1,5 @@
+//! Want of memory.
+
 use std::alloc::{AllocError, AllocFailed};
 
 /// There was no memory for the answer.
@@ -18,6 +20,12 @@ impl<T: Drop> From<AllocFailed<T>> for NoMemory {
 
 impl From<kb_terms::NoMemory> for NoMemory {
     fn from(_refusal: kb_terms::NoMemory) -> NoMemory {
+        NoMemory
+    }
+}
+
+impl From<kb_heap::NoMemory> for NoMemory {
+    fn from(_refusal: kb_heap::NoMemory) -> NoMemory {
         NoMemory
     }
 }

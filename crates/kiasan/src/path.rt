@@ -1,10 +1,13 @@
-//! The paths that an exploration lists.
-ghost use Rattle.std.specs.Prelude.{◌≡◌, ◌∷◌, [], ℤ, List, Some, IfOk};
-ghost use Rattle.kb_terms.specs.Terms.{IsTerm, IsWellFormed, value_of, int_at};
+//! The paths that an exploration lists, and what they state.
+ghost use Rattle.std.specs.Prelude.{◌≡◌, ◌∷◌, [], ℤ, List, Some, IfOk, IsOk};
+ghost use Rattle.kb_terms.specs.Terms.{IsTerm, IsPool, value_of, int_at};
 ghost use Rattle.kb_terms.specs.Numbering.{numbering};
+ghost use Rattle.kiasan.specs.Paths.{ending_of, ending_at, out_value, variable_values, variable_value, slot_value};
 ghost use Rattle.kiasan.specs.Path.{operand_of, term_of, terms_of, path_value, stated_value, second_stated, term_value, term_values, HasName, IsStated};
 
 use crate::memory::NoMemory;
+use kb_heap::{Ending, Input, Value};
+use kb_rows::Row;
 use kb_terms::{Node, Numbering, Op, Pool, TermId};
 use std::alloc::Global;
 
@@ -27,31 +30,110 @@ pub struct Term {
     pub right: Option<Operand>,
 }
 
-/// What a path states: its terms, each after its operands, and the int that it returns.
-#[derive(Debug, Drop)]
-pub struct Path {
-    pub terms: Vec<Term>,
-    pub returned: Operand,
+/// A slot of an input's first heap.
+#[derive(Clone, Copy, Debug, PartialEq, Eq)]
+pub enum Origin {
+    /// The argument of that number, from 0, the receiver first.
+    Arg(u32),
 }
 
-/// The path that returns a term of a pool. Its terms are the operations at and below that term, each once and after its
-/// operands, those of the left one first. The time is linear in their number. Refused for want of memory alone.
+/// What a slot is seen to hold.
+#[derive(Clone, Copy, Debug, PartialEq, Eq)]
+pub enum Seen {
+    /// The int of the variable of that number.
+    Int(u32),
+}
+
+/// What a path sees of an input's first heap: the slots that are read, in the order of reading.
+#[derive(Debug, Drop)]
+pub struct Picture {
+    pub seen: Row<(Origin, Seen)>,
+}
+
+/// A value that a run ends with.
+#[derive(Clone, Copy, Debug, PartialEq, Eq)]
+pub enum Out {
+    Int(Operand),
+}
+
+/// How the runs of a path's inputs end.
+#[derive(Clone, Copy, Debug, PartialEq, Eq)]
+pub enum SymEnding {
+    Returned(Option<Out>),
+}
+
+/// How an ended path ends, and an input that takes it.
+#[derive(Debug, Drop)]
+pub struct Ended {
+    pub ending: SymEnding,
+    pub input: Input,
+}
+
+/// Where a path ends.
+#[derive(Debug, Drop)]
+pub enum Leaf {
+    Ended(Ended),
+}
+
+/// What a leaf is counted as.
+#[derive(Clone, Copy, Debug, PartialEq, Eq)]
+pub enum LeafKind {
+    Ended,
+    Cut,
+    Undecided,
+    Open,
+}
+
+impl Leaf {
+    ghost use Rattle.std.specs.Prelude.{◌≡◌};
+    ghost use Rattle.kiasan.specs.Report.{kind_of};
+
+    pub fn kind(&self) -> LeafKind
+        ensures { result ≡ kind_of self.now }
+    {
+        match self {
+            Leaf::Ended(_) => LeafKind::Ended,
+        }
+    }
+}
+
+/// A path of a report: the choices that it takes, what it sees, its terms, each after its operands, its conditions, each
+/// the number of a term with its truth, and its leaf.
+#[derive(Debug, Drop)]
+pub struct Path {
+    pub decisions: Row<u32>,
+    pub picture: Picture,
+    pub terms: Row<Term>,
+    pub when: Row<(u32, bool)>,
+    pub leaf: Leaf,
+}
+
+/// The terms at and below a term of a pool, each after its operands, and how a path with these terms names it.
+#[derive(Debug, Drop)]
+pub struct Stated {
+    pub terms: Vec<Term>,
+    pub operand: Operand,
+}
+
+/// States a term of a pool. The terms are the operations at and below it, each once and after its operands, those of
+/// the left one first. The time is linear in their number. Refused for want of memory alone.
 #[tactic(auto, unfolding(crate::specs::Path::terms_of))]
-pub fn path_of(alloc: Global, pool: &Pool, returned: TermId) -> Result<Path, NoMemory>
-    requires { IsTerm pool.now returned }
-    ensures terms { IfOk result (λ p. p.terms.items ≡ terms_of pool.now (numbering pool.now (returned ∷ []))) }
-    ensures returned { IfOk result (λ p. p.returned ≡ operand_of pool.now (numbering pool.now (returned ∷ [])) returned) }
-    ensures value { IfOk result (λ p. (inputs : List ℤ) → path_value p.terms.items p.returned inputs ≡ value_of pool.now returned inputs) }
+pub fn state_term(alloc: Global, pool: &Pool, root: TermId) -> Result<Stated, NoMemory>
+    requires { IsTerm pool.now root }
+    ensures formed { IsOk result → IsPool pool.now }
+    ensures terms { IfOk result (λ s. s.terms.items ≡ terms_of pool.now (numbering pool.now (root ∷ []))) }
+    ensures operand { IfOk result (λ s. s.operand ≡ operand_of pool.now (numbering pool.now (root ∷ [])) root) }
+    ensures value { IfOk result (λ s. (inputs : List ℤ) → path_value s.terms.items s.operand inputs ≡ value_of pool.now root inputs) }
 {
-    let numbering = pool.numbering(alloc, &[returned])?;
+    let numbering = pool.numbering(alloc, &[root])?;
     let operations = numbering.terms();
     let mut terms = Vec::with_capacity(alloc, operations.len())?;
     for operation in operations {
         terms.push(term_of(pool, &numbering, *operation))?;
     }
-    Ok(Path {
+    Ok(Stated {
         terms,
-        returned: operand_of(pool, &numbering, returned),
+        operand: operand_of(pool, &numbering, root),
     })
 }
 
@@ -76,7 +158,7 @@ fn term_of(pool: &Pool, numbering: &Numbering, operation: TermId) -> Term
 fn operand_of(pool: &Pool, numbering: &Numbering, term: TermId) -> Operand
     requires { HasName pool.now numbering.now term }
     ensures operand { result ≡ operand_of pool.now numbering.now term }
-    ensures formed { IsWellFormed pool.now }
+    ensures formed { IsPool pool.now }
 {
     match pool.node(term) {
         Node::Const(value) => Operand::Const(value),
@@ -88,18 +170,68 @@ fn operand_of(pool: &Pool, numbering: &Numbering, term: TermId) -> Operand
     }
 }
 
-/// The value that a path states for one int a variable, by its own terms.
-#[tactic(auto, unfolding(crate::specs::Path::path_value))]
-pub fn path_value(
-    alloc: Global,
-    terms: &[Term],
-    returned: Operand,
-    inputs: &[i32],
-) -> Result<i32, NoMemory>
-    ensures { IfOk result (λ v. v ≡ path_value terms.now returned inputs.now) }
+/// The ending that an ended path states for the input that it carries. Refused for want of memory alone.
+pub fn ending_of(alloc: Global, path: &Path, ended: &Ended) -> Result<Ending, NoMemory>
+    ensures { IfOk result (λ ending. ending ≡ ending_of path.now ended.now ended.now.input) }
 {
-    let values = term_values(alloc, terms, inputs)?;
-    Ok(stated_value(inputs, values.as_slice(), returned))
+    let variables = variable_values(alloc, &ended.input, path.picture.seen.as_slice())?;
+    let terms = term_values(alloc, path.terms.as_slice(), variables.as_slice())?;
+    Ok(ending_at(variables.as_slice(), terms.as_slice(), ended.ending))
+}
+
+/// The ending that is stated, where the variables and the terms have these values.
+fn ending_at(variables: &[i32], terms: &[i32], ending: SymEnding) -> Ending
+    ensures { result ≡ ending_at variables.now terms.now ending }
+{
+    match ending {
+        SymEnding::Returned(None) => Ending::Returned(None),
+        SymEnding::Returned(Some(out)) => Ending::Returned(Some(out_value(variables, terms, out))),
+    }
+}
+
+fn out_value(variables: &[i32], terms: &[i32], out: Out) -> Value
+    ensures { result ≡ out_value variables.now terms.now out }
+{
+    match out {
+        Out::Int(operand) => Value::Int(stated_value(variables, terms, operand)),
+    }
+}
+
+/// The ints of the variables, in the order of reading.
+fn variable_values(
+    alloc: Global,
+    input: &Input,
+    seen: &[(Origin, Seen)],
+) -> Result<Vec<i32>, NoMemory>
+    ensures { IfOk result (λ values. values.items ≡ variable_values input.now seen.now) }
+{
+    let mut values = Vec::new(alloc);
+    let mut rest = seen;
+    while let [(slot, held), others @ ..] = rest {
+        values.push(variable_value(slot_value(input, *slot), *held))?;
+        rest = others;
+    }
+    Ok(values)
+}
+
+/// The int of a variable, where what its slot holds is one.
+fn variable_value(value: Option<Value>, seen: Seen) -> i32
+    ensures { variable_value value seen ≡ Some result }
+{
+    let Seen::Int(_) = seen;
+    match value {
+        Some(Value::Int(found)) => found,
+        Some(Value::Null | Value::Ref(_)) | None => 0,
+    }
+}
+
+/// What a slot of the first heap holds.
+fn slot_value(input: &Input, slot: Origin) -> Option<Value>
+    ensures { result ≡ slot_value input.now slot }
+{
+    match slot {
+        Origin::Arg(number) => input.args.as_slice().get(number as usize).copied(),
+    }
 }
 
 /// The values of the terms, in order.
@@ -165,14 +297,14 @@ mod tests {
         let x = pool.variable(VarKind::Int)?;
         let y = pool.variable(VarKind::Int)?;
         let sum = pool.make(Op::Add, x, Some(y))?;
-        let path = path_of(rt.alloc(), &pool, sum)?;
+        let path = state_term(rt.alloc(), &pool, sum)?;
         let stated = Term {
             op: Op::Add,
             left: Operand::Var(0),
             right: Some(Operand::Var(1)),
         };
         assert_eq!(rt; path.terms.as_slice(), [stated].as_slice());
-        assert_eq!(rt; path.returned, Operand::Term(0));
+        assert_eq!(rt; path.operand, Operand::Term(0));
         Ok(())
     }
 
@@ -185,7 +317,7 @@ mod tests {
         let sum = pool.make(Op::Add, x, Some(seven))?;
         let negated = pool.make(Op::Neg, x, None)?;
         let product = pool.make(Op::Mul, negated, Some(sum))?;
-        let path = path_of(rt.alloc(), &pool, product)?;
+        let path = state_term(rt.alloc(), &pool, product)?;
         let stated = [
             Term {
                 op: Op::Neg,
@@ -204,10 +336,10 @@ mod tests {
             },
         ];
         assert_eq!(rt; path.terms.as_slice(), stated.as_slice());
-        assert_eq!(rt; path.returned, Operand::Term(2));
-        let constant = path_of(rt.alloc(), &pool, seven)?;
+        assert_eq!(rt; path.operand, Operand::Term(2));
+        let constant = state_term(rt.alloc(), &pool, seven)?;
         assert_eq!(rt; constant.terms.len(), 0);
-        assert_eq!(rt; constant.returned, Operand::Const(7));
+        assert_eq!(rt; constant.operand, Operand::Const(7));
         Ok(())
     }
 }

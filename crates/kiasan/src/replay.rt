@@ -1,34 +1,23 @@
 //! The replay of tests: each is run, and its run is held against what it says.
 
-ghost use Rattle.std.specs.Prelude.{◌≡◌, ◌+◌, ◌↔◌, ◌⊎◌, length, string_bytes, IfOk};
+ghost use Rattle.std.specs.Prelude.{◌≡◌, ◌+◌, length, IfOk, IsTrue};
 ghost use Rattle.kb_semantics.specs.Machine.{Method};
-ghost use Rattle.kiasan.specs.Answers.{AnswersTests, Replays};
-ghost use Rattle.kiasan.specs.Tests.{AreRunnable, AreVerdicts, IsFound, IsRunnable, IsVerdict, Judges, passes, count_passes, count_differs, verdict_text, verdicts_text, replay_total, replay_text};
+ghost use Rattle.kiasan.specs.Answers.{AreTestsOf, Carries, RepliesReplay, TextRefuses};
+ghost use Rattle.kiasan.specs.Refusals.{Gives};
+ghost use Rattle.kiasan.specs.Tests.{AreBuilt, AreRunnable, AreVerdicts, IsAmong, IsRunnable, IsVerdict, RefusesTest, RefusesTests, passes, count_passes, count_differs, replay_status};
 
+use crate::answer::TEXT_LIMIT;
 use crate::memory::NoMemory;
-use crate::methods::NO_LITERALS;
-use crate::refusals::{Answer, refuse_line, refuse_long_text, refuse_test};
+use crate::refusals::{Answer, Refusal, Stop};
+use crate::reports::NO_LITERALS;
 use crate::status::Status;
-use crate::straight::explore_method;
-use kb_heap::{Ending, Heap};
+use crate::unbuilt::check_built;
+use crate::verdicts::replay_text;
+use kb_heap::{Ending, Heap, Row};
 use kb_machine::{fits_types, run};
-use kb_test::{Test, TestRefusal, ending_text, read_tests};
+use kb_test::{Test, read_tests};
 use kb_world::{MethodId, World};
 use std::alloc::Global;
-
-/// The most bytes of a file of tests.
-const TEXT_LIMIT: usize = 67_108_864;
-
-/// Why a test is not run.
-#[derive(Clone, Copy, Debug, PartialEq, Eq)]
-pub enum TestFault {
-    /// Its method is not there.
-    NoMethod,
-    /// Its input is not type-correct.
-    IllTypedInput,
-    /// Its method is not straight.
-    NotStraight,
-}
 
 /// What the machine's run says of a test.
 #[derive(Debug, Drop)]
@@ -40,86 +29,78 @@ pub enum Replayed {
 }
 
 /// What the program answers about the tests of a file, where these are its bytes.
-pub fn answer_tests(alloc: Global, world: &World, bytes: &[u8]) -> Result<Answer, NoMemory>
-    ensures { IfOk result (λ a. AnswersTests bytes.now world.now a.status a.text.items) }
+#[tactic(auto, unfolding(crate::specs::Answers::RepliesReplay))]
+pub fn replay(alloc: Global, world: &World, bytes: &[u8]) -> Result<Answer, Stop>
+    ensures { Carries ⊥ (RepliesReplay bytes.now world.now) result }
+{
+    let tests = read_text(alloc, bytes)?;
+    let methods = find_methods(alloc, world, tests.as_slice())?;
+    let replayed = run_tests(alloc, world, tests.as_slice(), methods.as_slice())?;
+    let text = replay_text(alloc, tests.as_slice(), replayed.as_slice())?;
+    let status = replay_status(replayed.as_slice());
+    Ok(Answer { status, text })
+}
+
+/// The tests of a file, where these are its bytes.
+fn read_text(alloc: Global, bytes: &[u8]) -> Result<Row<Test>, Stop>
+    ensures { Gives ⊥ (TextRefuses bytes.now) (AreTestsOf bytes.now) result }
 {
     if bytes.len() > TEXT_LIMIT {
-        return refuse_long_text(alloc);
+        return Err(Stop::Refused(Refusal::LongText));
     }
-    match read_tests(alloc, bytes, NO_LITERALS) {
-        Ok(tests) => replay(alloc, world, tests.as_slice()),
-        Err(TestRefusal::TestLine(number)) => refuse_line(alloc, number),
-        Err(TestRefusal::NoMemory) => Err(NoMemory),
-    }
-}
-
-/// Runs the tests, once each is found fit to be run.
-fn replay(alloc: Global, world: &World, tests: &[Test]) -> Result<Answer, NoMemory>
-    ensures { IfOk result (λ a. Replays world.now tests.now a.status a.text.items) }
-{
-    match find_methods(alloc, world, tests)? {
-        Found::Methods(methods) => answer_runs(alloc, world, tests, methods.as_slice()),
-        Found::Fault(number, fault) => refuse_test(alloc, fault, number),
-    }
-}
-
-/// What is found of tests before the first is run.
-#[derive(Drop)]
-enum Found {
-    /// The method of each.
-    Methods(Vec<MethodId>),
-    /// The number of the first that is not run, from 0, and why.
-    Fault(usize, TestFault),
+    Ok(read_tests(alloc, bytes, NO_LITERALS)?)
 }
 
 /// Looks at each test, in order, whether it is fit to be run.
-fn find_methods(alloc: Global, world: &World, tests: &[Test]) -> Result<Found, NoMemory>
-    ensures { IfOk result (IsFound world.now tests.now) }
+fn find_methods(alloc: Global, world: &World, tests: &[Test]) -> Result<Vec<MethodId>, Stop>
+    ensures { Gives ⊥ (RefusesTests world.now tests.now) (λ methods. AreRunnable world.now tests.now methods.items) result }
 {
     let mut methods = Vec::new(alloc);
+    let mut built = Vec::new(alloc);
     for test in tests {
-        match find_method(alloc, world, test)? {
-            Ok(id) => methods.push(id)?,
-            Err(fault) => return Ok(Found::Fault(methods.len(), fault)),
-        }
+        let id = find_method(alloc, world, test, methods.len(), &mut built)?;
+        methods.push(id)?;
     }
-    Ok(Found::Methods(methods))
+    Ok(methods)
 }
 
-/// The method of a test that is fit to be run, or why it is not.
+/// The method of the test of that number. `built` has the methods that were asked for before, and are built.
 fn find_method(
     alloc: Global,
     world: &World,
     test: &Test,
-) -> Result<Result<MethodId, TestFault>, NoMemory>
-    ensures { IfOk result (Judges world.now test.now) }
+    number: usize,
+    built: &mut Vec<MethodId>,
+) -> Result<MethodId, Stop>
+    requires { AreBuilt world.now built.old.items }
+    ensures method { Gives ⊥ (RefusesTest world.now number test.now) (λ id. (method : Method) × IsRunnable world.now test.now id method) result }
+    ensures built { AreBuilt world.now built.new.items }
 {
     let Some(id) = world.find_target(&test.target) else {
-        return Ok(Err(TestFault::NoMethod));
+        return Err(Stop::Refused(Refusal::NoTestMethod(number)));
     };
     if !fits_types(world, id, &test.input) {
-        return Ok(Err(TestFault::IllTypedInput));
+        return Err(Stop::Refused(Refusal::IllTypedTest(number)));
     }
-    match explore_method(alloc, world, &test.target, id)? {
-        Some(_) => Ok(Ok(id)),
-        None => Ok(Err(TestFault::NotStraight)),
+    if is_among(built.as_slice(), id) {
+        return Ok(id);
     }
+    check_built(alloc, world, &test.target, id)?;
+    built.push(id)?;
+    Ok(id)
 }
 
-/// Runs each test by its method, and tells what came of it.
-fn answer_runs(
-    alloc: Global,
-    world: &World,
-    tests: &[Test],
-    methods: &[MethodId],
-) -> Result<Answer, NoMemory>
-    requires { AreRunnable world.now tests.now methods.now }
-    ensures { IfOk result (λ a. Replays world.now tests.now a.status a.text.items) }
+fn is_among(ids: &[MethodId], id: MethodId) -> bool
+    ensures { IsTrue result → IsAmong id ids.now }
 {
-    let replayed = run_tests(alloc, world, tests, methods)?;
-    let text = replay_text(alloc, replayed.as_slice())?;
-    let status = replay_status(replayed.as_slice());
-    Ok(Answer { status, text })
+    let mut rest = ids;
+    while let [first, others @ ..] = rest {
+        if *first == id {
+            return true;
+        }
+        rest = others;
+    }
+    false
 }
 
 /// Runs each test by its method.
@@ -158,8 +139,7 @@ fn run_test(alloc: Global, world: &World, test: &Test, id: MethodId) -> Result<R
 
 /// How the program ends after a replay.
 fn replay_status(replayed: &[Replayed]) -> Status
-    ensures passed { result ≡ Status.Complete ↔ (count_differs replayed.now ≡ 0) }
-    ensures status { (result ≡ Status.Complete) ⊎ (result ≡ Status.Differs) }
+    ensures { result ≡ replay_status replayed.now }
 {
     if count_differs(replayed) == 0 {
         Status::Complete
@@ -175,7 +155,7 @@ fn passes(verdict: &Replayed) -> bool
 }
 
 /// How many tests do not pass.
-fn count_differs(replayed: &[Replayed]) -> usize
+pub fn count_differs(replayed: &[Replayed]) -> usize
     ensures count { result ≡ count_differs replayed.now }
     ensures others { count_passes replayed.now + result ≡ length replayed.now }
 {
@@ -189,58 +169,4 @@ fn count_differs(replayed: &[Replayed]) -> usize
         count += 1;
     }
     count
-}
-
-/// The text of a replay.
-#[tactic(auto, unfolding(crate::specs::Tests::replay_text))]
-fn replay_text(alloc: Global, replayed: &[Replayed]) -> Result<Vec<u8>, NoMemory>
-    ensures { IfOk result (λ text. text.items ≡ replay_text replayed.now) }
-{
-    let mut text = verdicts_text(alloc, replayed)?;
-    let total = total_text(alloc, replayed)?;
-    text.extend_from_slice(total.as_bytes())?;
-    Ok(text)
-}
-
-#[tactic(auto, unfolding(crate::specs::Tests::verdicts_text))]
-fn verdicts_text(alloc: Global, replayed: &[Replayed]) -> Result<Vec<u8>, NoMemory>
-    ensures { IfOk result (λ text. text.items ≡ verdicts_text 0 replayed.now) }
-{
-    let mut text = Vec::new(alloc);
-    let mut number: usize = 0;
-    let mut rest = replayed;
-    while let [verdict, others @ ..] = rest {
-        let lines = verdict_text(alloc, number, verdict)?;
-        text.extend_from_slice(lines.as_slice())?;
-        number += 1;
-        rest = others;
-    }
-    Ok(text)
-}
-
-#[tactic(auto, unfolding(crate::specs::Tests::verdict_text))]
-fn verdict_text(alloc: Global, number: usize, verdict: &Replayed) -> Result<Vec<u8>, NoMemory>
-    ensures { IfOk result (λ text. text.items ≡ verdict_text number verdict.now) }
-{
-    match verdict {
-        Replayed::Passes => Ok(format!(in alloc; "test {number} passes\n")?.into_bytes()),
-        Replayed::Differs(ending, _) => {
-            let mut text = format!(in alloc; "test {number} differs\n")?.into_bytes();
-            let line = ending_text(alloc, ending)?;
-            text.extend_from_slice(line.as_slice())?;
-            text.push(b'\n')?;
-            Ok(text)
-        }
-    }
-}
-
-#[tactic(auto, unfolding(crate::specs::Tests::replay_total))]
-fn total_text(alloc: Global, replayed: &[Replayed]) -> Result<String, NoMemory>
-    ensures { IfOk result (λ text. string_bytes text ≡ replay_total replayed.now) }
-{
-    let total = replayed.len();
-    let differed = count_differs(replayed);
-    let passed = total - differed;
-    let text = format!(in alloc; "tests {total} passed {passed} differed {differed}\n")?;
-    Ok(text)
 }

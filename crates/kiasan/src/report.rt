@@ -1,45 +1,60 @@
-// The text of a report.
-ghost use Rattle.std.specs.Prelude.{◌≡◌, ℕ, ◌+◌, List, [], ◌∷◌, ◌++◌, codes, string_bytes, Some, IfOk, OnOk};
-ghost use Rattle.kb_names.specs.Targets.{target_text};
-ghost use Rattle.kiasan.specs.Report.{default_settings, operand_text, term_text, title_line, target_line, settings_line, bound_text, head_text, see_lines, let_lines, arg_lines, path_text, total_line, report_text, straight_report};
+//! Reports, and their text.
+ghost use Rattle.std.specs.Prelude.{◌≡◌, ℕ, ◌+◌, List, [], ◌∷◌, ◌++◌, codes, map, string_bytes, Some, IfOk, OnOk};
+ghost use Rattle.kb_grammar.specs.Lines.{lines_text};
+ghost use Rattle.kb_test.specs.Texts.{arg_line};
+ghost use Rattle.kiasan.specs.Report.{operand_text, term_text, slot_text, seen_text, out_text, ending_text, init_text, title_line, target_line, settings_line, bounds_text, run_bounds_text, bound_text, head_text, decisions_line, further_decisions, see_line, see_lines, let_lines, when_line, when_lines, input_lines, leaf_text, path_text, paths_text, count_of, total_line, report_text};
 
 use crate::memory::NoMemory;
-use crate::path::{Operand, Term};
-use crate::target::SpelledTarget;
+use crate::path::{Leaf, LeafKind, Operand, Origin, Out, Path, Seen, SymEnding, Term};
+use crate::words::Init;
+use kb_heap::{Bounds, Input, RunBounds, Value};
+use kb_names::{Target, write_target};
+use kb_rows::Row;
 use std::alloc::{AllocError, Global};
 use std::fmt;
 
-/// What an exploration is run with: the bounds on an input's shape (`k`, `array`), the bounds on a run
-/// (`alloc`, `loops`, `depth`, `steps`), the most paths, and the most conflicts of a solver call.
-#[derive(Clone, Copy, Debug, PartialEq, Eq)]
-pub struct Settings {
-    pub k: u32,
-    pub array: u32,
-    pub alloc: u32,
-    pub loops: u32,
-    pub depth: u32,
-    pub steps: u32,
+/// The paths of a method, with what it was explored with: the bounds on its inputs' shapes and on its runs, the most paths
+/// that are not open, and the most conflicts of a call of the solver.
+#[derive(Debug, Drop)]
+pub struct Report {
+    pub target: Target,
+    pub init: Init,
+    pub bounds: Bounds,
     pub paths: u32,
     pub budget: u32,
+    pub leaves: Row<Path>,
 }
 
-impl Settings {
-    ghost use Rattle.std.specs.Prelude.{◌≡◌};
-    ghost use Rattle.kiasan.specs.Report.{default_settings};
+#[tactic(auto, unfolding(crate::specs::Report::init_text))]
+impl fmt::Display for Init {
+    ghost output = { λ init. Some (init_text init) };
 
-    /// The settings where the words say nothing else.
-    pub fn new() -> Settings
-        ensures { result ≡ default_settings }
-    {
-        Settings {
-            k: 3,
-            array: 3,
-            alloc: 16,
-            loops: 10,
-            depth: 16,
-            steps: 2000,
-            paths: 1000,
-            budget: 2000,
+    fn fmt<W: fmt::Write>(&self, f: &mut fmt::Formatter<W>) -> fmt::Result {
+        match *self {
+            Init::Lazy => f.write_str("lazy"),
+            Init::Lazier => f.write_str("lazier"),
+        }
+    }
+}
+
+#[tactic(auto, unfolding(crate::specs::Report::slot_text))]
+impl fmt::Display for Origin {
+    ghost output = { λ slot. Some (slot_text slot) };
+
+    fn fmt<W: fmt::Write>(&self, f: &mut fmt::Formatter<W>) -> fmt::Result {
+        match *self {
+            Origin::Arg(number) => write!(f, "a{number}"),
+        }
+    }
+}
+
+#[tactic(auto, unfolding(crate::specs::Report::seen_text))]
+impl fmt::Display for Seen {
+    ghost output = { λ seen. Some (seen_text seen) };
+
+    fn fmt<W: fmt::Write>(&self, f: &mut fmt::Formatter<W>) -> fmt::Result {
+        match *self {
+            Seen::Int(number) => write!(f, "v{number}"),
         }
     }
 }
@@ -70,64 +85,83 @@ impl fmt::Display for Term {
     }
 }
 
-/// The report of a method without branches: its one path has these terms and returns that operand.
-#[tactic(auto, unfolding(crate::specs::Report::report_text, crate::specs::Report::paths_text))]
-pub fn report_text(
-    alloc: Global,
-    target: &SpelledTarget<'_>,
-    terms: &[Term],
-    returned: Operand,
-) -> Result<String, NoMemory>
-    ensures { IfOk result (λ text. string_bytes text ≡ report_text (straight_report target.now terms.now returned)) }
+#[tactic(auto, unfolding(crate::specs::Report::out_text))]
+impl fmt::Display for Out {
+    ghost output = { λ out. Some (out_text out) };
+
+    fn fmt<W: fmt::Write>(&self, f: &mut fmt::Formatter<W>) -> fmt::Result {
+        match *self {
+            Out::Int(operand) => write!(f, "{operand}"),
+        }
+    }
+}
+
+#[tactic(auto, unfolding(crate::specs::Report::ending_text))]
+impl fmt::Display for SymEnding {
+    ghost output = { λ ending. Some (ending_text ending) };
+
+    fn fmt<W: fmt::Write>(&self, f: &mut fmt::Formatter<W>) -> fmt::Result {
+        match *self {
+            SymEnding::Returned(None) => write!(f, "returns"),
+            SymEnding::Returned(Some(out)) => write!(f, "returns {out}"),
+        }
+    }
+}
+
+/// The text of a report. Refused for want of memory alone.
+#[tactic(auto, unfolding(crate::specs::Report::report_text, crate::specs::Report::head_text, crate::specs::Report::title_line, crate::specs::Report::target_line))]
+pub fn report_text(alloc: Global, report: &Report) -> Result<Vec<u8>, NoMemory>
+    ensures { IfOk result (λ text. text.items ≡ report_text report.now) }
 {
-    let mut text = String::new(alloc);
-    write_head(&mut text, target, &Settings::new())?;
-    write_path(&mut text, target.params(), terms, returned)?;
-    write_total(&mut text, 1)?;
+    let mut text = Vec::new(alloc);
+    text.extend_from_slice(b"kiasan report 1\ntarget ".as_slice())?;
+    write_target(&report.target, &mut text)?;
+    let rest = rest_text(alloc, report)?;
+    text.extend_from_slice(rest.as_bytes())?;
     Ok(text)
 }
 
-#[tactic(auto, unfolding(crate::specs::Report::head_text))]
-fn write_head(
-    text: &mut String,
-    target: &SpelledTarget<'_>,
-    settings: &Settings,
-) -> Result<(), AllocError>
-    ensures { OnOk result (string_bytes text.new ≡ string_bytes text.old ++ head_text target.now settings.now) }
+/// What stands behind the target in the text of a report.
+fn rest_text(alloc: Global, report: &Report) -> Result<String, AllocError>
+    ensures { IfOk result (λ text. string_bytes text ≡ codes "\n" ++ settings_line report.now.init report.now.bounds report.now.paths report.now.budget ++ paths_text report.now.leaves ++ total_line report.now.leaves) }
 {
-    write_title(text)?;
-    write_target(text, target)?;
-    write_settings(text, settings)
-}
-
-#[tactic(auto, unfolding(crate::specs::Report::title_line))]
-fn write_title(text: &mut String) -> Result<(), AllocError>
-    ensures { OnOk result (string_bytes text.new ≡ string_bytes text.old ++ title_line) }
-{
-    writeln!(text, "kiasan report 1")
-}
-
-#[tactic(auto, unfolding(crate::specs::Report::target_line))]
-fn write_target(text: &mut String, target: &SpelledTarget<'_>) -> Result<(), AllocError>
-    ensures { OnOk result (string_bytes text.new ≡ string_bytes text.old ++ target_line target.now) }
-{
-    writeln!(text, "target {}", target.text())
+    let mut text = String::new(alloc);
+    text.push_str("\n")?;
+    write_settings(&mut text, report)?;
+    write_paths(&mut text, report.leaves.as_slice())?;
+    write_total(&mut text, report.leaves.as_slice())?;
+    Ok(text)
 }
 
 #[tactic(auto, unfolding(crate::specs::Report::settings_line))]
-fn write_settings(text: &mut String, settings: &Settings) -> Result<(), AllocError>
-    ensures { OnOk result (string_bytes text.new ≡ string_bytes text.old ++ settings_line settings.now) }
+fn write_settings(text: &mut String, report: &Report) -> Result<(), AllocError>
+    ensures { OnOk result (string_bytes text.new ≡ string_bytes text.old ++ settings_line report.now.init report.now.bounds report.now.paths report.now.budget) }
 {
-    text.push_str("init lazy")?;
-    write_bound(text, "k", settings.k)?;
-    write_bound(text, "array", settings.array)?;
-    write_bound(text, "alloc", settings.alloc)?;
-    write_bound(text, "loops", settings.loops)?;
-    write_bound(text, "depth", settings.depth)?;
-    write_bound(text, "steps", settings.steps)?;
-    write_bound(text, "paths", settings.paths)?;
-    write_bound(text, "budget", settings.budget)?;
+    let init = report.init;
+    write!(text, "init {init}")?;
+    write_bounds(text, &report.bounds)?;
+    write_bound(text, "paths", report.paths)?;
+    write_bound(text, "budget", report.budget)?;
     writeln!(text)
+}
+
+#[tactic(auto, unfolding(crate::specs::Report::bounds_text))]
+fn write_bounds(text: &mut String, bounds: &Bounds) -> Result<(), AllocError>
+    ensures { OnOk result (string_bytes text.new ≡ string_bytes text.old ++ bounds_text bounds.now) }
+{
+    write_bound(text, "k", bounds.k)?;
+    write_bound(text, "array", bounds.array)?;
+    write_run_bounds(text, &bounds.run)
+}
+
+#[tactic(auto, unfolding(crate::specs::Report::run_bounds_text))]
+fn write_run_bounds(text: &mut String, run: &RunBounds) -> Result<(), AllocError>
+    ensures { OnOk result (string_bytes text.new ≡ string_bytes text.old ++ run_bounds_text run.now) }
+{
+    write_bound(text, "alloc", run.alloc)?;
+    write_bound(text, "loops", run.loops)?;
+    write_bound(text, "depth", run.depth)?;
+    write_bound(text, "steps", run.steps)
 }
 
 #[tactic(auto, unfolding(crate::specs::Report::bound_text))]
@@ -137,28 +171,57 @@ fn write_bound(text: &mut String, name: &str, bound: u32) -> Result<(), AllocErr
     write!(text, " {name} {bound}")
 }
 
-#[tactic(auto, unfolding(crate::specs::Report::path_text))]
-fn write_path(
-    text: &mut String,
-    params: usize,
-    terms: &[Term],
-    returned: Operand,
-) -> Result<(), AllocError>
-    ensures { OnOk result (string_bytes text.new ≡ string_bytes text.old ++ path_text (record { params = params; terms = terms.now; returned = returned })) }
+#[tactic(auto, unfolding(crate::specs::Report::paths_text))]
+fn write_paths(text: &mut String, paths: &[Path]) -> Result<(), AllocError>
+    ensures { OnOk result (string_bytes text.new ≡ string_bytes text.old ++ paths_text paths.now) }
 {
-    writeln!(text, "path -")?;
-    write_reads(text, params)?;
-    write_terms(text, terms)?;
-    writeln!(text, "returns {returned}")?;
-    write_input(text, params)
+    for path in paths {
+        write_path(text, path)?;
+    }
+    Ok(())
 }
 
-#[tactic(auto, unfolding(crate::specs::Report::see_lines))]
-fn write_reads(text: &mut String, params: usize) -> Result<(), AllocError>
-    ensures { OnOk result (string_bytes text.new ≡ string_bytes text.old ++ see_lines params) }
+#[tactic(auto, unfolding(crate::specs::Report::path_text))]
+fn write_path(text: &mut String, path: &Path) -> Result<(), AllocError>
+    ensures { OnOk result (string_bytes text.new ≡ string_bytes text.old ++ path_text path.now) }
 {
-    for n in 0..params {
-        writeln!(text, "see a{n} v{n}")?;
+    write_decisions(text, path.decisions.as_slice())?;
+    write_seen(text, path.picture.seen.as_slice())?;
+    write_terms(text, path.terms.as_slice())?;
+    write_conditions(text, path.when.as_slice())?;
+    write_leaf(text, &path.leaf)
+}
+
+#[tactic(auto, unfolding(crate::specs::Report::decisions_line, crate::specs::Report::decisions_text))]
+fn write_decisions(text: &mut String, decisions: &[u32]) -> Result<(), AllocError>
+    ensures { OnOk result (string_bytes text.new ≡ string_bytes text.old ++ decisions_line decisions.now) }
+{
+    match decisions {
+        [] => writeln!(text, "path -"),
+        [first, others @ ..] => {
+            write!(text, "path {first}")?;
+            write_further(text, others)?;
+            writeln!(text)
+        }
+    }
+}
+
+#[tactic(auto, unfolding(crate::specs::Report::further_decisions))]
+fn write_further(text: &mut String, decisions: &[u32]) -> Result<(), AllocError>
+    ensures { OnOk result (string_bytes text.new ≡ string_bytes text.old ++ further_decisions decisions.now) }
+{
+    for decision in decisions {
+        write!(text, ".{decision}")?;
+    }
+    Ok(())
+}
+
+#[tactic(auto, unfolding(crate::specs::Report::see_lines, crate::specs::Report::see_line))]
+fn write_seen(text: &mut String, seen: &[(Origin, Seen)]) -> Result<(), AllocError>
+    ensures { OnOk result (string_bytes text.new ≡ string_bytes text.old ++ see_lines seen.now) }
+{
+    for (slot, held) in seen {
+        writeln!(text, "see {slot} {held}")?;
     }
     Ok(())
 }
@@ -173,59 +236,162 @@ fn write_terms(text: &mut String, terms: &[Term]) -> Result<(), AllocError>
     Ok(())
 }
 
-#[tactic(auto, unfolding(crate::specs::Report::arg_lines))]
-fn write_input(text: &mut String, params: usize) -> Result<(), AllocError>
-    ensures { OnOk result (string_bytes text.new ≡ string_bytes text.old ++ arg_lines params) }
+#[tactic(auto, unfolding(crate::specs::Report::when_lines))]
+fn write_conditions(text: &mut String, conditions: &[(u32, bool)]) -> Result<(), AllocError>
+    ensures { OnOk result (string_bytes text.new ≡ string_bytes text.old ++ when_lines conditions.now) }
 {
-    for _n in 0..params {
-        writeln!(text, "arg 0")?;
+    for condition in conditions {
+        write_condition(text, *condition)?;
     }
     Ok(())
 }
 
-#[tactic(auto, unfolding(crate::specs::Report::total_line))]
-fn write_total(text: &mut String, total: usize) -> Result<(), AllocError>
-    ensures { OnOk result (string_bytes text.new ≡ string_bytes text.old ++ (total_line (record { total = total; ended = total; cut = 0; undecided = 0; unexplored = 0 }))) }
+#[tactic(auto, unfolding(crate::specs::Report::when_line))]
+fn write_condition(text: &mut String, condition: (u32, bool)) -> Result<(), AllocError>
+    ensures { OnOk result (string_bytes text.new ≡ string_bytes text.old ++ when_line condition) }
 {
-    let none = 0;
+    let (term, truth) = condition;
+    if truth {
+        writeln!(text, "when t{term}")
+    } else {
+        writeln!(text, "when not t{term}")
+    }
+}
+
+#[tactic(auto, unfolding(crate::specs::Report::leaf_text))]
+fn write_leaf(text: &mut String, leaf: &Leaf) -> Result<(), AllocError>
+    ensures { OnOk result (string_bytes text.new ≡ string_bytes text.old ++ leaf_text leaf.now) }
+{
+    match leaf {
+        Leaf::Ended(ended) => {
+            let ending = ended.ending;
+            writeln!(text, "{ending}")?;
+            write_input(text, &ended.input)
+        }
+    }
+}
+
+#[tactic(auto, unfolding(crate::specs::Report::input_lines))]
+fn write_input(text: &mut String, input: &Input) -> Result<(), AllocError>
+    ensures { OnOk result (string_bytes text.new ≡ string_bytes text.old ++ input_lines input.now) }
+{
+    write_args(text, input.args.as_slice())
+}
+
+fn write_args(text: &mut String, args: &[Value]) -> Result<(), AllocError>
+    ensures { OnOk result (string_bytes text.new ≡ string_bytes text.old ++ lines_text (map arg_line args.now)) }
+{
+    for value in args {
+        write_arg(text, value)?;
+    }
+    Ok(())
+}
+
+#[tactic(auto, unfolding(kb_test::specs::Texts::arg_line, kb_test::specs::Texts::value_text))]
+fn write_arg(text: &mut String, value: &Value) -> Result<(), AllocError>
+    ensures { OnOk result (string_bytes text.new ≡ string_bytes text.old ++ (arg_line value.now ++ 10 ∷ [])) }
+{
+    match value {
+        Value::Int(number) => writeln!(text, "arg {number}"),
+        Value::Null | Value::Ref(_) => writeln!(text, "arg "),
+    }
+}
+
+#[tactic(auto, unfolding(crate::specs::Report::total_line))]
+fn write_total(text: &mut String, paths: &[Path]) -> Result<(), AllocError>
+    ensures { OnOk result (string_bytes text.new ≡ string_bytes text.old ++ total_line paths.now) }
+{
+    let total = paths.len();
+    let ended = count(paths, LeafKind::Ended);
+    let cut = count(paths, LeafKind::Cut);
+    let undecided = count(paths, LeafKind::Undecided);
+    let open = count(paths, LeafKind::Open);
     writeln!(
         text,
-        "total {total} ended {total} cut {none} undecided {none} open {none}"
+        "total {total} ended {ended} cut {cut} undecided {undecided} open {open}"
     )
+}
+
+/// How many paths have a leaf of that kind.
+fn count(paths: &[Path], kind: LeafKind) -> usize
+    ensures { result ≡ count_of kind paths.now }
+{
+    let mut count: usize = 0;
+    let mut rest = paths;
+    while let [path, others @ ..] = rest {
+        rest = others;
+        if kind == path.leaf.kind() {
+            count += 1;
+        }
+    }
+    count
 }
 
 #[cfg(test)]
 mod tests {
     use super::*;
+    use crate::path::{Ended, Picture};
     use crate::target::read_target;
+    use kb_heap::Heap;
     use kb_terms::Op;
     use std::test::Fail;
 
+    /// Decisions, conditions and a method without a result come in no report by now.
     #[test]
-    fn the_report_of_a_sum(rt: HostRuntime) -> Result<(), Fail> {
-        let target = read_target(rt.alloc(), "A.f(II)I")?.expect(&rt, "a target");
-        let sum = Term {
-            op: Op::Add,
+    fn the_text_of_a_report(rt: HostRuntime) -> Result<(), Fail> {
+        let alloc = rt.alloc();
+        let target = read_target(alloc, "A.f(I)V")?.expect(&rt, "a target");
+        let term = Term {
+            op: Op::Lt,
             left: Operand::Var(0),
-            right: Some(Operand::Var(1)),
+            right: Some(Operand::Const(-3)),
         };
-        let text = report_text(rt.alloc(), &target, &[sum], Operand::Term(0))?;
-        assert_eq!(rt;
-            text.as_str(),
-            "kiasan report 1
-target A.f(II)I
-init lazy k 3 array 3 alloc 16 loops 10 depth 16 steps 2000 paths 1000 budget 2000
-path -
+        let path = Path {
+            decisions: Row::from_vec(vec![in alloc; 1, 0]?),
+            picture: Picture {
+                seen: Row::from_vec(vec![in alloc; (Origin::Arg(0), Seen::Int(0))]?),
+            },
+            terms: Row::from_vec(vec![in alloc; term]?),
+            when: Row::from_vec(vec![in alloc; (0, false), (0, true)]?),
+            leaf: Leaf::Ended(Ended {
+                ending: SymEnding::Returned(None),
+                input: Input {
+                    heap: Heap::new(alloc),
+                    args: Row::from_vec(vec![in alloc; Value::Int(-7)]?),
+                },
+            }),
+        };
+        let report = Report {
+            target: target.copied(alloc)?,
+            init: Init::Lazier,
+            bounds: Bounds {
+                k: 1,
+                array: 2,
+                run: RunBounds {
+                    alloc: 3,
+                    loops: 4,
+                    depth: 5,
+                    steps: 6,
+                },
+            },
+            paths: 7,
+            budget: 8,
+            leaves: Row::from_vec(vec![in alloc; path]?),
+        };
+        let text = report_text(alloc, &report)?;
+        let expected = "kiasan report 1
+target A.f(I)V
+init lazier k 1 array 2 alloc 3 loops 4 depth 5 steps 6 paths 7 budget 8
+path 1.0
 see a0 v0
-see a1 v1
-let t0 add v0 v1
-returns t0
-arg 0
-arg 0
+let t0 lt v0 -3
+when not t0
+when t0
+returns
+arg -7
 total 1 ended 1 cut 0 undecided 0 open 0
-"
-        );
-        assert_eq!(rt; text.len(), 223);
+";
+        assert_eq!(rt; text.as_slice(), expected.as_bytes());
         Ok(())
     }
 }

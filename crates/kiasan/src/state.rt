@@ -6,8 +6,10 @@ ghost use Rattle.kb_terms.specs.Terms.{IsTerm, AreOperands, Extends, value_of, o
 ghost use Rattle.kb_heap.specs.declared.heap.Heap.{Heap};
 ghost use Rattle.kb_heap.specs.declared.heap.Value.TheVariants.{Int};
 ghost use Rattle.kb_semantics.specs.Machine.{effect, Method, start_of};
+ghost use Rattle.kb_terms.specs.declared.node.VarKind.TheVariants.{Int as IntKind};
+ghost use Rattle.kiasan.specs.Paths.{variable_kinds};
 ghost use Rattle.kiasan.specs.Straight.{ints_input};
-ghost use Rattle.kiasan.specs.Symbolic.{IsSound, Follows, HasLimits, Returns, ReturnsNone, IsLocalTerm, config_of, local_term, local_values, popped, pushing, setting, computing_one, computing_two};
+ghost use Rattle.kiasan.specs.Symbolic.{IsSound, Keeps, Follows, HasLimits, Returns, ReturnsNone, IsLocalTerm, config_of, local_term, local_values, popped, pushing, setting, computing_one, computing_two};
 
 use crate::memory::NoMemory;
 use crate::operations::{narrowing_op, term_op};
@@ -47,6 +49,7 @@ impl State {
     pub fn start(alloc: Global, params: usize, limits: Limits) -> Result<State, NoMemory>
         ensures sound { IfOk result IsSound }
         ensures limits { IfOk result (λ s. s.limits ≡ limits) }
+        ensures variables { IfOk result (λ s. variable_kinds s.pool ≡ replicate params IntKind) }
         ensures start { IfOk result (λ s. (method : Method) (heap : Heap) (inputs : List ℤ) → HasLimits method s → length inputs ≡ params → config_of method 0 0 heap inputs s ≡ start_of method (ints_input heap inputs)) }
     {
         let mut pool = Pool::new(alloc);
@@ -76,8 +79,7 @@ impl State {
     fn make(&mut self, op: Op, left: TermId, right: Option<TermId>) -> Result<TermId, NoMemory>
         requires sound { IsSound self.old }
         requires operands { AreOperands self.old.pool op left right }
-        ensures sound { IsSound self.new }
-        ensures limits { self.new.limits ≡ self.old.limits }
+        ensures keeps { Keeps self.old self.new }
         ensures term { IfOk result (λ t. IsTerm self.new.pool t) }
         ensures value { IfOk result (λ t. (inputs : List ℤ) → value_of self.new.pool t inputs ≡ op_value op (value_of self.old.pool left inputs) (operand_value self.old.pool right inputs)) }
         ensures extends { Extends self.old.pool self.new.pool }
@@ -121,8 +123,7 @@ impl State {
     /// Takes the term off the top of the stack.
     fn take_top(&mut self) -> Option<TermId>
         requires sound { IsSound self.old }
-        ensures sound { IsSound self.new }
-        ensures limits { self.new.limits ≡ self.old.limits }
+        ensures keeps { Keeps self.old self.new }
         ensures top { result ≡ slice_get self.old.stack 0 }
         ensures term { IfSome result (λ t. IsTerm self.old.pool t) }
         ensures rest { self.new ≡ popped self.old }
@@ -134,8 +135,7 @@ impl State {
     fn push(&mut self, term: TermId) -> Result<Step, NoMemory>
         requires sound { IsSound self.old }
         requires term { IsTerm self.old.pool term }
-        ensures sound { IsSound self.new }
-        ensures limits { self.new.limits ≡ self.old.limits }
+        ensures keeps { Keeps self.old self.new }
         ensures step { IfOk result (λ step. Follows step self.old self.new (pushing self.old.pool term)) }
     {
         if self.stack.len() >= usize::from(self.limits.stack) {
@@ -149,8 +149,7 @@ impl State {
     fn set_local(&mut self, local: u16, term: TermId) -> Step
         requires sound { IsSound self.old }
         requires term { IsTerm self.old.pool term }
-        ensures sound { IsSound self.new }
-        ensures limits { self.new.limits ≡ self.old.limits }
+        ensures keeps { Keeps self.old self.new }
         ensures step { Follows result self.old self.new (setting self.old.pool local term) }
     {
         if local >= self.limits.locals {
@@ -162,8 +161,7 @@ impl State {
 
     fn nop(&mut self) -> Step
         requires sound { IsSound self.old }
-        ensures sound { IsSound self.new }
-        ensures limits { self.new.limits ≡ self.old.limits }
+        ensures keeps { Keeps self.old self.new }
         ensures step { Follows result self.old self.new (λ inputs. effect Instr.Nop) }
     {
         Step::Goes
@@ -171,8 +169,7 @@ impl State {
 
     fn push_int(&mut self, value: i32) -> Result<Step, NoMemory>
         requires sound { IsSound self.old }
-        ensures sound { IsSound self.new }
-        ensures limits { self.new.limits ≡ self.old.limits }
+        ensures keeps { Keeps self.old self.new }
         ensures step { IfOk result (λ step. Follows step self.old self.new (λ inputs. effect (Instr.PushInt value))) }
     {
         let term = self.pool.constant(value)?;
@@ -181,8 +178,7 @@ impl State {
 
     fn load(&mut self, local: u16) -> Result<Step, NoMemory>
         requires sound { IsSound self.old }
-        ensures sound { IsSound self.new }
-        ensures limits { self.new.limits ≡ self.old.limits }
+        ensures keeps { Keeps self.old self.new }
         ensures step { IfOk result (λ step. Follows step self.old self.new (λ inputs. effect (Instr.LoadInt local))) }
     {
         match self.local(local) {
@@ -193,8 +189,7 @@ impl State {
 
     fn store(&mut self, local: u16) -> Step
         requires sound { IsSound self.old }
-        ensures sound { IsSound self.new }
-        ensures limits { self.new.limits ≡ self.old.limits }
+        ensures keeps { Keeps self.old self.new }
         ensures step { Follows result self.old self.new (λ inputs. effect (Instr.StoreInt local)) }
     {
         match self.take_top() {
@@ -205,8 +200,7 @@ impl State {
 
     fn pop(&mut self) -> Step
         requires sound { IsSound self.old }
-        ensures sound { IsSound self.new }
-        ensures limits { self.new.limits ≡ self.old.limits }
+        ensures keeps { Keeps self.old self.new }
         ensures step { Follows result self.old self.new (λ inputs. effect Instr.Pop) }
     {
         match self.take_top() {
@@ -217,8 +211,7 @@ impl State {
 
     fn duplicate(&mut self) -> Result<Step, NoMemory>
         requires sound { IsSound self.old }
-        ensures sound { IsSound self.new }
-        ensures limits { self.new.limits ≡ self.old.limits }
+        ensures keeps { Keeps self.old self.new }
         ensures step { IfOk result (λ step. Follows step self.old self.new (λ inputs. effect Instr.Dup)) }
     {
         match self.top() {
@@ -231,8 +224,7 @@ impl State {
     fn apply_two(&mut self, op: Op) -> Result<Step, NoMemory>
         requires sound { IsSound self.old }
         requires binary { IsTrue (is_binary op) }
-        ensures sound { IsSound self.new }
-        ensures limits { self.new.limits ≡ self.old.limits }
+        ensures keeps { Keeps self.old self.new }
         ensures step { IfOk result (λ step. Follows step self.old self.new (computing_two op)) }
     {
         let Some(right) = self.take_top() else {
@@ -249,8 +241,7 @@ impl State {
     fn apply_one(&mut self, op: Op) -> Result<Step, NoMemory>
         requires sound { IsSound self.old }
         requires unary { IsFalse (is_binary op) }
-        ensures sound { IsSound self.new }
-        ensures limits { self.new.limits ≡ self.old.limits }
+        ensures keeps { Keeps self.old self.new }
         ensures step { IfOk result (λ step. Follows step self.old self.new (computing_one op)) }
     {
         let Some(operand) = self.take_top() else {
@@ -263,8 +254,7 @@ impl State {
     /// Adds a constant to a local.
     fn increase(&mut self, local: u16, by: i32) -> Result<Step, NoMemory>
         requires sound { IsSound self.old }
-        ensures sound { IsSound self.new }
-        ensures limits { self.new.limits ≡ self.old.limits }
+        ensures keeps { Keeps self.old self.new }
         ensures step { IfOk result (λ step. Follows step self.old self.new (λ inputs. effect (Instr.Inc local by))) }
     {
         let Some(before) = self.local(local) else {
@@ -279,8 +269,7 @@ impl State {
     pub fn take(&mut self, instr: Instr) -> Result<Step, NoMemory>
         requires sound { IsSound self.old }
         requires goes_on { instr ≢ Instr.ReturnInt }
-        ensures sound { IsSound self.new }
-        ensures limits { self.new.limits ≡ self.old.limits }
+        ensures keeps { Keeps self.old self.new }
         ensures step { IfOk result (λ step. Follows step self.old self.new (λ inputs. effect instr)) }
     {
         match instr {
@@ -316,6 +305,7 @@ fn arguments(alloc: Global, pool: &mut Pool, params: usize) -> Result<Vec<Option
     requires { pool.old ≡ [] }
     ensures terms { IfOk result (λ locals. All (IsLocalTerm pool.new) locals.items) }
     ensures count { IfOk result (λ locals. length locals.items ≡ params) }
+    ensures variables { OnOk result (variable_kinds pool.new ≡ replicate params IntKind) }
     ensures values { IfOk result (λ locals. (inputs : List ℤ) → length inputs ≡ params → local_values pool.new inputs locals.items ≡ map (λ v. Some (Int v)) inputs) }
 {
     let mut locals = Vec::new(alloc);

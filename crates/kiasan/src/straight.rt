@@ -11,15 +11,13 @@ use crate::explore::{Explored, StraightCode, ends_by_return, explore};
 use crate::memory::NoMemory;
 use crate::state::Limits;
 use crate::target::takes_ints;
+use kb_classfile::STATIC;
 use kb_names::Target;
 use kb_world::{MethodId, MethodInfo, World};
 use std::alloc::Global;
 
 /// The most instructions of a straight method.
 const MOST_INSTRUCTIONS: usize = 2_000;
-
-/// The flag of a static method (JVMS 8 table 4.6-A).
-const STATIC: u16 = 8;
 
 /// What a straight method returns, for all ints at once. There is nothing where the method that the target names is not
 /// straight.

@@ -98,12 +98,35 @@ const fn row<'a>(
     }
 }
 
+/// A shelf with these files, whose calls of these numbers fail, from 0.
+fn shelf_of(
+    alloc: Global,
+    named: &[(&str, &[u8])],
+    fails: Vec<u64>,
+) -> Result<MemoryShelf, AllocError> {
+    let mut files = Vec::new(alloc);
+    for (name, bytes) in named {
+        files.push((String::from_str(alloc, name)?, bytes.to_vec(alloc)?))?;
+    }
+    Ok(MemoryShelf::new(files, fails))
+}
+
 /// A shelf with the one file A.class.
 fn shelf_with(alloc: Global, bytes: &[u8]) -> Result<MemoryShelf, AllocError> {
-    let mut files = Vec::new(alloc);
-    let name = String::from_str(alloc, "A.class")?;
-    files.push((name, bytes.to_vec(alloc)?))?;
-    Ok(MemoryShelf::new(files, Vec::new(alloc)))
+    shelf_of(alloc, &[("A.class", bytes)], Vec::new(alloc))
+}
+
+/// A shelf with class A and these tests, whose calls of these numbers fail.
+fn shelf_with_tests(
+    alloc: Global,
+    tests: &str,
+    fails: Vec<u64>,
+) -> Result<MemoryShelf, AllocError> {
+    let files = [
+        ("A.class", CLASS_A.as_slice()),
+        ("A.tests", tests.as_bytes()),
+    ];
+    shelf_of(alloc, &files, fails)
 }
 
 /// Asserts that the tests of class A replay with this status and this text.
@@ -114,12 +137,7 @@ fn assert_replay<A: Abort + AllocGlobal>(
     text: &str,
 ) -> Result<(), Fail> {
     let alloc = rt.alloc();
-    let mut files = Vec::new(alloc);
-    let name = String::from_str(alloc, "A.class")?;
-    files.push((name, CLASS_A.to_vec(alloc)?))?;
-    let name = String::from_str(alloc, "A.tests")?;
-    files.push((name, tests.as_bytes().to_vec(alloc)?))?;
-    let mut shelf = MemoryShelf::new(files, Vec::new(alloc));
+    let mut shelf = shelf_with_tests(alloc, tests, Vec::new(alloc))?;
     let mut sink = sink_failing_at(alloc, Vec::new(alloc))?;
     let found = answer_to(alloc, REPLAY_A, &mut shelf, &mut sink)?;
     assert_eq!(rt; found, status, "{text}");
@@ -328,6 +346,41 @@ fn a_file_that_is_not_there_is_a_fault_of_reading(rt: HostRuntime) -> Result<(),
     let status = answer_to(alloc, EXPLORE_A, &mut shelf, &mut sink)?;
     assert_eq!(rt; status, Status::ReadFault);
     assert!(rt; sink.bytes().is_empty());
+    Ok(())
+}
+
+/// The tests are not there, and the class file is none: the reading is told.
+#[test]
+fn all_files_are_read_before_a_class_is_refused(rt: HostRuntime) -> Result<(), Fail> {
+    let alloc = rt.alloc();
+    let mut shelf = shelf_with(alloc, b"PK\x03\x04")?;
+    let mut sink = sink_failing_at(alloc, Vec::new(alloc))?;
+    let status = answer_to(alloc, REPLAY_A, &mut shelf, &mut sink)?;
+    assert_eq!(rt; status, Status::ReadFault);
+    assert!(rt; sink.bytes().is_empty());
+    Ok(())
+}
+
+/// A third call of the shelf would fail.
+#[test]
+fn a_replay_reads_each_of_its_files_once(rt: HostRuntime) -> Result<(), Fail> {
+    let alloc = rt.alloc();
+    let mut shelf = shelf_with_tests(alloc, TEST_A, vec![in alloc; 2u64]?)?;
+    let mut sink = sink_failing_at(alloc, Vec::new(alloc))?;
+    let status = answer_to(alloc, REPLAY_A, &mut shelf, &mut sink)?;
+    assert_eq!(rt; status, Status::Complete);
+    Ok(())
+}
+
+/// A second call of the shelf would fail.
+#[test]
+fn an_exploration_reads_its_file_once(rt: HostRuntime) -> Result<(), Fail> {
+    let alloc = rt.alloc();
+    let files = [("A.class", CLASS_A.as_slice())];
+    let mut shelf = shelf_of(alloc, &files, vec![in alloc; 1u64]?)?;
+    let mut sink = sink_failing_at(alloc, Vec::new(alloc))?;
+    let status = answer_to(alloc, EXPLORE_A, &mut shelf, &mut sink)?;
+    assert_eq!(rt; status, Status::Complete);
     Ok(())
 }
 

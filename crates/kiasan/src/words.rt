@@ -1,41 +1,157 @@
-//! The words of the command line.
-ghost use Rattle.std.specs.Prelude.{◌≡◌, ℕ, List, [], ◌∷◌, map, string_bytes, IsTrue, IfOk, IfSome, IfNone, ◌↔◌};
-ghost use Rattle.kiasan.specs.Words.{Asked, Asks, IsOption, command_of, asked_by};
-ghost use Rattle.kiasan.specs.declared.words.Task.{Task};
+//! The words of the command line, and what they order.
+
+ghost use Rattle.std.specs.Prelude.{◌≡◌, ◌⊎◌, ℕ, List, [], ◌∷◌, map, string_bytes, codes, IsTrue, IfOk, IfErr, IfSome, IfNone, Ok, Err, Result, ◌↔◌};
+ghost use Rattle.kb_names.specs.Targets.{SpellsTarget};
+ghost use Rattle.kiasan.specs.Words.{IsOption, IsJobCommand, default_job};
+ghost use Rattle.kiasan.specs.Orders.{Orders, OrdersJob, IsFaultOf};
+ghost use Rattle.kiasan.specs.declared.words.Order.{Order};
+ghost use Rattle.kiasan.specs.declared.words.WordFault.{WordFault};
 
 use crate::memory::NoMemory;
-use crate::target::{SpelledTarget, read_target};
-use std::alloc::Global;
+use crate::target::read_target;
+use kb_heap::{Bounds, RunBounds};
+use kb_names::Target;
+use kb_rows::Row;
+use std::alloc::{AllocError, Global};
+use std::marker::Model;
+use std::slice;
 
-/// What is done with a method: its report is written, or the tests of its paths.
+/// The name of a file, as a word gives it. Contracts see its bytes.
+#[derive(Debug, Drop)]
+pub struct FileName {
+    text: String,
+}
+
+impl Model for FileName {
+    ghost use Rattle.std.specs.Prelude.{List, ℕ, string_bytes};
+
+    ghost Value = { List ℕ };
+
+    ghost view = { λ name. string_bytes name.text };
+}
+
+impl FileName {
+    /// The name that a word gives.
+    pub fn from_word(alloc: Global, word: &str) -> Result<FileName, AllocError>
+        ensures { IfOk result (λ name. name ≡ word.now) }
+    {
+        let text = String::from_str(alloc, word)?;
+        Ok(FileName { text })
+    }
+
+    pub fn as_str(&self) -> &str
+        ensures { result.now ≡ self.now }
+    {
+        self.text.as_str()
+    }
+}
+
+/// When the shape of an input's heap is chosen: at the first read of a slot, or at the first access to what it holds.
 #[derive(Clone, Copy, Debug, PartialEq, Eq)]
-pub enum Task {
-    Explore,
-    Tests,
+pub enum Init {
+    Lazy,
+    Lazier,
 }
 
-/// What the words of the command line ask for.
-#[derive(Drop)]
-pub enum Order<'a> {
-    /// Nothing: there are no words.
+/// A method that is to be explored, in the world of which class files, and how far.
+#[derive(Debug, Drop)]
+pub struct Job {
+    pub target: Target,
+    pub init: Init,
+    pub bounds: Bounds,
+    /// The most paths that are listed and not open.
+    pub paths: u32,
+    /// The most conflicts of a call of the solver.
+    pub budget: u32,
+    pub files: Row<FileName>,
+}
+
+/// What the words order.
+#[derive(Debug, Drop)]
+pub enum Order {
+    /// To write the report of the paths.
+    Explore(Job),
+    /// To write the tests of the paths.
+    Tests(Job),
+    /// To draw the paths.
+    Diagrams(Job),
+    /// To run the tests of a file, whose methods are those of class files.
+    Replay(FileName, Row<FileName>),
+    /// To write the class file of a text.
+    Assemble(FileName),
+    /// To make a class of so many branches, to explore it, and to run its tests.
+    Sample(u32),
+}
+
+impl Order {
+    ghost use Rattle.std.specs.Prelude.{◌≡◌};
+    ghost use Rattle.kiasan.specs.Orders.{texts_of, classes_of};
+
+    /// The text files that are read for it.
+    pub fn texts(&self) -> &[FileName]
+        ensures { result.now ≡ texts_of self.now }
+    {
+        match self {
+            Order::Replay(tests, _) => slice::from_ref(tests),
+            Order::Assemble(text) => slice::from_ref(text),
+            Order::Explore(_) | Order::Tests(_) | Order::Diagrams(_) | Order::Sample(_) => &[],
+        }
+    }
+
+    /// The class files that are read for it.
+    pub fn classes(&self) -> &[FileName]
+        ensures { result.now ≡ classes_of self.now }
+    {
+        match self {
+            Order::Explore(job) | Order::Tests(job) | Order::Diagrams(job) => job.files.as_slice(),
+            Order::Replay(_, files) => files.as_slice(),
+            Order::Assemble(_) | Order::Sample(_) => &[],
+        }
+    }
+}
+
+/// The place of the method in the words of a job.
+const METHOD_PLACE: usize = 2;
+
+/// Why words order nothing. Words are numbered from 0.
+#[derive(Clone, Copy, Debug, PartialEq, Eq)]
+pub enum WordFault {
+    /// There are no words.
     NoCommand,
-    /// Something that is not built.
-    NotBuilt,
-    /// A task on what is no target: the number of the word, from 0.
+    /// The word names no method.
     BadTarget(usize),
-    /// A task on a method of a class file.
-    Method(Task, SpelledTarget<'a>, &'a str),
-    /// To run the tests of a file, whose methods are those of a class file.
-    Replay(&'a str, &'a str),
+    /// They are of a form that is not built.
+    Unbuilt,
+    NoMemory,
 }
 
-/// What the words after the program's name ask for. Refused for want of memory alone.
-pub fn read_words(alloc: Global, words: &[String]) -> Result<Order<'_>, NoMemory>
-    ensures asks { IfOk result (λ order. Asks (map string_bytes words.now) (asked_by order)) }
-    ensures alone { IfOk result (λ order. (other : Asked) → Asks (map string_bytes words.now) other → other ≡ asked_by order) }
+impl From<NoMemory> for WordFault {
+    ghost use Rattle.kiasan.specs.declared.words.WordFault.TheVariants.{NoMemory};
+
+    ghost from_gives = { λ _ e. e ≡ NoMemory };
+
+    fn from(_refusal: NoMemory) -> WordFault {
+        WordFault::NoMemory
+    }
+}
+
+impl From<AllocError> for WordFault {
+    ghost use Rattle.kiasan.specs.declared.words.WordFault.TheVariants.{NoMemory};
+
+    ghost from_gives = { λ _ e. e ≡ NoMemory };
+
+    fn from(_refusal: AllocError) -> WordFault {
+        WordFault::NoMemory
+    }
+}
+
+/// The order of the words after the program's name, or their one fault.
+pub fn read_words(alloc: Global, words: &[String]) -> Result<Order, WordFault>
+    ensures order { IfOk result (λ order. Orders (map string_bytes words.now) (Ok order)) }
+    ensures fault { IfErr result (IsFaultOf (map string_bytes words.now)) }
 {
     match words {
-        [] => Ok(Order::NoCommand),
+        [] => Err(WordFault::NoCommand),
         [command, option, value, file] => read_command(
             alloc,
             command.as_str(),
@@ -43,72 +159,94 @@ pub fn read_words(alloc: Global, words: &[String]) -> Result<Order<'_>, NoMemory
             value.as_str(),
             file.as_str(),
         ),
-        _ => Ok(Order::NotBuilt),
+        _ => Err(WordFault::Unbuilt),
     }
 }
 
-fn read_command<'a>(
+fn read_command(
     alloc: Global,
     command: &str,
     option: &str,
-    value: &'a str,
-    file: &'a str,
-) -> Result<Order<'a>, NoMemory>
-    ensures { IfOk result (λ order. Asks (command.now ∷ option.now ∷ value.now ∷ file.now ∷ []) (asked_by order)) }
+    value: &str,
+    file: &str,
+) -> Result<Order, WordFault>
+    ensures order { IfOk result (λ order. Orders (command.now ∷ option.now ∷ value.now ∷ file.now ∷ []) (Ok order)) }
+    ensures fault { IfErr result (IsFaultOf (command.now ∷ option.now ∷ value.now ∷ file.now ∷ [])) }
 {
     if is_option(file) {
-        return Ok(Order::NotBuilt);
+        return Err(WordFault::Unbuilt);
     }
-    match task_of(command) {
-        Some(task) => read_task(alloc, task, option, value, file),
-        None => Ok(read_replay(command, option, value, file)),
-    }
-}
-
-/// The task of a command that takes a method.
-fn task_of(command: &str) -> Option<Task>
-    ensures some { IfSome result (λ task. command.now ≡ command_of task) }
-    ensures none { IfNone result ((task : Task) → command.now ≡ command_of task → ⊥) }
-{
     match command {
-        "explore" => Some(Task::Explore),
-        "tests" => Some(Task::Tests),
-        _ => None,
+        "explore" => Ok(Order::Explore(read_job(alloc, command, option, value, file)?)),
+        "tests" => Ok(Order::Tests(read_job(alloc, command, option, value, file)?)),
+        "replay" => read_replay(alloc, option, value, file),
+        _ => Err(WordFault::Unbuilt),
     }
 }
 
-fn read_task<'a>(
+/// The job of a command that takes a method.
+fn read_job(
     alloc: Global,
-    task: Task,
+    command: &str,
     option: &str,
-    method: &'a str,
-    file: &'a str,
-) -> Result<Order<'a>, NoMemory>
-    requires { IsOption file.now → ⊥ }
-    ensures { IfOk result (λ order. Asks (command_of task ∷ option.now ∷ method.now ∷ file.now ∷ []) (asked_by order)) }
+    method: &str,
+    file: &str,
+) -> Result<Job, WordFault>
+    requires command { IsJobCommand command.now }
+    requires file { IsOption file.now → ⊥ }
+    ensures order { IfOk result (OrdersJob (command.now ∷ option.now ∷ method.now ∷ file.now ∷ []) command.now) }
+    ensures fault { IfErr result (IsFaultOf (command.now ∷ option.now ∷ method.now ∷ file.now ∷ [])) }
 {
     if option != "--method" {
-        return Ok(Order::NotBuilt);
+        return Err(WordFault::Unbuilt);
     }
-    match read_target(alloc, method) {
-        Ok(Some(target)) => Ok(Order::Method(task, target, file)),
-        Ok(None) => Ok(Order::BadTarget(2)),
-        Err(NoMemory) => Err(NoMemory),
+    match read_target(alloc, method)? {
+        Some(target) => Ok(default_job(alloc, target, file)?),
+        None => Err(WordFault::BadTarget(METHOD_PLACE)),
     }
 }
 
-fn read_replay<'a>(command: &str, option: &str, tests: &'a str, file: &'a str) -> Order<'a>
-    requires file { IsOption file.now → ⊥ }
-    requires other { (task : Task) → command.now ≡ command_of task → ⊥ }
-    ensures { Asks (command.now ∷ option.now ∷ tests.now ∷ file.now ∷ []) (asked_by result) }
+/// The job on a method where the words say nothing else.
+fn default_job(alloc: Global, target: Target, file: &str) -> Result<Job, NoMemory>
+    ensures { IfOk result (λ job. job ≡ default_job target (file.now ∷ [])) }
 {
-    if command != "replay" {
-        return Order::NotBuilt;
-    }
+    Ok(Job {
+        target,
+        init: Init::Lazy,
+        bounds: Bounds {
+            k: 3,
+            array: 3,
+            run: RunBounds {
+                alloc: 16,
+                loops: 10,
+                depth: 16,
+                steps: 2_000,
+            },
+        },
+        paths: 1_000,
+        budget: 2_000,
+        files: one_file(alloc, file)?,
+    })
+}
+
+fn read_replay(alloc: Global, option: &str, tests: &str, file: &str) -> Result<Order, WordFault>
+    requires { IsOption file.now → ⊥ }
+    ensures order { IfOk result (λ order. Orders (codes "replay" ∷ option.now ∷ tests.now ∷ file.now ∷ []) (Ok order)) }
+    ensures fault { IfErr result (IsFaultOf (codes "replay" ∷ option.now ∷ tests.now ∷ file.now ∷ [])) }
+{
     if option != "--tests" {
-        return Order::NotBuilt;
+        return Err(WordFault::Unbuilt);
     }
-    Order::Replay(tests, file)
+    let tests = FileName::from_word(alloc, tests)?;
+    Ok(Order::Replay(tests, one_file(alloc, file)?))
+}
+
+fn one_file(alloc: Global, file: &str) -> Result<Row<FileName>, NoMemory>
+    ensures { IfOk result (λ files. files ≡ file.now ∷ []) }
+{
+    let mut files = Row::new(alloc);
+    files.push(FileName::from_word(alloc, file)?)?;
+    Ok(files)
 }
 
 fn is_option(word: &str) -> bool
@@ -116,6 +254,11 @@ fn is_option(word: &str) -> bool
 {
     word.as_bytes().starts_with(b"--".as_slice())
 }
+
+/// Words have one order or one fault.
+pub fn words_have_one_order()
+    ensures { (words : List (List ℕ)) (one other : Result Order WordFault) → Orders words one → Orders words other → one ≡ other }
+{}
 
 #[cfg(test)]
 mod tests {
@@ -131,33 +274,77 @@ mod tests {
         Ok(words)
     }
 
-    #[test]
-    fn words_ask_for_a_method_of_a_file(rt: HostRuntime) -> Result<(), Fail> {
-        let words = words_of(rt.alloc(), "explore --method A.f(II)I A.class")?;
-        match read_words(rt.alloc(), words.as_slice())? {
-            Order::Method(Task::Explore, target, file) => {
-                assert_eq!(rt; target.text(), "A.f(II)I");
-                assert_eq!(rt; file, "A.class");
-            }
-            _ => assert!(rt; false, "the words are of a built form"),
+    /// A report is ordered, on a method with so many parameters, within so many steps, of that one class file.
+    fn is_report_of(
+        order: &Result<Order, WordFault>,
+        params: usize,
+        steps: u32,
+        class: &str,
+    ) -> bool {
+        let Ok(Order::Explore(job)) = order else {
+            return false;
+        };
+        if job.target.kind.params.as_slice().len() != params {
+            return false;
         }
+        if job.bounds.run.steps != steps {
+            return false;
+        }
+        is_one(job.files.as_slice(), class)
+    }
+
+    /// A replay of those tests is ordered, on that one class file.
+    fn is_replay_of(order: &Result<Order, WordFault>, given: &str, class: &str) -> bool {
+        let Ok(Order::Replay(tests, files)) = order else {
+            return false;
+        };
+        if tests.as_str() != given {
+            return false;
+        }
+        is_one(files.as_slice(), class)
+    }
+
+    /// There is one file, and it has that name.
+    fn is_one(files: &[FileName], name: &str) -> bool {
+        match files {
+            [file] => file.as_str() == name,
+            _ => false,
+        }
+    }
+
+    #[test]
+    fn words_order_a_job_on_a_method(rt: HostRuntime) -> Result<(), Fail> {
+        let words = words_of(rt.alloc(), "explore --method A.f(II)I A.class")?;
+        let order = read_words(rt.alloc(), words.as_slice());
+        assert!(rt; is_report_of(&order, 2, 2_000, "A.class"));
         Ok(())
     }
 
     #[test]
-    fn words_ask_for_tests_and_their_replay(rt: HostRuntime) -> Result<(), Fail> {
+    fn words_order_tests_and_their_replay(rt: HostRuntime) -> Result<(), Fail> {
         let words = words_of(rt.alloc(), "tests --method A.f(II)I A.class")?;
-        let order = read_words(rt.alloc(), words.as_slice())?;
-        assert!(rt; matches!(order, Order::Method(Task::Tests, _, "A.class")));
+        assert!(rt;
+            matches!(
+                read_words(rt.alloc(), words.as_slice()),
+                Ok(Order::Tests(_))
+            )
+        );
         let words = words_of(rt.alloc(), "replay --tests --x A.class")?;
-        let order = read_words(rt.alloc(), words.as_slice())?;
-        assert!(rt; matches!(order, Order::Replay("--x", "A.class")));
+        let order = read_words(rt.alloc(), words.as_slice());
+        assert!(rt; is_replay_of(&order, "--x", "A.class"));
         Ok(())
     }
 
     #[test]
-    fn other_words_ask_for_what_is_not_built(rt: HostRuntime) -> Result<(), Fail> {
-        assert!(rt; matches!(read_words(rt.alloc(), &[])?, Order::NoCommand));
+    fn words_have_a_fault(rt: HostRuntime) -> Result<(), Fail> {
+        assert!(rt; matches!(read_words(rt.alloc(), &[]), Err(WordFault::NoCommand)));
+        let words = words_of(rt.alloc(), "tests --method A.f(II A.class")?;
+        assert!(rt;
+            matches!(
+                read_words(rt.alloc(), words.as_slice()),
+                Err(WordFault::BadTarget(2))
+            )
+        );
         for line in [
             "explore",
             "explore --method A.f(II)I",
@@ -170,7 +357,10 @@ mod tests {
         ] {
             let words = words_of(rt.alloc(), line)?;
             assert!(rt;
-                matches!(read_words(rt.alloc(), words.as_slice())?, Order::NotBuilt),
+                matches!(
+                    read_words(rt.alloc(), words.as_slice()),
+                    Err(WordFault::Unbuilt)
+                ),
                 "{line}"
             );
         }

@@ -5,10 +5,10 @@ use Rattle.kb_chain.specs.Literal.{Literal}
 use Rattle.kb_chain.specs.Cnf.{IsWithin}
 use Rattle.kb_chain.specs.Chains.{entry_of, IsFirstBad}
 use Rattle.kb_chain.specs.Propagation.{IsNew}
-use Rattle.kb_chain.specs.Index.{IsIndexed}
+use Rattle.kb_chain.specs.Index.{IsRoot}
 use Rattle.kb_chain.specs.declared.log.Chain.{Chain}
 use Rattle.kb_chain.proofs.ChainLaws.{AreWithin-from}
-use Rattle.kb_chain.proofs.FreshnessLaws.{AllWithin-push}
+use Rattle.kb_chain.proofs.FreshnessLaws.{not_new}
 use Rattle.kb_chain.proofs.LogLaws.{first_bad, EachEntry_more, derived_more}
 use Rattle.kb_chain.proofs.freshness.check_fresh.Goals as goal
 use Rattle.kb_chain.proofs.freshness.check_fresh.Goals.{In-Some}
@@ -42,26 +42,38 @@ returns-then-not-branch c =
     (λ h. OnFalse_at c.if-not-branch.true c.in_ok-is_new.ensures.known
     (subst (λ o. IsSomeAnd o (IsNew c.loop-i.store.clauses)) (some (goal.at.returns-then-not-branch c).In-Some) h)))
 
-pub add-requires : goal.add-requires
-add-requires c =
-    AreWithin-from c.args.formula.now.vars (length c.loop-i.index.occurrences.items) c.in-Some.clause c.loop-i.invariant.rows
-    (subst (λ n. IsWithin n c.in-Some.clause) c.loop-i.invariant.vars (within (goal.at.add-requires c).In-Some))
+pub returns-then-not-quiet : goal.returns-then-not-quiet
+returns-then-not-quiet c =
+    subst (λ (z : List Chain). IsFirstBad IsNew c.args.formula.now.clauses z c.loop-i.i) c.as_slice-entries.ensures
+    (first_bad IsNew c.as_slice-entries.result.now c.args.formula.now.clauses c.loop-i.store.clauses c.loop-i.i c.index-entries-i.result c.loop-i-test.true
+    c.loop-i.invariant.derived c.loop-i.invariant.fresh
+    (λ h. not_new c.loop-i.store.clauses c.in-Some.clause c.loop-i.trail.literals (OnFalse_at c.if-not-quiet.true c.loop-i.invariant.refuted)
+    (subst (λ o. IsSomeAnd o (IsNew c.loop-i.store.clauses)) (some (goal.at.returns-then-not-quiet c).In-Some) h)))
+
+pub is_new-requires-clause-root : goal.is_new-requires-clause-root
+is_new-requires-clause-root c = OnTrue_at c.if-not-quiet.false c.loop-i.invariant.root
+
+pub take_in-requires-clause-within : goal.take_in-requires-clause-within
+take_in-requires-clause-within c = within (goal.at.take_in-requires-clause-within c).In-Some
+
+pub take_in-requires-clause-root : goal.take_in-requires-clause-root
+take_in-requires-clause-root c =
+    subst (λ (z : List Literal). IsRoot c.loop-i.store.clauses z) (sym c.in_ok-is_new.ensures.root) (OnTrue_at c.if-not-quiet.false c.loop-i.invariant.root)
 
 pub loop-i-preserved : goal.loop-i-preserved
 loop-i-preserved c =
     let s = some (goal.at.loop-i-preserved c).In-Some in
-    let w = within (goal.at.loop-i-preserved c).In-Some in
-    let pushed = c.in_ok-push.ensures.ok in
+    let pushed = c.in_ok-quiet-2.ensures.clauses in
     record {
-      vars = c.in_ok-push.ensures.vars ∙ c.loop-i.invariant.vars;
+      vars = c.take_in.ensures.vars ∙ c.loop-i.invariant.vars;
       count = ap (λ (z : List (List Literal)). length z) pushed ∙ (length-append c.loop-i.store.clauses (c.in-Some.clause ∷ []) ∙ omega (arith, c.loop-i.invariant.count));
-      all_within = rw (c.in_ok-push.ensures.vars, pushed) (AllWithin-push c.loop-i.store.vars c.loop-i.store.clauses c.in-Some.clause c.loop-i.invariant.all_within w);
       places = c.in_ok-clause.ensures.places ∙ c.loop-i.invariant.places;
       empty = c.in_ok-clause.ensures.empty (search rules);
-      trail = c.in_ok-is_new.ensures.places ∙ c.loop-i.invariant.trail;
-      rows = c.in_ok-add.ensures.places ∙ c.loop-i.invariant.rows;
-      indexed = subst (λ (z : List (List Literal)). IsIndexed z c.add.new.self) (sym pushed)
-          (c.in_ok-add.ensures.indexed c.loop-i.store.clauses (sym c.loop-i.invariant.count) c.loop-i.invariant.indexed);
+      trail = c.take_in.ensures.places ∙ (c.in_ok-is_new.ensures.places ∙ c.loop-i.invariant.trail);
+      rows = c.take_in.ensures.rows ∙ c.loop-i.invariant.rows;
+      indexed = c.in_ok-quiet-2.ensures.indexed;
+      root = c.in_ok-quiet-2.ensures.root;
+      refuted = c.in_ok-quiet-2.ensures.refuted;
       derived = derived_more c.as_slice-entries.result.now c.args.formula.now.clauses c.loop-i.store.clauses c.loop-i.i c.index-entries-i.result c.in-Some.clause
           c.loop-i-test.true c.loop-i.invariant.derived s ∙ ap Some (sym pushed);
       fresh = EachEntry_more IsNew c.as_slice-entries.result.now c.args.formula.now.clauses c.loop-i.store.clauses c.loop-i.i c.index-entries-i.result c.in-Some.clause

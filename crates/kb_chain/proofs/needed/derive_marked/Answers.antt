@@ -1,7 +1,8 @@
-use Rattle.std.proofs.Common.{◌≡◌, ◌∙◌, refl, sym, ap, subst, Some, slice_get, length, arith, ◌++◌, ◌∷◌, [], rules}
+use Rattle.std.proofs.Common.{◌≡◌, ◌∙◌, refl, sym, ap, subst, Some, slice_get, length, arith, ◌+◌, ◌++◌, ◌∷◌, [], rules}
+use Rattle.std.proofs.lemmas.Bool.{false≢true}
 use Rattle.std.proofs.lemmas.List.{length_push}
 use Rattle.std.proofs.lemmas.Option.{slice_get_read}
-use Rattle.kb_chain.proofs.NeededLaws.{Agrees, derived_front, agrees_skip, agrees_more, agrees_whole, stops_nowhere}
+use Rattle.kb_chain.proofs.NeededLaws.{HasKept, LeavesEmpty, derived_front, kept_skip, kept_more, kept_whole, stops_nowhere, empty_more}
 use Rattle.kb_chain.proofs.needed.derive_marked.Goals as goal
 
 pub loop-i-init : goal.loop-i-init
@@ -12,8 +13,9 @@ loop-i-init c =
       places = search (rules);
       empty = search (rules);
       count = omega (arith, ap length clauses);
-      agrees = λ all h k lt kept. ap (λ z. slice_get z k) clauses
+      kept_same = λ all h k lt kept. ap (λ z. slice_get z k) clauses
           ∙ derived_front c.args.entries.now c.args.formula.now.clauses all k h (omega (arith, lt, ap length clauses));
+      skipped = λ i lt. absurd (omega (arith, lt));
     }
 
 pub loop-i-preserved-then-not-needed-i : goal.loop-i-preserved-then-not-needed-i
@@ -25,18 +27,20 @@ loop-i-preserved-then-not-needed-i c =
       places = c.loop-i.invariant.places;
       empty = c.loop-i.invariant.empty;
       count = omega (arith, ap length pushed, size, c.loop-i.invariant.count);
-      agrees = λ all h. subst (λ z. Agrees (length c.args.formula.now.clauses) c.args.needed.now all z) (sym pushed)
-          (agrees_skip (length c.args.formula.now.clauses) c.args.needed.now all c.loop-i.store.clauses c.loop-i.i c.empty.result c.loop-i.invariant.count
-          (c.loop-i.invariant.agrees all h) c.if-not-needed-i.true);
+      kept_same = λ all h. subst (λ z. HasKept (length c.args.formula.now.clauses) c.args.needed.now all z) (sym pushed)
+          (kept_skip (length c.args.formula.now.clauses) c.args.needed.now all c.loop-i.store.clauses c.loop-i.i c.empty.result c.loop-i.invariant.count
+          (c.loop-i.invariant.kept_same all h) c.if-not-needed-i.true);
+      skipped = subst (λ z. LeavesEmpty (length c.args.formula.now.clauses) c.args.needed.now (c.loop-i.i + 1) z) (sym pushed)
+          (empty_more (length c.args.formula.now.clauses) c.args.needed.now c.loop-i.i c.loop-i.store.clauses c.empty.result c.loop-i.invariant.count c.loop-i.invariant.skipped (λ u. c.empty.ensures));
     }
 
-pub returns-in_default : goal.returns-in_default
-returns-in_default c all h =
+pub returns-in_default-clause-same : goal.returns-in_default-clause-same
+returns-in_default-clause-same c all h =
     let entry = c.index-entries-i.result in
     let at : slice_get c.args.entries.now c.loop-i.i ≡ Some entry =
     slice_get_read c.args.entries.now (length c.args.entries.now) c.loop-i.i entry refl c.loop-i-test.true c.index-entries-i.is in
     stops_nowhere c.args.entries.now c.args.formula.now.clauses all c.loop-i.store.clauses c.args.needed.now c.loop-i.i entry h at c.requires.closed
-    c.if-not-needed-i.false c.loop-i.invariant.count (c.loop-i.invariant.agrees all h) (sym c.in_ok-clause.ensures.found ∙ c.in_default.is)
+    c.if-not-needed-i.false c.loop-i.invariant.count (c.loop-i.invariant.kept_same all h) (sym c.in_ok-clause.ensures.found ∙ c.in_default.is)
 
 pub loop-i-preserved : goal.loop-i-preserved
 loop-i-preserved c =
@@ -50,12 +54,19 @@ loop-i-preserved c =
       places = c.in_ok-clause.ensures.places ∙ c.loop-i.invariant.places;
       empty = c.in_ok-clause.ensures.empty (search rules);
       count = omega (arith, ap length pushed, size, c.loop-i.invariant.count);
-      agrees = λ all h. subst (λ z. Agrees (length c.args.formula.now.clauses) c.args.needed.now all z) (sym pushed)
-          (agrees_more c.args.entries.now c.args.formula.now.clauses all c.loop-i.store.clauses c.args.needed.now c.loop-i.i entry c.in-Some.clause h at c.requires.closed
-          c.if-not-needed-i.false c.loop-i.invariant.count (c.loop-i.invariant.agrees all h) (sym c.in_ok-clause.ensures.found ∙ c.in-Some.is));
+      kept_same = λ all h. subst (λ z. HasKept (length c.args.formula.now.clauses) c.args.needed.now all z) (sym pushed)
+          (kept_more c.args.entries.now c.args.formula.now.clauses all c.loop-i.store.clauses c.args.needed.now c.loop-i.i entry c.in-Some.clause h at c.requires.closed
+          c.if-not-needed-i.false c.loop-i.invariant.count (c.loop-i.invariant.kept_same all h) (sym c.in_ok-clause.ensures.found ∙ c.in-Some.is));
+      skipped = subst (λ z. LeavesEmpty (length c.args.formula.now.clauses) c.args.needed.now (c.loop-i.i + 1) z) (sym pushed)
+          (empty_more (length c.args.formula.now.clauses) c.args.needed.now c.loop-i.i c.loop-i.store.clauses c.in-Some.clause c.loop-i.invariant.count c.loop-i.invariant.skipped
+          (λ u. absurd (false≢true (sym u ∙ c.if-not-needed-i.false))));
     }
 
-pub returns : goal.returns
-returns c all h k kept =
-    agrees_whole c.args.entries.now c.args.formula.now.clauses all c.loop-i.store.clauses c.args.needed.now k h
-    (omega (arith, c.loop-i.invariant.count, c.loop-i-test.false, c.loop-i.auto.i-end)) (c.loop-i.invariant.agrees all h) kept
+pub returns-clause-same : goal.returns-clause-same
+returns-clause-same c all h k kept =
+    kept_whole c.args.entries.now c.args.formula.now.clauses all c.loop-i.store.clauses c.args.needed.now k h
+    (omega (arith, c.loop-i.invariant.count, c.loop-i-test.false, c.loop-i.auto.i-end)) (c.loop-i.invariant.kept_same all h) kept
+
+pub returns-clause-skipped : goal.returns-clause-skipped
+returns-clause-skipped c i lt unmarked =
+    c.loop-i.invariant.skipped i (omega (arith, lt, c.loop-i-test.false)) unmarked

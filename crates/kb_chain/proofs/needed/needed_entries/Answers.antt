@@ -1,11 +1,11 @@
-use Rattle.std.proofs.Common.{◌≡◌, ◌∙◌, refl, sym, ap, subst, length, arith, ◌<◌, ◌-◌, ◌+◌, ◌++◌, true, false, take, drop, List, Bool, ℕ, get_or}
+use Rattle.std.proofs.Common.{◌≡◌, ◌∙◌, refl, sym, ap, subst, length, arith, ◌<◌, ◌-◌, ◌+◌, ◌++◌, true, false, take, drop, inl, inr, List, Bool, ℕ, get_or}
 use Rattle.std.proofs.lemmas.Bool.{false≢true}
 use Rattle.std.proofs.lemmas.List.{get_or_default}
-use Rattle.std.proofs.lemmas.Option.{get_or_from_slice_get}
+use Rattle.std.proofs.lemmas.Option.{get_or_from_slice_get, slice_get_read}
 use Rattle.std.proofs.Math.Seq.{take-append_seam}
 use Rattle.kb_chain.specs.Needed.{is_kept, AreClosed, cites}
 use Rattle.kb_chain.specs.declared.log.Chain.{Chain}
-use Rattle.kb_chain.proofs.NeededLaws.{closed_more}
+use Rattle.kb_chain.proofs.NeededLaws.{closed_more, needed_cited}
 use Rattle.kb_chain.proofs.needed.needed_entries.Goals as goal
 
 pub loop-end-preserved-then-index : goal.loop-end-preserved-then-index
@@ -31,6 +31,14 @@ loop-end-preserved-then-index c =
       table = ap length shown ∙ (size ∙ c.loop-end.invariant.table);
       marked = λ k e lt. ap (λ (z : List Bool). is_kept c.args.first z k) shown ∙ kept k (c.loop-end.invariant.marked k e lt);
       closed = subst (λ (z : List Bool). AreClosed c.args.first c.args.entries.now z (c.loop-end.end - 1)) (sym shown) closed;
+      only = λ i m. elim (c.mark_cited.ensures.only i (ap (λ (z : List Bool). get_or z i false) (sym shown) ∙ m)) [
+        | inl s ↦ c.loop-end.invariant.only i (ap (λ (z : List Bool). get_or z i false) (sym same) ∙ s)
+        | inr s ↦ needed_cited c.args.first c.args.entries.now c.args.numbers.now (c.loop-end.end - 1) i c.index-entries-end.result
+            (slice_get_read c.args.entries.now (length c.args.entries.now) (c.loop-end.end - 1) c.index-entries-end.result refl (omega (arith, c.loop-end-test.true, c.loop-end.invariant.below)) c.index-entries-end.is)
+            (c.loop-end.invariant.only (c.loop-end.end - 1)
+            (sym (get_or_default old (c.loop-end.end - 1) c.index.result.now false (omega (arith, c.loop-end-test.true, c.loop-end.invariant.below, c.loop-end.invariant.table))) ∙ (sym c.index.ensures ∙ c.if-index.true)))
+            s.0 s.1
+      ];
     }
 
 pub loop-end-preserved : goal.loop-end-preserved
@@ -46,6 +54,7 @@ loop-end-preserved c =
           (subst (λ (z : ℕ). AreClosed c.args.first c.args.entries.now old z) (sym last) c.loop-end.invariant.closed)
           (λ k e. e) (λ i le. refl)
           (λ entry at marked k cited lt. absurd (false≢true (sym c.if-index.false ∙ (c.index.ensures ∙ (get_or_default old (c.loop-end.end - 1) c.index.result.now false inside ∙ marked)))));
+      only = c.loop-end.invariant.only;
     }
 
 pub returns-clause-closed : goal.returns-clause-closed

@@ -2,15 +2,15 @@ use Rattle.std.proofs.Common.{◌≡◌, ◌∙◌, ap, sym, refl, subst, true, 
 use Rattle.std.proofs.lemmas.Bool.{OnTrue_at}
 use Rattle.kb_chain.specs.Literal.{Literal, has, place_of, negated}
 use Rattle.kb_chain.proofs.OrderLaws.{has_get_or}
-use Rattle.kb_chain.proofs.PropagationLaws.{Extends-trans, Extends-length, IsSettled_start, IsSettled_taken, IsClosed_end, NegatesSome_end, place_of-negated, Extends-refl}
+use Rattle.kb_chain.proofs.PropagationLaws.{Extends-trans, Extends-length, IsSettled_taken, AreSettled_end, place_of-negated, Extends-refl}
 use Rattle.kb_chain.proofs.propagation.propagate.Goals as goal
 
 pub loop-next-init : goal.loop-next-init
 loop-next-init c = record {
   places = refl;
-  inside = omega arith;
+  inside = c.requires.inside;
   extended = Extends-refl c.args.trail.now.literals;
-  settled = IsSettled_start c.args.store.now.clauses c.args.index.now c.args.trail.now.literals c.requires.indexed c.requires.consistent c.requires.units;
+  settled = c.requires.settled;
   least = λ set closed includes. includes;
 }
 
@@ -50,12 +50,7 @@ loop-next-preserved c =
       least = λ set closed includes. c.in_ok-visit.ensures.least set closed (c.loop-next.invariant.least set closed includes);
     }
 
-pub returns-clause-closed : goal.returns-clause-closed
-returns-clause-closed c =
+pub returns-clause-settled : goal.returns-clause-settled
+returns-clause-settled c =
     let done : length c.loop-next.trail.literals ≤ c.loop-next.next = subst (λ (z : List Literal). length z ≤ c.loop-next.next) c.literals.ensures.value c.loop-next-test.false in
-    IsClosed_end c.args.store.now.clauses c.loop-next.trail.literals c.loop-next.next done c.loop-next.invariant.settled
-
-pub returns-clause-quiet : goal.returns-clause-quiet
-returns-clause-quiet c =
-    let done : length c.loop-next.trail.literals ≤ c.loop-next.next = subst (λ (z : List Literal). length z ≤ c.loop-next.next) c.literals.ensures.value c.loop-next-test.false in
-    NegatesSome_end c.args.store.now.clauses c.loop-next.trail.literals c.loop-next.next done c.loop-next.invariant.settled
+    AreSettled_end c.args.store.now.clauses c.loop-next.trail.literals c.loop-next.next done c.loop-next.invariant.settled

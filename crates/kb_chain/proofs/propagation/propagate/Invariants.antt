@@ -1,7 +1,7 @@
-use Rattle.std.proofs.Common.{◌≡◌, ◌≤◌, ◌-◌, take, ℕ, List, Some, slice_get, Bool, length}
-use Rattle.kb_chain.specs.Literal.{Literal, has}
+use Rattle.std.proofs.Common.{◌≡◌, ◌≤◌, ◌-◌, take, Bool, length}
+use Rattle.kb_chain.specs.Literal.{Literal}
 use Rattle.kb_chain.specs.Propagation.{IsClosed, Includes}
-use Rattle.kb_chain.specs.Index.{Extends, IsSettled}
+use Rattle.kb_chain.specs.Index.{Extends, AreSettled}
 use Rattle.kb_chain.proofs.propagation.propagate.Given as goal
 
 abbrev pub invariant-loop-next : goal.invariant-loop-next
@@ -9,8 +9,7 @@ invariant-loop-next l = record {
   places : l.trail.places ≡ l.fn.trail.places;
   inside : l.next ≤ length l.trail.literals;
   extended : Extends l.fn.trail.literals l.trail.literals;
-  settled : (k : ℕ) (clause : List Literal) → slice_get l.store.clauses k ≡ Some clause
-      → IsSettled (has (take l.next l.trail.literals)) (has l.trail.literals) clause;
+  settled : AreSettled l.store.clauses (take l.next l.trail.literals) l.trail.literals;
   least : (set : Literal → Bool) → IsClosed l.store.clauses set → Includes set l.fn.trail.literals → Includes set l.trail.literals;
 }
 

@@ -63,5 +63,5 @@ returns-clause-settled c k clause e i =
     ∙ ap (λ z. get_or c.args.index.now.occurrences.items z []) c.place.ensures.value) in
     c.loop-number.invariant.settled k clause
     (ap (λ z. has_number z k) (take_all c.loop-number.number-index c.as_slice-number-items.result.now c.loop-number-test.false ∙ row)
-    ∙ c.requires.indexed.complete k clause e c.args.literal i)
+    ∙ c.requires.indexed k clause e c.args.literal i)
     e

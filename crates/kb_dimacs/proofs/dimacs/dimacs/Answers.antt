@@ -7,5 +7,5 @@ use Rattle.kb_dimacs.proofs.dimacs.dimacs.Goals as goal
 
 pub returns-in-Some-clause-unsatisfiable : goal.returns-in-Some-clause-unsatisfiable
 returns-in-Some-clause-unsatisfiable c =
-    IfOk-weaker c.answer_input.result (λ (a : Answer). AnswersInput c.in-Some.order c.args.input.now a.status (string_bytes a.text)) (λ (a : Answer). IsUnsatisfiable c.args.input.now a.status)
-    (λ a answers. unsatisfiable_input c.in-Some.order c.args.input.now a.status (string_bytes a.text) answers) c.answer_input.ensures
+    IfOk-weaker c.answer_input.result (λ (a : Answer). AnswersInput c.in-Some.request c.args.input.now a.status (string_bytes a.text)) (λ (a : Answer). IsUnsatisfiable c.args.input.now a.status)
+    (λ a answers. unsatisfiable_input c.in-Some.request c.args.input.now a.status (string_bytes a.text) answers) c.answer_input.ensures

@@ -4,7 +4,7 @@ use Rattle.kb_dimacs.specs.Lines.{lines}
 use Rattle.kb_dimacs.specs.Pieces.{lines_left, bytes_left}
 use Rattle.kb_dimacs.specs.Dimacs.{AreDimacs}
 use Rattle.kb_dimacs.specs.Fronts.{Stands, StopsAtLine}
-use Rattle.kb_dimacs.specs.Refusals.{IsFirstBadLine, IsCauseAt}
+use Rattle.kb_dimacs.specs.Refusals.{IsStoppingLine, IsCauseAt}
 use Rattle.kb_dimacs.proofs.FrontLaws.{same_formula}
 use Rattle.kb_dimacs.proofs.LineLaws.{bad_line, bad_end, take_one_more, line_read, lines_behind, fewer_bytes, some_line, all_lines, no_lines}
 use Rattle.kb_dimacs.proofs.read.read_dimacs.Goals as goal
@@ -25,7 +25,7 @@ loop-rest-preserved c =
       short = omega (arith, fewer_bytes c.in-Some.left.now line c.cut.result.1 c.cut.ensures, ap (λ o. bytes_left (option_copied o)) c.in-Some.is, c.loop-rest.invariant.short);
     }
 
-stopped : (c : goal.In-Err-Bad) → IsFirstBadLine (lines c.args.text.now) (c.loop-rest.number + 1) × IsCauseAt (lines c.args.text.now) (c.loop-rest.number + 1) c.in-Err-Bad.cause
+stopped : (c : goal.In-Err-Bad) → IsStoppingLine (lines c.args.text.now) (c.loop-rest.number + 1) × IsCauseAt (lines c.args.text.now) (c.loop-rest.number + 1) c.in-Err-Bad.cause
 stopped c =
     let ls = lines c.args.text.now in
     let n = c.loop-rest.number in

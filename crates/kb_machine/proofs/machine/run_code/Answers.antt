@@ -21,7 +21,7 @@ returns-in-IllTyped c =
 pub loop-preserved : goal.loop-preserved
 loop-preserved c =
     run_goes_on c.args.code.now c.args.args.now c.args.steps c.loop.counter c.loop.index c.loop.frame c.take.new.self c.in-Some.field-0.now
-    c.requires c.loop.invariant c.loop-test.true c.in-Some.ensures.lookup.3.0 c.in-Some.ensures.lookup.1 (rw c.in-Goes.is at c.in_ok-take.ensures.step) c.in_ok-take.ensures.sound c.in_ok-take.ensures.limits
+    c.requires c.loop.invariant c.loop-test.true c.in-Some.ensures.lookup.3.0 c.in-Some.ensures.lookup.1 (rw c.in-Goes.is at c.in_ok-take.ensures.step) c.in_ok-take.ensures.keeps.sound c.in_ok-take.ensures.keeps.limits
 
 pub returns : goal.returns
 returns c = run_past c.args.code.now c.args.args.now c.args.steps c.loop.counter c.loop.index c.loop.frame c.loop.invariant c.loop-test.false

@@ -1,5 +1,5 @@
 use Rattle.std.proofs.Common.{◌-◌, ◌≤◌, length}
-use Rattle.kb_sat.specs.Trail.{start_of}
+use Rattle.kb_eliminate.specs.Trail.{start_of}
 use Rattle.kb_sat.proofs.ranks.levels_of.Given as goal
 
 abbrev pub invariant-loop-literal : goal.invariant-loop-literal

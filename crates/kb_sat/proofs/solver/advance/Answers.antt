@@ -2,16 +2,16 @@ use Rattle.std.proofs.Common.{◌≡◌, ◌+◌, ◌<◌, ◌∙◌, ap, sym, s
 use Rattle.std.proofs.lemmas.List.{nil_from_length}
 use Rattle.kb_chain.specs.Cnf.{Cnf}
 use Rattle.kb_chain.specs.Propagation.{UnitRefutes}
-use Rattle.kb_sat.specs.Search.{IsConflict}
-use Rattle.kb_sat.specs.Watches.{IsAwake}
-use Rattle.kb_sat.proofs.SearchLaws.{doomed_from, not_refuted}
-use Rattle.kb_sat.proofs.WatchLaws.{at_some}
+use Rattle.kb_eliminate.specs.Base.{IsConflict}
+use Rattle.kb_eliminate.specs.Watches.{IsAwake}
+use Rattle.kb_eliminate.proofs.BaseLaws.{doomed_from, not_refuted}
+use Rattle.kb_eliminate.proofs.WatchLaws.{at_some}
 use Rattle.kb_sat.proofs.solver.advance.Goals as goal
 
 pub returns-then-level-eq0-clause-advance : goal.returns-then-level-eq0-clause-advance
 returns-then-level-eq0-clause-advance c =
-    let s = c.run.new.self in
-    let h = c.in_ok-number.ensures.searches in
+    let s = c.run.new.self.base in
+    let h = c.in_ok-number.ensures.keeps.stands in
     let conflict : IsConflict s.clauses s.trail c.in-Some.number =
     (at_some c.in_ok-number.field-0 c.in-Some.number (λ n. IsConflict s.clauses s.trail n × IsAwake s.watches.pairs.items n) c.in-Some.is c.in_ok-number.ensures.conflict).0 in
     let d = doomed_from s.formula.now s.entries s.clauses s.watches.pairs.items s.watches.lists.items s.trail s.whole c.in-Some.number h conflict in (
@@ -22,34 +22,34 @@ returns-then-level-eq0-clause-advance c =
         reasons = d.0;
         conflict = d.1;
       },
-      c.in_ok-number.ensures.entries,
+      c.in_ok-number.ensures.keeps.entries,
     )
 
 pub returns-then-not-is_due-clause-advance : goal.returns-then-not-is_due-clause-advance
 returns-then-not-is_due-clause-advance c =
-    let s = c.run.new.self in
-    let more : length c.learn.new.self.entries ≡ length s.entries + 1 = c.in_ok-learn.ensures.entries in
-    let same : length s.entries ≡ length c.args.search.now.entries = ap length c.in_ok-number.ensures.entries in
+    let s = c.run.new.self.base in
+    let more : length c.learn.new.self.base.entries ≡ length s.entries + 1 = c.in_ok-learn.ensures.entries in
+    let same : length s.entries ≡ length c.args.search.now.base.entries = ap length c.in_ok-number.ensures.keeps.entries in
     let lt : 0 < length s.trail.starts = omega (arith, c.if-level-eq0.false, c.level.ensures) in (
       c.in_ok-learn.ensures.ready,
       omega (arith, more, same),
       λ w. (let whole : s.whole ≡ true = sym c.in_ok-learn.ensures.whole ∙ w in
-          subst (λ (z : Cnf). UnitRefutes z.clauses → ⊥) (sym c.in_ok-learn.ensures.formula)
-          (not_refuted s.formula.now s.entries s.clauses s.watches.pairs.items s.watches.lists.items s.trail s.whole c.in_ok-number.ensures.searches c.facts.ensures
-          (c.in_ok-number.ensures.searches.fresh whole).0 lt)),
+          subst (λ (z : Cnf). UnitRefutes z.clauses → ⊥) (sym c.in_ok-learn.ensures.goes_on.formula)
+          (not_refuted s.formula.now s.entries s.clauses s.watches.pairs.items s.watches.lists.items s.trail s.whole c.in_ok-number.ensures.keeps.stands c.facts.ensures
+          (c.in_ok-number.ensures.keeps.stands.fresh whole).0 lt)),
     )
 
 pub returns-clause-advance : goal.returns-clause-advance
 returns-clause-advance c =
-    let s = c.run.new.self in
-    let kept : length c.restart.new.self.entries ≡ length c.learn.new.self.entries = ap length c.in_ok-restart.ensures.entries in
-    let more : length c.learn.new.self.entries ≡ length s.entries + 1 = c.in_ok-learn.ensures.entries in
-    let same : length s.entries ≡ length c.args.search.now.entries = ap length c.in_ok-number.ensures.entries in
+    let s = c.run.new.self.base in
+    let kept : length c.restart.new.self.base.entries ≡ length c.learn.new.self.base.entries = ap length c.in_ok-restart.ensures.keeps.entries in
+    let more : length c.learn.new.self.base.entries ≡ length s.entries + 1 = c.in_ok-learn.ensures.entries in
+    let same : length s.entries ≡ length c.args.search.now.base.entries = ap length c.in_ok-number.ensures.keeps.entries in
     let lt : 0 < length s.trail.starts = omega (arith, c.if-level-eq0.false, c.level.ensures) in (
       c.in_ok-restart.ensures.ready,
       omega (arith, kept, more, same),
-      λ w. (let whole : s.whole ≡ true = sym (c.in_ok-restart.ensures.whole ∙ c.in_ok-learn.ensures.whole) ∙ w in
-          subst (λ (z : Cnf). UnitRefutes z.clauses → ⊥) (sym (c.in_ok-restart.ensures.formula ∙ c.in_ok-learn.ensures.formula))
-          (not_refuted s.formula.now s.entries s.clauses s.watches.pairs.items s.watches.lists.items s.trail s.whole c.in_ok-number.ensures.searches c.facts.ensures
-          (c.in_ok-number.ensures.searches.fresh whole).0 lt)),
+      λ w. (let whole : s.whole ≡ true = sym (c.in_ok-restart.ensures.keeps.whole ∙ c.in_ok-learn.ensures.whole) ∙ w in
+          subst (λ (z : Cnf). UnitRefutes z.clauses → ⊥) (sym (c.in_ok-restart.ensures.keeps.formula ∙ c.in_ok-learn.ensures.goes_on.formula))
+          (not_refuted s.formula.now s.entries s.clauses s.watches.pairs.items s.watches.lists.items s.trail s.whole c.in_ok-number.ensures.keeps.stands c.facts.ensures
+          (c.in_ok-number.ensures.keeps.stands.fresh whole).0 lt)),
     )

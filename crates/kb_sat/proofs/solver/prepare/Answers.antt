@@ -1,17 +1,17 @@
 use Rattle.std.proofs.Common.{◌≡◌, ◌∙◌, sym, subst, length, arith}
 use Rattle.std.proofs.lemmas.List.{take_all}
 use Rattle.kb_chain.specs.Literal.{has}
-use Rattle.kb_sat.specs.Search.{IsConflict}
-use Rattle.kb_sat.specs.Solver.{IsSettledSearch}
-use Rattle.kb_sat.specs.Watches.{IsAwake, Quiet}
-use Rattle.kb_sat.proofs.SearchLaws.{doomed_from}
-use Rattle.kb_sat.proofs.WatchLaws.{at_none, at_some}
+use Rattle.kb_eliminate.specs.Base.{IsConflict}
+use Rattle.kb_eliminate.specs.Base.{IsPropagated}
+use Rattle.kb_eliminate.specs.Watches.{IsAwake, Quiet}
+use Rattle.kb_eliminate.proofs.BaseLaws.{doomed_from}
+use Rattle.kb_eliminate.proofs.WatchLaws.{at_none, at_some}
 use Rattle.kb_sat.proofs.solver.prepare.Goals as goal
 
 pub returns-in-Some : goal.returns-in-Some
 returns-in-Some c =
-    let s = c.settle.new.self in
-    let h = c.in_ok-number.ensures.searches in
+    let s = c.settle.new.self.base in
+    let h = c.in_ok-number.ensures.keeps.stands in
     let conflict : IsConflict s.clauses s.trail c.in-Some.number =
     (at_some c.in_ok-number.field-0 c.in-Some.number (λ n. IsConflict s.clauses s.trail n × IsAwake s.watches.pairs.items n) c.in-Some.is c.in_ok-number.ensures.conflict).0 in
     let d = doomed_from s.formula.now s.entries s.clauses s.watches.pairs.items s.watches.lists.items s.trail s.whole c.in-Some.number h conflict in (
@@ -22,14 +22,14 @@ returns-in-Some c =
         reasons = d.0;
         conflict = d.1;
       },
-      c.in_ok-number.ensures.formula,
-      c.in_ok-number.ensures.entries ∙ c.requires.entries,
+      c.in_ok-number.ensures.keeps.formula,
+      c.in_ok-number.ensures.keeps.entries ∙ c.requires.entries,
     )
 
 pub eliminate-requires-clause-ready : goal.eliminate-requires-clause-ready
 eliminate-requires-clause-ready c =
-    let s = c.settle.new.self in
-    let settled = at_none c.in_ok-number.field-0 (IsSettledSearch s) c.in_default.is c.in_ok-number.ensures.settled in
+    let s = c.settle.new.self.base in
+    let settled = at_none c.in_ok-number.field-0 (IsPropagated s) c.in_default.is c.in_ok-number.ensures.settled in
     let at : s.head ≡ length s.trail.literals = settled.head in
     record {
       head = omega (arith, at);

@@ -6,7 +6,7 @@ use Rattle.kb_sat.proofs.solver.refutation.Goals as goal
 
 pub returns-clause-refutes : goal.returns-clause-refutes
 returns-clause-refutes c =
-    let s = c.args.search in
+    let s = c.args.search.base in
     let f = s.formula.now in
     let h = c.requires in
     let more : length (s.entries ++ c.in_ok-chain.chain ∷ []) ≡ length s.entries + 1 = length_push s.entries c.in_ok-chain.chain in

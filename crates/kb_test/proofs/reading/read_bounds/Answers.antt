@@ -8,6 +8,6 @@ not_true h = cc
 
 pub returns-then-not-are_in_range : goal.returns-then-not-are_in_range
 returns-then-not-are_in_range c = λ b spells.
-    let some = rw c.in-Some.is at c.in_ok-bounds.ensures in
-    let same = same_bounds b c.in-Some.bounds (are_numbers b spells.0) some.0 (sym spells.1 ∙ some.1) in
+    let some = c.in_ok-bounds.ensures in
+    let same = same_bounds b c.in_ok-bounds.bounds (are_numbers b spells.0) some.0 (sym spells.1 ∙ some.1) in
     not_true (c.if-not-are_in_range.ensures.1 (subst IsRunBounds same spells.0))

@@ -2,7 +2,7 @@ use Rattle.std.proofs.Common.{List, ℕ, ◌++◌, sym, ◌∙◌, ap}
 use Rattle.std.specs.Prelude.{codes}
 use Rattle.kb_names.specs.Targets.{target_text}
 use Rattle.kb_test.specs.Texts.{test_line}
-use Rattle.kb_test.proofs.Words.{same_behind}
+use Rattle.kb_grammar.proofs.WordLaws.{same_behind}
 use Rattle.kb_test.proofs.reading.read_target_line.Goals as goal
 
 pub returns-in_default : goal.returns-in_default

@@ -1,9 +1,13 @@
-use Rattle.std.proofs.Common.{◌≡◌, ◌++◌, length, map}
-use Rattle.kb_test.specs.Texts.{lines_text, arg_line}
+use Rattle.std.proofs.Common.{◌≡◌, ◌++◌, length, map, take}
+use Rattle.kb_grammar.specs.Lines.{lines_text}
+use Rattle.kb_test.specs.Texts.{arg_line}
 use Rattle.kb_test.proofs.writing.append_args.Given as goal
 
 abbrev pub invariant-loop-rest : goal.invariant-loop-rest
-invariant-loop-rest l = l.text.items ++ lines_text (map arg_line l.rest) ≡ l.fn.text.items ++ lines_text (map arg_line l.args)
+invariant-loop-rest l = record {
+  text : l.into.items ++ lines_text (map arg_line l.rest) ≡ l.fn.into.items ++ lines_text (map arg_line l.args);
+  kept : take (length l.fn.into.items) l.into.items ≡ l.fn.into.items;
+}
 
 abbrev pub decreases-loop-rest : goal.decreases-loop-rest
 decreases-loop-rest l = length l.rest

@@ -1,14 +1,14 @@
 use Rattle.std.proofs.Common.{List, ℕ, [], ◌∷◌, ◌++◌, ◌∙◌, ap, append_assoc}
 use Rattle.kb_test.specs.Texts.{bounds_line}
-use Rattle.kb_test.proofs.Words.{on_ok}
+use Rattle.kb_test.proofs.WritingLaws.{on_ok}
 use Rattle.kb_test.proofs.writing.append_bounds.Goals as goal
 
-pub returns : goal.returns
+pub returns-clause-ok : goal.returns-clause-ok
 unfolding bounds_line
-returns c =
+returns-clause-ok c =
     on_ok c.append-2.result
     (λ h.
     h
-    ∙ ap (λ (l : List ℕ). l ++ 10 ∷ []) (c.in_ok-append.ensures.ok ∙ ap (λ (l : List ℕ). c.args.text.now.items ++ l) (c.as_bytes.ensures.value ∙ c.in_ok-line.ensures.ok))
-    ∙ append_assoc c.args.text.now.items (bounds_line c.args.bounds.now) (10 ∷ []))
+    ∙ ap (λ (l : List ℕ). l ++ 10 ∷ []) (c.in_ok-append.ensures.ok ∙ ap (λ (l : List ℕ). c.args.into.now.items ++ l) (c.as_bytes.ensures.value ∙ c.in_ok-line.ensures.ok))
+    ∙ append_assoc c.args.into.now.items (bounds_line c.args.bounds.now) (10 ∷ []))
     c.append-2.ensures.ok

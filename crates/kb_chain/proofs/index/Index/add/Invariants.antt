@@ -7,7 +7,5 @@ abbrev pub invariant-loop-literal : goal.invariant-loop-literal
 invariant-loop-literal l = record {
   places : length l.self.occurrences.items ≡ length l.fn.self.occurrences.items;
   kept : (p k : ℕ) → has_number (get_or l.fn.self.occurrences.items p []) k ≡ true → has_number (get_or l.self.occurrences.items p []) k ≡ true;
-  added : (m : Literal) → has (take l.literal-index l.literals) m ≡ true → has_number (get_or l.self.occurrences.items (place_of m) []) l.number ≡ true;
-  units : l.self.units ≡ l.fn.self.units;
-  refuted : l.self.refuted ≡ l.fn.self.refuted;
+  added : (m : Literal) → has (take l.literal-index l.literal-items) m ≡ true → has_number (get_or l.self.occurrences.items (place_of m) []) l.number ≡ true;
 }

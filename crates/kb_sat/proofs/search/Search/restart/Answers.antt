@@ -1,29 +1,35 @@
 use Rattle.std.proofs.Common.{◌<◌, ◌≤◌, ap, sym, subst, length, take, arith}
 use Rattle.kb_chain.specs.Literal.{has}
-use Rattle.kb_sat.specs.Trail.{Assigned, cut_back, before_level, start_of}
-use Rattle.kb_sat.specs.Watches.{Quiet}
-use Rattle.kb_sat.specs.declared.watches.Watches.{Watches}
-use Rattle.kb_sat.proofs.SearchLaws.{IsSearch_same, IsSearch-cut, quiet-cut}
+use Rattle.kb_eliminate.specs.Trail.{Assigned, cut_back, before_level, start_of}
+use Rattle.kb_eliminate.specs.Watches.{Quiet}
+use Rattle.kb_eliminate.specs.declared.watches.Watches.{Watches}
+use Rattle.kb_eliminate.proofs.BaseLaws.{IsBase_same, IsBase-cut, quiet-cut}
 use Rattle.kb_sat.proofs.search.Search.restart.Goals as goal
 
-pub returns-clause-searches : goal.returns-clause-searches
-returns-clause-searches c =
-    let s = c.args.self.now in
+pub returns-clause-keeps : goal.returns-clause-keeps
+returns-clause-keeps c =
+    let s = c.args.self.now.base in
     let g = c.in_ok-go_back.ensures in
-    let n = c.go_back.new.self in
+    let n = c.go_back.new.self.base in
     let lt : 0 < length s.trail.starts = omega (arith, c.if-level-eq0.false, c.level.ensures) in
-    IsSearch_same n.formula.now s.formula.now n.entries s.entries n.clauses s.clauses n.watches.pairs.items s.watches.pairs.items n.watches.lists.items s.watches.lists.items
-    n.trail (cut_back s.trail 0) n.whole s.whole g.formula g.entries g.clauses (ap (λ (w : Watches). w.pairs.items) g.watches) (ap (λ (w : Watches). w.lists.items) g.watches) g.trail g.whole
-    (IsSearch-cut s.formula.now s.entries s.clauses s.watches.pairs.items s.watches.lists.items s.trail 0 s.whole c.requires.searches c.facts.ensures lt)
+    record {
+      stands = IsBase_same n.formula.now s.formula.now n.entries s.entries n.clauses s.clauses n.watches.pairs.items s.watches.pairs.items n.watches.lists.items s.watches.lists.items
+          n.trail (cut_back s.trail 0) n.whole s.whole g.formula g.entries g.clauses (ap (λ (w : Watches). w.pairs.items) g.watches) (ap (λ (w : Watches). w.lists.items) g.watches) g.trail g.whole
+          (IsBase-cut s.formula.now s.entries s.clauses s.watches.pairs.items s.watches.lists.items s.trail 0 s.whole c.requires.stands c.facts.ensures lt);
+      equipped = g.equipped;
+      formula = g.formula;
+      entries = g.entries;
+      whole = g.whole;
+    }
 
 pub returns-clause-ready : goal.returns-clause-ready
 returns-clause-ready c =
-    let s = c.args.self.now in
+    let s = c.args.self.now.base in
     let g = c.in_ok-go_back.ensures in
-    let n = c.go_back.new.self in
+    let n = c.go_back.new.self.base in
     let t = s.trail in
     let lt : 0 < length t.starts = omega (arith, c.if-level-eq0.false, c.level.ensures) in
-    let r = quiet-cut s.formula.now s.entries s.clauses s.watches.pairs.items s.watches.lists.items t s.whole 0 c.requires.searches c.facts.ensures lt in
+    let r = quiet-cut s.formula.now s.entries s.clauses s.watches.pairs.items s.watches.lists.items t s.whole 0 c.requires.stands c.facts.ensures lt in
     record {
       head = subst (λ m. m ≤ length n.trail.literals) (sym g.head) (subst (λ (z : Assigned). start_of t.starts 0 ≤ length z.literals) (sym g.trail) r.0);
       quiet = subst (λ z. Quiet z n.watches.pairs.items (has (take n.head n.trail.literals)) (has n.trail.literals)) (sym g.clauses)

@@ -8,19 +8,19 @@ use Rattle.kb_world.proofs.world.World.declared.Goals as goal
 
 pub returns-in_err-class-clause-none : goal.returns-in_err-class-clause-none
 returns-in_err-class-clause-none c =
-    let none : number_at c.self.inside.numbers c.args.target.now.class ≡ None = ap (λ (name : List ℕ). number_at c.self.inside.numbers name) (sym c.as_slice.ensures) ∙ sym c.in_err-class.ensures.value in
+    let none : number_at c.self.inside.numbers c.args.target.now.class ≡ None = ap (λ (name : List ℕ). number_at c.self.inside.numbers name) (sym c.as_slice.ensures.same) ∙ sym c.in_err-class.ensures.value in
     rw (c.from_residual.ensures, ← c.self.view_is)
     (none_named (number_at c.self.inside.numbers) c.self.inside.classes.items c.args.target.now c.self.invariant.1 none)
 
 pub returns-in_err-entry-clause-none : goal.returns-in_err-entry-clause-none
 returns-in_err-entry-clause-none c =
-    let at : number_at c.self.inside.numbers c.args.target.now.class ≡ Some c.in_ok-class.field-0.now = ap (λ (name : List ℕ). number_at c.self.inside.numbers name) (sym c.as_slice.ensures) ∙ sym c.in_ok-class.ensures.value in
+    let at : number_at c.self.inside.numbers c.args.target.now.class ≡ Some c.in_ok-class.field-0.now = ap (λ (name : List ℕ). number_at c.self.inside.numbers name) (sym c.as_slice.ensures.same) ∙ sym c.in_ok-class.ensures.value in
     let class = c.self.invariant.1.right c.args.target.now.class c.in_ok-class.field-0.now at in
     absurd (none-some class.0 (c.in_err-entry.ensures ∙ ap (λ (cs : List GivenClass). slice_get cs c.in_ok-class.field-0.now) c.as_slice-2.ensures.value ∙ class.1))
 
 pub returns-in_err-number-clause-none : goal.returns-in_err-number-clause-none
 returns-in_err-number-clause-none c =
-    let at : number_at c.self.inside.numbers c.args.target.now.class ≡ Some c.in_ok-class.field-0.now = ap (λ (name : List ℕ). number_at c.self.inside.numbers name) (sym c.as_slice.ensures) ∙ sym c.in_ok-class.ensures.value in
+    let at : number_at c.self.inside.numbers c.args.target.now.class ≡ Some c.in_ok-class.field-0.now = ap (λ (name : List ℕ). number_at c.self.inside.numbers name) (sym c.as_slice.ensures.same) ∙ sym c.in_ok-class.ensures.value in
     let there = c.in_ok-entry.ensures ∙ ap (λ (cs : List GivenClass). slice_get cs c.in_ok-class.field-0.now) c.as_slice-2.ensures.value in
     rw (c.from_residual-in_err-number.ensures, ← c.self.view_is)
     (none_declared (number_at c.self.inside.numbers) c.self.inside.classes.items c.args.target.now c.in_ok-class.field-0.now c.in_ok-entry.field-0.now c.self.invariant.1 at (sym there) c.in_err-number.ensures.none)

@@ -15,7 +15,7 @@ pub returns-clause-found : goal.returns-clause-found
 returns-clause-found c = record {
   declared = c.in_ok-id.ensures.found;
   code = has_code c.args.self.now c.in_ok-id.id c.args.target.now c.in_ok-method_of.field-0 c.in_ok-branch.field-0 c.in_ok-id.ensures.found c.in_ok-method_of.ensures.some c.in_ok-branch.was;
-  ordinary = ap is_special (sym c.as_slice.ensures) ∙ sym c.if-is_special.ensures;
+  ordinary = ap is_special (sym c.as_slice.ensures.same) ∙ sym c.if-is_special.ensures;
 }
 
 pub returns-clause-alone : goal.returns-clause-alone

@@ -1,0 +1,148 @@
+//! The lists of watches. Under proof: each clause that wasn't let go is in the lists of its two watched literals.
+ghost use Rattle.std.specs.Prelude.{◌≡◌, ℕ, ◌+◌, ◌*◌, ◌<◌, true, [], ◌∷◌, ◌++◌, length, map, filter, slice_set, OnOk, IfOk};
+ghost use Rattle.kb_chain.specs.Literal.{place_of};
+ghost use Rattle.kb_eliminate.specs.Watches.{at_literal, AreEmpty};
+ghost use Rattle.kb_eliminate.specs.Forgetting.{is_kept, only_awake, asleep};
+
+use crate::memory::NoMemory;
+use crate::watch::{Pair, Watch};
+use kb_chain::Lit;
+use std::alloc::Global;
+use std::marker::Model;
+
+/// The watches at one literal.
+#[derive(Drop)]
+pub struct WatchList {
+    inner: Vec<Watch>,
+}
+
+impl Model for WatchList {
+    ghost use Rattle.std.specs.Prelude.{List};
+    ghost use Rattle.kb_eliminate.specs.declared.watch.Watch.{Watch};
+
+    ghost Value = { List Watch };
+
+    ghost view = { λ w. w.inner.items };
+}
+
+impl WatchList {
+    pub fn new(alloc: Global) -> WatchList
+        ensures { result ≡ [] }
+    {
+        WatchList {
+            inner: Vec::new(alloc),
+        }
+    }
+
+    pub fn as_slice(&self) -> &[Watch]
+        ensures { result.now ≡ self.now }
+    {
+        self.inner.as_slice()
+    }
+
+    pub fn push(&mut self, watch: Watch) -> Result<(), NoMemory>
+        ensures { OnOk result (self.new ≡ self.old ++ watch ∷ []) }
+    {
+        self.inner.push(watch)?;
+        Ok(())
+    }
+
+    pub fn extend(&mut self, watches: &[Watch]) -> Result<(), NoMemory>
+        ensures { OnOk result (self.new ≡ self.old ++ watches.now) }
+    {
+        self.inner.extend_from_slice(watches)?;
+        Ok(())
+    }
+
+    pub fn clear(&mut self)
+        ensures { self.new ≡ [] }
+    {
+        self.inner.clear();
+    }
+
+    /// Keeps only the watches of clauses that are awake.
+    fn keep_awake(&mut self, pairs: &[Pair])
+        ensures { self.new ≡ filter (is_kept pairs.now) self.old }
+    {
+        self.inner.retain(|watch| is_kept(pairs, watch));
+    }
+}
+
+/// Whether a watch is of a clause that is awake.
+fn is_kept(pairs: &[Pair], watch: &Watch) -> bool
+    ensures { result ≡ is_kept pairs.now watch.now }
+{
+    match pairs.get(watch.clause as usize) {
+        Some(pair) => pair.awake,
+        None => false,
+    }
+}
+
+/// The watched literals by clause number, and the watches by the place of the literal that is watched.
+#[derive(Drop)]
+pub struct Watches {
+    pub pairs: Vec<Pair>,
+    pub lists: Vec<WatchList>,
+    /// Room for the watches that are being taken up.
+    pub waiting: WatchList,
+}
+
+impl Watches {
+    /// No watches at the literals of the variables up to `vars`.
+    pub fn new(alloc: Global, vars: u32) -> Result<Watches, NoMemory>
+        ensures pairs { IfOk result (λ w. w.pairs.items ≡ []) }
+        ensures places { IfOk result (λ w. length w.lists.items ≡ 2 * vars + 2) }
+        ensures lists { IfOk result (λ w. AreEmpty w.lists.items) }
+    {
+        let mut lists = Vec::new(alloc);
+        for _place in 0..2 * vars as usize + 2 {
+            lists.push(WatchList::new(alloc))?;
+        }
+        Ok(Watches {
+            pairs: Vec::new(alloc),
+            lists,
+            waiting: WatchList::new(alloc),
+        })
+    }
+
+    /// Notes that a clause is watched no longer.
+    pub fn let_go(&mut self, number: u32)
+        ensures pairs { self.new.pairs.items ≡ asleep self.old.pairs.items number }
+        ensures lists { self.new.lists ≡ self.old.lists }
+    {
+        if let Some(pair) = self.pairs.get_mut(number as usize) {
+            pair.awake = false;
+        }
+    }
+
+    /// Takes the watches of clauses that are watched no longer out of the lists.
+    pub fn purge(&mut self)
+        ensures pairs { self.new.pairs ≡ self.old.pairs }
+        ensures lists { self.new.lists.items ≡ map (only_awake self.old.pairs.items) self.old.lists.items }
+    {
+        let pairs = self.pairs.as_slice();
+        for list in self.lists.iter_mut() {
+            list.keep_awake(pairs);
+        }
+    }
+}
+
+/// Puts a watch into the list of a literal.
+pub fn put_watch(lists: &mut Vec<WatchList>, literal: Lit, watch: Watch) -> Result<(), NoMemory>
+    requires { place_of literal < length lists.old.items }
+    ensures ok { OnOk result (lists.new.items ≡ slice_set lists.old.items (place_of literal) (at_literal lists.old.items literal ++ watch ∷ [])) }
+{
+    let list = &mut lists[literal.place()];
+    list.push(watch)?;
+    Ok(())
+}
+
+/// Puts watches into the list of a literal.
+pub fn put_back(lists: &mut Vec<WatchList>, literal: Lit, watches: &[Watch]) -> Result<(), NoMemory>
+    requires { place_of literal < length lists.old.items }
+    ensures ok { OnOk result (lists.new.items ≡ slice_set lists.old.items (place_of literal) (at_literal lists.old.items literal ++ watches.now)) }
+{
+    let list = &mut lists[literal.place()];
+    list.extend(watches)?;
+    Ok(())
+}

@@ -1,0 +1,11 @@
+//! The list type of public structs.
+//!
+//! A contract would see a `Vec` with its capacity, so that two equal lists could be two values. A
+//! [`Row`] is seen as the list of its items. The crates that offer it do so under its own name.
+#![tactic(auto)]
+
+mod row;
+#[cfg(test)]
+mod tests;
+
+pub use row::Row;

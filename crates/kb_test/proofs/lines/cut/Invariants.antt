@@ -1,6 +1,0 @@
-use Rattle.std.proofs.Common.{take}
-use Rattle.kb_test.specs.Lines.{Lacks}
-use Rattle.kb_test.proofs.lines.cut.Given as goal
-
-abbrev pub invariant-loop-at : goal.invariant-loop-at
-invariant-loop-at l = Lacks l.byte (take l.at l.text)

@@ -1,0 +1,83 @@
+-- How a job is answered.
+use Rattle.std.proofs.Common.{◌≡◌, List, [], ◌∷◌, ◌++◌, ℕ, Bool, true, Result, Err, refl, sym, subst, inl}
+use Rattle.std.specs.List.{AllByRecursion, list_all}
+use Rattle.kb_heap.specs.declared.heap.Input.{Input}
+use Rattle.kb_semantics.specs.Machine.{Method}
+use Rattle.kb_semantics.specs.Types.{IsTypeCorrect}
+use Rattle.kb_test.specs.Texts.{SpellsTests}
+use Rattle.kb_world.specs.declared.world.GivenClass.{GivenClass}
+use Rattle.kb_world.specs.declared.world.MethodId.{MethodId}
+use Rattle.kb_names.specs.declared.types.Target.{Target}
+use Rattle.kb_world.specs.World.{Refuses}
+use Rattle.kb_world.specs.declared.linking.LinkRefusal.{LinkRefusal}
+use Rattle.kb_world.specs.declared.linking.LinkRefusal.TheVariants as links
+use Rattle.kiasan.specs.declared.path.Leaf.{Leaf}
+use Rattle.kiasan.specs.declared.path.Leaf.TheVariants.{Ended as EndedLeaf}
+use Rattle.kiasan.specs.declared.path.Path.{Path}
+use Rattle.kiasan.specs.declared.refusals.Stop.{Stop}
+use Rattle.kiasan.specs.declared.refusals.Stop.TheVariants.{Refused, ReadFault, NoMemory}
+use Rattle.kiasan.specs.declared.report.Report.{Report}
+use Rattle.kiasan.specs.declared.status.Status.TheVariants.{Complete}
+use Rattle.kiasan.specs.declared.words.Job.{Job}
+use Rattle.kiasan.specs.Answers.{ends, Carries, IsTestsTextOf, IsWrittenReport, RepliesJob}
+use Rattle.kiasan.specs.Covering.{CarriesInstance, EachPath, HoldsOf, IsReportOf, IsStatusOf, is_told, path_tests, tests_of}
+use Rattle.kiasan.specs.Paths.{IsInstance}
+use Rattle.kiasan.specs.Reach.{TargetRefuses}
+use Rattle.kiasan.specs.Refusals.{Gives, link_refusal}
+use Rattle.kiasan.specs.Tests.{EndsAsStated, no_literals}
+use Rattle.kiasan.specs.Unbuilt.{IsBuiltFor}
+use Rattle.kiasan.proofs.TestTexts.{tests_on}
+
+all_told : (leaves : List Path) → list_all (λ path. is_told path.leaf) leaves ≡ true
+all_told [] = refl
+all_told (path ∷ leaves) = rw (told path.leaf, all_told leaves) refl
+  where
+    told : (leaf : Leaf) → is_told leaf ≡ true
+    told (EndedLeaf ended) = refl
+
+-- what the world says of a target that it does not reach
+pub reach_stops : {A : Type 0} (Built : MethodId → Type 0) (world : List GivenClass) (target : Target) (found : LinkRefusal) (Passes : A → Type 0) → Refuses world target found →
+    Gives {A = A} ⊥ (TargetRefuses Built world target) Passes (Err (link_refusal found))
+reach_stops Built world target (links.NoMethod of) Passes is = inl (links.NoMethod of, is, refl)
+reach_stops Built world target links.NoMemory Passes is = tt
+
+pub job_stops : (IsTextOf : Method → Report → List ℕ → Type 0) (world : List GivenClass) (job : Job) (stop : Stop) →
+    Gives {A = Report} ⊥ (TargetRefuses (IsBuiltFor world job) world job.target) (IsWrittenReport world job) (Err stop) → Carries ⊥ (RepliesJob IsTextOf world job) (Err stop)
+unfolding RepliesJob
+job_stops IsTextOf world job (Refused refusal) given = inl given
+job_stops IsTextOf world job ReadFault given = given
+job_stops IsTextOf world job NoMemory given = tt
+
+pub job_ends : (IsTextOf : Method → Report → List ℕ → Type 0) (world : List GivenClass) (job : Job) (report : Report) (text : List ℕ) (written : IsWrittenReport world job report) →
+    IsTextOf written.reported.method report text → RepliesJob IsTextOf world job (ends Complete text)
+unfolding RepliesJob
+job_ends IsTextOf world job report text written is =
+    (written.id, (written.built.1.straight.found, written.built), record { report = report; reported = written.reported; has_status = subst (λ told. IsStatusOf told Complete) (sym (all_told report.leaves)) refl; text_is = is })
+
+-- ---- the tests of a report end as they state
+
+both_all : {A : Type 0} (P : A → Type 0) (xs ys : List A) → AllByRecursion P xs → AllByRecursion P ys → AllByRecursion P (xs ++ ys)
+both_all P [] ys front back = back
+both_all P (x ∷ xs) ys front back = (front.0, both_all P xs ys front.1 back)
+
+-- the input that a path carries is an instance, so that what the path's leaf says holds of its run
+path_ends : (world : List GivenClass) (id : MethodId) (method : Method) (report : Report) (path : Path) (leaf : Leaf) → CarriesInstance world id path leaf →
+    ((input : Input) → IsTypeCorrect world id input → IsInstance path input → HoldsOf report.bounds.run method path leaf input) →
+    AllByRecursion (EndsAsStated method) (path_tests report path leaf)
+path_ends world id method report path (EndedLeaf ended) carries holds = (holds ended.input carries.0 carries.1, tt)
+
+paths_end : (world : List GivenClass) (id : MethodId) (method : Method) (report : Report) (paths : List Path) → EachPath (λ path. CarriesInstance world id path path.leaf) paths →
+    ((input : Input) → IsTypeCorrect world id input → EachPath (λ path. IsInstance path input → HoldsOf report.bounds.run method path path.leaf input) paths) →
+    AllByRecursion (EndsAsStated method) (tests_on report paths)
+paths_end world id method report [] carry hold = tt
+paths_end world id method report (path ∷ paths) carry hold =
+    both_all (EndsAsStated method) (path_tests report path path.leaf) (tests_on report paths)
+    (path_ends world id method report path path.leaf carry.0 (λ input correct. (hold input correct).0))
+    (paths_end world id method report paths carry.1 (λ input correct. (hold input correct).1))
+
+pub tests_written : (world : List GivenClass) (job : Job) (report : Report) (text : List ℕ) (reported : IsReportOf world job report) → SpellsTests no_literals (tests_of report) text →
+    IsTestsTextOf reported.method report text
+tests_written world job report text reported spelled = record {
+  spelled = spelled;
+  end_as_stated = paths_end world reported.id reported.method report report.leaves reported.covers.carries reported.covers.holds;
+}

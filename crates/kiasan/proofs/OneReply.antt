@@ -1,0 +1,486 @@
+-- Words have one reply where the shelf tells each file that is read.
+use Rattle.std.proofs.Common.{◌≡◌, ◌⊎◌, ℕ, ◌+◌, ◌<◌, ◌≤◌, List, [], ◌∷◌, ◌++◌, length, map, take, Option, Some, None, IsSome, Result, Ok, Err, refl, sym, ◌∙◌, ap, subst, arith, inl, inr, append_assoc, append-nil, length-append, zero, suc, slice_get}
+use Rattle.std.specs.List.{AllByRecursion}
+use Rattle.kb_classfile.specs.declared.file.ClassFile.{ClassFile}
+use Rattle.kb_classfile.specs.declared.file.Code.{Code}
+use Rattle.kb_classfile.specs.declared.file.Method.{Method as ClassMethod}
+use Rattle.kb_classfile.specs.declared.refusal.ClassRefusal.{ClassRefusal}
+use Rattle.kb_classfile.specs.declared.refusal.ClassRefusal.TheVariants as classes
+use Rattle.kb_classfile.specs.Answers.{BeginsAsClass, IsNotBuilt}
+use Rattle.kb_classfile.specs.Small.{SpellsSmall}
+use Rattle.kb_classfile.specs.Spelling.{Spells}
+use Rattle.kb_classfile.specs.Reading.{class_file, unbuilt}
+use Rattle.kb_classfile.proofs.Begins.{spelled_begins}
+use Rattle.kb_classfile.proofs.Exactness.{class_file_exact}
+use Rattle.kb_classfile.proofs.Form.{one_file}
+use Rattle.kb_code.specs.declared.listing.Listing.{Listing}
+use Rattle.kb_grammar.specs.Lines.{Lacks, AreLines, IsFirstBadLine, lines_text}
+use Rattle.kb_grammar.proofs.Laws.{whole_only}
+use Rattle.kb_grammar.proofs.LineLaws.{lines_beyond, no_lines}
+use Rattle.kb_grammar.proofs.WordLaws.{same_cut}
+use Rattle.kb_heap.specs.declared.ending.Ending.{Ending}
+use Rattle.kb_heap.specs.declared.heap.Heap.{Heap}
+use Rattle.kb_names.specs.declared.types.Target.{Target}
+use Rattle.kb_semantics.specs.Machine.{Method, Ended, run_of}
+use Rattle.kb_semantics.specs.Types.{IsMethod, IsTypeCorrect}
+use Rattle.kb_test.specs.declared.test_case.Test.{Test}
+use Rattle.kb_test.specs.Texts.{IsTestsText, SpellsTests, tests_lines}
+use Rattle.kb_test.proofs.SameTests.{same_tests}
+use Rattle.kb_test.proofs.TestLines.{tests_are_lines}
+use Rattle.kb_world.specs.declared.linking.LinkRefusal.{LinkRefusal}
+use Rattle.kb_world.specs.declared.linking.LinkRefusal.TheVariants as links
+use Rattle.kb_world.specs.declared.world.GivenClass.{GivenClass}
+use Rattle.kb_world.specs.declared.world.MethodId.{MethodId}
+use Rattle.kb_world.specs.World.{AreGiven, AreListings, Declares, IsTargetOf}
+use Rattle.kb_world.proofs.Declared.{same_class, same_method}
+use Rattle.kb_world.proofs.Worlds.{one_id}
+use Rattle.kiasan.specs.declared.answer.Contents.{Contents}
+use Rattle.kiasan.specs.declared.refusals.Refusal.{Refusal}
+use Rattle.kiasan.specs.declared.refusals.Refusal.TheVariants as refusals
+use Rattle.kiasan.specs.declared.refusals.Stop.{Stop}
+use Rattle.kiasan.specs.declared.refusals.Stop.TheVariants.{Refused}
+use Rattle.kiasan.specs.declared.replay.Replayed.{Replayed}
+use Rattle.kiasan.specs.declared.replay.Replayed.TheVariants.{Passes, Differs}
+use Rattle.kiasan.specs.declared.report.Report.{Report}
+use Rattle.kiasan.specs.declared.status.Status.{Status}
+use Rattle.kiasan.specs.declared.words.Job.{Job}
+use Rattle.kiasan.specs.declared.words.Order.{Order}
+use Rattle.kiasan.specs.declared.words.Order.TheVariants.{Explore, Tests, Diagrams, Replay, Assemble, Sample}
+use Rattle.kiasan.specs.declared.words.WordFault.{WordFault}
+use Rattle.kiasan.specs.Answers.{Reply, refuses, ends, Stage, Last, RefusesNothing, Replies, RepliesTo, RepliesOn, RepliesIn, RepliesJob, RepliesReplay, WordsRefuse, IsRead, AreRead, IsContents, RefusesClasses, ClassRefuses, AreClasses, IsWorldOf, IsListed, file_of, TextRefuses, AreTestsOf, EndsReplay, EndsJob, AreTold, IsReplay, IsSameReply, class_limit, text_limit}
+use Rattle.kiasan.specs.Orders.{Orders, files_of, texts_of, classes_of}
+use Rattle.kiasan.specs.Reach.{ReachRefuses, TargetRefuses}
+use Rattle.kiasan.specs.Refusals.{word_refusal}
+use Rattle.kiasan.specs.Tests.{AreRunnable, AreVerdicts, IsRunnable, IsVerdict, EndsAsStated, RefusesTest, RefusesTests, no_literals, replay_status}
+use Rattle.kiasan.specs.Unbuilt.{IsBuiltFor, IsBuiltMethod}
+use Rattle.kiasan.proofs.ClassLaws.{one_small, one_given}
+use Rattle.kiasan.proofs.OneListing.{listings_one}
+use Rattle.kiasan.proofs.ReadLaws.{read_as_many}
+use Rattle.kiasan.proofs.StageLaws.{AreOne, HasOne, stage_one}
+use Rattle.kiasan.specs.Verdicts.{replay_text}
+use Rattle.kiasan.proofs.WordsLaws.{orders_one, one_order, fault_or_order, one_class}
+
+-- ---- the first of a list
+
+all_at : {A : Type 0} (P : A → Type 0) (xs : List A) (x : A) (ys : List A) → AllByRecursion P (xs ++ x ∷ ys) → P x
+all_at P [] x ys all = all.0
+all_at P (z ∷ xs) x ys all = all_at P xs x ys all.1
+
+-- the first that is bad is one
+same_first : {A : Type 0} (Good Bad : A → Type 0) → ((x : A) → Good x → Bad x → ⊥) → (xs ys : List A) (x y : A) (us vs : List A) → AllByRecursion Good xs → AllByRecursion Good ys →
+    Bad x → Bad y → xs ++ x ∷ us ≡ ys ++ y ∷ vs → (length xs ≡ length ys) × (x ≡ y)
+same_first Good Bad apart [] [] x y us vs p q b c e = let same : x ≡ y = cc in (refl, same)
+same_first Good Bad apart [] (z ∷ ys) x y us vs p q b c e = let same : x ≡ z = cc in absurd (apart z q.0 (subst Bad same b))
+same_first Good Bad apart (z ∷ xs) [] x y us vs p q b c e = let same : z ≡ y = cc in absurd (apart y (subst Good same p.0) c)
+same_first Good Bad apart (z ∷ xs) (w ∷ ys) x y us vs p q b c e =
+    let tails : xs ++ x ∷ us ≡ ys ++ y ∷ vs = cc in
+    let rest = same_first Good Bad apart xs ys x y us vs p.1 q.1 b c tails in
+    (ap suc rest.0, rest.1)
+
+-- ---- reading
+
+one_content : (limit : ℕ) (told : Option (List ℕ)) (xs ys : List ℕ) → IsSome told → IsContents limit told xs → IsContents limit told ys → xs ≡ ys
+one_content limit None xs ys some a b = cc
+one_content limit (Some all) xs ys some a b = a ∙ sym b
+
+one_reading : (limit : ℕ) (holds : List ℕ → Option (List ℕ)) (names xs ys : List (List ℕ)) → AllByRecursion (λ file. IsSome (holds file)) names → AreRead limit holds names xs →
+    AreRead limit holds names ys → xs ≡ ys
+one_reading limit holds [] [] [] told a b = refl
+one_reading limit holds [] (x ∷ xs) ys told a b = absurd a
+one_reading limit holds [] [] (y ∷ ys) told a b = absurd b
+one_reading limit holds (n ∷ names) [] ys told a b = absurd a
+one_reading limit holds (n ∷ names) (x ∷ xs) [] told a b = absurd b
+one_reading limit holds (n ∷ names) (x ∷ xs) (y ∷ ys) told a b =
+    let first : x ≡ y = one_content limit (holds n) x y told.0 a.0 b.0 in
+    let rest : xs ≡ ys = one_reading limit holds names xs ys told.1 a.1 b.1 in
+    rw (first, rest) refl
+
+front_told : {A : Type 0} (P : A → Type 0) (xs ys : List A) → AllByRecursion P (xs ++ ys) → AllByRecursion P xs × AllByRecursion P ys
+front_told P [] ys all = (tt, all)
+front_told P (x ∷ xs) ys all = let rest = front_told P xs ys all.1 in ((all.0, rest.0), rest.1)
+
+same_contents : (a b : Contents) → a.texts ≡ b.texts → a.classes ≡ b.classes → a ≡ b
+same_contents a b e f = λ i. record { texts = e i; classes = f i }
+
+one_contents : (holds : List ℕ → Option (List ℕ)) (order : Order) → AllByRecursion (λ file. IsSome (holds file)) (files_of order) → (a b : Contents) → IsRead holds order a →
+    IsRead holds order b → a ≡ b
+one_contents holds order told a b p q =
+    let parts = front_told (λ file. IsSome (holds file)) (texts_of order) (classes_of order) told in
+    same_contents a b (one_reading text_limit holds (texts_of order) a.texts b.texts parts.0 p.texts q.texts) (one_reading class_limit holds (classes_of order) a.classes b.classes parts.1 p.classes q.classes)
+
+-- ---- classes
+
+spelled_one : (a b : ClassFile) (bytes : List ℕ) → Spells a bytes → Spells b bytes → b ≡ a
+spelled_one a b bytes p q = one_file a b bytes (whole_only unbuilt class_file Spells class_file_exact bytes 0 a p) q
+
+abbrev IsClass : List ℕ → Type 0
+IsClass bytes = (file : ClassFile) × SpellsSmall file bytes
+
+abbrev IsBadClass : List ℕ → Type 0
+IsBadClass bytes = (number : ℕ) × (refusal : Refusal) × ClassRefuses number bytes refusal
+
+-- what refuses a class file, by cases
+class_fault : (number : ℕ) (bytes : List ℕ) (refusal : Refusal) → ClassRefuses number bytes refusal →
+    ((refusal ≡ refusals.Magic number) × (4 ≤ length bytes) × (BeginsAsClass bytes → ⊥)) ⊎ ((refusal ≡ refusals.Unbuilt) × IsNotBuilt bytes)
+class_fault number bytes refusal (classes.Magic, is, e) = let same : refusals.Magic number ≡ refusal = cc in inl (sym same, is.0, is.1)
+class_fault number bytes refusal (classes.Version v, is, e) = absurd is
+class_fault number bytes refusal (classes.Short at, is, e) = absurd is
+class_fault number bytes refusal (classes.Tag entry tag, is, e) = absurd is
+class_fault number bytes refusal (classes.PoolIndex at index, is, e) = absurd is
+class_fault number bytes refusal (classes.PoolKind at index, is, e) = absurd is
+class_fault number bytes refusal (classes.CodeLength at, is, e) = absurd is
+class_fault number bytes refusal (classes.Extra at, is, e) = absurd is
+class_fault number bytes refusal (classes.TwoCodes n, is, e) = absurd is
+class_fault number bytes refusal (classes.Long, is, e) = absurd is
+class_fault number bytes refusal (classes.Unbuilt, is, e) = let same : refusals.Unbuilt ≡ refusal = cc in inr (sym same, is)
+class_fault number bytes refusal (classes.NoMemory, is, e) = absurd is
+
+class_apart : (bytes : List ℕ) → IsClass bytes → IsBadClass bytes → ⊥
+class_apart bytes (file, small) (number, refusal, bad) = go (class_fault number bytes refusal bad)
+  where
+    go : ((refusal ≡ refusals.Magic number) × (4 ≤ length bytes) × (BeginsAsClass bytes → ⊥)) ⊎ ((refusal ≡ refusals.Unbuilt) × IsNotBuilt bytes) → ⊥
+    go (inl magic) = magic.2 (spelled_begins file bytes small.spelled).1
+    go (inr other) = other.1.none file small
+
+each_class : (classes : List (List ℕ)) (files : List ClassFile) → AreClasses classes files → AllByRecursion IsClass classes
+each_class [] [] are = tt
+each_class (c ∷ classes) (f ∷ files) are = ((f, are.0), each_class classes files are.1)
+each_class [] (f ∷ files) are = absurd are
+each_class (c ∷ classes) [] are = absurd are
+
+one_class_refusal : (number : ℕ) (bytes : List ℕ) (r s : Refusal) → ClassRefuses number bytes r → ClassRefuses number bytes s → r ≡ s
+one_class_refusal number bytes r s a b = go (class_fault number bytes r a) (class_fault number bytes s b)
+  where
+    either : (4 ≤ length bytes) → (BeginsAsClass bytes → ⊥) → (length bytes < 4) ⊎ BeginsAsClass bytes → ⊥
+    either long wrong (inl few) = omega (arith, few, long)
+    either long wrong (inr begins) = wrong begins
+
+    go : ((r ≡ refusals.Magic number) × (4 ≤ length bytes) × (BeginsAsClass bytes → ⊥)) ⊎ ((r ≡ refusals.Unbuilt) × IsNotBuilt bytes) →
+        ((s ≡ refusals.Magic number) × (4 ≤ length bytes) × (BeginsAsClass bytes → ⊥)) ⊎ ((s ≡ refusals.Unbuilt) × IsNotBuilt bytes) → r ≡ s
+    go (inl x) (inl y) = x.0 ∙ sym y.0
+    go (inr x) (inr y) = x.0 ∙ sym y.0
+    go (inl x) (inr y) = absurd (either x.1 x.2 y.1.begins)
+    go (inr x) (inl y) = absurd (either y.1 y.2 x.1.begins)
+
+classes_refusal : (classes : List (List ℕ)) (r s : Refusal) → RefusesClasses classes r → RefusesClasses classes s → r ≡ s
+classes_refusal classes r s a b =
+    let same = same_first IsClass IsBadClass class_apart a.before b.before a.bytes b.bytes a.after b.after (each_class a.before a.files a.good) (each_class b.before b.files b.good)
+    (length a.before, r, a.bad) (length b.before, s, b.bad) (sym a.classes_are ∙ b.classes_are) in
+    one_class_refusal (length b.before) b.bytes r s
+    (subst (λ (bytes : List ℕ). ClassRefuses (length b.before) bytes r) same.1 (subst (λ (n : ℕ). ClassRefuses n a.bytes r) same.0 a.bad)) b.bad
+
+classes_apart : (classes : List (List ℕ)) (r : Refusal) (files : List ClassFile) → RefusesClasses classes r → AreClasses classes files → ⊥
+classes_apart classes r files a are =
+    class_apart a.bytes (all_at IsClass a.before a.bytes a.after (subst (AllByRecursion IsClass) a.classes_are (each_class classes files are))) (length a.before, r, a.bad)
+
+one_files : (classes : List (List ℕ)) (xs ys : List ClassFile) → AreClasses classes xs → AreClasses classes ys → xs ≡ ys
+one_files [] [] [] a b = refl
+one_files [] (x ∷ xs) ys a b = absurd a
+one_files [] [] (y ∷ ys) a b = absurd b
+one_files (c ∷ classes) [] ys a b = absurd a
+one_files (c ∷ classes) (x ∷ xs) [] a b = absurd b
+one_files (c ∷ classes) (x ∷ xs) (y ∷ ys) a b =
+    let first : x ≡ y = spelled_one y x c b.0.spelled a.0.spelled in
+    let rest : xs ≡ ys = one_files classes xs ys a.1 b.1 in
+    rw (first, rest) refl
+
+same_given : (a b : GivenClass) → a.file ≡ b.file → a.listings ≡ b.listings → a ≡ b
+same_given a b e f = λ i. record { file = e i; listings = f i }
+
+one_world : (xs ys : List GivenClass) → map file_of xs ≡ map file_of ys → AllByRecursion IsListed xs → AllByRecursion IsListed ys → xs ≡ ys
+one_world [] [] e a b = refl
+one_world [] (y ∷ ys) e a b = absurd (omega (arith, ap length e))
+one_world (x ∷ xs) [] e a b = absurd (omega (arith, ap length e))
+one_world (x ∷ xs) (y ∷ ys) e a b =
+    let files : x.file ≡ y.file = cc in
+    let tails : map file_of xs ≡ map file_of ys = cc in
+    let listings : x.listings ≡ y.listings =
+    listings_one y.file.methods x.listings y.listings (subst (λ (f : ClassFile). AreListings f.methods x.listings) files a.0) b.0 in
+    let first : x ≡ y = same_given x y files listings in
+    let rest : xs ≡ ys = one_world xs ys tails a.1 b.1 in
+    rw (first, rest) refl
+
+worlds_one : (files : List ClassFile) (a b : List GivenClass) → IsWorldOf files a → IsWorldOf files b → a ≡ b
+worlds_one files a b p q = one_world a b (p.files_are ∙ sym q.files_are) p.listed q.listed
+
+-- ---- targets
+
+-- what is said of a target that reach refuses
+reach_none : (world : List GivenClass) (target : Target) (refusal : Refusal) → ReachRefuses world target refusal →
+    (refusal ≡ refusals.NoMethod target) × ((id : MethodId) → IsTargetOf world target id → ⊥)
+reach_none world target refusal (links.NoMethod of, (is, none), e) =
+    let same : refusals.NoMethod of ≡ refusal = cc in
+    (sym same ∙ ap refusals.NoMethod is, none)
+reach_none world target refusal (links.NoMemory, is, e) = absurd cc
+
+target_refusal : (Built : MethodId → Type 0) (world : List GivenClass) (target : Target) (r s : Refusal) → TargetRefuses Built world target r → TargetRefuses Built world target s → r ≡ s
+target_refusal Built world target r s (inl a) (inl b) = (reach_none world target r a).0 ∙ sym (reach_none world target s b).0
+target_refusal Built world target r s (inr a) (inr b) = a.0 ∙ sym b.0
+target_refusal Built world target r s (inl a) (inr b) = absurd ((reach_none world target r a).1 b.1.id b.1.found)
+target_refusal Built world target r s (inr a) (inl b) = absurd ((reach_none world target s b).1 a.1.id a.1.found)
+
+ids_one : (world : List GivenClass) (target : Target) → AreGiven world → (a b : MethodId) → IsTargetOf world target a → IsTargetOf world target b → a ≡ b
+ids_one world target given a b p q = one_id world a b target given p.declared q.declared
+
+target_apart : (Built : MethodId → Type 0) (world : List GivenClass) (target : Target) → AreGiven world → ((id : MethodId) → Built id → IsTargetOf world target id) →
+    (r : Refusal) (id : MethodId) → TargetRefuses Built world target r → Built id → ⊥
+target_apart Built world target given found r id (inl a) built = (reach_none world target r a).1 id (found id built)
+target_apart Built world target given found r id (inr a) built =
+    a.1.none (subst Built (ids_one world target given id a.1.id (found id built) a.1.found) built)
+
+job_one : (Same : Status → List ℕ → Status → List ℕ → Type 0) (IsTextOf : Method → Report → List ℕ → Type 0) (world : List GivenClass) (job : Job) → AreGiven world →
+    ((a b : Status) (t u : List ℕ) → Same a t b u) → HasOne Same (RepliesJob IsTextOf world job)
+unfolding RepliesJob
+job_one Same IsTextOf world job given any =
+    stage_one Same (TargetRefuses (IsBuiltFor world job) world job.target) (λ id. IsTargetOf world job.target id × IsBuiltFor world job id) (λ id. Last (EndsJob IsTextOf world job))
+    (target_refusal (IsBuiltFor world job) world job.target)
+    (λ r id refused reached. target_apart (IsBuiltFor world job) world job.target given (λ id built. built.1.straight.found) r id refused reached.1)
+    (λ a b p q. ids_one world job.target given a b p.0 q.0) (λ id built. last)
+  where
+    last : HasOne Same (Last (EndsJob IsTextOf world job))
+    last (refuses r) other a b = absurd a
+    last (ends s t) (refuses r) a b = absurd b
+    last (ends s t) (ends u v) a b = any s u t v
+
+-- ---- texts
+
+-- lines that both begin a text: the longer list goes on where the shorter one ends
+longer : (ls ms : List (List ℕ)) (us vs : List ℕ) → AreLines ls → AreLines ms → length ls < length ms → lines_text ls ++ us ≡ lines_text ms ++ vs →
+    (line : List ℕ) × (more : List (List ℕ)) × (ms ≡ ls ++ line ∷ more) × Lacks 10 line × (us ≡ line ++ 10 ∷ (lines_text more ++ vs))
+longer [] [] us vs p q few e = absurd (omega (arith, few))
+longer [] (m ∷ ms) us vs p q few e = (m, ms, refl, q.0, e ∙ append_assoc m (10 ∷ lines_text ms) vs)
+longer (l ∷ ls) [] us vs p q few e = absurd (omega (arith, few))
+longer (l ∷ ls) (m ∷ ms) us vs p q few e =
+    let cuts = same_cut 10 l m (lines_text ls ++ us) (lines_text ms ++ vs) p.0 q.0 (sym (append_assoc l (10 ∷ lines_text ls) us) ∙ e ∙ append_assoc m (10 ∷ lines_text ms) vs) in
+    let rest = longer ls ms us vs p.1 q.1 (omega (arith, few)) cuts.1 in
+    (rest.0, rest.1, ap (λ (x : List ℕ). x ∷ ms) (sym cuts.0) ∙ ap (λ (xs : List (List ℕ)). l ∷ xs) rest.2, rest.3, rest.4)
+
+lines_join : (ls : List (List ℕ)) (line : List ℕ) (more : List (List ℕ)) (tail : List ℕ) → lines_text (ls ++ line ∷ more) ++ tail ≡ lines_text ls ++ (line ++ 10 ∷ (lines_text more ++ tail))
+lines_join [] line more tail = append_assoc line (10 ∷ lines_text more) tail
+lines_join (l ∷ ls) line more tail =
+    append_assoc l (10 ∷ lines_text (ls ++ line ∷ more)) tail ∙ ap (λ (t : List ℕ). l ++ 10 ∷ t) (lines_join ls line more tail)
+    ∙ sym (append_assoc l (10 ∷ lines_text ls) (line ++ 10 ∷ (lines_text more ++ tail)))
+
+no_longer : (IsText : List ℕ → Type 0) (text : List ℕ) (m n : ℕ) (a : IsFirstBadLine IsText text m) (b : IsFirstBadLine IsText text n) → length a.before < length b.before → ⊥
+no_longer IsText text m n a b few =
+    let rest = longer a.before b.before a.rest b.rest a.are_lines b.are_lines few (sym a.is ∙ b.is) in
+    let more = b.goes_on.0 in
+    a.no_further rest.0 (lines_text rest.1 ++ b.rest) (lines_text rest.1 ++ more) rest.3 rest.4
+    (subst IsText (ap (λ (ls : List (List ℕ)). lines_text ls ++ more) rest.2 ∙ lines_join a.before rest.0 rest.1 more) b.goes_on.1)
+
+one_line : (IsText : List ℕ → Type 0) (text : List ℕ) (m n : ℕ) → IsFirstBadLine IsText text m → IsFirstBadLine IsText text n → m ≡ n
+one_line IsText text m n a b = a.number_is ∙ ap (λ (k : ℕ). k + 1) (one_length (length a.before) (length b.before) (no_longer IsText text m n a b) (no_longer IsText text n m b a)) ∙ sym b.number_is
+  where
+    one_length : (i j : ℕ) → (i < j → ⊥) → (j < i → ⊥) → i ≡ j
+    one_length zero zero a b = refl
+    one_length zero (suc j) a b = absurd (a (omega arith))
+    one_length (suc i) zero a b = absurd (b (omega arith))
+    one_length (suc i) (suc j) a b = ap suc (one_length i j (λ few. a (omega (arith, few))) (λ few. b (omega (arith, few))))
+
+-- a text is that of one list of tests
+one_tests : (one other : List Test) (text : List ℕ) → SpellsTests no_literals one text → SpellsTests no_literals other text → one ≡ other
+one_tests one other text p q =
+    let beyond = lines_beyond (tests_lines one) (tests_lines other) [] (tests_are_lines no_literals one p.0) (tests_are_lines no_literals other q.0)
+    (append-nil (lines_text (tests_lines one)) ∙ sym p.1 ∙ q.1) in
+    let none = no_lines [] beyond.0 tt beyond.2 in
+    let same : tests_lines other ≡ tests_lines one = beyond.1 ∙ ap (λ (lines : List (List ℕ)). tests_lines one ++ lines) none.0 ∙ append-nil (tests_lines one) in
+    same_tests no_literals one other p.0 q.0 (sym same)
+
+text_refusal : (bytes : List ℕ) (r s : Refusal) → TextRefuses bytes r → TextRefuses bytes s → r ≡ s
+text_refusal bytes r s (inl a) (inl b) = a.0 ∙ sym b.0
+text_refusal bytes r s (inl a) (inr b) = absurd (omega (arith, a.1, b.2))
+text_refusal bytes r s (inr a) (inl b) = absurd (omega (arith, b.1, a.2))
+text_refusal bytes r s (inr a) (inr b) = a.1 ∙ ap refusals.TestLine (one_line (IsTestsText no_literals) bytes a.0 b.0 a.3 b.3) ∙ sym b.1
+
+text_apart : (bytes : List ℕ) (r : Refusal) (tests : List Test) → TextRefuses bytes r → AreTestsOf bytes tests → ⊥
+text_apart bytes r tests (inl a) are = omega (arith, a.1, are.0)
+text_apart bytes r tests (inr a) are = a.3.no_text (tests, are.1)
+
+-- ---- tests
+
+abbrev IsFine : List GivenClass → Test → Type 0
+IsFine world test = (id : MethodId) × (method : Method) × IsRunnable world test id method
+
+abbrev IsBadTest : List GivenClass → Test → Type 0
+IsBadTest world test = (number : ℕ) × (refusal : Refusal) × RefusesTest world number test refusal
+
+built_found : (world : List GivenClass) (target : Target) (id : MethodId) → IsBuiltMethod world target id → IsTargetOf world target id
+built_found world target id built = built.1.found
+
+test_apart : (world : List GivenClass) → AreGiven world → (test : Test) → IsFine world test → IsBadTest world test → ⊥
+test_apart world given test (id, method, run) (number, refusal, inl bad) = bad.1 id run.straight.found
+test_apart world given test (id, method, run) (number, refusal, inr (inl bad)) =
+    bad.3 (subst (λ (i : MethodId). IsTypeCorrect world i test.input) (ids_one world test.target given id bad.1 run.straight.found bad.2) run.correct)
+test_apart world given test (id, method, run) (number, refusal, inr (inr bad)) =
+    target_apart (IsBuiltMethod world test.target) world test.target given (built_found world test.target) refusal id bad.2 (method, run.straight)
+
+each_fine : (world : List GivenClass) (tests : List Test) (ids : List MethodId) → AreRunnable world tests ids → AllByRecursion (IsFine world) tests
+each_fine world [] [] are = tt
+each_fine world (t ∷ tests) (i ∷ ids) are = ((i, are.0.0, are.0.1), each_fine world tests ids are.1)
+each_fine world [] (i ∷ ids) are = absurd are
+each_fine world (t ∷ tests) [] are = absurd are
+
+one_test_refusal : (world : List GivenClass) → AreGiven world → (number : ℕ) (test : Test) (r s : Refusal) → RefusesTest world number test r → RefusesTest world number test s → r ≡ s
+one_test_refusal world given number test r s (inl a) (inl b) = a.0 ∙ sym b.0
+one_test_refusal world given number test r s (inl a) (inr (inl b)) = absurd (a.1 b.1 b.2)
+one_test_refusal world given number test r s (inl a) (inr (inr b)) = absurd (a.1 b.0 b.1.found)
+one_test_refusal world given number test r s (inr (inl a)) (inl b) = absurd (b.1 a.1 a.2)
+one_test_refusal world given number test r s (inr (inl a)) (inr (inl b)) = a.0 ∙ sym b.0
+one_test_refusal world given number test r s (inr (inl a)) (inr (inr b)) =
+    absurd (a.3 (subst (λ (i : MethodId). IsTypeCorrect world i test.input) (ids_one world test.target given b.0 a.1 b.1.found a.2) b.1.correct))
+one_test_refusal world given number test r s (inr (inr a)) (inl b) = absurd (b.1 a.0 a.1.found)
+one_test_refusal world given number test r s (inr (inr a)) (inr (inl b)) =
+    absurd (b.3 (subst (λ (i : MethodId). IsTypeCorrect world i test.input) (ids_one world test.target given a.0 b.1 a.1.found b.2) a.1.correct))
+one_test_refusal world given number test r s (inr (inr a)) (inr (inr b)) = target_refusal (IsBuiltMethod world test.target) world test.target r s a.2 b.2
+
+tests_refusal_one : (world : List GivenClass) → AreGiven world → (tests : List Test) (r s : Refusal) → RefusesTests world tests r → RefusesTests world tests s → r ≡ s
+tests_refusal_one world given tests r s a b =
+    let same = same_first (IsFine world) (IsBadTest world) (test_apart world given) a.before b.before a.test b.test a.after b.after (each_fine world a.before a.ids a.good)
+    (each_fine world b.before b.ids b.good) (length a.before, r, a.bad) (length b.before, s, b.bad) (sym a.tests_are ∙ b.tests_are) in
+    one_test_refusal world given (length b.before) b.test r s
+    (subst (λ (t : Test). RefusesTest world (length b.before) t r) same.1 (subst (λ (n : ℕ). RefusesTest world n a.test r) same.0 a.bad)) b.bad
+
+tests_apart : (world : List GivenClass) → AreGiven world → (tests : List Test) (r : Refusal) (ids : List MethodId) → RefusesTests world tests r → AreRunnable world tests ids → ⊥
+tests_apart world given tests r ids a are =
+    test_apart world given a.test (all_at (IsFine world) a.before a.test a.after (subst (AllByRecursion (IsFine world)) a.tests_are (each_fine world tests ids are)))
+    (length a.before, r, a.bad)
+
+one_ids : (world : List GivenClass) → AreGiven world → (tests : List Test) (xs ys : List MethodId) → AreRunnable world tests xs → AreRunnable world tests ys → xs ≡ ys
+one_ids world given [] [] [] a b = refl
+one_ids world given [] (x ∷ xs) ys a b = absurd a
+one_ids world given [] [] (y ∷ ys) a b = absurd b
+one_ids world given (t ∷ tests) [] ys a b = absurd a
+one_ids world given (t ∷ tests) (x ∷ xs) [] a b = absurd b
+one_ids world given (t ∷ tests) (x ∷ xs) (y ∷ ys) a b =
+    let first : x ≡ y = ids_one world t.target given x y a.0.1.straight.found b.0.1.straight.found in
+    let rest : xs ≡ ys = one_ids world given tests xs ys a.1 b.1 in
+    rw (first, rest) refl
+
+-- ---- runs
+
+same_value : {A : Type 0} (o : Option A) (x y : A) → o ≡ Some x → o ≡ Some y → x ≡ y
+same_value o x y a b = cc
+
+same_machine : (m n : Method) → m.target ≡ n.target → m.max_stack ≡ n.max_stack → m.max_locals ≡ n.max_locals → m.listing ≡ n.listing → m.size ≡ n.size → m ≡ n
+same_machine m n t s l i z = λ k. record { target = t k; max_stack = s k; max_locals = l k; listing = i k; size = z k }
+
+one_machine : (world : List GivenClass) (id : MethodId) (m n : Method) → m.target ≡ n.target → IsMethod world id m → IsMethod world id n → m ≡ n
+one_machine world id m n targets a b =
+    let class = same_class world id m.target n.target a.declared b.declared in
+    let method = same_method world id m.target n.target a.declared b.declared in
+    let code : a.code ≡ b.code = same_value a.declared.names.method.code a.code b.code a.has_code (ap (λ (x : ClassMethod). x.code) method ∙ b.has_code) in
+    let listed : slice_get a.declared.class.listings id.number ≡ Some (Some b.listing) = ap (λ (c : GivenClass). slice_get c.listings id.number) class ∙ b.has_listing in
+    let listing : Some a.listing ≡ Some b.listing = same_value (slice_get a.declared.class.listings id.number) (Some a.listing) (Some b.listing) a.has_listing listed in
+    let same : a.listing ≡ b.listing = cc in
+    same_machine m n targets
+    (a.max_stack ∙ ap (λ (c : Code). c.max_stack) code ∙ sym b.max_stack) (a.max_locals ∙ ap (λ (c : Code). c.max_locals) code ∙ sym b.max_locals)
+    (a.items ∙ ap (λ (l : Listing). l.items) same ∙ sym b.items) (a.size ∙ ap (λ (c : Code). length c.bytes) code ∙ sym b.size)
+
+one_verdict : (method : Method) (test : Test) (x y : Replayed) → IsVerdict method test x → IsVerdict method test y → x ≡ y
+one_verdict method test Passes Passes a b = refl
+one_verdict method test Passes (Differs ending heap) a b = absurd (b.1 a)
+one_verdict method test (Differs ending heap) Passes a b = absurd (a.1 b)
+one_verdict method test (Differs ending heap) (Differs other last) a b =
+    let same = sym a.0 ∙ b.0 in
+    let endings : ending ≡ other = ap (λ (e : Ended). e.ending) same in
+    let heaps : heap ≡ last = ap (λ (e : Ended). e.heap) same in
+    rw (endings, heaps) refl
+
+one_verdicts : (world : List GivenClass) → AreGiven world → (tests : List Test) (xs ys : List Replayed) → AreVerdicts world tests xs → AreVerdicts world tests ys → xs ≡ ys
+one_verdicts world given [] [] [] a b = refl
+one_verdicts world given [] (x ∷ xs) ys a b = absurd a
+one_verdicts world given [] [] (y ∷ ys) a b = absurd b
+one_verdicts world given (t ∷ tests) [] ys a b = absurd a
+one_verdicts world given (t ∷ tests) (x ∷ xs) [] a b = absurd b
+one_verdicts world given (t ∷ tests) (x ∷ xs) (y ∷ ys) a b =
+    let p = a.0.2 in
+    let q = b.0.2 in
+    let ids : a.0.0 ≡ b.0.0 = ids_one world t.target given a.0.0 b.0.0 p.straight.found q.straight.found in
+    let runs : IsMethod world b.0.0 a.0.1 = subst (λ (i : MethodId). IsMethod world i a.0.1) ids p.straight.runs in
+    let machine : a.0.1 ≡ b.0.1 = one_machine world b.0.0 a.0.1 b.0.1 (p.straight.named ∙ sym q.straight.named) runs q.straight.runs in
+    let first : x ≡ y = one_verdict b.0.1 t x y (subst (λ (m : Method). IsVerdict m t x) machine a.0.3) b.0.3 in
+    let rest : xs ≡ ys = one_verdicts world given tests xs ys a.1 b.1 in
+    rw (first, rest) refl
+
+replay_one : (Same : Status → List ℕ → Status → List ℕ → Type 0) (bytes : List ℕ) (world : List GivenClass) → AreGiven world →
+    ((a b : Status) (t u : List ℕ) → a ≡ b → t ≡ u → Same a t b u) → HasOne Same (RepliesReplay bytes world)
+unfolding RepliesReplay
+replay_one Same bytes world given same =
+    stage_one Same (TextRefuses bytes) (AreTestsOf bytes) _ (text_refusal bytes) (text_apart bytes) (λ a b p q. one_tests a b bytes p.1 q.1) (λ tests are.
+    stage_one Same (RefusesTests world tests) (AreRunnable world tests) _ (tests_refusal_one world given tests) (tests_apart world given tests) (one_ids world given tests) (λ ids fit. last tests))
+  where
+    last : (tests : List Test) → HasOne Same (Last (EndsReplay world tests))
+    last tests (refuses r) other a b = absurd a
+    last tests (ends s t) (refuses r) a b = absurd b
+    last tests (ends s t) (ends u v) a b =
+        let verdicts : a.verdicts ≡ b.verdicts = one_verdicts world given tests a.verdicts b.verdicts a.verdicts_are b.verdicts_are in
+        same s u t v (a.status_is ∙ ap (λ vs. replay_status vs) verdicts ∙ sym b.status_is) (a.text_is ∙ ap (λ vs. replay_text tests vs) verdicts ∙ sym b.text_is)
+
+-- ---- words
+
+abbrev SameEnd : List (List ℕ) → Status → List ℕ → Status → List ℕ → Type 0
+SameEnd words a t b u = IsReplay words → (a ≡ b) × (t ≡ u)
+
+not_both : (words : List (List ℕ)) (order : Order) → Orders words (Ok order) → ((tests : List ℕ) (files : List (List ℕ)) → order ≡ Replay tests files → ⊥) → IsReplay words → ⊥
+not_both words order ordered other (tests, files, replay) =
+    let same : result_of order ≡ result_of (Replay tests files) = orders_one words (Ok order) (Ok (Replay tests files)) ordered replay in
+    let orders : order ≡ Replay tests files = cc in
+    other tests files orders
+  where
+    result_of : Order → Result Order WordFault
+    result_of o = Ok o
+
+order_one : (words : List (List ℕ)) (order : Order) → Orders words (Ok order) → (texts : List (List ℕ)) (world : List GivenClass) → AreGiven world → HasOne (SameEnd words) (RepliesIn order texts world)
+order_one words (Explore job) ordered texts world given =
+    job_one (SameEnd words) _ world job given (λ a b t u replay. absurd (not_both words (Explore job) ordered (λ tests files e. cc) replay))
+order_one words (Tests job) ordered texts world given =
+    job_one (SameEnd words) _ world job given (λ a b t u replay. absurd (not_both words (Tests job) ordered (λ tests files e. cc) replay))
+order_one words (Replay name files) ordered (bytes ∷ []) world given = replay_one (SameEnd words) bytes world given (λ a b t u e f replay. (e, f))
+order_one words (Replay name files) ordered [] world given = λ one other a b. absurd a
+order_one words (Replay name files) ordered (bytes ∷ more ∷ texts) world given = λ one other a b. absurd a
+order_one words (Diagrams job) ordered texts world given = λ one other a b. absurd a
+order_one words (Assemble name) ordered texts world given = λ one other a b. absurd a
+order_one words (Sample blocks) ordered texts world given = λ one other a b. absurd a
+
+contents_one : (words : List (List ℕ)) (order : Order) → Orders words (Ok order) → (contents : Contents) → length contents.classes ≡ 1 → HasOne (SameEnd words) (RepliesOn order contents)
+unfolding RepliesOn
+contents_one words order ordered contents one =
+    stage_one (SameEnd words) (RefusesClasses contents.classes) (AreClasses contents.classes) _ (classes_refusal contents.classes) (classes_apart contents.classes)
+    (one_files contents.classes) (λ files are.
+    stage_one (SameEnd words) RefusesNothing (IsWorldOf files) (λ world. RepliesIn order contents.texts world) (λ r s wrong more. absurd wrong) (λ r world wrong is. wrong)
+    (worlds_one files) (λ world is.
+    order_one words order ordered contents.texts world (one_given files world (one_small contents.classes files one are) is)))
+
+to_one : (words : List (List ℕ)) (holds : List ℕ → Option (List ℕ)) (order : Order) → Orders words (Ok order) → AreTold words holds → HasOne (SameEnd words) (RepliesTo order holds)
+unfolding RepliesTo
+to_one words holds order ordered told =
+    stage_one (SameEnd words) RefusesNothing (IsRead holds order) (RepliesOn order) (λ r s wrong more. absurd wrong) (λ r contents wrong is. wrong)
+    (one_contents holds order (told order ordered)) (λ contents read.
+    contents_one words order ordered contents (read_as_many class_limit holds (classes_of order) contents.classes read.classes ∙ one_class words order ordered))
+
+fault_one : (words : List (List ℕ)) (r s : Refusal) → WordsRefuse words r → WordsRefuse words s → r ≡ s
+fault_one words r s (f, p, e) (g, q, h) =
+    let same : result_of f ≡ result_of g = orders_one words (Err f) (Err g) p q in
+    let faults : f ≡ g = cc in
+    let stops : refused_by r ≡ refused_by s = sym e ∙ ap word_refusal faults ∙ h in
+    cc
+  where
+    result_of : WordFault → Result Order WordFault
+    result_of f = Err f
+
+    refused_by : Refusal → Stop
+    refused_by r = Refused r
+
+words_one : (words : List (List ℕ)) (holds : List ℕ → Option (List ℕ)) → AreTold words holds → HasOne (SameEnd words) (Replies words holds)
+unfolding Replies
+words_one words holds told =
+    stage_one (SameEnd words) (WordsRefuse words) (λ order. Orders words (Ok order)) (λ order. RepliesTo order holds) (fault_one words)
+    (λ r order refused ordered. fault_or_order words refused.0 order refused.1 ordered)
+    (λ a b p q. one_order words a b p q) (λ order ordered. to_one words holds order ordered told)
+
+-- two replies to the same words are the same refusal, or neither is one
+pub one_reply : (words : List (List ℕ)) (holds : List ℕ → Option (List ℕ)) → AreTold words holds → (one other : Reply) → Replies words holds one → Replies words holds other → IsSameReply words one other
+one_reply words holds told (refuses r) (refuses s) a b = words_one words holds told (refuses r) (refuses s) a b
+one_reply words holds told (refuses r) (ends s t) a b = words_one words holds told (refuses r) (ends s t) a b
+one_reply words holds told (ends s t) (refuses r) a b = words_one words holds told (ends s t) (refuses r) a b
+one_reply words holds told (ends s t) (ends u v) a b = words_one words holds told (ends s t) (ends u v) a b

@@ -1,0 +1,197 @@
+-- What the top call owes.
+use Rattle.std.proofs.Common.{◌≡◌, ◌⊎◌, ℕ, List, [], ◌∷◌, Option, Result, Ok, Err, IfOk, refl, sym, ◌∙◌, ap, subst, inl, inr, nat_eq, Bool, true, false, cond}
+use Rattle.std.specs.List.{list_all}
+use Rattle.kb_outside.specs.Outside.{Rose, Grows, GrowsByPart}
+use Rattle.kb_semantics.specs.Machine.{Method}
+use Rattle.kb_world.specs.declared.world.GivenClass.{GivenClass}
+use Rattle.kiasan.specs.declared.refusals.Answer.{Answer}
+use Rattle.kiasan.specs.declared.refusals.Refusal.{Refusal}
+use Rattle.kiasan.specs.declared.refusals.Refusal.TheVariants as refusals
+use Rattle.kiasan.specs.declared.refusals.Stop.{Stop}
+use Rattle.kiasan.specs.declared.refusals.Stop.TheVariants as stops
+use Rattle.kiasan.specs.declared.report.Report.{Report}
+use Rattle.kiasan.specs.declared.replay.Replayed.{Replayed}
+use Rattle.kiasan.specs.declared.words.Job.{Job}
+use Rattle.kiasan.specs.declared.words.Order.{Order}
+use Rattle.kiasan.specs.declared.words.Order.TheVariants.{Explore, Tests, Diagrams, Replay, Assemble, Sample}
+use Rattle.kiasan.specs.declared.status.Status.{Status}
+use Rattle.kiasan.specs.declared.status.Status.TheVariants.{Complete, Words, Class, Link, Outside, ReadFault, WriteFault, Memory, Text, Differs}
+use Rattle.kiasan.specs.Answers.{Reply, refuses, ends, Carries, Replies, RepliesTo, RepliesOn, RepliesIn, RepliesJob, RepliesReplay, Answers, IsAnswer, IsDone, IsOfVerdicts, IsReplay, IsSameReply, EndsAs, Owes, SomeUnsound, WritesNothing, reply_status}
+use Rattle.kiasan.specs.Covering.{IsStatusOf, is_told}
+use Rattle.kiasan.specs.Orders.{Orders}
+use Rattle.kiasan.specs.Refusals.{refusal_status, refusal_line}
+use Rattle.kiasan.specs.Tests.{count_differs, replay_status}
+use Rattle.kiasan.proofs.OneReply.{one_reply}
+
+-- ---- the statuses of answers
+
+pub refusal_answers : (refusal : Refusal) → IsAnswer (refusal_status refusal)
+refusal_answers (refusals.Magic file) = tt
+refusal_answers (refusals.NoMethod target) = tt
+refusal_answers refusals.Unbuilt = tt
+refusal_answers (refusals.TestLine number) = tt
+refusal_answers (refusals.NoTestMethod number) = tt
+refusal_answers (refusals.IllTypedTest number) = tt
+refusal_answers refusals.LongText = tt
+refusal_answers refusals.NoCommand = tt
+refusal_answers (refusals.BadTarget word) = tt
+
+replay_answers : (verdicts : List Replayed) → IsAnswer (replay_status verdicts)
+replay_answers verdicts = go (nat_eq (count_differs verdicts) 0)
+  where
+    go : (b : Bool) → IsAnswer (cond b Complete Differs)
+    go true = tt
+    go false = tt
+
+-- by now a report is told to its end
+told_status : (told : Bool) (status : Status) → IsStatusOf told status → status ≡ Complete
+told_status true status is = is
+told_status false status none = absurd none
+
+job_answers : (IsTextOf : Method → Report → List ℕ → Type 0) (world : List GivenClass) (job : Job) (status : Status) (text : List ℕ) → RepliesJob IsTextOf world job (ends status text) → IsAnswer status
+unfolding RepliesJob
+job_answers IsTextOf world job status text (id, built, end) = rw (told_status (list_all (λ path. is_told path.leaf) end.report.leaves) status end.has_status) tt
+
+tests_answer : (bytes : List ℕ) (world : List GivenClass) (status : Status) (text : List ℕ) → RepliesReplay bytes world (ends status text) → IsAnswer status
+unfolding RepliesReplay
+tests_answer bytes world status text (tests, are, (ids, fit, end)) = rw end.status_is (replay_answers end.verdicts)
+
+order_answers : (order : Order) (texts : List (List ℕ)) (world : List GivenClass) (status : Status) (text : List ℕ) → RepliesIn order texts world (ends status text) → IsAnswer status
+order_answers (Explore job) texts world status text h = job_answers _ world job status text h
+order_answers (Tests job) texts world status text h = job_answers _ world job status text h
+order_answers (Replay name files) (bytes ∷ []) world status text h = tests_answer bytes world status text h
+order_answers (Replay name files) [] world status text h = absurd h
+order_answers (Replay name files) (bytes ∷ other ∷ more) world status text h = absurd h
+order_answers (Diagrams job) texts world status text h = absurd h
+order_answers (Assemble name) texts world status text h = absurd h
+order_answers (Sample blocks) texts world status text h = absurd h
+
+pub ends_answer : (words : List (List ℕ)) (holds : List ℕ → Option (List ℕ)) (status : Status) (text : List ℕ) → Replies words holds (ends status text) → IsAnswer status
+unfolding Replies RepliesTo RepliesOn
+ends_answer words holds status text (order, ordered, (contents, read, (files, spelled, (world, is, h)))) = order_answers order contents.texts world status text h
+
+-- what is carried out is an answer
+pub carried : (words : List (List ℕ)) (holds : List ℕ → Option (List ℕ)) (answer : Answer) → Replies words holds (ends answer.status answer.text.items) →
+    Answers words holds answer.status answer.text.items × IsAnswer answer.status
+carried words holds answer replied =
+    (record { reply = ends answer.status answer.text.items; replied = replied; status_is = refl; text_is = refl }, ends_answer words holds answer.status answer.text.items replied)
+
+pub refused : (words : List (List ℕ)) (holds : List ℕ → Option (List ℕ)) (refusal : Refusal) (status : Status) (text : List ℕ) → Replies words holds (refuses refusal) →
+    status ≡ refusal_status refusal → text ≡ refusal_line refusal → Answers words holds status text × IsAnswer status
+refused words holds refusal status text replied is line =
+    (record { reply = refuses refusal; replied = replied; status_is = is; text_is = line }, rw is (refusal_answers refusal))
+
+-- ---- where neither count rises
+
+-- a status is one of verdicts where the words are a replay, and otherwise one of what is told
+abbrev IsStatusFor : List (List ℕ) → Status → Type 0
+IsStatusFor words status = (IsReplay words → IsOfVerdicts status) × ((IsReplay words → ⊥) → IsDone status)
+
+job_status : (IsTextOf : Method → Report → List ℕ → Type 0) (words : List (List ℕ)) (world : List GivenClass) (job : Job) (status : Status) (text : List ℕ) →
+    RepliesJob IsTextOf world job (ends status text) → IsStatusFor words status
+unfolding RepliesJob
+job_status IsTextOf words world job status text (id, built, end) = rw (told_status (list_all (λ path. is_told path.leaf) end.report.leaves) status end.has_status) ((λ replay. tt), (λ none. tt))
+
+verdicts_status : (verdicts : List Replayed) → IsOfVerdicts (replay_status verdicts)
+verdicts_status verdicts = go (nat_eq (count_differs verdicts) 0)
+  where
+    go : (b : Bool) → IsOfVerdicts (cond b Complete Differs)
+    go true = tt
+    go false = tt
+
+tests_status : (bytes : List ℕ) (world : List GivenClass) (status : Status) (text : List ℕ) → RepliesReplay bytes world (ends status text) → IsOfVerdicts status
+unfolding RepliesReplay
+tests_status bytes world status text (tests, are, (ids, fit, end)) = rw end.status_is (verdicts_status end.verdicts)
+
+order_status : (words : List (List ℕ)) (order : Order) → Orders words (Ok order) → (texts : List (List ℕ)) (world : List GivenClass) (status : Status) (text : List ℕ) →
+    RepliesIn order texts world (ends status text) → IsStatusFor words status
+order_status words (Explore job) ordered texts world status text h = job_status _ words world job status text h
+order_status words (Tests job) ordered texts world status text h = job_status _ words world job status text h
+order_status words (Replay name files) ordered (bytes ∷ []) world status text h =
+    ((λ replay. tests_status bytes world status text h), (λ none. absurd (none (name, files, ordered))))
+order_status words (Replay name files) ordered [] world status text h = absurd h
+order_status words (Replay name files) ordered (bytes ∷ other ∷ more) world status text h = absurd h
+order_status words (Diagrams job) ordered texts world status text h = absurd h
+order_status words (Assemble name) ordered texts world status text h = absurd h
+order_status words (Sample blocks) ordered texts world status text h = absurd h
+
+status_of : (words : List (List ℕ)) (holds : List ℕ → Option (List ℕ)) (status : Status) (text : List ℕ) → Replies words holds (ends status text) → IsStatusFor words status
+unfolding Replies RepliesTo RepliesOn
+status_of words holds status text (order, ordered, (contents, read, (files, spelled, (world, is, h)))) = order_status words order ordered contents.texts world status text h
+
+-- what is answered with a status ends as each reply says that is the same
+ends_as : (words : List (List ℕ)) (holds : List ℕ → Option (List ℕ)) (status : Status) (one reply : Reply) → Replies words holds one → status ≡ reply_status one →
+    IsSameReply words one reply → EndsAs words reply status
+ends_as words holds status (refuses r) (refuses s) replied is same = is ∙ ap (λ refusal. refusal_status refusal) same
+ends_as words holds status (refuses r) (ends u v) replied is same = absurd same
+ends_as words holds status (ends s t) (refuses r) replied is same = absurd same
+ends_as words holds status (ends s t) (ends u v) replied is same =
+    let of = status_of words holds s t replied in
+    ((λ replay. (is ∙ (same replay).0, subst IsOfVerdicts (sym is) (of.0 replay))), (λ none. subst IsDone (sym is) (of.1 none)))
+
+-- ---- what a call owes, by how it ends
+
+pub owes_read : (words : List (List ℕ)) (holds : List ℕ → Option (List ℕ)) (sound : List ℕ → Type 0) (before now : ℕ) (bytes : Option (List ℕ)) (first last : ℕ) →
+    Rose before now → SomeUnsound words sound → Owes words holds sound (before, now) (bytes, bytes) (first, last) ReadFault
+owes_read words holds sound before now bytes first last rose some = record {
+  answers = λ is. absurd is;
+  read_counted = λ e. rose;
+  read_unsound = λ e. some;
+  write_counted = λ e. absurd cc;
+  write_part = λ e. absurd cc;
+  nothing = λ is. refl;
+  certain = λ none calm told reply replied. absurd (none rose);
+}
+
+pub owes_memory : (words : List (List ℕ)) (holds : List ℕ → Option (List ℕ)) (sound : List ℕ → Type 0) (before now : ℕ) (bytes : Option (List ℕ)) (first last : ℕ) →
+    Owes words holds sound (before, now) (bytes, bytes) (first, last) Memory
+owes_memory words holds sound before now bytes first last = record {
+  answers = λ is. absurd is;
+  read_counted = λ e. absurd cc;
+  read_unsound = λ e. absurd cc;
+  write_counted = λ e. absurd cc;
+  write_part = λ e. absurd cc;
+  nothing = λ is. refl;
+  certain = λ none calm told reply replied. inl refl;
+}
+
+is_none : (status : Status) → IsAnswer status → (status ≡ ReadFault → ⊥) × (status ≡ WriteFault → ⊥) × (WritesNothing status → ⊥)
+is_none ReadFault is = absurd is
+is_none WriteFault is = absurd is
+is_none Memory is = absurd is
+is_none Complete is = ((λ e. cc), (λ e. cc), λ n. n)
+is_none Words is = ((λ e. cc), (λ e. cc), λ n. n)
+is_none Class is = ((λ e. cc), (λ e. cc), λ n. n)
+is_none Link is = ((λ e. cc), (λ e. cc), λ n. n)
+is_none Outside is = ((λ e. cc), (λ e. cc), λ n. n)
+is_none Text is = ((λ e. cc), (λ e. cc), λ n. n)
+is_none Differs is = ((λ e. cc), (λ e. cc), λ n. n)
+
+pub owes_answer : (words : List (List ℕ)) (holds : List ℕ → Option (List ℕ)) (sound : List ℕ → Type 0) (before now : ℕ) (bytes after : Option (List ℕ)) (first last : ℕ)
+    (status : Status) (text : List ℕ) → Answers words holds status text → IsAnswer status → Grows bytes after text →
+    Owes words holds sound (before, now) (bytes, after) (first, last) status
+owes_answer words holds sound before now bytes after first last status text answers is grows =
+    let none = is_none status is in
+    record {
+      answers = λ h. (text, answers, grows);
+      read_counted = λ e. absurd (none.0 e);
+      read_unsound = λ e. absurd (none.0 e);
+      write_counted = λ e. absurd (none.1 e);
+      write_part = λ e. absurd (none.1 e);
+      nothing = λ h. absurd (none.2 h);
+      certain = λ calm still told reply replied.
+          inr (ends_as words holds status answers.reply reply answers.replied answers.status_is (one_reply words holds told answers.reply reply answers.replied replied));
+    }
+
+pub owes_part : (words : List (List ℕ)) (holds : List ℕ → Option (List ℕ)) (sound : List ℕ → Type 0) (before now : ℕ) (bytes after : Option (List ℕ)) (first last : ℕ)
+    (status : Status) (text : List ℕ) → Answers words holds status text → Rose first last → GrowsByPart bytes after text →
+    Owes words holds sound (before, now) (bytes, after) (first, last) WriteFault
+owes_part words holds sound before now bytes after first last status text answers rose grows = record {
+  answers = λ is. absurd is;
+  read_counted = λ e. absurd cc;
+  read_unsound = λ e. absurd cc;
+  write_counted = λ e. rose;
+  write_part = λ e. (status, text, answers, grows);
+  nothing = λ is. absurd is;
+  certain = λ calm none told reply replied. absurd (none rose);
+}

@@ -1,9 +1,0 @@
-use Rattle.std.proofs.Common.{◌≡◌, ◌+◌, ◌++◌, length}
-use Rattle.kiasan.specs.Tests.{verdicts_text}
-use Rattle.kiasan.proofs.replay.verdicts_text.Given as goal
-
-abbrev pub invariant-loop-rest : goal.invariant-loop-rest
-invariant-loop-rest l = (l.text.items ++ verdicts_text l.number l.rest ≡ verdicts_text 0 l.replayed) × (l.number + length l.rest ≡ length l.replayed)
-
-abbrev pub decreases-loop-rest : goal.decreases-loop-rest
-decreases-loop-rest l = length l.rest

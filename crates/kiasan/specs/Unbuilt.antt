@@ -1,0 +1,39 @@
+-- What is not built by now, and is refused by 50 until it is.
+use Rattle.std.specs.Prelude.{◌≡◌, ◌≢◌, List, [], ◌∷◌, ℕ, codes}
+use Rattle.kb_names.specs.declared.types.Target.{Target}
+use Rattle.kb_semantics.specs.Machine.{Method}
+use Rattle.kb_world.specs.declared.world.GivenClass.{GivenClass}
+use Rattle.kb_world.specs.declared.world.MethodId.{MethodId}
+use Rattle.kb_world.specs.World.{IsTargetOf}
+use Rattle.kiasan.specs.declared.status.Status.{Status}
+use Rattle.kiasan.specs.declared.status.Status.TheVariants.{Outside}
+use Rattle.kiasan.specs.Report.{line}
+use Rattle.kiasan.specs.declared.words.Job.{Job}
+use Rattle.kiasan.specs.Straight.{IsStraight}
+use Rattle.kiasan.specs.StraightPath.{IsExplorable}
+use Rattle.kiasan.specs.Words.{IsJobCommand, AreJobWords, AreReplayWords}
+
+abbrev pub unbuilt_status : Status
+unbuilt_status = Outside
+
+unfoldable pub unbuilt_line : List ℕ
+unbuilt_line = line (codes "refused 50" ∷ [])
+
+-- words of another form than those that are built
+pub record AreUnbuiltWords (words : List (List ℕ)) : Type 0 where
+  pub some : words ≢ []
+  pub no_job : (command method file : List ℕ) → IsJobCommand command → AreJobWords words command method file → ⊥
+  pub no_replay : (tests file : List ℕ) → AreReplayWords words tests file → ⊥
+
+-- a method is built for tests where it is straight, and for a job where its runs also end within the job's bounds
+abbrev pub IsBuiltMethod : List GivenClass → Target → MethodId → Type 0
+IsBuiltMethod world target id = (method : Method) × IsStraight world target id method
+
+abbrev pub IsBuiltFor : List GivenClass → Job → MethodId → Type 0
+IsBuiltFor world job id = (method : Method) × IsExplorable world job id method
+
+-- the target names a method that may be run, and it is not built
+pub record IsUnbuilt (Built : MethodId → Type 0) (world : List GivenClass) (target : Target) : Type 0 where
+  pub id : MethodId
+  pub found : IsTargetOf world target id
+  pub none : Built id → ⊥

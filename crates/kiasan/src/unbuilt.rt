@@ -1,0 +1,48 @@
+//! What is not built by now, and is refused by 50 until it is.
+
+ghost use Rattle.std.specs.Prelude.{◌≡◌, ◌⊎◌};
+ghost use Rattle.kb_names.specs.Targets.{IsTarget};
+ghost use Rattle.kb_test.specs.Texts.{AreTests, IsRunBounds};
+ghost use Rattle.kb_world.specs.World.{IsTargetOf};
+ghost use Rattle.kiasan.specs.Answers.{IsWrittenReport};
+ghost use Rattle.kiasan.specs.Covering.{IsReportOf, tests_of};
+ghost use Rattle.kiasan.specs.Reach.{TargetRefuses};
+ghost use Rattle.kiasan.specs.Refusals.{Gives};
+ghost use Rattle.kiasan.specs.Tests.{no_literals};
+ghost use Rattle.kiasan.specs.Unbuilt.{IsBuiltFor, IsBuiltMethod};
+
+use crate::refusals::{Refusal, Stop};
+use crate::report::Report;
+use crate::reports::report_of;
+use crate::status::Status;
+use crate::straight::explore_method;
+use crate::words::Job;
+use kb_names::Target;
+use kb_world::{MethodId, World};
+use std::alloc::Global;
+
+pub const UNBUILT_STATUS: Status = Status::Outside;
+
+pub const UNBUILT_LINE: &str = "refused 50\n";
+
+/// The report of a job's method, where it is built.
+pub fn built_report(alloc: Global, world: &World, job: &Job, id: MethodId) -> Result<Report, Stop>
+    requires found { IsTargetOf world.now job.now.target id }
+    ensures { Gives ⊥ (TargetRefuses (IsBuiltFor world.now job.now) world.now job.now.target) (IsWrittenReport world.now job.now) result }
+{
+    let Some(report) = report_of(alloc, world, job, id)? else {
+        return Err(Stop::Refused(Refusal::Unbuilt));
+    };
+    Ok(report)
+}
+
+/// Refuses a test's method that is not built.
+pub fn check_built(alloc: Global, world: &World, target: &Target, id: MethodId) -> Result<(), Stop>
+    requires { IsTargetOf world.now target.now id }
+    ensures { Gives ⊥ (TargetRefuses (IsBuiltMethod world.now target.now) world.now target.now) (λ _. IsBuiltMethod world.now target.now id) result }
+{
+    let Some(_explored) = explore_method(alloc, world, target, id)? else {
+        return Err(Stop::Refused(Refusal::Unbuilt));
+    };
+    Ok(())
+}

@@ -1,0 +1,39 @@
+//! The top call over memory, on the class file of the README's first example.
+//!
+//! The gate runs each program as two compilers make it and compares what the two write. The stored run of the program
+//! itself has no words, so this one takes the main path.
+#![tactic(auto)]
+
+use kb_outside::{MemoryShelf, MemorySink};
+use kb_samples::CLASS_A;
+use kiasan::{Status, kiasan};
+use std::alloc::Global;
+use std::io::{self, Write};
+use std::process::ExitCode;
+
+const WORDS: [&str; 4] = ["explore", "--method", "A.f(II)I", "A.class"];
+
+/// More bytes than the report has.
+const ROOM: usize = 1024;
+
+/// Writes what the top call wrote into memory, and ends with its status.
+fn main(rt: HostRuntime) -> io::Result<ExitCode> {
+    let (status, text) = explored(rt.alloc())?;
+    io::writer(&rt).write_all(text.as_slice())?;
+    Ok(ExitCode::from(status.number()))
+}
+
+/// The status and the text of the top call on class A.
+fn explored(alloc: Global) -> io::Result<(Status, Vec<u8>)> {
+    let mut words = Vec::new(alloc);
+    for word in WORDS {
+        words.push(String::from_str(alloc, word)?)?;
+    }
+    let file = (String::from_str(alloc, "A.class")?, CLASS_A.to_vec(alloc)?);
+    let mut shelf = MemoryShelf::new(vec![in alloc; file]?, Vec::new(alloc));
+    let Ok(mut sink) = MemorySink::new(alloc, ROOM, Vec::new(alloc)).with_room(ROOM) else {
+        return Ok((Status::Memory, Vec::new(alloc)));
+    };
+    let status = kiasan(alloc, words.as_slice(), &mut shelf, &mut sink);
+    Ok((status, sink.bytes().to_vec(alloc)?))
+}

@@ -1,0 +1,44 @@
+//! What the program does with its words: the top call, and the exit code.
+
+ghost use Rattle.std.specs.Prelude.{◌≡◌, map, string_bytes, IfOk, IsErr, IsErrOf};
+ghost use Rattle.std.specs.Process.{exit_status};
+ghost use Rattle.kiasan.specs.StatusNumber.{status_number};
+ghost use Rattle.kiasan.specs.declared.status.Status.{Status};
+ghost use Rattle.kiasan_main.specs.Program.{EndsWith, not_utf8};
+ghost use Rattle.kiasan_main.specs.declared.words.WordsStop.{WordsStop};
+
+use crate::words::WordsStop;
+use kb_outside::{Shelf, Sink};
+use kiasan::{Status, kiasan};
+use std::alloc::Global;
+use std::process::ExitCode;
+
+/// The exit code where a word is not UTF-8. It is no status.
+const NOT_UTF8: u8 = 71;
+
+/// Does what the words ask for, and ends with the number of the status. Where there are no words to go by, nothing is
+/// read or written.
+pub fn run<S: Shelf, K: Sink>(
+    alloc: Global,
+    words: Result<Vec<String>, WordsStop>,
+    shelf: &mut S,
+    out: &mut K,
+) -> ExitCode
+    ensures called { IfOk words (λ given. EndsWith (map string_bytes given.items) (S.holds shelf.old) (S.sound shelf.old) (S.faults shelf.old, S.faults shelf.new) (K.written out.old, K.written out.new) (K.faults out.old, K.faults out.new) (exit_status result)) }
+    ensures no_utf8 { IsErrOf words WordsStop.NotUtf8 → exit_status result ≡ not_utf8 }
+    ensures no_memory { IsErrOf words WordsStop.NoMemory → exit_status result ≡ status_number Status.Memory }
+    ensures nothing { IsErr words → K.written out.new ≡ K.written out.old }
+{
+    match words {
+        Ok(words) => exit_code(kiasan(alloc, words.as_slice(), shelf, out)),
+        Err(WordsStop::NotUtf8) => ExitCode::from(NOT_UTF8),
+        Err(WordsStop::NoMemory) => exit_code(Status::Memory),
+    }
+}
+
+/// The exit code of a status is its number.
+fn exit_code(status: Status) -> ExitCode
+    ensures { exit_status result ≡ status_number status }
+{
+    ExitCode::from(status.number())
+}

@@ -1,0 +1,5 @@
+public class A {
+    public static int f(int a, int b) {
+        return a + b;
+    }
+}
