@@ -3,10 +3,10 @@
 must-fail edits.
 
 The gate's own log has no times. So this script looks several times a second at the processes that the gate started, and
-keeps of each the processor time that it was last seen with. Each process is a line of a log: its kind, its crate and its
-seconds. The table is made from that log, also from one of an earlier run (--read). Processes shorter than the interval are
-missed, and of each other one the time behind the last look, so the sum is a little below the whole processor time, which is
-printed beside it.
+keeps of each the processor time that it was last seen with. Each process is a line of a log, written as soon as the process
+has ended: its kind, its crate and its seconds. The table is made from that log, also from one of an earlier run or of one that
+still goes on (--read). Processes shorter than the interval are missed, and of each other one the time behind the last look, so
+the sum is a little below the whole processor time, which is printed beside it.
 
 Where an earlier run on this machine passed a crate, the gate takes that, so its row is missing: `-- rt ci --anew` does all
 anew.
@@ -73,22 +73,30 @@ def crate_and_kind(number):
 
 
 def watch(command, every, log):
-    """Runs the command, and writes to the log a line for each process of the prover that it started."""
+    """Runs the command, and writes to the log a line for each process of the prover that it started, once that has ended."""
     seconds, work = {}, {}
     child = subprocess.Popen(command, cwd=ROOT)
-    while child.poll() is None:
-        found = processes()
-        for number in below(child.pid, found):
-            if number not in work:
-                work[number] = crate_and_kind(number)
-            seconds[number] = found[number][1]
-        time.sleep(every)
-    with open(log, "w", encoding="utf-8") as out:
+    with open(log, "w", encoding="utf-8", buffering=1) as out:
+        while child.poll() is None:
+            found = processes()
+            running = below(child.pid, found)
+            for number in running:
+                if not work.get(number):
+                    work[number] = crate_and_kind(number)
+                seconds[number] = found[number][1]
+            for number in set(work).difference(running):
+                write_line(out, work.pop(number), seconds.pop(number))
+            time.sleep(every)
         for number, of in work.items():
-            if of:
-                out.write(f"{of[1]} {of[0]} {seconds[number]:.2f}\n")
+            write_line(out, of, seconds[number])
     usage = resource.getrusage(resource.RUSAGE_CHILDREN)
     return child.returncode, usage.ru_utime + usage.ru_stime
+
+
+def write_line(out, of, seconds):
+    """Writes the line of a process, where it was one of the prover."""
+    if of:
+        out.write(f"{of[1]} {of[0]} {seconds:.2f}\n")
 
 
 def table(log):
