@@ -1,8 +1,7 @@
 #!/usr/bin/env python3
 """Times the two checks of kb_chain, check_refutation and check_fresh, on logs of 1,000, 2,000, 4,000 and 8,000 entries.
 
-No program of the repository reads logs. So this script writes a small one into a throw-away repository, beside copies
-of kb_chain and kb_rows, has `rt run` prove and build it there, and keeps it as build/logs until one of these changes.
+No program of the repository reads logs. So this script builds a small one of its own (built.py), over kb_chain and kb_rows.
 The program builds a formula and a log of one of four shapes, checks the log so many times, and prints the verdict,
 which is compared with the one that is expected. The time of a run that builds both and checks nothing is taken off. All
 times are processor times, the least of the runs, so that other work on the machine disturbs them little.
@@ -14,19 +13,11 @@ The first run takes as long as the proofs of kb_chain take, unless a checkout on
 """
 
 import argparse
-import os
-import resource
-import shutil
-import subprocess
 import sys
-import tempfile
-import time
 from dataclasses import dataclass
-from pathlib import Path
 
-ROOT = Path(__file__).resolve().parent.parent
-LIBRARIES = [ROOT / "crates" / name for name in ("kb_rows", "kb_chain")]
-PROGRAM = ROOT / "build" / "logs"
+from built import Program
+
 SIZES = [1000, 2000, 4000, 8000]
 CRATES = "kb_rows:\nkb_chain: kb_rows smallvec\nlogs: kb_chain\n"
 
@@ -233,58 +224,12 @@ fn one_step(alloc: Global, start: u32, pivot: u32, side: u32) -> Result<Chain, N
 """
 
 
-def is_built():
-    """Whether the program is newer than each file that it is made of."""
-    if not PROGRAM.is_file():
-        return False
-    folders = [library / folder for library in LIBRARIES for folder in ("src", "specs", "proofs")]
-    sources = [file for folder in folders for file in folder.rglob("*")]
-    return all(file.stat().st_mtime <= PROGRAM.stat().st_mtime for file in [*sources, Path(__file__)])
-
-
-def write_repository(root):
-    """Writes the throw-away repository, and returns the folder of its program."""
-    (root / "crates.txt").write_text(CRATES)
-    for library in LIBRARIES:
-        shutil.copytree(library, root / "crates" / library.name, ignore=shutil.ignore_patterns("must-fail", "out"))
-    folder = root / "crates" / "logs"
-    (folder / "src").mkdir(parents=True)
-    (folder / "src" / "main.rt").write_text(SOURCE)
-    return folder
-
-
-def build():
-    """Proves and builds the program. The copy that is kept has the time at which the build began."""
-    log = PROGRAM.with_suffix(".log")
-    print(f"building the program, which proves it first ({log})", file=sys.stderr)
-    start = time.time()
-    PROGRAM.parent.mkdir(exist_ok=True)
-    with tempfile.TemporaryDirectory() as root, log.open("wb") as out:
-        folder = write_repository(Path(root))
-        words = ["rt", "run", "--", SHAPES[0].word, "10", "1"]
-        if subprocess.run(words, cwd=folder, stdin=subprocess.DEVNULL, stdout=out, stderr=out).returncode != 0:
-            sys.exit(f"the program could not be built; see {log}")
-        fresh = shutil.copy(folder / "out" / "logs", PROGRAM.with_suffix(".fresh"))
-        os.utime(fresh, (start, start))
-        os.replace(fresh, PROGRAM)
-
-
-def processor_seconds():
-    """The processor time of the runs that have ended."""
-    used = resource.getrusage(resource.RUSAGE_CHILDREN)
-    return used.ru_utime + used.ru_stime
+PROGRAM = Program(name="logs", crates=CRATES, source=SOURCE, trial=[SHAPES[0].word, "10", "1"])
 
 
 def timed_run(shape, size, checks):
     """The processor time of one run, whose verdict must be the one that is expected."""
-    words = [str(PROGRAM), shape.word, str(size), str(checks)]
-    before = processor_seconds()
-    run = subprocess.run(words, stdin=subprocess.DEVNULL, capture_output=True)
-    took = processor_seconds() - before
-    wanted = b"good\n" if checks else b"unchecked\n"
-    if run.returncode != 0 or run.stdout != wanted:
-        sys.exit(f"{' '.join(words[1:])}: status {run.returncode}, {run.stdout!r} and not {wanted!r}")
-    return took
+    return PROGRAM.timed_run([shape.word, str(size), str(checks)], b"good\n" if checks else b"unchecked\n")
 
 
 def measured(runs):
@@ -322,8 +267,7 @@ def main():
     options = words.parse_args()
     if options.runs < 1:
         sys.exit("--runs must be at least 1")
-    if not is_built():
-        build()
+    PROGRAM.build(__file__)
     building, checking = measured(options.runs)
     for shape in SHAPES:
         print_table(shape, building, checking)

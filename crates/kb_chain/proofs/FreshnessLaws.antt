@@ -1,14 +1,14 @@
 -- Freshness by the least set.
-use Rattle.std.proofs.Common.{◌≡◌, ℕ, ◌+◌, ◌<◌, List, [], ◌∷◌, ◌++◌, Bool, true, false, refl, ap, sym, ◌∙◌, inl, inr, ◌⊎◌, map, subst, length, take, get_or, Some, slice_get}
+use Rattle.std.proofs.Common.{◌≡◌, ℕ, ◌+◌, ◌<◌, List, [], ◌∷◌, ◌++◌, Bool, true, false, ap, sym, ◌∙◌, inl, inr, ◌⊎◌, map, subst, length, take, get_or, Some, slice_get}
 use Rattle.std.specs.Prelude.{Result, Ok, Err, IfOk, OnOk}
 use Rattle.std.specs.Bool.{OnTrue, OnFalse}
 use Rattle.std.proofs.lemmas.Bool.{false≢true, OnTrue_from, OnTrue_at, OnFalse_from, OnFalse_at}
 use Rattle.std.proofs.lemmas.List.{take_more}
 use Rattle.kb_chain.specs.Literal.{Literal, negated, has}
-use Rattle.kb_chain.specs.Propagation.{others, all_negated, IsClosed, Includes, NegatesSome, Misses, IsNew}
-use Rattle.kb_chain.specs.Index.{Extends, IsSettled, AreSettled, IsRoot, IsRefuted}
+use Rattle.kb_chain.specs.Propagation.{others, IsClosed, Includes, NegatesSome, Misses, IsNew}
+use Rattle.kb_chain.specs.Index.{IsFrontOf, IsSettled, AreSettled, IsRoot, IsRefuted}
 use Rattle.kb_chain.proofs.IndexLaws.{slice_get-pushed, slice_get-kept}
-use Rattle.kb_chain.proofs.PropagationLaws.{all_negated_more, IsSettled_more, Extends-part}
+use Rattle.kb_chain.proofs.PropagationLaws.{all_negated_more, IsSettled_more, IsFrontOf-part}
 
 -- one more clause is looked at
 slice_get_more : (xs : List (List Literal)) (i : ℕ) (d : List Literal) (k : ℕ) (y : List Literal) → i < length xs → slice_get (take (i + 1) xs) k ≡ Some y
@@ -20,10 +20,10 @@ slice_get_more xs i d k y lt e =
     ]
 
 pub AreSettled_begin : (clauses : List (List Literal)) (i : ℕ) (clause : List Literal) (old new : List Literal) → i < length clauses → clause ≡ get_or clauses i clause
-    → Extends old new → AreSettled (take i clauses) [] old → IsSettled (has old) (has new) clause → AreSettled (take (i + 1) clauses) [] new
+    → IsFrontOf old new → AreSettled (take i clauses) [] old → IsSettled (has old) (has new) clause → AreSettled (take (i + 1) clauses) [] new
 AreSettled_begin clauses i clause old new lt is grown settled now k other e =
     elim (slice_get_more clauses i clause k other lt e) [
-      | inl s ↦ IsSettled_more (has []) (has []) (has old) (has new) other (λ l j. j) (Extends-part old new grown) (settled k other s)
+      | inl s ↦ IsSettled_more (has []) (has []) (has old) (has new) other (λ l j. j) (IsFrontOf-part old new grown) (settled k other s)
       | inr s ↦ subst (λ z. IsSettled (has []) (has new) z) (is ∙ s)
           (IsSettled_more (has old) (has []) (has new) (has new) clause (λ l j. absurd (false≢true j)) (λ l j. j) now)
     ]
@@ -33,11 +33,11 @@ pub IsClosed_front : (clauses : List (List Literal)) (clause : List Literal) (se
 IsClosed_front clauses clause set closed k other e l j o = closed k other (slice_get-kept clauses clause k other e) l j o
 
 -- one more clause is settled
-pub AreSettled-push : (clauses : List (List Literal)) (clause old new taken : List Literal) → Extends old new → taken ≡ old
+pub AreSettled-push : (clauses : List (List Literal)) (clause old new taken : List Literal) → IsFrontOf old new → taken ≡ old
     → AreSettled clauses old old → IsSettled (has old) (has new) clause → AreSettled (clauses ++ clause ∷ []) taken new
 AreSettled-push clauses clause old new taken grown e settled now k other at =
     subst (λ z. IsSettled (has z) (has new) other) (sym e) (elim (slice_get-pushed clauses clause k other at) [
-      | inl s ↦ IsSettled_more (has old) (has old) (has old) (has new) other (λ l j. j) (Extends-part old new grown) (settled k other s)
+      | inl s ↦ IsSettled_more (has old) (has old) (has old) (has new) other (λ l j. j) (IsFrontOf-part old new grown) (settled k other s)
       | inr s ↦ subst (λ z. IsSettled (has old) (has new) z) s.1 now
     ])
 

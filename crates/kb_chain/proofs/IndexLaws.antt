@@ -1,10 +1,7 @@
 -- The index of clauses, and unit propagation by it.
-use Rattle.std.proofs.Common.{◌≡◌, ℕ, ◌<◌, ◌≤◌, List, [], ◌∷◌, ◌++◌, Bool, true, false, not, cond, arith, refl, ap, sym, ◌∙◌, inl, inr, ◌⊎◌, subst, length, get_or, zero, suc, ◌==◌, Some, slice_get}
-use Rattle.std.proofs.lemmas.Bool.{false≢true, eqb-true}
-use Rattle.std.specs.List.{filter}
-use Rattle.kb_chain.specs.Literal.{Literal, place_of, same, has}
-use Rattle.kb_chain.specs.Clause.{IsOrdered}
-use Rattle.kb_chain.specs.Propagation.{others}
+use Rattle.std.proofs.Common.{◌≡◌, ℕ, ◌≤◌, List, [], ◌∷◌, ◌++◌, Bool, true, false, arith, refl, ap, sym, ◌∙◌, inl, inr, ◌⊎◌, subst, length, get_or, zero, suc, ◌==◌, Some, slice_get}
+use Rattle.std.proofs.lemmas.Bool.{false≢true}
+use Rattle.kb_chain.specs.Literal.{Literal, place_of, has}
 use Rattle.kb_chain.specs.Index.{IsIndexed, has_number}
 use Rattle.kb_chain.specs.declared.index.Index.{Index}
 

@@ -5,7 +5,7 @@ use Rattle.std.specs.Prelude.{option_and_then, IsSomeAnd}
 use Rattle.std.proofs.lemmas.List.{take_more}
 use Rattle.std.proofs.lemmas.Option.{option_and_then_some}
 use Rattle.kb_chain.specs.Literal.{Literal}
-use Rattle.kb_chain.specs.Chains.{entry_of, derived, EachEntry, IsFirstBad, IsRefutation}
+use Rattle.kb_chain.specs.Chains.{entry_of, derived, EachEntry, IsFirstBadEntry, IsRefutation}
 use Rattle.kb_chain.specs.declared.log.Chain.{Chain}
 
 -- one more entry derives one more clause
@@ -66,7 +66,7 @@ module _ (Good : List (List Literal) → List Literal → Type 0) where
   -- an entry that does not derive, or whose clause is not good, is the first bad one behind good ones
   pub first_bad : (entries : List Chain) (clauses all : List (List Literal)) (i : ℕ) (d : Chain) → i < length entries
       → derived clauses (take i entries) ≡ Some all → EachEntry Good clauses (take i entries)
-      → (IsSomeAnd (entry_of all (get_or entries i d)) (Good all) → ⊥) → IsFirstBad Good clauses entries i
+      → (IsSomeAnd (entry_of all (get_or entries i d)) (Good all) → ⊥) → IsFirstBadEntry Good clauses entries i
   first_bad entries clauses all i d lt h each bad = record {
     inside = lt;
     before = each;

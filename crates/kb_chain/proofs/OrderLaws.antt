@@ -7,7 +7,7 @@ use Rattle.std.proofs.Math.Seq.{take-suc, take-append_seam}
 use Rattle.std.proofs.lemmas.Bool.{and_parts, or_cases, cases_Bool, eqb-true, eqb-false, ltb-true, ltb-false, eq-eqb, false≢true}
 use Rattle.std.specs.List.{filter}
 use Rattle.kb_chain.specs.Literal.{Literal, place_of, same, has}
-use Rattle.kb_chain.specs.Clause.{IsBefore, IsOrdered, IsRising, with_literal, clause_of}
+use Rattle.kb_chain.specs.Clause.{IsBefore, IsOrdered, IsInPlaceOrder, with_literal, clause_of}
 use Rattle.kb_chain.proofs.LiteralLaws.{has-append, same-true, has_head, has_tail, has-filter}
 
 -- each literal of xs is in ys
@@ -143,7 +143,7 @@ IsOrdered-push (x ∷ xs) l h f = (
     ]
 
 -- what stands in a rising list before i comes before what stands at j
-pub has_take-rising : (xs : List Literal) → IsRising xs → (i j : ℕ) (d m : Literal) → i ≤ j → j < length xs → has (take i xs) m ≡ true
+pub has_take-rising : (xs : List Literal) → IsInPlaceOrder xs → (i j : ℕ) (d m : Literal) → i ≤ j → j < length xs → has (take i xs) m ≡ true
     → place_of m ≤ place_of (get_or xs j d)
 has_take-rising xs h zero j d m le lt e = absurd (false≢true e)
 has_take-rising xs h (suc i) j d m le lt e =
@@ -220,7 +220,7 @@ took_new xs kept i d lt f m =
     ∙ (ap (λ b. b || same m (get_or xs i d)) (f m) ∙ sym (has_take-suc xs i d m lt)))
 
 -- the next literal of a rising list goes behind what ordered literals have of it so far, if they do not have it
-pub push_rising : (xs kept : List Literal) (i : ℕ) (d : Literal) → IsRising xs → i < length xs → IsOrdered kept
+pub push_rising : (xs kept : List Literal) (i : ℕ) (d : Literal) → IsInPlaceOrder xs → i < length xs → IsOrdered kept
     → ((m : Literal) → has kept m ≡ has (take i xs) m) → has kept (get_or xs i d) ≡ false → IsOrdered (kept ++ get_or xs i d ∷ [])
 push_rising xs kept i d h lt o f absent =
     IsOrdered-push kept (get_or xs i d) o (λ m e. below m e (has_take-rising xs h i i d m (omega arith) lt (sym (f m) ∙ e)))

@@ -1,5 +1,5 @@
 -- Unit propagation: clauses against growing sets of literals.
-use Rattle.std.proofs.Common.{◌≡◌, ℕ, ◌+◌, ◌*◌, ◌<◌, ◌≤◌, List, [], ◌∷◌, ◌++◌, Bool, true, false, not, ◌&&◌, ◌||◌, cond, arith, refl, ap, sym, ◌∙◌, inl, inr, ◌⊎◌, subst, length, get_or, take, zero, suc, ◌==◌, Option, Some, None, slice_get, length-take, drop, drop-cons}
+use Rattle.std.proofs.Common.{◌≡◌, ℕ, ◌+◌, ◌*◌, ◌<◌, ◌≤◌, List, [], ◌∷◌, ◌++◌, Bool, true, false, not, ◌&&◌, ◌||◌, cond, arith, refl, ap, sym, ◌∙◌, inl, inr, ◌⊎◌, subst, length, get_or, take, zero, suc, ◌==◌, Option, Some, None, length-take, drop, drop-cons}
 use Rattle.std.specs.Option.{option_to_list, is_some}
 use Rattle.std.proofs.lemmas.List.Elements.{filter-append}
 use Rattle.std.proofs.lemmas.Bool.{and_parts, and_from, or_cases, or_left, or_right, cases_Bool, false≢true, eqb-true, not-true, false_from_ne_true}
@@ -9,7 +9,7 @@ use Rattle.std.specs.List.{filter}
 use Rattle.kb_chain.specs.Literal.{Literal, literal, negated, place_of, same, has}
 use Rattle.kb_chain.specs.Clause.{IsOrdered}
 use Rattle.kb_chain.specs.Propagation.{others, all_negated, IsClosed, NegatesSome}
-use Rattle.kb_chain.specs.Index.{joined, Extends, IsSettled, AreSettled, open_literals, status_of, has_number}
+use Rattle.kb_chain.specs.Index.{joined, IsFrontOf, IsSettled, AreSettled, open_literals, status_of, has_number}
 use Rattle.kb_chain.specs.declared.propagation.Status.TheVariants.{Negated, Unit, Open}
 use Rattle.kb_chain.proofs.LiteralLaws.{same-true, has_head, has_tail, has-append, has-filter, negated-negated}
 use Rattle.kb_chain.proofs.OrderLaws.{IsOrdered-filter, has_take-suc}
@@ -160,11 +160,11 @@ has_taken (x ∷ xs) (suc i) l e = elim (or_cases (same l x) (has (take i xs) l)
 pub taken_part : (xs : List Literal) (i : ℕ) → IsPart (has (take i xs)) (has xs)
 taken_part xs i l e = has_taken xs i l e
 
-pub Extends-part : (old new : List Literal) → Extends old new → IsPart (has old) (has new)
-Extends-part old new e l h = has_taken new (length old) l (ap (λ z. has z l) e ∙ h)
+pub IsFrontOf-part : (old new : List Literal) → IsFrontOf old new → IsPart (has old) (has new)
+IsFrontOf-part old new e l h = has_taken new (length old) l (ap (λ z. has z l) e ∙ h)
 
-pub Extends-length : (old new : List Literal) → Extends old new → length old ≤ length new
-Extends-length old new e = let k : length (take (length old) new) ≡ length old = ap length e in omega (arith, length-take (length old) new)
+pub IsFrontOf-length : (old new : List Literal) → IsFrontOf old new → length old ≤ length new
+IsFrontOf-length old new e = let k : length (take (length old) new) ≡ length old = ap length e in omega (arith, length-take (length old) new)
 
 pub take-take-le : (i j : ℕ) (xs : List Literal) → i ≤ j → take i (take j xs) ≡ take i xs
 take-take-le zero j xs h = refl
@@ -172,11 +172,11 @@ take-take-le (suc i) zero xs h = absurd (omega arith)
 take-take-le (suc i) (suc j) [] h = refl
 take-take-le (suc i) (suc j) (x ∷ xs) h = ap (λ z. x ∷ z) (take-take-le i j xs (omega arith))
 
-pub Extends-take : (old new : List Literal) (i : ℕ) → Extends old new → i ≤ length old → take i new ≡ take i old
-Extends-take old new i e h = sym (take-take-le i (length old) new h) ∙ ap (take i) e
+pub IsFrontOf-take : (old new : List Literal) (i : ℕ) → IsFrontOf old new → i ≤ length old → take i new ≡ take i old
+IsFrontOf-take old new i e h = sym (take-take-le i (length old) new h) ∙ ap (take i) e
 
-pub Extends-trans : (a b c : List Literal) → Extends a b → Extends b c → Extends a c
-Extends-trans a b c e f = Extends-take b c (length a) f (Extends-length a b e) ∙ e
+pub IsFrontOf-trans : (a b c : List Literal) → IsFrontOf a b → IsFrontOf b c → IsFrontOf a c
+IsFrontOf-trans a b c e f = IsFrontOf-take b c (length a) f (IsFrontOf-length a b e) ∙ e
 
 -- the literal that is taken up joins those before it
 negation_absent : (taken : List Literal) (p : Literal) (clause part : List Literal) → IsPart (has part) (has clause) → has clause (negated p) ≡ false
@@ -187,12 +187,12 @@ negation_absent taken p clause part inside absent more is h = all_negated-from (
       | inr s ↦ absurd (false≢true (sym absent ∙ (ap (λ z. has clause z) (sym (ap negated (same-true (negated l) p s)) ∙ negated-negated l) ∙ inside l e)))
     ])
 
-pub IsSettled_taken : (trail later : List Literal) (i : ℕ) (d : Literal) (clause : List Literal) → i < length trail → Extends trail later
+pub IsSettled_taken : (trail later : List Literal) (i : ℕ) (d : Literal) (clause : List Literal) → i < length trail → IsFrontOf trail later
     → IsSettled (has (take i trail)) (has trail) clause
     → (has clause (negated (get_or trail i d)) ≡ true → IsSettled (has trail) (has later) clause)
     → IsSettled (has (take (i + 1) later)) (has later) clause
 IsSettled_taken trail later i d clause lt e before visited =
-    let same_front : take (i + 1) later ≡ take (i + 1) trail = Extends-take trail later (i + 1) e (omega arith) in
+    let same_front : take (i + 1) later ≡ take (i + 1) trail = IsFrontOf-take trail later (i + 1) e (omega arith) in
     let f = λ (l : Literal). ap (λ z. has z l) same_front ∙ has_take-suc trail i d l lt in
     elim (cases_Bool (has clause (negated (get_or trail i d)))) [
       | inl t ↦ IsSettled_more (has trail) (has (take (i + 1) later)) (has later) (has later) clause
@@ -200,7 +200,7 @@ IsSettled_taken trail later i d clause lt e before visited =
       | inr n ↦ record {
         consistent = false_from_ne_true _ (λ h. false≢true (sym before.consistent
             ∙ negation_absent (take i trail) (get_or trail i d) clause clause (λ l k. k) n (has (take (i + 1) later)) f h));
-        reached = λ l k o. Extends-part trail later e l (before.reached l k
+        reached = λ l k o. IsFrontOf-part trail later e l (before.reached l k
             (negation_absent (take i trail) (get_or trail i d) clause (others l clause)
             (λ m j. (and_parts _ _ (sym (has-others l clause m) ∙ j)).0) n (has (take (i + 1) later)) f o));
       }
@@ -228,8 +228,8 @@ place_of-negated l n h = go l.variable l.positive h
     go v true h = omega arith
     go v false h = omega arith
 
-pub Extends-refl : (xs : List Literal) → Extends xs xs
-Extends-refl xs = take_all (length xs) xs (omega arith)
+pub IsFrontOf-refl : (xs : List Literal) → IsFrontOf xs xs
+IsFrontOf-refl xs = take_all (length xs) xs (omega arith)
 
 -- one more number is taken up
 pub has_number_more : (xs : List ℕ) (i d k : ℕ) → i < length xs → has_number (take (i + 1) xs) k ≡ true → (has_number (take i xs) k ≡ true) ⊎ (get_or xs i d ≡ k)

@@ -1,5 +1,5 @@
 -- Reached literals with a table of them.
-use Rattle.std.proofs.Common.{◌≡◌, ℕ, ◌+◌, ◌-◌, ◌*◌, ◌/◌, ◌%◌, ◌<◌, ◌≤◌, List, [], ◌∷◌, ◌++◌, Bool, true, false, not, ◌||◌, cond, arith, refl, ap, sym, ◌∙◌, length, get_or, set, take, zero, suc, ◌==◌, inl, inr, subst, length-set, get_or-set_same, get_or-set_other}
+use Rattle.std.proofs.Common.{◌≡◌, ℕ, ◌+◌, ◌-◌, ◌*◌, ◌/◌, ◌%◌, ◌<◌, ◌≤◌, List, [], ◌∷◌, ◌++◌, Bool, true, false, ◌||◌, cond, arith, refl, ap, sym, ◌∙◌, length, get_or, set, zero, suc, ◌==◌, inl, inr, subst, length-set, get_or-set_same, get_or-set_other}
 use Rattle.std.proofs.lemmas.Bool.{eq-eqb, ne_eqb, cases_eq, cases_lt, false≢true, or_cases, or_right, false_from_ne_true}
 use Rattle.std.proofs.lemmas.List.{length_push, get_or_past}
 use Rattle.std.proofs.lemmas.List.Sums.{sum_by-cons}

@@ -26,17 +26,17 @@ EachEntry Good clauses (entry ∷ entries) =
     IsSomeAnd (entry_of clauses entry) (λ clause. Good clauses clause × EachEntry Good (clauses ++ clause ∷ []) entries)
 
 -- entry i is the first that is not so
-pub record IsFirstBad (Good : List (List Literal) → List Literal → Type 0) (clauses : List (List Literal)) (entries : List Chain) (i : ℕ) : Type 0 where
+pub record IsFirstBadEntry (Good : List (List Literal) → List Literal → Type 0) (clauses : List (List Literal)) (entries : List Chain) (i : ℕ) : Type 0 where
   pub inside : i < length entries
   pub before : EachEntry Good clauses (take i entries)
   pub bad : EachEntry Good clauses (take (i + 1) entries) → ⊥
 
-abbrev pub IsAny : List (List Literal) → List Literal → Type 0
-IsAny _ _ = Unit {0}
+abbrev pub IsAnyEntry : List (List Literal) → List Literal → Type 0
+IsAnyEntry _ _ = Unit {0}
 
 -- each entry derives
 abbrev pub Derives : List (List Literal) → List Chain → Type 0
-Derives clauses entries = EachEntry IsAny clauses entries
+Derives clauses entries = EachEntry IsAnyEntry clauses entries
 
 -- there is an entry, each derives, and the last one is the empty clause
 pub record IsRefutation (clauses : List (List Literal)) (entries : List Chain) : Type 0 where

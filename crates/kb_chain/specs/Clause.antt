@@ -15,8 +15,8 @@ IsOrdered [] = Unit {0}
 IsOrdered (l ∷ ls) = IsBefore l ls × IsOrdered ls
 
 -- no literal comes before the one in front of it
-abbrev pub IsRising : List Literal → Type 0
-IsRising ls = IsNonDecreasingBy place_of ls
+abbrev pub IsInPlaceOrder : List Literal → Type 0
+IsInPlaceOrder ls = IsNonDecreasingBy place_of ls
 
 -- the ordered literals with one more among them
 abbrev pub with_literal : Literal → List Literal → List Literal

@@ -12,8 +12,8 @@ abbrev pub joined : List Literal → Literal → List Literal
 joined ls l = cond (has ls l) ls (ls ++ l ∷ [])
 
 -- new goes on where old ends
-abbrev pub Extends : List Literal → List Literal → Type 0
-Extends old new = take (length old) new ≡ old
+abbrev pub IsFrontOf : List Literal → List Literal → Type 0
+IsFrontOf old new = take (length old) new ≡ old
 
 -- a list has this number
 abbrev pub has_number : List ℕ → ℕ → Bool

@@ -1,7 +1,7 @@
 -- What the two checks of a log answer.
 use Rattle.std.specs.Prelude.{◌≡◌, List, length, ◌⊎◌}
 use Rattle.kb_chain.specs.Literal.{Literal}
-use Rattle.kb_chain.specs.Chains.{IsFirstBad, IsAny, Derives, IsRefutation}
+use Rattle.kb_chain.specs.Chains.{IsFirstBadEntry, IsAnyEntry, Derives, IsRefutation}
 use Rattle.kb_chain.specs.Propagation.{IsNew, IsFresh}
 use Rattle.kb_chain.specs.declared.log.Chain.{Chain}
 use Rattle.kb_chain.specs.declared.log.Verdict.{Verdict}
@@ -11,10 +11,10 @@ use Rattle.kb_chain.specs.declared.log.Verdict.TheVariants.{Good, Bad}
 abbrev pub JudgesRefutation : List (List Literal) → List Chain → Verdict → Type 0
 JudgesRefutation clauses entries Good = IsRefutation clauses entries
 JudgesRefutation clauses entries (Bad i) =
-    IsFirstBad IsAny clauses entries i
+    IsFirstBadEntry IsAnyEntry clauses entries i
     ⊎ (Derives clauses entries × (i ≡ length entries) × (IsRefutation clauses entries → ⊥))
 
 -- good: all entries are fresh. Bad at i: entry i is the first that is not
 abbrev pub JudgesFresh : List (List Literal) → List Chain → Verdict → Type 0
 JudgesFresh clauses entries Good = IsFresh clauses entries
-JudgesFresh clauses entries (Bad i) = IsFirstBad IsNew clauses entries i
+JudgesFresh clauses entries (Bad i) = IsFirstBadEntry IsNew clauses entries i

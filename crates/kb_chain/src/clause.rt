@@ -2,7 +2,7 @@
 
 ghost use Rattle.std.specs.Prelude.{◌≡◌, ◌≤◌, [], true, OnOk, IfOk};
 ghost use Rattle.kb_chain.specs.Literal.{Literal, has, place_of};
-ghost use Rattle.kb_chain.specs.Clause.{IsOrdered, IsRising, clause_of};
+ghost use Rattle.kb_chain.specs.Clause.{IsOrdered, IsInPlaceOrder, clause_of};
 ghost use Rattle.kb_chain.specs.Cnf.{is_within};
 
 use crate::literal::Lit;
@@ -52,7 +52,7 @@ impl Clause {
 
     /// The clause of literals that stand by their places.
     fn from_sorted(alloc: Global, sorted: &[Lit]) -> Result<Clause, NoMemory>
-        requires { IsRising sorted.now }
+        requires { IsInPlaceOrder sorted.now }
         ensures { IfOk result (λ clause. clause ≡ clause_of sorted.now) }
     {
         let mut kept = SmallVec::with_capacity(alloc, sorted.len())?;
@@ -96,7 +96,7 @@ impl Clause {
 
 fn sorted_by_place(alloc: Global, literals: &[Lit]) -> Result<Vec<Lit>, NoMemory>
     ensures same { IfOk result (λ sorted. (l : Literal) → has sorted.items l ≡ has literals.now l) }
-    ensures rising { IfOk result (λ sorted. IsRising sorted.items) }
+    ensures rising { IfOk result (λ sorted. IsInPlaceOrder sorted.items) }
 {
     let mut sorted = literals.to_vec(alloc)?;
     sort_by_place(alloc, sorted.as_mut_slice())?;
@@ -106,7 +106,7 @@ fn sorted_by_place(alloc: Global, literals: &[Lit]) -> Result<Vec<Lit>, NoMemory
 /// Sorts by place. The literals of a clause stand in runs that rise, one for each clause that it was resolved from.
 fn sort_by_place(alloc: Global, literals: &mut [Lit]) -> Result<(), NoMemory>
     ensures same { OnOk result ((l : Literal) → has literals.new l ≡ has literals.old l) }
-    ensures rising { OnOk result (IsRising literals.new) }
+    ensures rising { OnOk result (IsInPlaceOrder literals.new) }
 {
     literals.sort_by_key(alloc, |l| l.place())?;
     Ok(())

@@ -6,7 +6,7 @@ ghost use Rattle.kb_chain.specs.Literal.{Literal, has, negated};
 ghost use Rattle.kb_chain.specs.Cnf.{IsWithin};
 ghost use Rattle.kb_chain.specs.Working.{AreWithin};
 ghost use Rattle.kb_chain.specs.Propagation.{others, Misses, IsNew};
-ghost use Rattle.kb_chain.specs.Index.{Extends, IsIndexed, IsRoot, IsRefuted};
+ghost use Rattle.kb_chain.specs.Index.{IsFrontOf, IsIndexed, IsRoot, IsRefuted};
 ghost use Rattle.kb_chain.specs.Verdicts.{JudgesFresh};
 
 use crate::clause::Clause;
@@ -229,7 +229,7 @@ fn goes_on(
     requires root { IsRoot store.now.clauses trail.old.literals }
     ensures missed { IfOk result (λ missed. OnTrue missed (Misses store.now.clauses clause.now literal)) }
     ensures reached { IfOk result (λ missed. OnFalse missed (Misses store.now.clauses clause.now literal → ⊥)) }
-    ensures extended { OnOk result (Extends trail.old.literals trail.new.literals) }
+    ensures extended { OnOk result (IsFrontOf trail.old.literals trail.new.literals) }
     ensures places { trail.new.places ≡ trail.old.places }
 {
     let root = trail.literals().len();
@@ -251,7 +251,7 @@ fn assume_others(
     requires within { AreWithin trail.old.places clause.now }
     ensures has { OnOk result ((l : Literal) → has trail.new.literals l
         ≡ (has trail.old.literals l || has (map negated (others literal clause.now)) l)) }
-    ensures extended { OnOk result (Extends trail.old.literals trail.new.literals) }
+    ensures extended { OnOk result (IsFrontOf trail.old.literals trail.new.literals) }
     ensures places { trail.new.places ≡ trail.old.places }
 {
     for other in clause.literals() {

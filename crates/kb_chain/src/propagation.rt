@@ -6,7 +6,7 @@ ghost use Rattle.kb_chain.specs.Literal.{Literal, has, place_of};
 ghost use Rattle.kb_chain.specs.Clause.{IsOrdered};
 ghost use Rattle.kb_chain.specs.Working.{AreWithin};
 ghost use Rattle.kb_chain.specs.Propagation.{IsClosed, Includes, NegatesSome, all_negated, others};
-ghost use Rattle.kb_chain.specs.Index.{Extends, IsIndexed, IsSettled, AreSettled, open_literals, status_of};
+ghost use Rattle.kb_chain.specs.Index.{IsFrontOf, IsIndexed, IsSettled, AreSettled, open_literals, status_of};
 
 use crate::clause::Clause;
 use crate::index::Index;
@@ -42,7 +42,7 @@ pub(crate) fn propagate(
     requires settled { AreSettled store.now.clauses (take next trail.old.literals) trail.old.literals }
     ensures settled { IfOk result (λ quiet. OnTrue quiet (AreSettled store.now.clauses trail.new.literals trail.new.literals)) }
     ensures negated { IfOk result (λ quiet. OnFalse quiet (NegatesSome store.now.clauses (has trail.new.literals))) }
-    ensures extended { OnOk result (Extends trail.old.literals trail.new.literals) }
+    ensures extended { OnOk result (IsFrontOf trail.old.literals trail.new.literals) }
     ensures least { OnOk result ((set : Literal → Bool) → IsClosed store.now.clauses set
         → Includes set trail.old.literals → Includes set trail.new.literals) }
     ensures places { trail.new.places ≡ trail.old.places }
@@ -71,7 +71,7 @@ fn visit(
     ensures settled { IfOk result (λ quiet. OnTrue quiet ((k : ℕ) (clause : List Literal) → slice_get store.now.clauses k ≡ Some clause
         → has clause literal ≡ true → IsSettled (has trail.old.literals) (has trail.new.literals) clause)) }
     ensures negated { IfOk result (λ quiet. OnFalse quiet (NegatesSome store.now.clauses (has trail.new.literals))) }
-    ensures extended { OnOk result (Extends trail.old.literals trail.new.literals) }
+    ensures extended { OnOk result (IsFrontOf trail.old.literals trail.new.literals) }
     ensures least { OnOk result ((set : Literal → Bool) → IsClosed store.now.clauses set
         → Includes set trail.old.literals → Includes set trail.new.literals) }
     ensures places { trail.new.places ≡ trail.old.places }
@@ -92,7 +92,7 @@ pub(crate) fn examine(clause: &Clause, trail: &mut Trail) -> Result<bool, NoMemo
     requires { AreWithin trail.old.places clause.now }
     ensures settled { IfOk result (λ quiet. OnTrue quiet (IsSettled (has trail.old.literals) (has trail.new.literals) clause.now)) }
     ensures negated { IfOk result (λ quiet. OnFalse quiet (all_negated (has trail.new.literals) clause.now ≡ true)) }
-    ensures extended { OnOk result (Extends trail.old.literals trail.new.literals) }
+    ensures extended { OnOk result (IsFrontOf trail.old.literals trail.new.literals) }
     ensures least { OnOk result ((set : Literal → Bool)
         → ((l : Literal) → has clause.now l ≡ true → all_negated set (others l clause.now) ≡ true → set l ≡ true)
         → Includes set trail.old.literals → Includes set trail.new.literals) }

@@ -264,17 +264,27 @@ fn pigeons_are_refuted(rt: HostRuntime) -> Result<(), Fail> {
 fn needed_entries_derive_clauses(rt: HostRuntime) -> Result<(), Fail> {
     let clauses = [&[1, 2][..], &[-1, 3], &[-2, 3], &[-3, 4]];
     let formula = formula(rt.alloc(), 4, &clauses)?;
-    let log = log(rt.alloc(), &[&[0, 1, 1], &[1, 3, 3], &[4, 2, 2]])?;
+    // no clause has the number 9, so that the last entry does not derive
+    let chains = [&[0, 1, 1][..], &[1, 3, 3], &[4, 2, 2], &[0, 9, 9]];
+    let log = log(rt.alloc(), &chains)?;
     let entries = log.entries.as_slice();
     let Some(store) = derive_needed(rt.alloc(), &formula, entries, &[3, 6])? else {
-        panic!(&rt; "the entries derive");
+        panic!(&rt; "the needed entries derive");
     };
-    for (number, expected) in [(3, &[-3, 4][..]), (4, &[2, 3]), (5, &[]), (6, &[3])] {
+    let expected = [
+        (3, &[-3, 4][..]),
+        (4, &[2, 3]),
+        (5, &[]),
+        (6, &[3]),
+        (7, &[]),
+    ];
+    for (number, expected) in expected {
         match store.get(number) {
             Some(clause) => has_numbers(&rt, clause, expected),
             None => panic!(&rt; "the clause is there"),
         }
     }
-    assert!(rt; store.get(7).is_none());
+    assert!(rt; store.get(8).is_none());
+    assert!(rt; derive_needed(rt.alloc(), &formula, entries, &[7])?.is_none());
     Ok(())
 }

@@ -2,12 +2,12 @@
 use Rattle.std.proofs.Common.{◌≡◌, ℕ, List, Bool, Option, Some, inl, inr, sym, subst}
 use Rattle.kb_chain.specs.Clause.{Satisfies}
 use Rattle.kb_chain.specs.Cnf.{Cnf}
-use Rattle.kb_sat.specs.Answer.{Answers as Solves}
+use Rattle.kb_sat.specs.Answer.{Solves}
 use Rattle.kb_sat.specs.declared.solver.Solved.{Solved}
 use Rattle.kb_sat.specs.declared.solver.Solved.TheVariants.{Sat, Unsat, Undecided}
 use Rattle.kb_dimacs.specs.Lines.{lines}
 use Rattle.kb_dimacs.specs.Dimacs.{IsDimacs}
-use Rattle.kb_dimacs.specs.Answers.{Tells, AnswersInput, Answers, Sends, Runs}
+use Rattle.kb_dimacs.specs.Answers.{Tells, AnswersInput, AnswersWords, Sends, Runs}
 use Rattle.kb_dimacs.specs.declared.request.Request.{Request}
 use Rattle.kb_dimacs.specs.declared.status.Status.{Status}
 use Rattle.kb_dimacs.specs.declared.status.Status.TheVariants.{Satisfiable, Unsatisfiable, Unknown, Refused}
@@ -33,6 +33,6 @@ unsatisfiable_input request input status text (inr answer) e formula is assignme
 
 -- there is an answer
 pub runs_answer : (words : List (List ℕ)) (input : Option (List ℕ)) (bytes text : List ℕ) (status : Status) (old new : Option (List ℕ)) (code : ℕ) → input ≡ Some bytes
-    → Answers words bytes status text → Sends status text old new code → Runs words input old new code
+    → AnswersWords words bytes status text → Sends status text old new code → Runs words input old new code
 runs_answer words input bytes text status old new code e answers sends =
     subst (λ (i : Option (List ℕ)). Runs words i old new code) (sym e) (status, text, inl answers, sends)

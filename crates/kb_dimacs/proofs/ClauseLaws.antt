@@ -14,7 +14,7 @@ use Rattle.kb_chain.proofs.ChainLaws.{IsWithin-has, IsWithin-from}
 use Rattle.kb_chain.proofs.OrderLaws.{has-clause_of}
 use Rattle.kb_dimacs.specs.Numbers.{SpellsDimacsNumber, SpellNumbers}
 use Rattle.kb_dimacs.specs.Dimacs.{IsLiteral, AreLiterals, AreClauses, written, all_written, clause_from, SpellClauses}
-use Rattle.kb_dimacs.specs.Fronts.{Holds, StopsAt, AreAllThere, IsWordCause, AreFine, HasBadWord}
+use Rattle.kb_dimacs.specs.Fronts.{HoldsWords, StopsAtWords, AreAllThere, IsWordCause, AreFine, HasBadWord}
 use Rattle.kb_dimacs.specs.declared.refusal.Cause.{Cause}
 use Rattle.kb_dimacs.specs.declared.refusal.Cause.TheVariants.{Header, NoNumber, HighVariable, MoreClauses, EarlyEnd}
 use Rattle.kb_dimacs.specs.declared.refusal.ReadingStop.{ReadingStop}
@@ -114,7 +114,7 @@ length-clauses : (xs : List (List ℤ)) → length (map clause_from xs) ≡ leng
 length-clauses [] = refl
 length-clauses (x ∷ xs) = ap suc (length-clauses xs)
 
-pub next_number : (body : Body) (read more : List (List ℕ)) (word : List ℕ) (clauses : List (List ℤ)) → Holds body read
+pub next_number : (body : Body) (read more : List (List ℕ)) (word : List ℕ) (clauses : List (List ℤ)) → HoldsWords body read
     → SpellClauses body.formula.vars body.count clauses (read ++ word ∷ more) → NextNumber body word
 next_number body read more word clauses held spells =
     let behind = numbers_behind (all_written held.clauses ++ held.numbers) (all_written clauses) read (word ∷ more) held.words_are spells.words_are in
@@ -135,7 +135,7 @@ next_number body read more word clauses held spells =
         }
 
 -- where the words end: the clauses are those that are held, and as many as were announced
-pub no_more : (body : Body) (read : List (List ℕ)) (clauses : List (List ℤ)) → (held : Holds body read) → SpellClauses body.formula.vars body.count clauses read
+pub no_more : (body : Body) (read : List (List ℕ)) (clauses : List (List ℤ)) → (held : HoldsWords body read) → SpellClauses body.formula.vars body.count clauses read
     → (clauses ≡ held.clauses) × (length body.formula.clauses ≡ body.count)
 no_more body read clauses held spells =
     let behind = numbers_behind (all_written held.clauses ++ held.numbers) (all_written clauses) read [] held.words_are
@@ -185,13 +185,13 @@ map-push : {A B : Type 0} (f : A → B) (xs : List A) (x : A) → map f (xs ++ x
 map-push f [] x = refl
 map-push f (y ∷ xs) x = ap (λ l. f y ∷ l) (map-push f xs x)
 
-pub held_count : (body : Body) (read : List (List ℕ)) (held : Holds body read) → length body.formula.clauses ≡ length held.clauses
+pub held_count : (body : Body) (read : List (List ℕ)) (held : HoldsWords body read) → length body.formula.clauses ≡ length held.clauses
 held_count body read held = ap length held.formula_is ∙ length-clauses held.clauses
 
 -- behind one more literal
-pub next_literal : (old new : Body) (read : List (List ℕ)) (word : List ℕ) (number : ℤ) (literal : Literal) → Holds old read → SpellsDimacsNumber number word
+pub next_literal : (old new : Body) (read : List (List ℕ)) (word : List ℕ) (number : ℤ) (literal : Literal) → HoldsWords old read → SpellsDimacsNumber number word
     → IsLiteral old.formula.vars number → literal ≡ literal_of number → new.formula ≡ old.formula → new.count ≡ old.count
-    → new.literals.items ≡ old.literals.items ++ literal ∷ [] → (length old.formula.clauses ≡ old.count → ⊥) → Holds new (read ++ word ∷ [])
+    → new.literals.items ≡ old.literals.items ++ literal ∷ [] → (length old.formula.clauses ≡ old.count → ⊥) → HoldsWords new (read ++ word ∷ [])
 next_literal old new read word number literal held spells is literal_is formula count literals room = record {
   clauses = held.clauses;
   numbers = held.numbers ++ number ∷ [];
@@ -208,9 +208,9 @@ next_literal old new read word number literal held spells is literal_is formula 
 }
 
 -- behind the end of a clause
-pub next_clause : (old new : Body) (read : List (List ℕ)) (word : List ℕ) → Holds old read → SpellsDimacsNumber (pos 0) word
+pub next_clause : (old new : Body) (read : List (List ℕ)) (word : List ℕ) → HoldsWords old read → SpellsDimacsNumber (pos 0) word
     → new.formula.vars ≡ old.formula.vars → new.formula.clauses ≡ old.formula.clauses ++ clause_of old.literals.items ∷ [] → new.count ≡ old.count
-    → new.literals.items ≡ [] → (length old.formula.clauses ≡ old.count → ⊥) → Holds new (read ++ word ∷ [])
+    → new.literals.items ≡ [] → (length old.formula.clauses ≡ old.count → ⊥) → HoldsWords new (read ++ word ∷ [])
 next_clause old new read word held spells vars clauses count literals room = record {
   clauses = held.clauses ++ held.numbers ∷ [];
   numbers = [];
@@ -293,7 +293,7 @@ fine_append vars count read xs ys f g before word behind e cause is =
     ]
 
 -- nothing is wrong with a word that was read
-pub fine_word : (body : Body) (read : List (List ℕ)) (word : List ℕ) (number : ℤ) → Holds body read → (length body.formula.clauses ≡ body.count → ⊥)
+pub fine_word : (body : Body) (read : List (List ℕ)) (word : List ℕ) (number : ℤ) → HoldsWords body read → (length body.formula.clauses ≡ body.count → ⊥)
     → FitsSigned w32 number → SpellsDimacsNumber number word → (literal_of number).variable ≤ body.formula.vars → AreFine body.formula.vars body.count read (word ∷ [])
 fine_word body read word number held room fits spells low = fine_one body.formula.vars body.count read word none
   where
@@ -308,13 +308,13 @@ fine_word body read word number held room fits spells low = fine_one body.formul
     none EarlyEnd is = is
 
 -- the clauses are not all there where there is room
-pub not_all : (body : Body) (read : List (List ℕ)) → Holds body read → (length body.formula.clauses ≡ body.count → ⊥) → AreAllThere body.formula.vars body.count read → ⊥
+pub not_all : (body : Body) (read : List (List ℕ)) → HoldsWords body read → (length body.formula.clauses ≡ body.count → ⊥) → AreAllThere body.formula.vars body.count read → ⊥
 not_all body read held room all = room (no_more body read all.0 held all.1).1
 
 -- words behind one that was not read
 pub stops_behind : (old now : Body) (done tail : List (List ℕ)) (word : List ℕ) (stop : ReadingStop) → now.formula.vars ≡ old.formula.vars → now.count ≡ old.count
-    → ((read : List (List ℕ)) → Holds old read → Holds now (read ++ done)) → ((read : List (List ℕ)) → Holds old read → AreFine old.formula.vars old.count read done)
-    → StopsAt now (word ∷ []) stop → StopsAt old (done ++ word ∷ tail) stop
+    → ((read : List (List ℕ)) → HoldsWords old read → HoldsWords now (read ++ done)) → ((read : List (List ℕ)) → HoldsWords old read → AreFine old.formula.vars old.count read done)
+    → StopsAtWords now (word ∷ []) stop → StopsAtWords old (done ++ word ∷ tail) stop
 stops_behind old now done tail word (Bad cause) vars count holds fine stops = λ read held.
     let stop = stops (read ++ done) (holds read held) in (
       record {
@@ -334,9 +334,9 @@ stops_behind old now done tail word no_memory vars count holds fine stops = tt
 
 -- nothing is wrong with words that were read and one more
 pub fine_behind : (old now : Body) (done : List (List ℕ)) (word : List ℕ) → now.formula.vars ≡ old.formula.vars → now.count ≡ old.count
-    → ((read : List (List ℕ)) → Holds old read → Holds now (read ++ done)) → ((read : List (List ℕ)) → Holds old read → AreFine old.formula.vars old.count read done)
-    → ((read : List (List ℕ)) → Holds now read → AreFine now.formula.vars now.count read (word ∷ []))
-    → (read : List (List ℕ)) → Holds old read → AreFine old.formula.vars old.count read (done ++ word ∷ [])
+    → ((read : List (List ℕ)) → HoldsWords old read → HoldsWords now (read ++ done)) → ((read : List (List ℕ)) → HoldsWords old read → AreFine old.formula.vars old.count read done)
+    → ((read : List (List ℕ)) → HoldsWords now read → AreFine now.formula.vars now.count read (word ∷ []))
+    → (read : List (List ℕ)) → HoldsWords old read → AreFine old.formula.vars old.count read (done ++ word ∷ [])
 fine_behind old now done word vars count holds fine next read held =
     fine_append old.formula.vars old.count read done (word ∷ []) (fine read held)
     (subst (λ (n : ℕ). AreFine old.formula.vars n (read ++ done) (word ∷ [])) count
@@ -344,10 +344,10 @@ fine_behind old now done word vars count holds fine next read held =
 
 -- words that were read and one more are held
 pub held_behind : (old now next : Body) (done : List (List ℕ)) (word : List ℕ)
-    → ((read : List (List ℕ)) → Holds old read → Holds now (read ++ done)) → ((read : List (List ℕ)) → Holds now read → Holds next (read ++ word ∷ []))
-    → (read : List (List ℕ)) → Holds old read → Holds next (read ++ (done ++ word ∷ []))
+    → ((read : List (List ℕ)) → HoldsWords old read → HoldsWords now (read ++ done)) → ((read : List (List ℕ)) → HoldsWords now read → HoldsWords next (read ++ word ∷ []))
+    → (read : List (List ℕ)) → HoldsWords old read → HoldsWords next (read ++ (done ++ word ∷ []))
 held_behind old now next done word holds one read held =
-    subst (Holds next) (append_assoc read done (word ∷ [])) (one (read ++ done) (holds read held))
+    subst (HoldsWords next) (append_assoc read done (word ∷ [])) (one (read ++ done) (holds read held))
 
 -- one word that is wrong
 pub bad_word : (vars count : ℕ) (read : List (List ℕ)) (word : List ℕ) (cause : Cause) → IsWordCause vars count read word cause → HasBadWord vars count read (word ∷ []) cause
@@ -361,7 +361,7 @@ bad_word vars count read word cause is = record {
 }
 
 -- the clauses that are held, where there are as many as were announced
-pub whole_clauses : (body : Body) (read : List (List ℕ)) (held : Holds body read) → length body.formula.clauses ≡ body.count → SpellClauses body.formula.vars body.count held.clauses read
+pub whole_clauses : (body : Body) (read : List (List ℕ)) (held : HoldsWords body read) → length body.formula.clauses ≡ body.count → SpellClauses body.formula.vars body.count held.clauses read
 whole_clauses body read held full = record {
   counted = counted;
   literals = held.are_clauses;

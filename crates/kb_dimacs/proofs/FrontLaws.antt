@@ -7,7 +7,7 @@ use Rattle.kb_chain.specs.Cnf.{Cnf}
 use Rattle.kb_dimacs.specs.Lines.{line_words}
 use Rattle.kb_dimacs.specs.Numbers.{SpellsDimacsNumber, SpellNumbers}
 use Rattle.kb_dimacs.specs.Dimacs.{AreClauses, written, all_written, clause_from, SpellsHeader, SpellClauses, AreDimacs}
-use Rattle.kb_dimacs.specs.Fronts.{Holds, StopsAt, HasBadLine, IsLineCause, StandsBehind, Stands, StopsAtLine, GoesOn}
+use Rattle.kb_dimacs.specs.Fronts.{HoldsWords, StopsAtWords, HasBadLine, IsLineCause, HasReadBehind, HasRead, StopsAtLine, BeginsDimacs}
 use Rattle.kb_dimacs.specs.declared.body.Body.{Body}
 use Rattle.kb_dimacs.specs.declared.front.Front.{Front}
 use Rattle.kb_dimacs.specs.declared.front.Front.TheVariants.{Start, Behind}
@@ -42,7 +42,7 @@ no_header ls more line formula blank some none are =
     none formula.vars are.count (subst (λ (l : List ℕ). SpellsHeader formula.vars are.count (line_words l)) (sym same.0) are.header_is)
 
 -- the clauses of a text that begins with lines that were read
-clauses_from : (body : Body) (ls more : List (List ℕ)) (formula : Cnf) (stands : StandsBehind body ls) (are : AreDimacs formula (ls ++ more))
+clauses_from : (body : Body) (ls more : List (List ℕ)) (formula : Cnf) (stands : HasReadBehind body ls) (are : AreDimacs formula (ls ++ more))
     → (are.behind ≡ stands.behind ++ more) × (formula.vars ≡ body.formula.vars) × (are.count ≡ body.count)
 clauses_from body ls more formula stands are =
     let front : ls ++ more ≡ stands.before ++ stands.header ∷ (stands.behind ++ more) = ap (λ (l : List (List ℕ)). l ++ more) stands.lines_are ∙ append_assoc stands.before (stands.header ∷ stands.behind) more in
@@ -61,7 +61,7 @@ line_cause ls line HighVariable bad = bad
 line_cause ls line MoreClauses bad = bad
 line_cause ls line EarlyEnd bad = absurd bad.bad.is
 
-pub stops_at_line : (body : Body) (line : List ℕ) (stop : ReadingStop) → StopsAt body (line_words line) stop → StopsAtLine (Behind body) line stop
+pub stops_at_line : (body : Body) (line : List ℕ) (stop : ReadingStop) → StopsAtWords body (line_words line) stop → StopsAtLine (Behind body) line stop
 stops_at_line body line (Bad cause) stops = λ ls stands.
     let stop = stops (flat_map line_words stands.behind) stands.holds in (
       line_cause ls line cause (record {
@@ -84,7 +84,7 @@ stops_at_line body line (Bad cause) stops = λ ls stands.
 stops_at_line body line no_memory stops = tt
 
 pub one_more_line : (old new : Body) (ls : List (List ℕ)) (line : List ℕ) → new.formula.vars ≡ old.formula.vars → new.count ≡ old.count
-    → ((read : List (List ℕ)) → Holds old read → Holds new (read ++ line_words line)) → StandsBehind old ls → StandsBehind new (ls ++ line ∷ [])
+    → ((read : List (List ℕ)) → HoldsWords old read → HoldsWords new (read ++ line_words line)) → HasReadBehind old ls → HasReadBehind new (ls ++ line ∷ [])
 one_more_line old new ls line vars count holds stands = record {
   before = stands.before;
   header = stands.header;
@@ -93,13 +93,13 @@ one_more_line old new ls line vars count holds stands = record {
   blank = stands.blank;
   header_is = subst (λ (n : ℕ). SpellsHeader new.formula.vars n (line_words stands.header)) (sym count)
       (subst (λ (n : ℕ). SpellsHeader n old.count (line_words stands.header)) (sym vars) stands.header_is);
-  holds = subst (Holds new)
+  holds = subst (HoldsWords new)
       (ap (λ (l : List (List ℕ)). flat_map line_words stands.behind ++ l) (sym (append-nil (line_words line))) ∙ sym (flat_map-append line_words stands.behind (line ∷ [])))
       (holds (flat_map line_words stands.behind) stands.holds);
 }
 
 -- where the text ends with fewer clauses, or in one
-pub no_end : (body : Body) (ls : List (List ℕ)) (formula : Cnf) → StandsBehind body ls → (length body.formula.clauses ≡ body.count → ⊥) → AreDimacs formula ls → ⊥
+pub no_end : (body : Body) (ls : List (List ℕ)) (formula : Cnf) → HasReadBehind body ls → (length body.formula.clauses ≡ body.count → ⊥) → AreDimacs formula ls → ⊥
 no_end body ls formula stands open_one are =
     let whole = subst (AreDimacs formula) (sym (append-nil ls)) are in
     let from = clauses_from body ls [] formula stands whole in
@@ -108,7 +108,7 @@ no_end body ls formula stands open_one are =
     (ap (flat_map line_words) (from.0 ∙ append-nil stands.behind)) whole.clauses_are)).1
 
 -- where it ends behind the clauses that were announced
-pub whole_end : (body : Body) (ls : List (List ℕ)) → StandsBehind body ls → length body.formula.clauses ≡ body.count → AreDimacs body.formula ls
+pub whole_end : (body : Body) (ls : List (List ℕ)) → HasReadBehind body ls → length body.formula.clauses ≡ body.count → AreDimacs body.formula ls
 whole_end body ls stands full = record {
   before = stands.before;
   header = stands.header;
@@ -186,7 +186,7 @@ length-replicate : {A : Type 0} (n : ℕ) (x : A) → length (replicate n x) ≡
 length-replicate zero x = refl
 length-replicate (suc n) x = ap suc (length-replicate n x)
 
-goes_on_start : (ls : List (List ℕ)) → flat_map line_words ls ≡ [] → GoesOn ls
+goes_on_start : (ls : List (List ℕ)) → flat_map line_words ls ≡ [] → BeginsDimacs ls
 goes_on_start ls blank = (
   codes "p cnf 0 0" ∷ [],
   record { vars = 0; clauses = [] },
@@ -204,7 +204,7 @@ goes_on_start ls blank = (
   },
 )
 
-more_zeros : (body : Body) (ls : List (List ℕ)) (n : ℕ) (stands : StandsBehind body ls)
+more_zeros : (body : Body) (ls : List (List ℕ)) (n : ℕ) (stands : HasReadBehind body ls)
     → SpellNumbers (all_written (stands.holds.clauses ++ stands.holds.numbers ∷ replicate n [])) (flat_map line_words (stands.behind ++ replicate (suc n) (codes "0")))
 more_zeros body ls n stands =
     let held = stands.holds in
@@ -219,7 +219,7 @@ more_zeros body ls n stands =
     (SpellNumbers-append (all_written held.clauses ++ held.numbers) (pos 0 ∷ rest) (flat_map line_words stands.behind) (replicate (suc n) (codes "0")) held.words_are (zeros (suc n))))
 
 -- behind n + 1 more zeros
-goes_on_open : (body : Body) (ls : List (List ℕ)) (n : ℕ) → StandsBehind body ls → length body.formula.clauses + suc n ≡ body.count → GoesOn ls
+goes_on_open : (body : Body) (ls : List (List ℕ)) (n : ℕ) → HasReadBehind body ls → length body.formula.clauses + suc n ≡ body.count → BeginsDimacs ls
 goes_on_open body ls n stands left =
     let held = stands.holds in
     let clauses = held.clauses ++ held.numbers ∷ replicate n [] in (
@@ -243,7 +243,7 @@ goes_on_open body ls n stands left =
       },
     )
 
-goes_on_behind : (body : Body) (ls : List (List ℕ)) → StandsBehind body ls → GoesOn ls
+goes_on_behind : (body : Body) (ls : List (List ℕ)) → HasReadBehind body ls → BeginsDimacs ls
 goes_on_behind body ls stands = go (body.count - length body.formula.clauses) refl
   where
     few : length body.formula.clauses ≤ body.count
@@ -251,18 +251,18 @@ goes_on_behind body ls stands = go (body.count - length body.formula.clauses) re
         let few : length stands.holds.clauses ≤ body.count = stands.holds.few in
         omega (arith, held_count body (flat_map line_words stands.behind) stands.holds)
 
-    go : (n : ℕ) → body.count - length body.formula.clauses ≡ n → GoesOn ls
+    go : (n : ℕ) → body.count - length body.formula.clauses ≡ n → BeginsDimacs ls
     go zero e = ([], body.formula, subst (AreDimacs body.formula) (sym (append-nil ls)) (whole_end body ls stands (omega (arith, few))))
     go (suc n) e = goes_on_open body ls n stands (omega (arith, few))
 
 -- some DIMACS text begins with the lines that were read
-pub goes_on : (front : Front) (ls : List (List ℕ)) → Stands front ls → GoesOn ls
+pub goes_on : (front : Front) (ls : List (List ℕ)) → HasRead front ls → BeginsDimacs ls
 goes_on Start ls stands = goes_on_start ls stands
 goes_on (Behind body) ls stands = goes_on_behind body ls stands
 
 -- the formula of a body, where the text ends
 pub finished : (body : Body) (result : Option Cnf) → IfSome result (λ formula. (formula ≡ body.formula) × (length body.formula.clauses ≡ body.count))
     → (IsNone result → length body.formula.clauses ≢ body.count)
-    → MatchOption result ((ls : List (List ℕ)) (formula : Cnf) → StandsBehind body ls → AreDimacs formula ls → ⊥) (λ formula. (ls : List (List ℕ)) → StandsBehind body ls → AreDimacs formula ls)
+    → MatchOption result ((ls : List (List ℕ)) (formula : Cnf) → HasReadBehind body ls → AreDimacs formula ls → ⊥) (λ formula. (ls : List (List ℕ)) → HasReadBehind body ls → AreDimacs formula ls)
 finished body None some none = λ ls formula stands are. no_end body ls formula stands (none refl) are
 finished body (Some formula) some none = λ ls stands. subst (λ (f : Cnf). AreDimacs f ls) (sym some.0) (whole_end body ls stands some.1)

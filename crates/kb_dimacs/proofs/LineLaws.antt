@@ -10,7 +10,7 @@ use Rattle.kb_dimacs.specs.Lines.{lines}
 use Rattle.kb_dimacs.specs.Pieces.{lines_left, bytes_left}
 use Rattle.kb_chain.specs.Cnf.{Cnf}
 use Rattle.kb_dimacs.specs.Dimacs.{AreDimacs}
-use Rattle.kb_dimacs.specs.Fronts.{Stands, StopsAtLine, GoesOn, IsLineCause}
+use Rattle.kb_dimacs.specs.Fronts.{HasRead, StopsAtLine, BeginsDimacs, IsLineCause}
 use Rattle.kb_dimacs.specs.Refusals.{IsStoppingLine, IsCauseAt}
 use Rattle.kb_dimacs.specs.declared.front.Front.{Front}
 use Rattle.kb_dimacs.specs.declared.refusal.Cause.{Cause}
@@ -18,7 +18,7 @@ use Rattle.kb_dimacs.specs.declared.refusal.Cause.TheVariants.{Header, NoNumber,
 use Rattle.kb_dimacs.specs.declared.refusal.ReadingStop.TheVariants.{Bad}
 use Rattle.kb_dimacs.proofs.FrontLaws.{goes_on}
 
-pub goes_on_before : (xs ys : List (List ℕ)) → GoesOn (xs ++ ys) → GoesOn xs
+pub goes_on_before : (xs ys : List (List ℕ)) → BeginsDimacs (xs ++ ys) → BeginsDimacs xs
 goes_on_before xs ys (more, formula, are) = (ys ++ more, formula, subst (AreDimacs formula) (append_assoc xs ys more) are)
 
 -- one line more
@@ -30,7 +30,7 @@ take_one_more ls rest n line e k =
     ap (take (n + 1)) (sym e ∙ front) ∙ ap (λ (m : ℕ). take m ((take n ls ++ line ∷ []) ++ rest)) (sym longer) ∙ take-append_seam (take n ls ++ line ∷ []) rest
 
 -- a wrong line
-wrong_line : (ls rest : List (List ℕ)) (number : ℕ) (line : List ℕ) (cause : Cause) → take (number - 1) ls ++ line ∷ rest ≡ ls → (GoesOn (take number ls) → ⊥)
+wrong_line : (ls rest : List (List ℕ)) (number : ℕ) (line : List ℕ) (cause : Cause) → take (number - 1) ls ++ line ∷ rest ≡ ls → (BeginsDimacs (take number ls) → ⊥)
     → IsLineCause (take (number - 1) ls) line cause → IsCauseAt ls number cause
 wrong_line ls rest number line Header is none cause = (none, line, rest, sym is, cause)
 wrong_line ls rest number line NoNumber is none cause = (none, line, rest, sym is, cause)
@@ -41,33 +41,33 @@ wrong_line ls rest number line EarlyEnd is none cause = absurd cause
 one_back : (n : ℕ) → n ≡ n + 1 - 1
 one_back n = omega arith
 
-pub bad_line : (front : Front) (ls rest : List (List ℕ)) (n : ℕ) (line : List ℕ) (cause : Cause) → Stands front (take n ls) → take n ls ++ line ∷ rest ≡ ls
+pub bad_line : (front : Front) (ls rest : List (List ℕ)) (n : ℕ) (line : List ℕ) (cause : Cause) → HasRead front (take n ls) → take n ls ++ line ∷ rest ≡ ls
     → n + length (line ∷ rest) ≡ length ls → StopsAtLine front line (Bad cause) → IsStoppingLine ls (n + 1) × IsCauseAt ls (n + 1) cause
 bad_line front ls rest n line cause stands is count stops =
     let stop = stops (take n ls) stands in
-    let none : GoesOn (take (n + 1) ls) → ⊥ = λ (more, formula, are). stop.1 more formula
+    let none : BeginsDimacs (take (n + 1) ls) → ⊥ = λ (more, formula, are). stop.1 more formula
     (subst (AreDimacs formula) (ap (λ (l : List (List ℕ)). l ++ more) (take_one_more ls rest n line is count) ∙ append_assoc (take n ls) (line ∷ []) more) are) in (
       record {
         some = omega arith;
         inside = omega arith;
-        goes_on = subst (λ (k : ℕ). GoesOn (take k ls)) (one_back n) (goes_on front (take n ls) stands);
+        goes_on = subst (λ (k : ℕ). BeginsDimacs (take k ls)) (one_back n) (goes_on front (take n ls) stands);
         no_further = λ _. none;
         no_text = λ formula are. stop.1 rest formula (subst (AreDimacs formula) (sym is) are);
       },
       wrong_line ls rest (n + 1) line cause (subst (λ (k : ℕ). take k ls ++ line ∷ rest ≡ ls) (one_back n) is) none (subst (λ (k : ℕ). IsLineCause (take k ls) line cause) (one_back n) stop.0),
     )
 
-pub bad_end : (front : Front) (ls : List (List ℕ)) (n : ℕ) → 0 < length ls → Stands front (take n ls) → take n ls ≡ ls → n ≡ length ls
+pub bad_end : (front : Front) (ls : List (List ℕ)) (n : ℕ) → 0 < length ls → HasRead front (take n ls) → take n ls ≡ ls → n ≡ length ls
     → ((formula : Cnf) → AreDimacs formula ls → ⊥) → IsStoppingLine ls n × IsCauseAt ls n EarlyEnd
 bad_end front ls n some stands is count none = (
   record {
     some = omega arith;
     inside = omega arith;
-    goes_on = goes_on_before (take (n - 1) ls) (drop (n - 1) ls) (subst GoesOn (is ∙ sym (take-append-drop (n - 1) ls)) (goes_on front (take n ls) stands));
+    goes_on = goes_on_before (take (n - 1) ls) (drop (n - 1) ls) (subst BeginsDimacs (is ∙ sym (take-append-drop (n - 1) ls)) (goes_on front (take n ls) stands));
     no_further = λ lt _. omega arith;
     no_text = none;
   },
-  (count, subst GoesOn is (goes_on front (take n ls) stands)),
+  (count, subst BeginsDimacs is (goes_on front (take n ls) stands)),
 )
 
 pub some_line : (text : List ℕ) → 0 < length (lines text)

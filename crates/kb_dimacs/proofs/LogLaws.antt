@@ -4,7 +4,7 @@ use Rattle.std.proofs.lemmas.Bool.{false≢true}
 use Rattle.std.specs.Prelude.{option_and_then, IsSomeAnd}
 use Rattle.kb_chain.specs.Literal.{Literal}
 use Rattle.kb_chain.specs.Clause.{Satisfies}
-use Rattle.kb_chain.specs.Chains.{entry_of, derived, EachEntry, IsAny, IsRefutation}
+use Rattle.kb_chain.specs.Chains.{entry_of, derived, EachEntry, IsAnyEntry, IsRefutation}
 use Rattle.kb_chain.specs.Propagation.{IsFresh, IsNew}
 use Rattle.kb_chain.specs.Verdicts.{JudgesRefutation, JudgesFresh}
 use Rattle.kb_chain.specs.declared.log.Chain.{Chain}
@@ -25,13 +25,13 @@ module _ (IsGood : List (List Literal) → List Literal → Type 0) where
       go None h rec = h
       go (Some clause) h rec = (h.0, rec clause h.1)
 
-derives_from : (entries : List Chain) (clauses all : List (List Literal)) → derived clauses entries ≡ Some all → EachEntry IsAny clauses entries
+derives_from : (entries : List Chain) (clauses all : List (List Literal)) → derived clauses entries ≡ Some all → EachEntry IsAnyEntry clauses entries
 derives_from [] clauses all e = tt
 derives_from (entry ∷ entries) clauses all e = go (entry_of clauses entry) e (λ clause. derives_from entries (clauses ++ clause ∷ []) all)
   where
     go : (o : Option (List Literal)) → option_and_then (λ clause. derived (clauses ++ clause ∷ []) entries) o ≡ Some all
-        → ((clause : List Literal) → derived (clauses ++ clause ∷ []) entries ≡ Some all → EachEntry IsAny (clauses ++ clause ∷ []) entries)
-        → IsSomeAnd o (λ clause. IsAny clauses clause × EachEntry IsAny (clauses ++ clause ∷ []) entries)
+        → ((clause : List Literal) → derived (clauses ++ clause ∷ []) entries ≡ Some all → EachEntry IsAnyEntry (clauses ++ clause ∷ []) entries)
+        → IsSomeAnd o (λ clause. IsAnyEntry clauses clause × EachEntry IsAnyEntry (clauses ++ clause ∷ []) entries)
     go None e rec = absurd cc
     go (Some clause) e rec = (tt, rec clause e)
 
@@ -39,7 +39,7 @@ derives_from (entry ∷ entries) clauses all e = go (entry_of clauses entry) e (
 pub good_refutation : (clauses : List (List Literal)) (entries : List Chain) (verdict : Verdict) → IsRefutation clauses entries → JudgesRefutation clauses entries verdict → verdict ≡ Good
 good_refutation clauses entries Good is judged = refl
 good_refutation clauses entries (Bad i) is (inl first) =
-    absurd (first.bad (EachEntry-take IsAny (i + 1) entries clauses (derives_from entries clauses (is.last.0 ++ [] ∷ []) is.last.1)))
+    absurd (first.bad (EachEntry-take IsAnyEntry (i + 1) entries clauses (derives_from entries clauses (is.last.0 ++ [] ∷ []) is.last.1)))
 good_refutation clauses entries (Bad i) is (inr end) = absurd (end.2 is)
 
 -- and a fresh log

@@ -6,8 +6,8 @@ use Rattle.std.specs.List.{flat_map}
 use Rattle.std.proofs.lemmas.List.Concat.{flat_map-append}
 use Rattle.kb_dimacs.specs.Lines.{lines, line_words}
 use Rattle.kb_dimacs.specs.Dimacs.{SpellsHeader}
-use Rattle.kb_dimacs.specs.Fronts.{IsWordCause, HasBadWord, HasBadLine, IsLineCause, GoesOn}
-use Rattle.kb_dimacs.specs.Refusals.{IsStoppingLine, IsWrongLine, IsCauseAt, Refuses}
+use Rattle.kb_dimacs.specs.Fronts.{IsWordCause, HasBadWord, HasBadLine, IsLineCause, BeginsDimacs}
+use Rattle.kb_dimacs.specs.Refusals.{IsStoppingLine, IsWrongLine, IsCauseAt, RefusesText}
 use Rattle.kb_dimacs.specs.declared.refusal.Refusal.TheVariants.{Line}
 use Rattle.kb_dimacs.specs.declared.refusal.Cause.{Cause}
 use Rattle.kb_dimacs.specs.declared.refusal.Cause.TheVariants.{Header, NoNumber, HighVariable, MoreClauses, EarlyEnd}
@@ -114,7 +114,7 @@ one_line_cause ls line cause why p q =
     ]
 
 -- the text ends too early, or the line is wrong
-cause_cases : (ls : List (List ℕ)) (number : ℕ) (cause : Cause) → IsCauseAt ls number cause → ((cause ≡ EarlyEnd) × (number ≡ length ls) × GoesOn ls) ⊎ IsWrongLine ls number cause
+cause_cases : (ls : List (List ℕ)) (number : ℕ) (cause : Cause) → IsCauseAt ls number cause → ((cause ≡ EarlyEnd) × (number ≡ length ls) × BeginsDimacs ls) ⊎ IsWrongLine ls number cause
 cause_cases ls number Header p = inr p
 cause_cases ls number NoNumber p = inr p
 cause_cases ls number HighVariable p = inr p
@@ -126,8 +126,8 @@ same_next [] us vs x y e = cc
 same_next (w ∷ xs) us vs x y e = let tails : xs ++ x ∷ us ≡ xs ++ y ∷ vs = cc in same_next xs us vs x y tails
 
 -- the whole text goes on, and so does what stands before its end
-ends_or_wrong : (ls : List (List ℕ)) (number : ℕ) (cause : Cause) → number ≡ length ls → GoesOn ls → IsWrongLine ls number cause → ⊥
-ends_or_wrong ls number cause e goes wrong = wrong.0 (subst GoesOn (sym (take_all number ls (omega (arith, e)))) goes)
+ends_or_wrong : (ls : List (List ℕ)) (number : ℕ) (cause : Cause) → number ≡ length ls → BeginsDimacs ls → IsWrongLine ls number cause → ⊥
+ends_or_wrong ls number cause e goes wrong = wrong.0 (subst BeginsDimacs (sym (take_all number ls (omega (arith, e)))) goes)
 
 pub one_cause_at : (ls : List (List ℕ)) (number : ℕ) (cause why : Cause) → IsCauseAt ls number cause → IsCauseAt ls number why → cause ≡ why
 one_cause_at ls number cause why p q =
@@ -144,9 +144,9 @@ one_cause_at ls number cause why p q =
     ]
 
 -- lines that go on go on with fewer of them
-goes_on_fewer : (ls : List (List ℕ)) (n m : ℕ) → n ≤ m → GoesOn (take m ls) → GoesOn (take n ls)
+goes_on_fewer : (ls : List (List ℕ)) (n m : ℕ) → n ≤ m → BeginsDimacs (take m ls) → BeginsDimacs (take n ls)
 goes_on_fewer ls n m le goes =
-    subst GoesOn (shorter n m ls le) (goes_on_before (take n (take m ls)) (drop n (take m ls)) (subst GoesOn (sym (take-append-drop n (take m ls))) goes))
+    subst BeginsDimacs (shorter n m ls le) (goes_on_before (take n (take m ls)) (drop n (take m ls)) (subst BeginsDimacs (sym (take-append-drop n (take m ls))) goes))
   where
     shorter : (n m : ℕ) (ls : List (List ℕ)) → n ≤ m → take n (take m ls) ≡ take n ls
     shorter zero m ls le = refl
@@ -170,9 +170,9 @@ one_stopping_line ls n m p q =
         let inside : m ≤ length ls = q.inside in
         p.no_further (omega (arith, lt, inside)) (goes_on_fewer ls n (m - 1) (omega (arith, lt)) q.goes_on)
 
-pub one_line : (text : List ℕ) (line other : ℕ) (cause why : Cause) → Refuses text (Line line cause) → Refuses text (Line other why) → line ≡ other
+pub one_line : (text : List ℕ) (line other : ℕ) (cause why : Cause) → RefusesText text (Line line cause) → RefusesText text (Line other why) → line ≡ other
 one_line text line other cause why p q = one_stopping_line (lines text) line other p.0 q.0
 
-pub one_reason : (text : List ℕ) (line other : ℕ) (cause why : Cause) → Refuses text (Line line cause) → Refuses text (Line other why) → cause ≡ why
+pub one_reason : (text : List ℕ) (line other : ℕ) (cause why : Cause) → RefusesText text (Line line cause) → RefusesText text (Line other why) → cause ≡ why
 one_reason text line other cause why p q =
     one_cause_at (lines text) other cause why (subst (λ (n : ℕ). IsCauseAt (lines text) n cause) (one_line text line other cause why p q) p.1) q.1

@@ -7,15 +7,15 @@ use Rattle.kb_chain.specs.Chains.{IsRefutation}
 use Rattle.kb_chain.specs.Propagation.{IsFresh}
 use Rattle.kb_chain.specs.declared.log.Verdict.{Verdict}
 use Rattle.kb_chain.specs.declared.log.Verdict.TheVariants.{Good}
-use Rattle.kb_sat.specs.Answer.{Answers as Solves}
+use Rattle.kb_sat.specs.Answer.{Solves}
 use Rattle.kb_sat.specs.declared.counts.Counts.{Counts}
 use Rattle.kb_sat.specs.declared.solver.Solved.{Solved}
 use Rattle.kb_sat.specs.declared.solver.Solved.TheVariants.{Sat, Unsat, Undecided}
 use Rattle.kb_dimacs.specs.Dimacs.{IsDimacs}
-use Rattle.kb_dimacs.specs.Refusals.{Refuses}
+use Rattle.kb_dimacs.specs.Refusals.{RefusesText}
 use Rattle.kb_dimacs.specs.Requests.{AsksFor}
 use Rattle.kb_dimacs.specs.Texts.{counts_text, satisfiable_text, unsatisfiable_text, unknown_text, usage_text, refusal_text, read_fault_text, memory_text}
-use Rattle.kb_dimacs.specs.StatusNumber.{status_number}
+use Rattle.kb_dimacs.specs.StatusNumber.{exit_code}
 use Rattle.kb_dimacs.specs.declared.request.Request.{Request}
 use Rattle.kb_dimacs.specs.declared.refusal.Cause.{Cause}
 use Rattle.kb_dimacs.specs.declared.refusal.Refusal.TheVariants.{Line}
@@ -54,12 +54,12 @@ AnswersFormula request formula status text =
 -- what the program answers to the input, whatever the words
 abbrev pub AnswersInput : Request → List ℕ → Status → List ℕ → Type 0
 AnswersInput request input status text =
-    ((line : ℕ) × (cause : Cause) × Refuses input (Line line cause) × (status ≡ Refused) × (text ≡ refusal_text line cause))
+    ((line : ℕ) × (cause : Cause) × RefusesText input (Line line cause) × (status ≡ Refused) × (text ≡ refusal_text line cause))
     ⊎ ((formula : Cnf) × IsDimacs formula input × AnswersFormula request formula status text)
 
 -- what the program answers to its words and its input
-abbrev pub Answers : List (List ℕ) → List ℕ → Status → List ℕ → Type 0
-Answers words input status text =
+abbrev pub AnswersWords : List (List ℕ) → List ℕ → Status → List ℕ → Type 0
+AnswersWords words input status text =
     (((request : Request) → AsksFor words request → ⊥) × (status ≡ Refused) × (text ≡ usage_text))
     ⊎ ((request : Request) × AsksFor words request × AnswersInput request input status text)
 
@@ -67,12 +67,12 @@ Answers words input status text =
 -- always be said
 abbrev pub Ends : List (List ℕ) → Option (List ℕ) → Status → List ℕ → Type 0
 Ends words None status text = (status ≡ ReadFault) × (text ≡ read_fault_text)
-Ends words (Some input) status text = Answers words input status text ⊎ ((status ≡ Memory) × (text ≡ memory_text))
+Ends words (Some input) status text = AnswersWords words input status text ⊎ ((status ≡ Memory) × (text ≡ memory_text))
 
 -- the whole text was written and the exit code is that of the status, or it is that of a failed write
 abbrev pub Sends : Status → List ℕ → Option (List ℕ) → Option (List ℕ) → ℕ → Type 0
 Sends status text old new code =
-    ((code ≡ status_number status) × Appends old new text) ⊎ (code ≡ status_number WriteFault)
+    ((code ≡ exit_code status) × Appends old new text) ⊎ (code ≡ exit_code WriteFault)
 
 -- what a run of the program writes, and its exit code
 abbrev pub Runs : List (List ℕ) → Option (List ℕ) → Option (List ℕ) → Option (List ℕ) → ℕ → Type 0

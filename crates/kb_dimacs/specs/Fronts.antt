@@ -17,7 +17,7 @@ use Rattle.kb_dimacs.specs.declared.front.Front.{Front}
 use Rattle.kb_dimacs.specs.declared.front.Front.TheVariants.{Start, Behind}
 
 -- these words stand behind the header: those of whole clauses, and the literals of one that is open
-pub record Holds (body : Body) (words : List (List ℕ)) : Type 0 where
+pub record HoldsWords (body : Body) (words : List (List ℕ)) : Type 0 where
   pub clauses : List (List ℤ)
   pub numbers : List ℤ
   pub words_are : SpellNumbers (all_written clauses ++ numbers) words
@@ -60,25 +60,25 @@ pub record HasBadWord (vars count : ℕ) (read words : List (List ℕ)) (cause :
   pub is : IsWordCause vars count (read ++ before) word cause
 
 -- no clauses of that body go on with these words, one of which is wrong
-abbrev pub StopsAt : Body → List (List ℕ) → ReadingStop → Type 0
-StopsAt body words (Bad cause) =
-    (read : List (List ℕ)) → Holds body read → HasBadWord body.formula.vars body.count read words cause
+abbrev pub StopsAtWords : Body → List (List ℕ) → ReadingStop → Type 0
+StopsAtWords body words (Bad cause) =
+    (read : List (List ℕ)) → HoldsWords body read → HasBadWord body.formula.vars body.count read words cause
     × ((more : List (List ℕ)) (clauses : List (List ℤ)) → SpellClauses body.formula.vars body.count clauses (read ++ (words ++ more)) → ⊥)
-StopsAt body words no_memory = Unit {0}
+StopsAtWords body words no_memory = Unit {0}
 
 -- these lines were read
-pub record StandsBehind (body : Body) (ls : List (List ℕ)) : Type 0 where
+pub record HasReadBehind (body : Body) (ls : List (List ℕ)) : Type 0 where
   pub before : List (List ℕ)
   pub header : List ℕ
   pub behind : List (List ℕ)
   pub lines_are : ls ≡ before ++ header ∷ behind
   pub blank : flat_map line_words before ≡ []
   pub header_is : SpellsHeader body.formula.vars body.count (line_words header)
-  pub holds : Holds body (flat_map line_words behind)
+  pub holds : HoldsWords body (flat_map line_words behind)
 
-abbrev pub Stands : Front → List (List ℕ) → Type 0
-Stands Start ls = flat_map line_words ls ≡ []
-Stands (Behind body) ls = StandsBehind body ls
+abbrev pub HasRead : Front → List (List ℕ) → Type 0
+HasRead Start ls = flat_map line_words ls ≡ []
+HasRead (Behind body) ls = HasReadBehind body ls
 
 -- a line behind lines with a header has a wrong word
 pub record HasBadLine (ls : List (List ℕ)) (line : List ℕ) (cause : Cause) : Type 0 where
@@ -104,9 +104,9 @@ IsLineCause ls line EarlyEnd = ⊥
 -- no DIMACS text goes on with this line, and what is wrong with it
 abbrev pub StopsAtLine : Front → List ℕ → ReadingStop → Type 0
 StopsAtLine front line (Bad cause) =
-    (ls : List (List ℕ)) → Stands front ls → IsLineCause ls line cause × ((more : List (List ℕ)) (formula : Cnf) → AreDimacs formula (ls ++ line ∷ more) → ⊥)
+    (ls : List (List ℕ)) → HasRead front ls → IsLineCause ls line cause × ((more : List (List ℕ)) (formula : Cnf) → AreDimacs formula (ls ++ line ∷ more) → ⊥)
 StopsAtLine front line no_memory = Unit {0}
 
 -- a DIMACS text may begin with these lines
-abbrev pub GoesOn : List (List ℕ) → Type 0
-GoesOn ls = (more : List (List ℕ)) × (formula : Cnf) × AreDimacs formula (ls ++ more)
+abbrev pub BeginsDimacs : List (List ℕ) → Type 0
+BeginsDimacs ls = (more : List (List ℕ)) × (formula : Cnf) × AreDimacs formula (ls ++ more)

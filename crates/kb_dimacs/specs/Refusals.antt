@@ -3,7 +3,7 @@ use Rattle.std.specs.Prelude.{◌≡◌, ℕ, ◌-◌, ◌<◌, ◌≤◌, List,
 use Rattle.kb_chain.specs.Cnf.{Cnf}
 use Rattle.kb_dimacs.specs.Lines.{lines}
 use Rattle.kb_dimacs.specs.Dimacs.{AreDimacs}
-use Rattle.kb_dimacs.specs.Fronts.{GoesOn, IsLineCause}
+use Rattle.kb_dimacs.specs.Fronts.{BeginsDimacs, IsLineCause}
 use Rattle.kb_dimacs.specs.declared.refusal.Cause.{Cause}
 use Rattle.kb_dimacs.specs.declared.refusal.Cause.TheVariants.{Header, NoNumber, HighVariable, MoreClauses, EarlyEnd}
 use Rattle.kb_dimacs.specs.declared.refusal.Refusal.{Refusal}
@@ -14,14 +14,14 @@ use Rattle.kb_dimacs.specs.declared.refusal.Refusal.TheVariants.{Line, NoMemory 
 pub record IsStoppingLine (ls : List (List ℕ)) (number : ℕ) : Type 0 where
   pub some : 1 ≤ number
   pub inside : number ≤ length ls
-  pub goes_on : GoesOn (take (number - 1) ls)
-  pub no_further : number < length ls → GoesOn (take number ls) → ⊥
+  pub goes_on : BeginsDimacs (take (number - 1) ls)
+  pub no_further : number < length ls → BeginsDimacs (take number ls) → ⊥
   pub no_text : (formula : Cnf) → AreDimacs formula ls → ⊥
 
 -- no DIMACS text begins with the lines up to that one, and what is wrong with it
 abbrev pub IsWrongLine : List (List ℕ) → ℕ → Cause → Type 0
 IsWrongLine ls number cause =
-    (GoesOn (take number ls) → ⊥) × (line : List ℕ) × (rest : List (List ℕ)) × (ls ≡ take (number - 1) ls ++ line ∷ rest) × IsLineCause (take (number - 1) ls) line cause
+    (BeginsDimacs (take number ls) → ⊥) × (line : List ℕ) × (rest : List (List ℕ)) × (ls ≡ take (number - 1) ls ++ line ∷ rest) × IsLineCause (take (number - 1) ls) line cause
 
 -- why it is that line: something is wrong with it, or the text could go on
 abbrev pub IsCauseAt : List (List ℕ) → ℕ → Cause → Type 0
@@ -29,12 +29,12 @@ IsCauseAt ls number Header = IsWrongLine ls number Header
 IsCauseAt ls number NoNumber = IsWrongLine ls number NoNumber
 IsCauseAt ls number HighVariable = IsWrongLine ls number HighVariable
 IsCauseAt ls number MoreClauses = IsWrongLine ls number MoreClauses
-IsCauseAt ls number EarlyEnd = (number ≡ length ls) × GoesOn ls
+IsCauseAt ls number EarlyEnd = (number ≡ length ls) × BeginsDimacs ls
 
 -- what the reader answers where it refuses a text
-abbrev pub Refuses : List ℕ → Refusal → Type 0
-Refuses text (Line number cause) = IsStoppingLine (lines text) number × IsCauseAt (lines text) number cause
-Refuses text no_memory = Unit {0}
+abbrev pub RefusesText : List ℕ → Refusal → Type 0
+RefusesText text (Line number cause) = IsStoppingLine (lines text) number × IsCauseAt (lines text) number cause
+RefusesText text no_memory = Unit {0}
 
 -- this formula was read, unless memory ran out
 abbrev pub Reads : Result Cnf Refusal → Cnf → Type 0

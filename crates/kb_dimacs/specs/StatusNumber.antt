@@ -3,11 +3,11 @@ use Rattle.std.specs.Prelude.{ℕ}
 use Rattle.kb_dimacs.specs.declared.status.Status.{Status}
 use Rattle.kb_dimacs.specs.declared.status.Status.TheVariants.{Satisfiable, Unsatisfiable, Unknown, Refused, ReadFault, WriteFault, Memory}
 
-abbrev pub status_number : Status → ℕ
-status_number Satisfiable = 10
-status_number Unsatisfiable = 20
-status_number Unknown = 0
-status_number Refused = 1
-status_number ReadFault = 6
-status_number WriteFault = 7
-status_number Memory = 8
+abbrev pub exit_code : Status → ℕ
+exit_code Satisfiable = 10
+exit_code Unsatisfiable = 20
+exit_code Unknown = 0
+exit_code Refused = 1
+exit_code ReadFault = 6
+exit_code WriteFault = 7
+exit_code Memory = 8

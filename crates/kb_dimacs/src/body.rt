@@ -20,7 +20,7 @@ pub struct Body {
 }
 
 impl Body {
-    ghost use Rattle.kb_dimacs.specs.Fronts.{Holds, AreFine, StopsAt};
+    ghost use Rattle.kb_dimacs.specs.Fronts.{HoldsWords, AreFine, StopsAtWords};
 
     /// Nothing behind a header.
     pub fn new(alloc: Global, vars: u32, count: u32) -> Body
@@ -28,7 +28,7 @@ impl Body {
         requires count { count < 2 ^ 31 }
         ensures vars { result.formula.vars ≡ vars }
         ensures count { result.count ≡ count }
-        ensures holds { Holds result [] }
+        ensures holds { HoldsWords result [] }
     {
         Body {
             formula: Formula::new(alloc, vars),
@@ -57,10 +57,10 @@ impl Body {
 
     /// Reads the words of a line.
     pub fn read_words(&mut self, alloc: Global, words: &[&[u8]]) -> Result<(), ReadingStop>
-        ensures ok { OnOk result ((read : List (List ℕ)) → Holds self.old read → Holds self.new (read ++ map (λ w. w.now) words.now)) }
+        ensures ok { OnOk result ((read : List (List ℕ)) → HoldsWords self.old read → HoldsWords self.new (read ++ map (λ w. w.now) words.now)) }
         ensures vars { self.new.formula.vars ≡ self.old.formula.vars }
         ensures count { self.new.count ≡ self.old.count }
-        ensures bad { IfErr result (StopsAt self.old (map (λ w. w.now) words.now)) }
+        ensures bad { IfErr result (StopsAtWords self.old (map (λ w. w.now) words.now)) }
     {
         for word in words {
             self.read_word(alloc, word)?;
@@ -70,12 +70,12 @@ impl Body {
 
     /// Reads a word: a literal, or the end of a clause.
     fn read_word(&mut self, alloc: Global, word: &[u8]) -> Result<(), ReadingStop>
-        ensures ok { OnOk result ((read : List (List ℕ)) → Holds self.old read → Holds self.new (read ++ word.now ∷ [])) }
-        ensures fine { OnOk result ((read : List (List ℕ)) → Holds self.old read
+        ensures ok { OnOk result ((read : List (List ℕ)) → HoldsWords self.old read → HoldsWords self.new (read ++ word.now ∷ [])) }
+        ensures fine { OnOk result ((read : List (List ℕ)) → HoldsWords self.old read
             → AreFine self.old.formula.vars self.old.count read (word.now ∷ [])) }
         ensures vars { self.new.formula.vars ≡ self.old.formula.vars }
         ensures count { self.new.count ≡ self.old.count }
-        ensures bad { IfErr result (StopsAt self.old (word.now ∷ [])) }
+        ensures bad { IfErr result (StopsAtWords self.old (word.now ∷ [])) }
     {
         if self.is_full() {
             return Err(ReadingStop::Bad(Cause::MoreClauses));

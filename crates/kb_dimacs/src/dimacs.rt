@@ -3,7 +3,7 @@ ghost use Rattle.std.specs.Prelude.{◌≡◌, ◌<◌, ◌^◌, ℕ, Bool, IfOk
 ghost use Rattle.kb_chain.specs.Cnf.{Cnf};
 ghost use Rattle.kb_chain.specs.Clause.{Satisfies};
 ghost use Rattle.kb_dimacs.specs.Dimacs.{IsDimacs};
-ghost use Rattle.kb_dimacs.specs.Answers.{Answers, AnswersInput, AnswersFormula};
+ghost use Rattle.kb_dimacs.specs.Answers.{AnswersWords, AnswersInput, AnswersFormula};
 
 use crate::answer::{Answer, answer_solved};
 use crate::memory::NoMemory;
@@ -18,7 +18,7 @@ use std::alloc::Global;
 
 /// Solves the formula that the input spells, as the words ask for it. The text is whole before any of it is written.
 pub fn dimacs(alloc: Global, words: &[String], input: &[u8]) -> Result<Answer, NoMemory>
-    ensures answers { IfOk result (λ a. Answers (map string_bytes words.now) input.now a.status (string_bytes a.text)) }
+    ensures answers { IfOk result (λ a. AnswersWords (map string_bytes words.now) input.now a.status (string_bytes a.text)) }
 
     // Nothing satisfies a formula that is said to be unsatisfiable.
     ensures unsatisfiable { IfOk result (λ a. a.status ≡ Status.Unsatisfiable →

@@ -3,7 +3,7 @@ ghost use Rattle.std.specs.Prelude.{◌≡◌, ◌++◌, ◌∷◌, [], List, �
 ghost use Rattle.kb_chain.specs.Cnf.{Cnf};
 ghost use Rattle.kb_dimacs.specs.Lines.{line_words};
 ghost use Rattle.kb_dimacs.specs.Dimacs.{AreDimacs};
-ghost use Rattle.kb_dimacs.specs.Fronts.{Stands, StopsAtLine};
+ghost use Rattle.kb_dimacs.specs.Fronts.{HasRead, StopsAtLine};
 
 use crate::body::Body;
 use crate::lines::line_words;
@@ -24,7 +24,7 @@ pub enum Front {
 impl Front {
     /// Where the reader stands after one more line.
     pub fn next(self, alloc: Global, line: &[u8]) -> Result<Front, ReadingStop>
-        ensures ok { IfOk result (λ next. (ls : List (List ℕ)) → Stands self ls → Stands next (ls ++ line.now ∷ [])) }
+        ensures ok { IfOk result (λ next. (ls : List (List ℕ)) → HasRead self ls → HasRead next (ls ++ line.now ∷ [])) }
         ensures bad { IfErr result (StopsAtLine self line.now) }
     {
         let words = line_words(alloc, line)?;
@@ -37,8 +37,8 @@ impl Front {
     /// The formula, if the text may end here.
     pub fn finish(self) -> Option<Formula>
         ensures { MatchOption result
-            ((ls : List (List ℕ)) (formula : Cnf) → Stands self ls → AreDimacs formula ls → ⊥)
-            (λ formula. (ls : List (List ℕ)) → Stands self ls → AreDimacs formula ls) }
+            ((ls : List (List ℕ)) (formula : Cnf) → HasRead self ls → AreDimacs formula ls → ⊥)
+            (λ formula. (ls : List (List ℕ)) → HasRead self ls → AreDimacs formula ls) }
     {
         match self {
             Front::Start => None,
@@ -50,7 +50,7 @@ impl Front {
 /// Where the reader stands after the words of a line before the header.
 fn begin(alloc: Global, words: &[&[u8]]) -> Result<Front, ReadingStop>
     ensures ok { IfOk result (λ next. (ls : List (List ℕ)) (line : List ℕ) → line_words line ≡ map (λ w. w.now) words.now →
-        Stands Front.Start ls → Stands next (ls ++ line ∷ [])) }
+        HasRead Front.Start ls → HasRead next (ls ++ line ∷ [])) }
     ensures bad { (line : List ℕ) → line_words line ≡ map (λ w. w.now) words.now → IfErr result (StopsAtLine Front.Start line) }
 {
     if words.is_empty() {
@@ -65,7 +65,7 @@ fn begin(alloc: Global, words: &[&[u8]]) -> Result<Front, ReadingStop>
 /// Where the reader stands after the words of a line behind the header.
 fn go_on(alloc: Global, body: Body, words: &[&[u8]]) -> Result<Front, ReadingStop>
     ensures ok { IfOk result (λ next. (ls : List (List ℕ)) (line : List ℕ) → line_words line ≡ map (λ w. w.now) words.now →
-        Stands (Front.Behind body) ls → Stands next (ls ++ line ∷ [])) }
+        HasRead (Front.Behind body) ls → HasRead next (ls ++ line ∷ [])) }
     ensures bad { (line : List ℕ) → line_words line ≡ map (λ w. w.now) words.now → IfErr result (StopsAtLine (Front.Behind body) line) }
 {
     let mut body = body;

@@ -2,7 +2,7 @@
 ghost use Rattle.std.specs.Prelude.{IfOk, IfErr};
 ghost use Rattle.kb_chain.specs.Cnf.{Cnf};
 ghost use Rattle.kb_dimacs.specs.Dimacs.{IsDimacs};
-ghost use Rattle.kb_dimacs.specs.Refusals.{Refuses, Reads};
+ghost use Rattle.kb_dimacs.specs.Refusals.{RefusesText, Reads};
 
 use crate::front::Front;
 use crate::lines::{Separator, cut};
@@ -16,7 +16,7 @@ use std::alloc::Global;
 pub fn read_dimacs(alloc: Global, text: &[u8]) -> Result<Formula, Refusal>
     ensures found { IfOk result (λ formula. IsDimacs formula text.now) }
     ensures only { (formula : Cnf) → IsDimacs formula text.now → Reads result formula }
-    ensures bad { IfErr result (Refuses text.now) }
+    ensures bad { IfErr result (RefusesText text.now) }
 {
     let mut front = Front::Start;
     let mut rest = Some(text);

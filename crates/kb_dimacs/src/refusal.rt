@@ -1,7 +1,7 @@
 //! Why an input was not read.
 ghost use Rattle.std.specs.Prelude.{◌≡◌, ℕ, List};
 ghost use Rattle.kb_dimacs.specs.Texts.{cause_text};
-ghost use Rattle.kb_dimacs.specs.Refusals.{Refuses};
+ghost use Rattle.kb_dimacs.specs.Refusals.{RefusesText};
 ghost use Rattle.kb_dimacs.specs.declared.refusal.Cause.{Cause};
 ghost use Rattle.kb_dimacs.specs.declared.refusal.Refusal.TheVariants.{Line};
 
@@ -65,8 +65,8 @@ pub enum Refusal {
 
 /// A text is refused at one line alone, and by one cause.
 pub fn is_refused_once()
-    ensures line { (text : List ℕ) (line other : ℕ) (cause why : Cause) → Refuses text (Line line cause) → Refuses text (Line other why)
+    ensures line { (text : List ℕ) (line other : ℕ) (cause why : Cause) → RefusesText text (Line line cause) → RefusesText text (Line other why)
         → line ≡ other }
-    ensures cause { (text : List ℕ) (line other : ℕ) (cause why : Cause) → Refuses text (Line line cause) → Refuses text (Line other why)
+    ensures cause { (text : List ℕ) (line other : ℕ) (cause why : Cause) → RefusesText text (Line line cause) → RefusesText text (Line other why)
         → cause ≡ why }
 {}

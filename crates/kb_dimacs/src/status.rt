@@ -1,6 +1,6 @@
 //! How the program ends.
 ghost use Rattle.std.specs.Prelude.{◌≡◌};
-ghost use Rattle.kb_dimacs.specs.StatusNumber.{status_number};
+ghost use Rattle.kb_dimacs.specs.StatusNumber.{exit_code};
 
 /// How the program ends. The first three are the exit statuses of the SAT competitions.
 #[derive(Clone, Copy, Debug, PartialEq, Eq)]
@@ -24,7 +24,7 @@ pub enum Status {
 impl Status {
     /// The program's exit status.
     pub fn number(self) -> u8
-        ensures { result ≡ status_number self }
+        ensures { result ≡ exit_code self }
     {
         match self {
             Status::Satisfiable => 10,

@@ -279,6 +279,15 @@ fn exit_codes_are_those_of_the_statuses(rt: HostRuntime) -> Result<(), Fail> {
         20,
         "c log good\ns UNSATISFIABLE\n",
     )?;
+    runs(&rt, rt.alloc(), "1", Some(SQUARE), 0, "s UNKNOWN\n")?;
+    runs(
+        &rt,
+        rt.alloc(),
+        "0",
+        Some(SQUARE),
+        1,
+        "c refused: the words are a budget from 1 to 4294967295 and, if the log is to be checked, check\n",
+    )?;
     runs(
         &rt,
         rt.alloc(),

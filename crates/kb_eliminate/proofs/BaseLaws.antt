@@ -10,9 +10,9 @@ use Rattle.kb_chain.specs.Propagation.{all_negated, others, IsClosed, NegatesSom
 use Rattle.kb_chain.specs.Index.{IsSettled}
 use Rattle.kb_chain.specs.declared.log.Chain.{Chain}
 use Rattle.kb_chain.proofs.LiteralLaws.{same-true, same_refl}
-use Rattle.kb_chain.proofs.PropagationLaws.{IsPart, all_negated-from, all_negated-at, has-others, taken_part, Extends-take}
+use Rattle.kb_chain.proofs.PropagationLaws.{IsPart, all_negated-from, all_negated-at, has-others, taken_part, IsFrontOf-take}
 use Rattle.kb_chain.proofs.LeastSets.{not_unit_refuted}
-use Rattle.kb_eliminate.specs.Trail.{Assigned, IsTrail, HasReasons, level_zero, start_of, before_level, Grows, cut_back}
+use Rattle.kb_eliminate.specs.Trail.{Assigned, IsTrail, HasReasons, level_zero, level_start, before_level, TrailGrows, cut_back}
 use Rattle.kb_eliminate.specs.Store.{IsRow, IsStored, IsJustified}
 use Rattle.kb_eliminate.specs.Rows.{AreNamed}
 use Rattle.kb_eliminate.specs.Base.{IsConflict}
@@ -39,8 +39,8 @@ take_part xs i j le m e = taken_part (take j xs) i m (ap (λ z. has z m) (take-t
 pub before_part : (t : Assigned) (i j : ℕ) → IsTrail t → i ≤ j → j < length t.starts → IsPart (has (before_level t i)) (has (before_level t j))
 before_part t i j h le lt = elim (cases_eq i j) [
   | inl e ↦ (λ m k. ap (λ n. has (before_level t n) m) (sym e) ∙ k)
-  | inr n ↦ (let l : i < j = omega (arith, le, n) in let s : start_of t.starts i < start_of t.starts j = h.rising i j l lt in
-      take_part t.literals (start_of t.starts i) (start_of t.starts j) (omega (arith, s)))
+  | inr n ↦ (let l : i < j = omega (arith, le, n) in let s : level_start t.starts i < level_start t.starts j = h.rising i j l lt in
+      take_part t.literals (level_start t.starts i) (level_start t.starts j) (omega (arith, s)))
 ]
 
 -- a quiet set does not negate a whole row
@@ -103,7 +103,7 @@ pub cut_settled : (formula : Cnf) (entries : List Chain) (rows : List (List Lite
     → (s : IsBase formula entries rows pairs lists t whole) → IsTrail t → AllAwake pairs → (j : ℕ) → j < length t.starts
     → (k : ℕ) (clause : List Literal) → slice_get s.clauses k ≡ Some clause → IsSettled (has (before_level t j)) (has (before_level t j)) clause
 cut_settled formula entries rows pairs lists t whole s h awake j lt =
-    quiet_all (has (before_level t j)) (has (level_zero t)) s.clauses rows pairs lists t.vars (taken_consistent t (start_of t.starts j) h) s.justified.stored s.watching awake (s.cuts j lt)
+    quiet_all (has (before_level t j)) (has (level_zero t)) s.clauses rows pairs lists t.vars (taken_consistent t (level_start t.starts j) h) s.justified.stored s.watching awake (s.cuts j lt)
 
 -- the clauses of the formula come first among those that a log derives
 pub derived_kept : (clauses all : List (List Literal)) (entries : List Chain) (k : ℕ) (clause : List Literal) → derived clauses entries ≡ Some all
@@ -133,7 +133,7 @@ not_false_before formula entries rows pairs lists t whole s h j lt k row e awake
     let both : length pairs ≡ length rows = s.watching.count in
     let inside : k < length rows = at_inside rows k row e in
     let pair = at_within pairs k (omega (arith, both, inside)) in
-    false_from_ne_true _ (quiet_row (has (before_level t j)) row pair.0 (taken_consistent t (start_of t.starts j) h) (s.cuts j lt k row pair.0 e pair.1 (awake pair.0 pair.1)) (s.watching.own k row pair.0 e pair.1).0)
+    false_from_ne_true _ (quiet_row (has (before_level t j)) row pair.0 (taken_consistent t (level_start t.starts j) h) (s.cuts j lt k row pair.0 e pair.1 (awake pair.0 pair.1)) (s.watching.own k row pair.0 e pair.1).0)
 
 -- a conflict of a row is one of its clause
 pub conflict_clause : (clauses rows : List (List Literal)) (t : Assigned) (k : ℕ) → IsJustified clauses rows t → IsConflict rows t k → IsConflict clauses t k
@@ -152,7 +152,7 @@ conflict_clause clauses rows t k j c =
 
 -- propagation
 pub IsBase-propagated : (formula : Cnf) (entries : List Chain) (rows : List (List Literal)) (pairs pairs' : List Pair) (lists lists' : List (List Watch)) (t t' : Assigned) (whole : Bool)
-    → IsBase formula entries rows pairs lists t whole → IsTrail t → IsWatching rows pairs' lists' t'.vars → AllListed lists' pairs' → StaysQuiet rows pairs pairs' (has t.literals) → Grows t t'
+    → IsBase formula entries rows pairs lists t whole → IsTrail t → IsWatching rows pairs' lists' t'.vars → AllListed lists' pairs' → StaysQuiet rows pairs pairs' (has t.literals) → TrailGrows t t'
     → ((all : List (List Literal)) → IsJustified all rows t → IsJustified all rows t') → IsBase formula entries rows pairs' lists' t' whole
 IsBase-propagated formula entries rows pairs pairs' lists lists' t t' whole s h watching listed stays grows justified = record {
   clauses = s.clauses;
@@ -163,10 +163,10 @@ IsBase-propagated formula entries rows pairs pairs' lists lists' t t' whole s h 
   watching = watching;
   listed = listed;
   cuts = λ j lt. (let old : j < length t.starts = subst (λ (z : List ℕ). j < length z) grows.starts lt in
-      let inside : start_of t.starts j < length t.literals = h.inside j old in
+      let inside : level_start t.starts j < length t.literals = h.inside j old in
       let e : before_level t' j ≡ before_level t j =
-      ap (λ (z : List ℕ). take (start_of z j) t'.literals) grows.starts ∙ Extends-take t.literals t'.literals (start_of t.starts j) grows.literals (omega (arith, inside)) in
-      subst (λ z. Quiet rows pairs' (has z) (has z)) (sym e) (stays.1 (has (before_level t j)) (taken_part t.literals (start_of t.starts j)) (s.cuts j old)));
+      ap (λ (z : List ℕ). take (level_start z j) t'.literals) grows.starts ∙ IsFrontOf-take t.literals t'.literals (level_start t.starts j) grows.literals (omega (arith, inside)) in
+      subst (λ z. Quiet rows pairs' (has z) (has z)) (sym e) (stays.1 (has (before_level t j)) (taken_part t.literals (level_start t.starts j)) (s.cuts j old)));
 }
 
 -- a decision
@@ -182,11 +182,11 @@ IsBase-decided formula entries rows pairs lists t l whole s h quiet = record {
   watching = s.watching;
   listed = s.listed;
   cuts = λ j lt. elim (start_pushed t.starts (length t.literals) j lt) [
-    | inl e ↦ (let inside : start_of t.starts j < length t.literals = h.inside j e.0 in
-        let same_cut : take (start_of (t.starts ++ length t.literals ∷ []) j) (t.literals ++ l ∷ []) ≡ before_level t j =
-        ap (λ n. take n (t.literals ++ l ∷ [])) e.1 ∙ take-append-le (start_of t.starts j) t.literals (l ∷ []) (omega (arith, inside)) in
+    | inl e ↦ (let inside : level_start t.starts j < length t.literals = h.inside j e.0 in
+        let same_cut : take (level_start (t.starts ++ length t.literals ∷ []) j) (t.literals ++ l ∷ []) ≡ before_level t j =
+        ap (λ n. take n (t.literals ++ l ∷ [])) e.1 ∙ take-append-le (level_start t.starts j) t.literals (l ∷ []) (omega (arith, inside)) in
         subst (λ z. Quiet rows pairs (has z) (has z)) (sym same_cut) (s.cuts j e.0))
-    | inr e ↦ (let same_cut : take (start_of (t.starts ++ length t.literals ∷ []) j) (t.literals ++ l ∷ []) ≡ t.literals =
+    | inr e ↦ (let same_cut : take (level_start (t.starts ++ length t.literals ∷ []) j) (t.literals ++ l ∷ []) ≡ t.literals =
         ap (λ n. take n (t.literals ++ l ∷ [])) e.1 ∙ (take-append-le (length t.literals) t.literals (l ∷ []) (omega arith) ∙ take_all (length t.literals) t.literals (omega arith)) in
         subst (λ z. Quiet rows pairs (has z) (has z)) (sym same_cut) quiet)
   ];
@@ -200,8 +200,8 @@ quiet-decided rows pairs xs l q =
 
 pub before_cut : (t : Assigned) (level j : ℕ) → IsTrail t → level < length t.starts → j < level → before_level (cut_back t level) j ≡ before_level t j
 before_cut t level j h lt below =
-    let s : start_of t.starts j < start_of t.starts level = h.rising j level below lt in
-    ap (λ n. take n (before_level t level)) (start_taken level t.starts j below) ∙ take-take (start_of t.starts j) (start_of t.starts level) t.literals (omega (arith, s))
+    let s : level_start t.starts j < level_start t.starts level = h.rising j level below lt in
+    ap (λ n. take n (before_level t level)) (start_taken level t.starts j below) ∙ take-take (level_start t.starts j) (level_start t.starts level) t.literals (omega (arith, s))
 
 -- back to a level
 pub IsBase-cut : (formula : Cnf) (entries : List Chain) (rows : List (List Literal)) (pairs : List Pair) (lists : List (List Watch)) (t : Assigned) (level : ℕ) (whole : Bool)
@@ -221,12 +221,12 @@ IsBase-cut formula entries rows pairs lists t level whole s h lt = record {
 
 pub quiet-cut : (formula : Cnf) (entries : List Chain) (rows : List (List Literal)) (pairs : List Pair) (lists : List (List Watch)) (t : Assigned) (whole : Bool) (level : ℕ)
     → IsBase formula entries rows pairs lists t whole → IsTrail t → level < length t.starts
-    → (start_of t.starts level ≤ length (before_level t level)) × Quiet rows pairs (has (take (start_of t.starts level) (before_level t level))) (has (before_level t level))
+    → (level_start t.starts level ≤ length (before_level t level)) × Quiet rows pairs (has (take (level_start t.starts level) (before_level t level))) (has (before_level t level))
 quiet-cut formula entries rows pairs lists t whole level s h lt =
-    let inside : start_of t.starts level < length t.literals = h.inside level lt in
-    let size : length (before_level t level) ≡ start_of t.starts level = length_taken (start_of t.starts level) t.literals (omega (arith, inside)) in (
+    let inside : level_start t.starts level < length t.literals = h.inside level lt in
+    let size : length (before_level t level) ≡ level_start t.starts level = length_taken (level_start t.starts level) t.literals (omega (arith, inside)) in (
       (omega (arith, size)),
-      subst (λ z. Quiet rows pairs (has z) (has (before_level t level))) (sym (take_all (start_of t.starts level) (before_level t level) (omega (arith, size)))) (s.cuts level lt),
+      subst (λ z. Quiet rows pairs (has z) (has (before_level t level))) (sym (take_all (level_start t.starts level) (before_level t level) (omega (arith, size)))) (s.cuts level lt),
     )
 
 pub IsBase_same : (f f' : Cnf) (e e' : List Chain) (r r' : List (List Literal)) (p p' : List Pair) (l l' : List (List Watch)) (t t' : Assigned) (w w' : Bool)

@@ -15,7 +15,7 @@ use Rattle.kb_eliminate.specs.Store.{IsJustified}
 use Rattle.kb_eliminate.specs.Base.{IsConflict}
 use Rattle.kb_eliminate.specs.Base.{IsBase}
 use Rattle.kb_eliminate.proofs.BaseLaws.{conflict_clause}
-use Rattle.kb_eliminate.specs.Trail.{Assigned, Grows, HasReasons}
+use Rattle.kb_eliminate.specs.Trail.{Assigned, TrailGrows, HasReasons}
 use Rattle.kb_eliminate.specs.Watches.{IsWatching, IsBegun, AreEmpty, all_blocked, paired, put_pair}
 use Rattle.kb_eliminate.specs.declared.watch.Pair.{Pair}
 use Rattle.kb_eliminate.specs.declared.watch.Watch.{Watch}
@@ -96,7 +96,7 @@ clause_places formula rows e h k row f =
 
 pub IsBase-begin : (formula : Cnf) (entries : List Chain) (rows : List (List Literal)) (pairs : List Pair) (lists : List (List Watch)) (first t : Assigned)
     → entries ≡ [] → rows ≡ formula.clauses → first ≡ record { vars = formula.vars; literals = []; reasons = []; starts = [] }
-    → IsBegun rows pairs lists t → Grows first t → ((all : List (List Literal)) → IsJustified all rows first → IsJustified all rows t)
+    → IsBegun rows pairs lists t → TrailGrows first t → ((all : List (List Literal)) → IsJustified all rows first → IsJustified all rows t)
     → IsBase formula entries rows pairs lists t true
 IsBase-begin formula entries rows pairs lists first t none e start h grows justified = record {
   clauses = formula.clauses;
@@ -112,7 +112,7 @@ IsBase-begin formula entries rows pairs lists first t none e start h grows justi
 -- a clause of the formula that is false at the start
 pub doomed : (formula : Cnf) (entries : List Chain) (rows : List (List Literal)) (first t : Assigned) (number : ℕ)
     → entries ≡ [] → rows ≡ formula.clauses → first ≡ record { vars = formula.vars; literals = []; reasons = []; starts = [] }
-    → Grows first t → ((all : List (List Literal)) → IsJustified all rows first → IsJustified all rows t) → IsConflict rows t number
+    → TrailGrows first t → ((all : List (List Literal)) → IsJustified all rows first → IsJustified all rows t) → IsConflict rows t number
     → (t.starts ≡ []) × (derived formula.clauses entries ≡ Some formula.clauses) × HasReasons formula.clauses t × IsConflict formula.clauses t number
 doomed formula entries rows first t number none e start grows justified conflict =
     let j = justified formula.clauses (subst (λ z. IsJustified formula.clauses rows z) (sym start) (IsJustified-start formula.clauses rows formula.vars e)) in

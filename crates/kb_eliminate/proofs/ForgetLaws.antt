@@ -12,7 +12,7 @@ use Rattle.kb_eliminate.specs.declared.watch.Pair.{Pair}
 use Rattle.kb_eliminate.specs.declared.watch.Watch.{Watch}
 use Rattle.kb_eliminate.specs.Trail.{Assigned}
 use Rattle.kb_eliminate.specs.Watches.{Quiet, watches_clause, at_literal, is_blocked, all_blocked, IsWatching, AllListed}
-use Rattle.kb_eliminate.specs.Forgetting.{is_awake, is_kept, only_awake, asleep_at, asleep}
+use Rattle.kb_eliminate.specs.Forgetting.{is_awake, has_awake_clause, only_awake, asleep_at, asleep}
 use Rattle.kb_eliminate.specs.Base.{IsBase}
 use Rattle.kb_eliminate.proofs.Places.{at_set}
 
@@ -99,7 +99,7 @@ at_only_awake pairs lists l = get_or-map (only_awake pairs) lists (place_of l) [
 watch_kept : (pairs : List Pair) (list : List Watch) (k : ℕ) (pair : Pair) → slice_get pairs k ≡ Some pair → pair.awake ≡ true → watches_clause list k ≡ true
     → watches_clause (only_awake pairs list) k ≡ true
 watch_kept pairs list k pair e h w =
-    any-filter_same (λ (w : Watch). w.clause == k) (is_kept pairs) true
+    any-filter_same (λ (w : Watch). w.clause == k) (has_awake_clause pairs) true
     (λ x s. ap (λ n. is_awake (slice_get pairs n)) (eqb-true x.clause k s) ∙ (ap is_awake e ∙ h)) list
     ∙ w
 
@@ -121,7 +121,7 @@ IsWatching-purged rows pairs lists vars w = record {
   count = w.count;
   places = length-map lists (only_awake pairs) ∙ w.places;
   own = w.own;
-  blocked = all_mapped (all_blocked rows) (only_awake pairs) (λ list e. all_filtered (is_blocked rows) (is_kept pairs) list e) lists w.blocked;
+  blocked = all_mapped (all_blocked rows) (only_awake pairs) (λ list e. all_filtered (is_blocked rows) (has_awake_clause pairs) list e) lists w.blocked;
   within = w.within;
 }
 

@@ -5,8 +5,8 @@ use Rattle.std.proofs.lemmas.List.{take_all, take-append-le, take-take, length_p
 use Rattle.kb_chain.specs.Literal.{Literal, has, same, negated}
 use Rattle.kb_chain.specs.Propagation.{all_negated, others}
 use Rattle.kb_chain.proofs.LiteralLaws.{has-append}
-use Rattle.kb_chain.proofs.PropagationLaws.{IsPart, all_negated-from, has-others, taken_part, Extends-part, Extends-trans}
-use Rattle.kb_eliminate.specs.Trail.{Assigned, IsTrail, IsReason, HasReasons, level_zero, start_of, Grows, cut_back}
+use Rattle.kb_chain.proofs.PropagationLaws.{IsPart, all_negated-from, has-others, taken_part, IsFrontOf-part, IsFrontOf-trans}
+use Rattle.kb_eliminate.specs.Trail.{Assigned, IsTrail, IsReason, HasReasons, level_zero, level_start, TrailGrows, cut_back}
 use Rattle.kb_eliminate.specs.Store.{IsRow, IsStored, IsJustified}
 use Rattle.kb_eliminate.proofs.Places.{at_pushed, at_kept, at_inside, at_within, at_taken}
 use Rattle.kb_eliminate.proofs.TrailLaws.{length_taken}
@@ -30,8 +30,8 @@ level_zero_pushed t l reason h m e = go t.starts refl e
         ∙ (ap (λ z. has z m) (take_all (length (t.literals ++ l ∷ [])) (t.literals ++ l ∷ []) (omega arith))
         ∙ append_part t.literals (l ∷ []) m (ap (λ z. has z m) (sym (take_all (length t.literals) t.literals (omega arith))) ∙ e))
     go (n ∷ ns) s e =
-        (let below : start_of t.starts 0 < length t.literals = h.inside 0 (subst (λ (z : List ℕ). 0 < length z) (sym s) (omega arith)) in
-        let first : start_of t.starts 0 ≡ n = ap (λ z. start_of z 0) s in
+        (let below : level_start t.starts 0 < length t.literals = h.inside 0 (subst (λ (z : List ℕ). 0 < length z) (sym s) (omega arith)) in
+        let first : level_start t.starts 0 ≡ n = ap (λ z. level_start z 0) s in
         ap (λ z. has (take (get_or z 0 (length (t.literals ++ l ∷ []))) (t.literals ++ l ∷ [])) m) s
         ∙ (ap (λ z. has z m) (take-append-le n t.literals (l ∷ []) (omega (arith, below, first))) ∙ e))
 
@@ -108,8 +108,8 @@ level_zero-decided t l h = go t.starts refl
         ∙ (take-append-le (length t.literals) t.literals (l ∷ []) (omega arith)
         ∙ sym (ap (λ (z : List ℕ). take (get_or z 0 (length t.literals)) t.literals) s))
     go (n ∷ ns) s =
-        (let below : start_of t.starts 0 < length t.literals = h.inside 0 (subst (λ (z : List ℕ). 0 < length z) (sym s) (omega arith)) in
-        let first : start_of t.starts 0 ≡ n = ap (λ z. start_of z 0) s in
+        (let below : level_start t.starts 0 < length t.literals = h.inside 0 (subst (λ (z : List ℕ). 0 < length z) (sym s) (omega arith)) in
+        let first : level_start t.starts 0 ≡ n = ap (λ z. level_start z 0) s in
         ap (λ (z : List ℕ). take (get_or (z ++ length t.literals ∷ []) 0 (length (t.literals ++ l ∷ []))) (t.literals ++ l ∷ [])) s
         ∙ (take-append-le n t.literals (l ∷ []) (omega (arith, below, first))
         ∙ sym (ap (λ (z : List ℕ). take (get_or z 0 (length t.literals)) t.literals) s)))
@@ -138,18 +138,18 @@ same_start (s ∷ ss) d e lt = refl
 
 pub level_zero-cut : (t : Assigned) (level : ℕ) → IsTrail t → level < length t.starts → level_zero (cut_back t level) ≡ level_zero t
 level_zero-cut t zero h lt =
-    let cut : start_of t.starts 0 < length t.literals = h.inside 0 lt in
-    let size : length (take (start_of t.starts 0) t.literals) ≡ start_of t.starts 0 = length_taken (start_of t.starts 0) t.literals (omega (arith, cut)) in
-    ap (λ n. take n (take (start_of t.starts 0) t.literals)) size
-    ∙ (take-take (start_of t.starts 0) (start_of t.starts 0) t.literals (omega arith)
+    let cut : level_start t.starts 0 < length t.literals = h.inside 0 lt in
+    let size : length (take (level_start t.starts 0) t.literals) ≡ level_start t.starts 0 = length_taken (level_start t.starts 0) t.literals (omega (arith, cut)) in
+    ap (λ n. take n (take (level_start t.starts 0) t.literals)) size
+    ∙ (take-take (level_start t.starts 0) (level_start t.starts 0) t.literals (omega arith)
     ∙ ap (λ n. take n t.literals) (same_start t.starts 0 (length t.literals) lt))
 level_zero-cut t (suc n) h lt =
     let some : 0 < length t.starts = omega (arith, lt) in
-    let below : start_of t.starts 0 < start_of t.starts (suc n) = h.rising 0 (suc n) (omega arith) lt in
-    let at : get_or (take (suc n) t.starts) 0 (length (take (start_of t.starts (suc n)) t.literals)) ≡ start_of t.starts 0 =
-    first_kept t.starts (length (take (start_of t.starts (suc n)) t.literals)) 0 n ∙ same_start t.starts (length (take (start_of t.starts (suc n)) t.literals)) 0 some in
-    ap (λ k. take k (take (start_of t.starts (suc n)) t.literals)) at
-    ∙ (take-take (start_of t.starts 0) (start_of t.starts (suc n)) t.literals (omega (arith, below))
+    let below : level_start t.starts 0 < level_start t.starts (suc n) = h.rising 0 (suc n) (omega arith) lt in
+    let at : get_or (take (suc n) t.starts) 0 (length (take (level_start t.starts (suc n)) t.literals)) ≡ level_start t.starts 0 =
+    first_kept t.starts (length (take (level_start t.starts (suc n)) t.literals)) 0 n ∙ same_start t.starts (length (take (level_start t.starts (suc n)) t.literals)) 0 some in
+    ap (λ k. take k (take (level_start t.starts (suc n)) t.literals)) at
+    ∙ (take-take (level_start t.starts 0) (level_start t.starts (suc n)) t.literals (omega (arith, below))
     ∙ ap (λ k. take k t.literals) (same_start t.starts 0 (length t.literals) some))
 
 pub IsJustified-cut : (clauses rows : List (List Literal)) (t : Assigned) (level : ℕ) → IsTrail t → IsJustified clauses rows t → level < length t.starts
@@ -157,15 +157,15 @@ pub IsJustified-cut : (clauses rows : List (List Literal)) (t : Assigned) (level
 IsJustified-cut clauses rows t level h j lt = record {
   stored = subst (λ z. IsStored (has z) clauses rows) (sym (level_zero-cut t level h lt)) j.stored;
   reasons = λ i k m e f.
-      (let p = at_taken (start_of t.starts level) t.literals i m e in
-      let q = at_taken (start_of t.starts level) t.reasons i (Some k) f in
-      let inside : i < start_of t.starts level = p.1 in
-      subst (λ z. IsReason clauses (has z) m k) (sym (take-take i (start_of t.starts level) t.literals (omega (arith, inside)))) (j.reasons i k m p.0 q.0));
+      (let p = at_taken (level_start t.starts level) t.literals i m e in
+      let q = at_taken (level_start t.starts level) t.reasons i (Some k) f in
+      let inside : i < level_start t.starts level = p.1 in
+      subst (λ z. IsReason clauses (has z) m k) (sym (take-take i (level_start t.starts level) t.literals (omega (arith, inside)))) (j.reasons i k m p.0 q.0));
 }
 
 -- a trail with one more literal goes on
-pub Grows-push : (t : Assigned) (l : Literal) (reason : Option ℕ) → Grows t (pushed t l reason t.starts)
-Grows-push t l reason = record {
+pub TrailGrows-push : (t : Assigned) (l : Literal) (reason : Option ℕ) → TrailGrows t (pushed t l reason t.starts)
+TrailGrows-push t l reason = record {
   vars = refl;
   literals = take-append-le (length t.literals) t.literals (l ∷ []) (omega arith) ∙ take_all (length t.literals) t.literals (omega arith);
   starts = refl;
@@ -174,16 +174,16 @@ Grows-push t l reason = record {
 pub push_part : (xs : List Literal) (l : Literal) → IsPart (has xs) (has (xs ++ l ∷ []))
 push_part xs l m e = append_part xs (l ∷ []) m e
 
-pub Grows-refl : (t : Assigned) → Grows t t
-Grows-refl t = record { vars = refl; literals = take_all (length t.literals) t.literals (omega arith); starts = refl }
+pub TrailGrows-refl : (t : Assigned) → TrailGrows t t
+TrailGrows-refl t = record { vars = refl; literals = take_all (length t.literals) t.literals (omega arith); starts = refl }
 
-pub Grows-part : (old new : Assigned) → Grows old new → IsPart (has old.literals) (has new.literals)
-Grows-part old new h l e = Extends-part old.literals new.literals h.literals l e
+pub TrailGrows-part : (old new : Assigned) → TrailGrows old new → IsPart (has old.literals) (has new.literals)
+TrailGrows-part old new h l e = IsFrontOf-part old.literals new.literals h.literals l e
 
-pub Grows-trans : (a b c : Assigned) → Grows a b → Grows b c → Grows a c
-Grows-trans a b c g h = record {
+pub TrailGrows-trans : (a b c : Assigned) → TrailGrows a b → TrailGrows b c → TrailGrows a c
+TrailGrows-trans a b c g h = record {
   vars = h.vars ∙ g.vars;
-  literals = Extends-trans a.literals b.literals c.literals g.literals h.literals;
+  literals = IsFrontOf-trans a.literals b.literals c.literals g.literals h.literals;
   starts = h.starts ∙ g.starts;
 }
 

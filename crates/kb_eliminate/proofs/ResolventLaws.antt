@@ -16,7 +16,7 @@ use Rattle.kb_eliminate.specs.Tables.{IsDistinct}
 use Rattle.kb_eliminate.specs.Trail.{Assigned, IsTrail, level_zero}
 use Rattle.kb_eliminate.specs.Store.{IsRow, IsStored, IsJustified}
 use Rattle.kb_eliminate.specs.Watches.{IsWatching, Quiet, paired, put_pair}
-use Rattle.kb_eliminate.specs.Base.{IsBase, IsSecond}
+use Rattle.kb_eliminate.specs.Base.{IsBase, IsSecondLiteral}
 use Rattle.kb_eliminate.specs.Resolvents.{IsResolvent, IsMerged}
 use Rattle.kb_eliminate.specs.declared.watch.Pair.{Pair}
 use Rattle.kb_eliminate.specs.declared.watch.Watch.{Watch}
@@ -198,7 +198,7 @@ pub record IsAdded (t : Assigned) (row : List Literal) (a b : Literal) : Type 0 
 pub IsAdded-from : (t : Assigned) (rows : List (List Literal)) (pairs : List Pair) (lists : List (List Watch)) → IsWatching rows pairs lists t.vars
     → (left right : ℕ) → left < length rows → right < length rows → (pivot : Literal) (row : List Literal)
     → ((l r : List Literal) → slice_get rows left ≡ Some l → slice_get rows right ≡ Some r → IsResolvent (has t.literals) l r pivot row)
-    → 0 < length row → (a b : Literal) → a ≡ get_or row 0 a → IsSecond row b → IsAdded t row a b
+    → 0 < length row → (a b : Literal) → a ≡ get_or row 0 a → IsSecondLiteral row b → IsAdded t row a b
 IsAdded-from t rows pairs lists w left right left_in right_in pivot row resolvent some a b at_a at_b =
     let l = at_within rows left left_in in
     let r = at_within rows right right_in in
@@ -220,11 +220,11 @@ IsAdded-from t rows pairs lists w left right left_in right_in pivot row resolven
           ap (λ z. same z a) is ∙ same_refl a);
     }
   where
-    second_in : IsSecond row b → has row b ≡ true
+    second_in : IsSecondLiteral row b → has row b ≡ true
     second_in (inl g) = at_has row 1 b g
     second_in (inr g) = at_has row 0 b g.1
 
-    alone : IsDistinct row → slice_get row 0 ≡ Some a → a ≡ b → IsSecond row b → length row ≡ 1
+    alone : IsDistinct row → slice_get row 0 ≡ Some a → a ≡ b → IsSecondLiteral row b → length row ≡ 1
     alone once is_a e (inl g) = absurd (let n : 0 ≡ 1 = once 0 1 b (is_a ∙ ap Some e) g in omega (arith, n))
     alone once is_a e (inr g) = g.0
 

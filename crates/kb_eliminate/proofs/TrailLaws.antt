@@ -8,7 +8,7 @@ use Rattle.kb_chain.specs.Working.{marked}
 use Rattle.kb_chain.specs.Trail.{unmarked, IsMarked}
 use Rattle.kb_chain.proofs.LiteralLaws.{same-true, same_refl, has-append, negated-negated, place_of-injective}
 use Rattle.kb_chain.proofs.PropagationLaws.{taken_part}
-use Rattle.kb_eliminate.specs.Trail.{Assigned, IsTrail, start_of, cut_back}
+use Rattle.kb_eliminate.specs.Trail.{Assigned, IsTrail, level_start, cut_back}
 use Rattle.kb_eliminate.specs.Tables.{assigned, IsTabled, IsDistinct}
 use Rattle.kb_eliminate.proofs.Places.{at_pushed, at_set_same, at_set_other, at_taken, at_get_or, has_at, at_has, get_or_at_place}
 
@@ -102,30 +102,30 @@ same_variable l m e = go l.variable m.variable l.positive m.positive e
 
 -- what holds of the starts and the reasons with one more literal
 pub record IsNext (t : Assigned) (reason : Option ℕ) (starts : List ℕ) : Type 0 where
-  pub inside : (j : ℕ) → j < length starts → start_of starts j ≤ length t.literals
-  pub rising : (i j : ℕ) → i < j → j < length starts → start_of starts i < start_of starts j
-  pub old : (i : ℕ) → slice_get t.reasons i ≡ Some None → (j : ℕ) × (j < length starts) × (start_of starts j ≡ i)
-  pub new : reason ≡ None → (j : ℕ) × (j < length starts) × (start_of starts j ≡ length t.literals)
+  pub inside : (j : ℕ) → j < length starts → level_start starts j ≤ length t.literals
+  pub rising : (i j : ℕ) → i < j → j < length starts → level_start starts i < level_start starts j
+  pub old : (i : ℕ) → slice_get t.reasons i ≡ Some None → (j : ℕ) × (j < length starts) × (level_start starts j ≡ i)
+  pub new : reason ≡ None → (j : ℕ) × (j < length starts) × (level_start starts j ≡ length t.literals)
 
 pub IsNext-forced : (t : Assigned) (n : ℕ) → IsTrail t → IsNext t (Some n) t.starts
 IsNext-forced t n h = record {
-  inside = λ j lt. (let k : start_of t.starts j < length t.literals = h.inside j lt in omega arith);
+  inside = λ j lt. (let k : level_start t.starts j < length t.literals = h.inside j lt in omega arith);
   rising = h.rising;
   old = h.decisions;
   new = λ e. cc;
 }
 
-pub start_pushed : (starts : List ℕ) (n j : ℕ) → j < length (starts ++ n ∷ []) → ((j < length starts) × (start_of (starts ++ n ∷ []) j ≡ start_of starts j)) ⊎ ((j ≡ length starts) × (start_of (starts ++ n ∷ []) j ≡ n))
+pub start_pushed : (starts : List ℕ) (n j : ℕ) → j < length (starts ++ n ∷ []) → ((j < length starts) × (level_start (starts ++ n ∷ []) j ≡ level_start starts j)) ⊎ ((j ≡ length starts) × (level_start (starts ++ n ∷ []) j ≡ n))
 start_pushed [] n zero lt = inr (refl, refl)
 start_pushed [] n (suc j) lt = absurd (omega arith)
 start_pushed (s ∷ ss) n zero lt = inl (omega arith, refl)
 start_pushed (s ∷ ss) n (suc j) lt = elim (start_pushed ss n j (omega arith)) [ inl h ↦ inl ((let k : j < length ss = h.0 in omega arith), h.1) | inr h ↦ inr (ap suc h.0, h.1) ]
 
-start_last : (starts : List ℕ) (n : ℕ) → start_of (starts ++ n ∷ []) (length starts) ≡ n
+start_last : (starts : List ℕ) (n : ℕ) → level_start (starts ++ n ∷ []) (length starts) ≡ n
 start_last [] n = refl
 start_last (s ∷ ss) n = start_last ss n
 
-start_kept : (starts : List ℕ) (n j : ℕ) → j < length starts → start_of (starts ++ n ∷ []) j ≡ start_of starts j
+start_kept : (starts : List ℕ) (n j : ℕ) → j < length starts → level_start (starts ++ n ∷ []) j ≡ level_start starts j
 start_kept [] n j lt = absurd (omega arith)
 start_kept (s ∷ ss) n zero lt = refl
 start_kept (s ∷ ss) n (suc j) lt = start_kept ss n j (omega arith)
@@ -134,18 +134,18 @@ pub IsNext-decided : (t : Assigned) → IsTrail t → IsNext t None (t.starts ++
 IsNext-decided t h =
     let more : length (t.starts ++ length t.literals ∷ []) ≡ length t.starts + 1 = length_push t.starts (length t.literals) in record {
       inside = λ j lt. elim (start_pushed t.starts (length t.literals) j lt) [
-        | inl e ↦ (let k : start_of t.starts j < length t.literals = h.inside j e.0 in let f : start_of (t.starts ++ length t.literals ∷ []) j ≡ start_of t.starts j = e.1 in omega (arith, k, f))
-        | inr e ↦ (let f : start_of (t.starts ++ length t.literals ∷ []) j ≡ length t.literals = e.1 in omega (arith, f))
+        | inl e ↦ (let k : level_start t.starts j < length t.literals = h.inside j e.0 in let f : level_start (t.starts ++ length t.literals ∷ []) j ≡ level_start t.starts j = e.1 in omega (arith, k, f))
+        | inr e ↦ (let f : level_start (t.starts ++ length t.literals ∷ []) j ≡ length t.literals = e.1 in omega (arith, f))
       ];
       rising = λ i j lt in_j. elim (start_pushed t.starts (length t.literals) j in_j) [
-        | inl e ↦ (let g : start_of (t.starts ++ length t.literals ∷ []) i ≡ start_of t.starts i = start_kept t.starts (length t.literals) i (let k : j < length t.starts = e.0 in omega (arith, k, lt)) in
-            let f : start_of (t.starts ++ length t.literals ∷ []) j ≡ start_of t.starts j = e.1 in
-            let k : start_of t.starts i < start_of t.starts j = h.rising i j lt e.0 in omega (arith, k, f, g))
+        | inl e ↦ (let g : level_start (t.starts ++ length t.literals ∷ []) i ≡ level_start t.starts i = start_kept t.starts (length t.literals) i (let k : j < length t.starts = e.0 in omega (arith, k, lt)) in
+            let f : level_start (t.starts ++ length t.literals ∷ []) j ≡ level_start t.starts j = e.1 in
+            let k : level_start t.starts i < level_start t.starts j = h.rising i j lt e.0 in omega (arith, k, f, g))
         | inr e ↦ (let d : j ≡ length t.starts = e.0 in
             let i_in : i < length t.starts = omega (arith, d, lt) in
-            let g : start_of (t.starts ++ length t.literals ∷ []) i ≡ start_of t.starts i = start_kept t.starts (length t.literals) i i_in in
-            let f : start_of (t.starts ++ length t.literals ∷ []) j ≡ length t.literals = e.1 in
-            let k : start_of t.starts i < length t.literals = h.inside i i_in in omega (arith, k, f, g))
+            let g : level_start (t.starts ++ length t.literals ∷ []) i ≡ level_start t.starts i = start_kept t.starts (length t.literals) i i_in in
+            let f : level_start (t.starts ++ length t.literals ∷ []) j ≡ length t.literals = e.1 in
+            let k : level_start t.starts i < length t.literals = h.inside i i_in in omega (arith, k, f, g))
       ];
       old = λ i e. (let d = h.decisions i e in let k : d.0 < length t.starts = d.1 in
           (d.0, (omega (arith, k, more)), start_kept t.starts (length t.literals) d.0 k ∙ d.2));
@@ -175,11 +175,11 @@ IsTrail-push t l reason starts h next lt room absent possible =
       ];
       room = omega (arith, more, room);
       reasons = omega (arith, more, more_reasons, counts);
-      inside = λ j e. (let k : start_of starts j ≤ length t.literals = next.inside j e in omega (arith, k, more));
+      inside = λ j e. (let k : level_start starts j ≤ length t.literals = next.inside j e in omega (arith, k, more));
       rising = next.rising;
       decisions = λ i e. elim (at_pushed t.reasons reason i None e) [
         | inl f ↦ next.old i f
-        | inr f ↦ (let d = next.new f.1 in (d.0, d.1, (let g : start_of starts d.0 ≡ length t.literals = d.2 in let k : i ≡ length t.reasons = f.0 in omega (arith, g, k, counts))))
+        | inr f ↦ (let d = next.new f.1 in (d.0, d.1, (let g : level_start starts d.0 ≡ length t.literals = d.2 in let k : i ≡ length t.reasons = f.0 in omega (arith, g, k, counts))))
       ];
     }
   where
@@ -269,10 +269,10 @@ view-push vars marks reached forced_by positions count begins l reason h lt abse
     length_taken (suc n) (x ∷ xs) h = ap suc (length_taken n xs (omega arith))
 
 -- a trail that is cut back to where a level began
-pub below_start : (t : Assigned) → IsTrail t → (level i : ℕ) → level < length t.starts → i < level → start_of t.starts i < start_of t.starts level
+pub below_start : (t : Assigned) → IsTrail t → (level i : ℕ) → level < length t.starts → i < level → level_start t.starts i < level_start t.starts level
 below_start t h level i lt e = h.rising i level e lt
 
-pub start_taken : (n : ℕ) (starts : List ℕ) (j : ℕ) → j < n → start_of (take n starts) j ≡ start_of starts j
+pub start_taken : (n : ℕ) (starts : List ℕ) (j : ℕ) → j < n → level_start (take n starts) j ≡ level_start starts j
 start_taken zero starts j lt = absurd (omega arith)
 start_taken (suc n) [] j lt = refl
 start_taken (suc n) (s ∷ ss) zero lt = refl
@@ -285,37 +285,37 @@ length_taken (suc n) (x ∷ xs) h = ap suc (length_taken n xs (omega arith))
 
 pub IsTrail-cut : (t : Assigned) (level : ℕ) → IsTrail t → level < length t.starts → IsTrail (cut_back t level)
 IsTrail-cut t level h lt =
-    let cut : start_of t.starts level < length t.literals = h.inside level lt in
+    let cut : level_start t.starts level < length t.literals = h.inside level lt in
     let counts : length t.reasons ≡ length t.literals = h.reasons in
-    let size : length (take (start_of t.starts level) t.literals) ≡ start_of t.starts level = length_taken (start_of t.starts level) t.literals (omega (arith, cut)) in
+    let size : length (take (level_start t.starts level) t.literals) ≡ level_start t.starts level = length_taken (level_start t.starts level) t.literals (omega (arith, cut)) in
     let levels : length (take level t.starts) ≡ level = length_taken level t.starts (omega (arith, lt)) in
     let all : length t.literals ≤ 2 * t.vars + 2 = h.room in
     record {
-      consistent = λ l e. false_from_ne_true _ (λ f. false≢true (sym (h.consistent l (taken_part t.literals (start_of t.starts level) l e))
-          ∙ taken_part t.literals (start_of t.starts level) (negated l) f));
-      within = λ l e. h.within l (taken_part t.literals (start_of t.starts level) l e);
+      consistent = λ l e. false_from_ne_true _ (λ f. false≢true (sym (h.consistent l (taken_part t.literals (level_start t.starts level) l e))
+          ∙ taken_part t.literals (level_start t.starts level) (negated l) f));
+      within = λ l e. h.within l (taken_part t.literals (level_start t.starts level) l e);
       room = omega (arith, size, cut, all);
-      reasons = length_taken (start_of t.starts level) t.reasons (omega (arith, cut, counts)) ∙ sym size;
+      reasons = length_taken (level_start t.starts level) t.reasons (omega (arith, cut, counts)) ∙ sym size;
       inside = λ j e. (let k : j < level = omega (arith, e, levels) in
-          let f : start_of (take level t.starts) j ≡ start_of t.starts j = start_taken level t.starts j k in
-          let g : start_of t.starts j < start_of t.starts level = h.rising j level k lt in omega (arith, f, g, size));
+          let f : level_start (take level t.starts) j ≡ level_start t.starts j = start_taken level t.starts j k in
+          let g : level_start t.starts j < level_start t.starts level = h.rising j level k lt in omega (arith, f, g, size));
       rising = λ i j e in_j. (let k : j < level = omega (arith, in_j, levels) in
-          let f : start_of (take level t.starts) j ≡ start_of t.starts j = start_taken level t.starts j k in
-          let g : start_of (take level t.starts) i ≡ start_of t.starts i = start_taken level t.starts i (omega (arith, k, e)) in
-          let d : start_of t.starts i < start_of t.starts j = h.rising i j e (omega (arith, k, lt)) in omega (arith, f, g, d));
-      decisions = λ i e. (let r = at_taken (start_of t.starts level) t.reasons i None e in
+          let f : level_start (take level t.starts) j ≡ level_start t.starts j = start_taken level t.starts j k in
+          let g : level_start (take level t.starts) i ≡ level_start t.starts i = start_taken level t.starts i (omega (arith, k, e)) in
+          let d : level_start t.starts i < level_start t.starts j = h.rising i j e (omega (arith, k, lt)) in omega (arith, f, g, d));
+      decisions = λ i e. (let r = at_taken (level_start t.starts level) t.reasons i None e in
           let d = h.decisions i r.0 in
-          let inside : i < start_of t.starts level = r.1 in
-          let k : d.0 < level = early d.0 d.1 (let q : start_of t.starts d.0 ≡ i = d.2 in omega (arith, q, inside)) in
+          let inside : i < level_start t.starts level = r.1 in
+          let k : d.0 < level = early d.0 d.1 (let q : level_start t.starts d.0 ≡ i = d.2 in omega (arith, q, inside)) in
           (d.0, (omega (arith, k, levels)), start_taken level t.starts d.0 k ∙ d.2));
     }
   where
-    early : (j : ℕ) → j < length t.starts → start_of t.starts j < start_of t.starts level → j < level
+    early : (j : ℕ) → j < length t.starts → level_start t.starts j < level_start t.starts level → j < level
     early j j_in below = elim (cases_order j level) [
-      | inl e ↦ absurd (let f : start_of t.starts j ≡ start_of t.starts level = ap (start_of t.starts) e in omega (arith, f, below))
+      | inl e ↦ absurd (let f : level_start t.starts j ≡ level_start t.starts level = ap (level_start t.starts) e in omega (arith, f, below))
       | inr e ↦ elim e [
         | inl l ↦ l
-        | inr g ↦ absurd (let f : start_of t.starts level < start_of t.starts j = h.rising level j g j_in in omega (arith, f, below))
+        | inr g ↦ absurd (let f : level_start t.starts level < level_start t.starts j = h.rising level j g j_in in omega (arith, f, below))
       ]
     ]
 
@@ -343,15 +343,15 @@ place_inside marks xs l h e = elim (cases_lt (place_of l) (length marks)) [
 
 pub IsTabled-cut : (vars : ℕ) (marks new : List Bool) (reached : List Literal) (forced_by : List (Option ℕ)) (positions : List ℕ) (count : ℕ) (begins : List ℕ) (level : ℕ)
     → IsTabled vars marks reached forced_by positions count begins → level < length begins → length new ≡ length marks
-    → IsMarked new (take (start_of begins level) (take count reached))
-    → IsTabled vars new reached forced_by positions (start_of begins level) (take level begins)
+    → IsMarked new (take (level_start begins level) (take count reached))
+    → IsTabled vars new reached forced_by positions (level_start begins level) (take level begins)
 IsTabled-cut vars marks new reached forced_by positions count begins level h lt same marked =
-    let cut : start_of begins level < length (take count reached) = h.trail.inside level lt in
+    let cut : level_start begins level < length (take count reached) = h.trail.inside level lt in
     let size : length (take count reached) ≡ count = length_taken count reached (let f : count ≤ 2 * vars + 2 = h.filled in let g : length reached ≡ 2 * vars + 2 = h.literals in omega (arith, f, g)) in
     let filled : count ≤ 2 * vars + 2 = h.filled in
-    let below : start_of begins level ≤ count = omega (arith, cut, size) in
-    let literals : take (start_of begins level) (take count reached) ≡ take (start_of begins level) reached = take-take (start_of begins level) count reached below in
-    let reasons : take (start_of begins level) (take count forced_by) ≡ take (start_of begins level) forced_by = take-take (start_of begins level) count forced_by below in
+    let below : level_start begins level ≤ count = omega (arith, cut, size) in
+    let literals : take (level_start begins level) (take count reached) ≡ take (level_start begins level) reached = take-take (level_start begins level) count reached below in
+    let reasons : take (level_start begins level) (take count forced_by) ≡ take (level_start begins level) forced_by = take-take (level_start begins level) count forced_by below in
     record {
       places = same ∙ h.places;
       literals = h.literals;
@@ -359,8 +359,8 @@ IsTabled-cut vars marks new reached forced_by positions count begins level h lt 
       variables = h.variables;
       filled = omega (arith, below, filled);
       marked = subst (λ z. IsMarked new z) literals marked;
-      placed = λ i l e. h.placed i l (at_taken (start_of begins level) (take count reached) i l (ap (λ z. slice_get z i) literals ∙ e)).0;
-      trail = subst (λ z. IsTrail (record { vars = vars; literals = z; reasons = take (start_of begins level) forced_by; starts = take level begins })) literals
-          (subst (λ z. IsTrail (record { vars = vars; literals = take (start_of begins level) (take count reached); reasons = z; starts = take level begins })) reasons
+      placed = λ i l e. h.placed i l (at_taken (level_start begins level) (take count reached) i l (ap (λ z. slice_get z i) literals ∙ e)).0;
+      trail = subst (λ z. IsTrail (record { vars = vars; literals = z; reasons = take (level_start begins level) forced_by; starts = take level begins })) literals
+          (subst (λ z. IsTrail (record { vars = vars; literals = take (level_start begins level) (take count reached); reasons = z; starts = take level begins })) reasons
           (IsTrail-cut (assigned vars reached forced_by count begins) level h.trail lt));
     }

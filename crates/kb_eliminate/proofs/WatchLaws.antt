@@ -11,7 +11,7 @@ use Rattle.kb_chain.proofs.OrderLaws.{has_take-suc, has_get_or}
 use Rattle.kb_chain.proofs.PropagationLaws.{IsPart, place_of-negated}
 use Rattle.kb_eliminate.specs.declared.watch.Pair.{Pair}
 use Rattle.kb_eliminate.specs.declared.watch.Watch.{Watch}
-use Rattle.kb_eliminate.specs.Watches.{is_met, IsQuiet, Quiet, AllAwake, watches_clause, at_literal, IsListed, is_blocked, all_blocked, AreOwn, IsWatching, IsSettledOrWaiting, IsPending, Walks, AllListed, StaysQuiet, IsOther, put, paired, put_pair}
+use Rattle.kb_eliminate.specs.Watches.{is_met, IsQuiet, Quiet, AllAwake, watches_clause, at_literal, IsWatchListed, is_blocked, all_blocked, AreOwn, IsWatching, IsSettledOrWaiting, IsPending, Walks, AllListed, StaysQuiet, IsOther, put, paired, put_pair}
 use Rattle.kb_eliminate.proofs.Places.{at_pushed, at_last, at_inside, at_set, at_get_or, at_same}
 
 pub listed_more : (lists : List (List Watch)) (l : Literal) (w : Watch) (m : Literal) (k : ℕ) → watches_clause (at_literal lists m) k ≡ true
@@ -89,18 +89,18 @@ pub Walks-step : (early late later : Literal → Bool) (rows : List (List Litera
     → Walks early late rows pairs lists (w ∷ rest) f → IsPart late later
     → ((m : Literal) (k : ℕ) → watches_clause (at_literal lists m) k ≡ true → watches_clause (at_literal lists' m) k ≡ true)
     → ((k : ℕ) (pair : Pair) → slice_get pairs' k ≡ Some pair → (w.clause ≡ k → ⊥) → slice_get pairs k ≡ Some pair)
-    → ((pair : Pair) → slice_get pairs' w.clause ≡ Some pair → pair.awake ≡ true → IsListed lists' rest f w.clause pair.first × IsListed lists' rest f w.clause pair.second)
+    → ((pair : Pair) → slice_get pairs' w.clause ≡ Some pair → pair.awake ≡ true → IsWatchListed lists' rest f w.clause pair.first × IsWatchListed lists' rest f w.clause pair.second)
     → ((row : List Literal) (pair : Pair) → slice_get rows w.clause ≡ Some row → slice_get pairs' w.clause ≡ Some pair → pair.awake ≡ true
     → IsPending early later row pair rest f w.clause)
     → Walks early later rows pairs' lists' rest f
 Walks-step early late later rows pairs pairs' lists lists' w rest f h grown more kept listed pending = record {
   listed = record {
     first = λ k pair e aw. elim (cases_eq w.clause k) [
-      | inl s ↦ subst (λ z. IsListed lists' rest f z pair.first) s (listed pair (ap (slice_get pairs') s ∙ e) aw).0
+      | inl s ↦ subst (λ z. IsWatchListed lists' rest f z pair.first) s (listed pair (ap (slice_get pairs') s ∙ e) aw).0
       | inr n ↦ still k pair.first n (h.listed.first k pair (kept k pair e n) aw)
     ];
     second = λ k pair e aw. elim (cases_eq w.clause k) [
-      | inl s ↦ subst (λ z. IsListed lists' rest f z pair.second) s (listed pair (ap (slice_get pairs') s ∙ e) aw).1
+      | inl s ↦ subst (λ z. IsWatchListed lists' rest f z pair.second) s (listed pair (ap (slice_get pairs') s ∙ e) aw).1
       | inr n ↦ still k pair.second n (h.listed.second k pair (kept k pair e n) aw)
     ];
   };
@@ -117,7 +117,7 @@ Walks-step early late later rows pairs pairs' lists lists' w rest f h grown more
     not_this : (k : ℕ) → (w.clause ≡ k → ⊥) → watches_clause (w ∷ rest) k ≡ true → watches_clause rest k ≡ true
     not_this k n e = elim (or_cases (w.clause == k) (watches_clause rest k) e) [ inl s ↦ absurd (n (eqb-true w.clause k s)) | inr s ↦ s ]
 
-    still : (k : ℕ) (m : Literal) → (w.clause ≡ k → ⊥) → IsListed lists (w ∷ rest) f k m → IsListed lists' rest f k m
+    still : (k : ℕ) (m : Literal) → (w.clause ≡ k → ⊥) → IsWatchListed lists (w ∷ rest) f k m → IsWatchListed lists' rest f k m
     still k m n (inl e) = inl (more m k e)
     still k m n (inr e) = inr (e.0, not_this k n e.1)
 
@@ -140,7 +140,7 @@ Walks-keep early late later rows pairs lists w w' rest f h grown lt same_clause 
       single = λ g. grown pair.first ((h.pending w.clause row pair r e aw).single g);
     })
   where
-    here : (m : Literal) → IsListed lists (w ∷ rest) f w.clause m → IsListed (put lists f w') rest f w.clause m
+    here : (m : Literal) → IsWatchListed lists (w ∷ rest) f w.clause m → IsWatchListed (put lists f w') rest f w.clause m
     here m (inl e) = inl (listed_more lists f w' m w.clause e)
     here m (inr e) = inl (subst (λ z. watches_clause (at_literal (put lists f w') z) w.clause ≡ true) (sym e.0) (listed_new lists f w' w.clause lt same_clause))
 
@@ -161,7 +161,7 @@ Walks-drop early late rows pairs lists w rest f h apart =
       single = p.single;
     }))
   where
-    here : (m : Literal) → same m f ≡ false → IsListed lists (w ∷ rest) f w.clause m → IsListed lists rest f w.clause m
+    here : (m : Literal) → same m f ≡ false → IsWatchListed lists (w ∷ rest) f w.clause m → IsWatchListed lists rest f w.clause m
     here m n (inl e) = inl e
     here m n (inr e) = absurd (not_same m f n e.0)
 
@@ -180,7 +180,7 @@ pub Walks-move : (early late : Literal → Bool) (rows : List (List Literal)) (p
 Walks-move early late rows pairs lists w w' rest f pair other next h part lt same_clause was awake is_other lacks free apart row is_row =
     Walks-step early late late rows pairs (set pairs w.clause (paired other next)) lists (put lists next w') w rest f h (λ l e. e) (listed_more lists next w')
     (λ k p e n. elim (at_set pairs w.clause (paired other next) k p e) [ inl s ↦ s.0 | inr s ↦ absurd (n (sym s.0)) ])
-    (λ p e aw. subst (λ z. IsListed (put lists next w') rest f w.clause z.first × IsListed (put lists next w') rest f w.clause z.second) (is_new p e)
+    (λ p e aw. subst (λ z. IsWatchListed (put lists next w') rest f w.clause z.first × IsWatchListed (put lists next w') rest f w.clause z.second) (is_new p e)
     (still (listed_other is_other), inl (listed_new lists next w' w.clause lt same_clause)))
     (λ r p g e aw. subst (λ z. IsPending early late r z rest f w.clause) (is_new p e) (record {
       first = λ n. waits r (pending_other r g is_other n);
@@ -198,11 +198,11 @@ Walks-move early late rows pairs lists w w' rest f pair other next h part lt sam
     other_apart (inl e) s = single (sym e.0) (sym e.1 ∙ s)
     other_apart (inr e) s = single (sym e.1 ∙ s) (sym e.0)
 
-    listed_other : IsOther pair f other → IsListed lists (w ∷ rest) f w.clause other
-    listed_other (inl e) = subst (λ z. IsListed lists (w ∷ rest) f w.clause z) (sym e.1) (h.listed.second w.clause pair was awake)
-    listed_other (inr e) = subst (λ z. IsListed lists (w ∷ rest) f w.clause z) (sym e.1) (h.listed.first w.clause pair was awake)
+    listed_other : IsOther pair f other → IsWatchListed lists (w ∷ rest) f w.clause other
+    listed_other (inl e) = subst (λ z. IsWatchListed lists (w ∷ rest) f w.clause z) (sym e.1) (h.listed.second w.clause pair was awake)
+    listed_other (inr e) = subst (λ z. IsWatchListed lists (w ∷ rest) f w.clause z) (sym e.1) (h.listed.first w.clause pair was awake)
 
-    still : IsListed lists (w ∷ rest) f w.clause other → IsListed (put lists next w') rest f w.clause other
+    still : IsWatchListed lists (w ∷ rest) f w.clause other → IsWatchListed (put lists next w') rest f w.clause other
     still (inl e) = inl (listed_more lists next w' other w.clause e)
     still (inr e) = absurd (other_apart is_other e.0)
 
@@ -277,7 +277,7 @@ Walks-end early late rows pairs lists f h = (
   }),
 )
   where
-    stands : (k : ℕ) (m : Literal) → IsListed lists [] f k m → watches_clause (at_literal lists m) k ≡ true
+    stands : (k : ℕ) (m : Literal) → IsWatchListed lists [] f k m → watches_clause (at_literal lists m) k ≡ true
     stands k m (inl e) = e
     stands k m (inr e) = absurd (false≢true e.1)
 
@@ -315,7 +315,7 @@ pub AllListed-back : (early late : Literal → Bool) (rows : List (List Literal)
     → Walks early late rows pairs lists rest f → place_of f < length lists → AllListed (put_all lists f rest) pairs
 AllListed-back early late rows pairs lists rest f h lt k pair e aw = (stands pair.first (h.listed.first k pair e aw), stands pair.second (h.listed.second k pair e aw))
   where
-    stands : (m : Literal) → IsListed lists rest f k m → watches_clause (at_literal (put_all lists f rest) m) k ≡ true
+    stands : (m : Literal) → IsWatchListed lists rest f k m → watches_clause (at_literal (put_all lists f rest) m) k ≡ true
     stands m (inl e) = listed_more_all lists f rest m k lt e
     stands m (inr e) = subst (λ z. watches_clause (at_literal (put_all lists f rest) z) k ≡ true) (sym e.0) (listed_among lists f rest k lt e.1)
 
@@ -346,7 +346,7 @@ Walks-start late before now rows pairs lists f listed quiet more = record {
   });
 }
   where
-    stands : (k : ℕ) (m : Literal) → watches_clause (at_literal lists m) k ≡ true → IsListed (set lists (place_of f) []) (at_literal lists f) f k m
+    stands : (k : ℕ) (m : Literal) → watches_clause (at_literal lists m) k ≡ true → IsWatchListed (set lists (place_of f) []) (at_literal lists f) f k m
     stands k m e = elim (cases_eq (place_of m) (place_of f)) [
       | inl s ↦ inr (place_of-injective m f s, ap (λ p. watches_clause (get_or lists p []) k) (sym s) ∙ e)
       | inr n ↦ inl (ap (λ z. watches_clause z k) (get_or-set_other lists (place_of f) (place_of m) [] [] n) ∙ e)

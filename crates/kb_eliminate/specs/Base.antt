@@ -62,7 +62,7 @@ abbrev pub AllAssigned : Assigned → Type 0
 AllAssigned t = (v : ℕ) → 0 < v → v ≤ t.vars → IsValued t v
 
 -- a literal that has no value
-pub record IsFree (t : Assigned) (l : Literal) : Type 0 where
+pub record HasNoValue (t : Assigned) (l : Literal) : Type 0 where
   pub absent : has t.literals l ≡ false
   pub possible : has t.literals (negated l) ≡ false
   pub place : place_of l < 2 * t.vars + 2
@@ -78,8 +78,8 @@ pub record IsPropagated (b : Base) : Type 0 where
   pub quiet : Quiet b.clauses b.watches.pairs.items (has b.trail.literals) (has b.trail.literals)
 
 -- the second literal of a row, or the only one
-abbrev pub IsSecond : List Literal → Literal → Type 0
-IsSecond row l = (slice_get row 1 ≡ Some l) ⊎ ((length row ≡ 1) × (slice_get row 0 ≡ Some l))
+abbrev pub IsSecondLiteral : List Literal → Literal → Type 0
+IsSecondLiteral row l = (slice_get row 1 ≡ Some l) ⊎ ((length row ≡ 1) × (slice_get row 0 ≡ Some l))
 
 -- the bits say which positive literals are in the trail
 abbrev pub IsModelOf : List Bool → Assigned → Type 0

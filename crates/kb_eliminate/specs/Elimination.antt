@@ -24,7 +24,7 @@ pub record IsResolventAt (zero : Literal → Bool) (rows : List (List Literal)) 
 abbrev pub each_with : Literal → List ℕ → List (Literal × ℕ)
 each_with literal numbers = map (λ (n : ℕ). (literal, n)) numbers
 
--- no clause was let go, or all that have a literal of the variable
+-- nothing was noted, or behind what was there the clauses of both sides, each with its side's literal: those with the pivot first
 abbrev pub AreGone : Sides → List (Literal × ℕ) → List (Literal × ℕ) → Type 0
 AreGone sides old new =
     (new ≡ old) ⊎ (new ≡ (old ++ each_with sides.pivot sides.left.items) ++ each_with (negated sides.pivot) sides.right.items)

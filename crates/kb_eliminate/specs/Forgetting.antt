@@ -8,11 +8,11 @@ is_awake None = false
 is_awake (Some pair) = pair.awake
 
 -- the watch is of a clause that is awake
-abbrev pub is_kept : List Pair → Watch → Bool
-is_kept pairs w = is_awake (slice_get pairs w.clause)
+abbrev pub has_awake_clause : List Pair → Watch → Bool
+has_awake_clause pairs w = is_awake (slice_get pairs w.clause)
 
 abbrev pub only_awake : List Pair → List Watch → List Watch
-only_awake pairs list = filter (is_kept pairs) list
+only_awake pairs list = filter (has_awake_clause pairs) list
 
 -- the pairs when the clause of this number is let go
 abbrev pub asleep_at : List Pair → ℕ → Option Pair → List Pair

@@ -11,8 +11,8 @@ abbrev pub rows_of : List Literal → List Span → List (List Literal)
 rows_of flat spans = map (row_of flat) spans
 
 -- each span ends in the flat table
-abbrev pub AreWithin : List Literal → List Span → Type 0
-AreWithin flat spans = (k : ℕ) (span : Span) → slice_get spans k ≡ Some span → (span.start ≤ span.end) × (span.end ≤ length flat)
+abbrev pub EndWithin : List Literal → List Span → Type 0
+EndWithin flat spans = (k : ℕ) (span : Span) → slice_get spans k ≡ Some span → (span.start ≤ span.end) × (span.end ≤ length flat)
 
 -- the literals have the variables that a literal can have
 

@@ -11,12 +11,12 @@ pub record Assigned : Type 0 where
   pub starts : List ℕ
 
 -- where level j + 1 began
-abbrev pub start_of : List ℕ → ℕ → ℕ
-start_of starts j = slice_index_or starts j 0
+abbrev pub level_start : List ℕ → ℕ → ℕ
+level_start starts j = slice_index_or starts j 0
 
 -- the literals that were there when level j + 1 began
 abbrev pub before_level : Assigned → ℕ → List Literal
-before_level t j = take (start_of t.starts j) t.literals
+before_level t j = take (level_start t.starts j) t.literals
 
 -- the literals of level 0
 abbrev pub level_zero : Assigned → List Literal
@@ -28,9 +28,9 @@ pub record IsTrail (t : Assigned) : Type 0 where
   pub within : (l : Literal) → has t.literals l ≡ true → place_of l < 2 * t.vars + 2
   pub room : length t.literals ≤ 2 * t.vars + 2
   pub reasons : length t.reasons ≡ length t.literals
-  pub inside : (j : ℕ) → j < length t.starts → start_of t.starts j < length t.literals
-  pub rising : (i j : ℕ) → i < j → j < length t.starts → start_of t.starts i < start_of t.starts j
-  pub decisions : (i : ℕ) → slice_get t.reasons i ≡ Some None → (j : ℕ) × (j < length t.starts) × (start_of t.starts j ≡ i)
+  pub inside : (j : ℕ) → j < length t.starts → level_start t.starts j < length t.literals
+  pub rising : (i j : ℕ) → i < j → j < length t.starts → level_start t.starts i < level_start t.starts j
+  pub decisions : (i : ℕ) → slice_get t.reasons i ≡ Some None → (j : ℕ) × (j < length t.starts) × (level_start t.starts j ≡ i)
 
 -- clause c has the literal, and all its others are negated by the literals before it
 pub record IsReason (clauses : List (List Literal)) (before : Literal → Bool) (l : Literal) (c : ℕ) : Type 0 where
@@ -46,7 +46,7 @@ HasReasons clauses t =
     → IsReason clauses (has (take i t.literals)) l c
 
 -- the trail goes on where the old one ends, at the same level
-pub record Grows (old new : Assigned) : Type 0 where
+pub record TrailGrows (old new : Assigned) : Type 0 where
   pub vars : new.vars ≡ old.vars
   pub literals : take (length old.literals) new.literals ≡ old.literals
   pub starts : new.starts ≡ old.starts
@@ -56,6 +56,6 @@ abbrev pub cut_back : Assigned → ℕ → Assigned
 cut_back t level = record {
   vars = t.vars;
   literals = before_level t level;
-  reasons = take (start_of t.starts level) t.reasons;
+  reasons = take (level_start t.starts level) t.reasons;
   starts = take level t.starts;
 }

@@ -38,13 +38,13 @@ abbrev pub at_literal : List (List Watch) → Literal → List Watch
 at_literal lists l = slice_index_or lists (place_of l) []
 
 -- the watch of clause k at this literal is in its list, or among those that are being taken up from the list of the false literal
-abbrev pub IsListed : List (List Watch) → List Watch → Literal → ℕ → Literal → Type 0
-IsListed lists rest falsified k l =
+abbrev pub IsWatchListed : List (List Watch) → List Watch → Literal → ℕ → Literal → Type 0
+IsWatchListed lists rest falsified k l =
     (watches_clause (at_literal lists l) k ≡ true) ⊎ ((l ≡ falsified) × (watches_clause rest k ≡ true))
 
 pub record AreListed (lists : List (List Watch)) (rest : List Watch) (falsified : Literal) (pairs : List Pair) : Type 0 where
-  pub first : (k : ℕ) (pair : Pair) → slice_get pairs k ≡ Some pair → pair.awake ≡ true → IsListed lists rest falsified k pair.first
-  pub second : (k : ℕ) (pair : Pair) → slice_get pairs k ≡ Some pair → pair.awake ≡ true → IsListed lists rest falsified k pair.second
+  pub first : (k : ℕ) (pair : Pair) → slice_get pairs k ≡ Some pair → pair.awake ≡ true → IsWatchListed lists rest falsified k pair.first
+  pub second : (k : ℕ) (pair : Pair) → slice_get pairs k ≡ Some pair → pair.awake ≡ true → IsWatchListed lists rest falsified k pair.second
 
 -- the blocking literal is one of the clause's
 abbrev pub is_blocked : List (List Literal) → Watch → Bool

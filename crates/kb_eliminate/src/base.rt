@@ -1,8 +1,8 @@
 //! The base of a search: its clauses with their derivations in the log, the literals that are true, and the watches that tell what
 //! the clauses force. Under proof: the log derives each clause, and what propagation meets.
 ghost use Rattle.std.specs.Prelude.{◌≡◌, ℕ, ◌+◌, ◌<◌, true, [], ◌∷◌, length, OnOk, IfOk, IfSome, IfNone};
-ghost use Rattle.kb_eliminate.specs.Base.{Stands, IsReady, KeepsBase, Forgets, IsConflict, IsPropagated, IsSecond, IsDoomed};
-ghost use Rattle.kb_eliminate.specs.Trail.{Grows};
+ghost use Rattle.kb_eliminate.specs.Base.{Stands, IsReady, KeepsBase, Forgets, IsConflict, IsPropagated, IsSecondLiteral, IsDoomed};
+ghost use Rattle.kb_eliminate.specs.Trail.{TrailGrows};
 ghost use Rattle.kb_eliminate.specs.Watches.{IsAwake};
 
 use crate::begin::watch_all;
@@ -68,7 +68,7 @@ impl<'a> Base<'a> {
         ensures keeps { OnOk result (KeepsBase self.old self.new) }
         ensures conflict { IfOk result (λ conflict. IfSome conflict (λ number. IsConflict self.new.clauses self.new.trail number × IsAwake self.new.watches.pairs.items number)) }
         ensures settled { IfOk result (λ conflict. IfNone conflict (IsPropagated self.new)) }
-        ensures grows { OnOk result (Grows self.old.trail self.new.trail) }
+        ensures grows { OnOk result (TrailGrows self.old.trail self.new.trail) }
     {
         self.trail.facts();
         let conflict = propagate(&self.clauses, &mut self.watches, &mut self.trail, self.head)?;
@@ -104,7 +104,7 @@ impl<'a> Base<'a> {
 /// The second literal of a clause, or the first one where there is no other.
 pub fn second_of(literals: &[Lit]) -> Lit
     requires { 0 < length literals.now }
-    ensures { IsSecond literals.now result }
+    ensures { IsSecondLiteral literals.now result }
 {
     if literals.len() > 1 {
         literals[1]

@@ -2,7 +2,7 @@
 ghost use Rattle.std.specs.Prelude.{◌≡◌, ℕ, ◌+◌, ◌*◌, ◌<◌, ◌≤◌, true, false, List, [], ◌∷◌, ◌++◌, length, take, slice_get, Some, OnOk, IfOk, IfSome, IfNone};
 ghost use Rattle.std.specs.Bool.{OnTrue, OnFalse};
 ghost use Rattle.kb_chain.specs.Literal.{Literal, has, negated, same, place_of};
-ghost use Rattle.kb_eliminate.specs.Trail.{Grows};
+ghost use Rattle.kb_eliminate.specs.Trail.{TrailGrows};
 ghost use Rattle.kb_eliminate.specs.Store.{IsJustified};
 ghost use Rattle.kb_eliminate.specs.Base.{IsConflict};
 ghost use Rattle.kb_eliminate.specs.Watches.{AreEmpty, IsBegun, paired, put_pair};
@@ -24,7 +24,7 @@ pub fn watch_all(
     requires within { (k : ℕ) (row : List Literal) → slice_get clauses.now k ≡ Some row → (l : Literal) → has row l ≡ true → place_of l < 2 * trail.old.vars + 2 }
     ensures begun { IfOk result (λ conflict. IfNone conflict (IsBegun clauses.now watches.new.pairs.items watches.new.lists.items trail.new)) }
     ensures conflict { IfOk result (λ conflict. IfSome conflict (IsConflict clauses.now trail.new)) }
-    ensures grows { OnOk result (Grows trail.old trail.new) }
+    ensures grows { OnOk result (TrailGrows trail.old trail.new) }
     ensures justified { OnOk result ((all : List (List Literal)) → IsJustified all clauses.now trail.old → IsJustified all clauses.now trail.new) }
 {
     for number in 0..clauses.len() {
@@ -47,7 +47,7 @@ fn watch_clause(
     requires within { (row : List Literal) → slice_get clauses.now number ≡ Some row → (l : Literal) → has row l ≡ true → place_of l < 2 * trail.old.vars + 2 }
     ensures begun { IfOk result (λ goes. OnTrue goes (IsBegun (take (number + 1) clauses.now) watches.new.pairs.items watches.new.lists.items trail.new)) }
     ensures conflict { IfOk result (λ goes. OnFalse goes (IsConflict clauses.now trail.new number)) }
-    ensures grows { OnOk result (Grows trail.old trail.new) }
+    ensures grows { OnOk result (TrailGrows trail.old trail.new) }
     ensures justified { OnOk result ((all : List (List Literal)) → IsJustified all clauses.now trail.old → IsJustified all clauses.now trail.new) }
 {
     trail.facts();

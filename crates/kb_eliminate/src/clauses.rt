@@ -25,7 +25,7 @@ pub struct Clauses {
 impl Model for Clauses {
     ghost use Rattle.std.specs.Prelude.{List, ◌<◌, ◌^◌, length};
     ghost use Rattle.kb_chain.specs.Literal.{Literal};
-    ghost use Rattle.kb_eliminate.specs.Rows.{AreNamed, AreWithin, rows_of};
+    ghost use Rattle.kb_eliminate.specs.Rows.{AreNamed, EndWithin, rows_of};
 
     ghost Value = { List (List Literal) };
 
@@ -33,7 +33,7 @@ impl Model for Clauses {
 
     ghost invariant = { λ c. record {
       few : length c.spans.items < 2 ^ 32;
-      within : AreWithin c.flat.items c.spans.items;
+      within : EndWithin c.flat.items c.spans.items;
       named : AreNamed (rows_of c.flat.items c.spans.items);
     } };
 }

@@ -3,7 +3,7 @@
 ghost use Rattle.std.specs.Prelude.{◌≡◌, ℕ, ◌+◌, ◌*◌, ◌<◌, ◌≤◌, Bool, true, false, List, [], ◌∷◌, length, take, slice_get, Some, OnOk, IfOk, IfSome, IfNone};
 ghost use Rattle.std.specs.Bool.{OnTrue, OnFalse};
 ghost use Rattle.kb_chain.specs.Literal.{Literal, has, negated, same, place_of};
-ghost use Rattle.kb_eliminate.specs.Trail.{Grows};
+ghost use Rattle.kb_eliminate.specs.Trail.{TrailGrows};
 ghost use Rattle.kb_eliminate.specs.Store.{IsJustified};
 ghost use Rattle.kb_eliminate.specs.Base.{IsConflict};
 ghost use Rattle.kb_eliminate.specs.Watches.{Quiet, IsWatching, IsAwake, Walks, AllListed, StaysQuiet, is_blocked, all_blocked, IsOther};
@@ -35,7 +35,7 @@ pub fn propagate(
         (Quiet clauses.now watches.new.pairs.items (has trail.new.literals) (has trail.new.literals))) }
     ensures conflict { IfOk result (λ conflict. IfSome conflict (λ number. IsConflict clauses.now trail.new number × IsAwake watches.new.pairs.items number)) }
     ensures stays { OnOk result (StaysQuiet clauses.now watches.old.pairs.items watches.new.pairs.items (has trail.old.literals)) }
-    ensures grows { OnOk result (Grows trail.old trail.new) }
+    ensures grows { OnOk result (TrailGrows trail.old trail.new) }
     ensures justified { OnOk result ((all : List (List Literal)) → IsJustified all clauses.now trail.old → IsJustified all clauses.now trail.new) }
 {
     let mut next = from;
@@ -65,7 +65,7 @@ fn visit(
         (Quiet clauses.now watches.new.pairs.items (has (take (position + 1) trail.new.literals)) (has trail.new.literals))) }
     ensures conflict { IfOk result (λ conflict. IfSome conflict (λ number. IsConflict clauses.now trail.new number × IsAwake watches.new.pairs.items number)) }
     ensures stays { OnOk result (StaysQuiet clauses.now watches.old.pairs.items watches.new.pairs.items (has trail.old.literals)) }
-    ensures grows { OnOk result (Grows trail.old trail.new) }
+    ensures grows { OnOk result (TrailGrows trail.old trail.new) }
     ensures justified { OnOk result ((all : List (List Literal)) → IsJustified all clauses.now trail.old → IsJustified all clauses.now trail.new) }
 {
     let falsified = trail.literals()[position].negated();
@@ -104,7 +104,7 @@ fn walk(
         → Quiet clauses.now pairs.new.items early (has trail.new.literals))) }
     ensures conflict { IfOk result (λ conflict. IfSome conflict (λ number. IsConflict clauses.now trail.new number × IsAwake pairs.new.items number)) }
     ensures stays { OnOk result (StaysQuiet clauses.now pairs.old.items pairs.new.items (has trail.old.literals)) }
-    ensures grows { OnOk result (Grows trail.old trail.new) }
+    ensures grows { OnOk result (TrailGrows trail.old trail.new) }
     ensures justified { OnOk result ((all : List (List Literal)) → IsJustified all clauses.now trail.old → IsJustified all clauses.now trail.new) }
 {
     let mut rest = waiting;
@@ -139,7 +139,7 @@ fn examine(
     ensures conflict { IfOk result (λ goes. OnFalse goes (IsConflict clauses.now trail.new watch.clause × IsAwake pairs.new.items watch.clause)) }
     ensures unchanged { IfOk result (λ goes. OnFalse goes ((pairs.new.items ≡ pairs.old.items) × (lists.new.items ≡ lists.old.items) × (trail.new ≡ trail.old))) }
     ensures stays { OnOk result (StaysQuiet clauses.now pairs.old.items pairs.new.items (has trail.old.literals)) }
-    ensures grows { OnOk result (Grows trail.old trail.new) }
+    ensures grows { OnOk result (TrailGrows trail.old trail.new) }
     ensures justified { OnOk result ((all : List (List Literal)) → IsJustified all clauses.now trail.old → IsJustified all clauses.now trail.new) }
 {
     trail.facts();

@@ -77,3 +77,18 @@ fn models_extend_to_what_was_eliminated(rt: HostRuntime) -> Result<(), Fail> {
     assert_eq!(rt; bits.as_slice(), [false, true, false].as_slice());
     Ok(())
 }
+
+#[test]
+fn models_are_restored_from_the_last_clause_on(rt: HostRuntime) -> Result<(), Fail> {
+    let alloc = rt.alloc();
+    // 3 has no negative literal, so that it goes first with the clauses -1 3 and -2 3, and then 1 with 1 2. From all false, 1 2
+    // makes 1 true, after which -1 3 makes 3 true. From the first clause on, 3 would stay false.
+    let fork = formula(alloc, 3, &[&[1, 2], &[-1, 3], &[-2, 3]])?;
+    let Some((gone, bits)) = outcome(alloc, &fork)? else {
+        assert!(rt; false);
+        return Ok(());
+    };
+    assert_eq!(rt; gone, 3);
+    assert_eq!(rt; bits.as_slice(), [true, false, true].as_slice());
+    Ok(())
+}

@@ -2,7 +2,7 @@
 ghost use Rattle.std.specs.Prelude.{◌≡◌, ℕ, ◌+◌, ◌*◌, ◌-◌, ◌<◌, ◌≤◌, true, false, [], ◌∷◌, ◌++◌, length, take, slice_get, Some, None, OnOk, IfOk};
 ghost use Rattle.kb_chain.specs.Literal.{has, negated, place_of};
 ghost use Rattle.kb_chain.specs.Trail.{IsMarked};
-ghost use Rattle.kb_eliminate.specs.Trail.{Assigned, IsTrail, start_of, before_level};
+ghost use Rattle.kb_eliminate.specs.Trail.{Assigned, IsTrail, level_start, before_level};
 ghost use Rattle.kb_eliminate.specs.Tables.{IsDistinct};
 
 use crate::memory::NoMemory;
@@ -111,7 +111,7 @@ impl Trail {
     /// How many literals were there when the level after this one began.
     pub fn start(&self, level: usize) -> usize
         requires { level < length self.now.starts }
-        ensures value { result ≡ start_of self.now.starts level }
+        ensures value { result ≡ level_start self.now.starts level }
         ensures bound { result < length self.now.literals }
     {
         self.begins[level]
@@ -176,7 +176,7 @@ impl Trail {
         requires { level < length self.old.starts }
         ensures { self.new ≡ record self.old {
           literals = before_level self.old level;
-          reasons = take (start_of self.old.starts level) self.old.reasons;
+          reasons = take (level_start self.old.starts level) self.old.reasons;
           starts = take level self.old.starts;
         } }
     {

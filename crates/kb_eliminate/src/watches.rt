@@ -2,7 +2,7 @@
 ghost use Rattle.std.specs.Prelude.{◌≡◌, ℕ, ◌+◌, ◌*◌, ◌<◌, true, [], ◌∷◌, ◌++◌, length, map, filter, slice_set, OnOk, IfOk};
 ghost use Rattle.kb_chain.specs.Literal.{place_of};
 ghost use Rattle.kb_eliminate.specs.Watches.{at_literal, AreEmpty};
-ghost use Rattle.kb_eliminate.specs.Forgetting.{is_kept, only_awake, asleep};
+ghost use Rattle.kb_eliminate.specs.Forgetting.{has_awake_clause, only_awake, asleep};
 
 use crate::memory::NoMemory;
 use crate::watch::{Pair, Watch};
@@ -62,15 +62,15 @@ impl WatchList {
 
     /// Keeps only the watches of clauses that are awake.
     fn keep_awake(&mut self, pairs: &[Pair])
-        ensures { self.new ≡ filter (is_kept pairs.now) self.old }
+        ensures { self.new ≡ filter (has_awake_clause pairs.now) self.old }
     {
-        self.inner.retain(|watch| is_kept(pairs, watch));
+        self.inner.retain(|watch| has_awake_clause(pairs, watch));
     }
 }
 
 /// Whether a watch is of a clause that is awake.
-fn is_kept(pairs: &[Pair], watch: &Watch) -> bool
-    ensures { result ≡ is_kept pairs.now watch.now }
+fn has_awake_clause(pairs: &[Pair], watch: &Watch) -> bool
+    ensures { result ≡ has_awake_clause pairs.now watch.now }
 {
     match pairs.get(watch.clause as usize) {
         Some(pair) => pair.awake,

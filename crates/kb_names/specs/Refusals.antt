@@ -5,16 +5,16 @@ use Rattle.kb_names.specs.declared.descriptors.NameRefusal.{NameRefusal}
 use Rattle.kb_names.specs.declared.descriptors.NameRefusal.TheVariants.{BadDescriptor, NoMemory as no_memory}
 use Rattle.kb_names.specs.declared.name_texts.NameTextRefusal.{NameTextRefusal}
 use Rattle.kb_names.specs.declared.name_texts.NameTextRefusal.TheVariants.{BadName, NoMemory as no_memory_for_name}
-use Rattle.kb_names.specs.declared.stages.Stop.{Stop}
-use Rattle.kb_names.specs.declared.stages.Stop.TheVariants.{At, NoMemory as stop_for_memory}
+use Rattle.kb_names.specs.declared.stages.TextStop.{TextStop}
+use Rattle.kb_names.specs.declared.stages.TextStop.TheVariants.{At, NoMemory as stop_for_memory}
 
 -- a byte has no place, unless memory ran out
-abbrev pub StopsAs : {S : Type 0} → (S → ℕ → Option S) → S → List ℕ → Stop → Type 0
+abbrev pub StopsAs : {S : Type 0} → (S → ℕ → Option S) → S → List ℕ → TextStop → Type 0
 StopsAs step start text (At at) = StopsAt step start text at
 StopsAs step start text stop_for_memory = Unit {0}
 
 -- a byte has no place or the text ends too early, unless memory ran out
-abbrev pub RefusesAs : {S V : Type 0} → (S → ℕ → Option S) → (S → Option V) → S → List ℕ → Stop → Type 0
+abbrev pub RefusesAs : {S V : Type 0} → (S → ℕ → Option S) → (S → Option V) → S → List ℕ → TextStop → Type 0
 RefusesAs step read start text (At at) = StopsAt step start text at ⊎ EndsEarly step read start text at
 RefusesAs step read start text stop_for_memory = Unit {0}
 

@@ -9,7 +9,7 @@ ghost use Rattle.kb_names.specs.declared.types.JType.{JType};
 ghost use Rattle.kb_names.specs.declared.types.MethodType.{MethodType};
 
 use crate::class_names::{ClassStage, class_begins};
-use crate::stages::{Stage, Stop, read_text};
+use crate::stages::{Stage, TextStop, read_text};
 use crate::{Component, JType, MethodType, NoMemory, Row, Spelling};
 use std::alloc::Global;
 
@@ -251,8 +251,8 @@ pub fn read_type_as(alloc: Global, spelling: Spelling, text: &[u8]) -> Result<JT
 {
     match read_text(alloc, TypeStage::Dims(spelling, 0), text) {
         Ok(of) => Ok(of),
-        Err(Stop::At(at)) => Err(NameRefusal::BadDescriptor(at)),
-        Err(Stop::NoMemory) => Err(NameRefusal::NoMemory),
+        Err(TextStop::At(at)) => Err(NameRefusal::BadDescriptor(at)),
+        Err(TextStop::NoMemory) => Err(NameRefusal::NoMemory),
     }
 }
 
@@ -278,7 +278,7 @@ pub fn read_method_type_as(
 {
     match read_text(alloc, MethodStage::Opening(spelling), text) {
         Ok(kind) => Ok(kind),
-        Err(Stop::At(at)) => Err(NameRefusal::BadDescriptor(at)),
-        Err(Stop::NoMemory) => Err(NameRefusal::NoMemory),
+        Err(TextStop::At(at)) => Err(NameRefusal::BadDescriptor(at)),
+        Err(TextStop::NoMemory) => Err(NameRefusal::NoMemory),
     }
 }

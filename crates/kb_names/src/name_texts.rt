@@ -4,7 +4,7 @@ ghost use Rattle.kb_names.specs.Escapes.{is_plain as is_plain_byte, hex_digit, h
 ghost use Rattle.std.specs.Io.{appended_bytes};
 ghost use Rattle.kb_names.specs.Refusals.{RefusesName, ReadsName};
 
-use crate::stages::{Stage, Stop, read_text};
+use crate::stages::{Stage, TextStop, read_text};
 use crate::{Name, NoMemory};
 use std::alloc::Global;
 
@@ -121,7 +121,7 @@ pub fn write_name(name: &Name, into: &mut Vec<u8>) -> Result<(), NoMemory>
     Ok(())
 }
 
-// Appends the spelling of one byte. After an `Err` a part of it may stand there.
+// Appends the spelling of one byte, whole or, after an `Err`, not at all.
 fn write_byte(byte: u8, into: &mut Vec<u8>) -> Result<(), NoMemory>
     ensures ok { OnOk result (into.new.items ≡ into.old.items ++ byte_text byte) }
     ensures err { OnErr result (into.new.items ≡ into.old.items) }
@@ -157,7 +157,7 @@ pub fn read_name(alloc: Global, text: &[u8]) -> Result<Name, NameTextRefusal>
 {
     match read_text(alloc, NameStage::Plain(Name::new(alloc)), text) {
         Ok(name) => Ok(name),
-        Err(Stop::At(at)) => Err(NameTextRefusal::BadName(at)),
-        Err(Stop::NoMemory) => Err(NameTextRefusal::NoMemory),
+        Err(TextStop::At(at)) => Err(NameTextRefusal::BadName(at)),
+        Err(TextStop::NoMemory) => Err(NameTextRefusal::NoMemory),
     }
 }

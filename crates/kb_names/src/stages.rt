@@ -30,26 +30,30 @@ pub(crate) trait Stage: Drop {
 
 // Why a text was not read.
 #[derive(Drop)]
-pub(crate) enum Stop {
+pub(crate) enum TextStop {
     // The byte at this offset is the first that has no place; the text's length where it ends too early.
     At(usize),
     NoMemory,
 }
 
 // Reads a whole text.
-pub(crate) fn read_text<S: Stage>(alloc: Global, start: S, text: &[u8]) -> Result<S::Value, Stop>
+pub(crate) fn read_text<S: Stage>(
+    alloc: Global,
+    start: S,
+    text: &[u8],
+) -> Result<S::Value, TextStop>
     ensures whole { IfOk result (λ value. value_of_text S.step S.read start text.now ≡ Some value) }
     ensures stop { IfErr result (RefusesAs S.step S.read start text.now) }
 {
     let stage = read_all(alloc, start, text)?;
     match stage.whole() {
         Some(value) => Ok(value),
-        None => Err(Stop::At(text.len())),
+        None => Err(TextStop::At(text.len())),
     }
 }
 
 // Where a reader stands after all bytes of the text.
-fn read_all<S: Stage>(alloc: Global, start: S, text: &[u8]) -> Result<S, Stop>
+fn read_all<S: Stage>(alloc: Global, start: S, text: &[u8]) -> Result<S, TextStop>
     ensures whole { IfOk result (λ stage. reached S.step start text.now ≡ Some stage) }
     ensures stop { IfErr result (StopsAs S.step start text.now) }
 {
@@ -57,8 +61,8 @@ fn read_all<S: Stage>(alloc: Global, start: S, text: &[u8]) -> Result<S, Stop>
     for (at, byte) in text.iter().enumerate() {
         stage = match stage.next(alloc, *byte) {
             Ok(Some(next)) => next,
-            Ok(None) => return Err(Stop::At(at)),
-            Err(NoMemory) => return Err(Stop::NoMemory),
+            Ok(None) => return Err(TextStop::At(at)),
+            Err(NoMemory) => return Err(TextStop::NoMemory),
         };
     }
     Ok(stage)

@@ -7,7 +7,7 @@ ghost use Rattle.kb_names.specs.declared.types.Target.{Target};
 use crate::class_names::unless_empty;
 use crate::descriptors::MethodStage;
 use crate::name_texts::NameStage;
-use crate::stages::{Stage, Stop, read_text};
+use crate::stages::{Stage, TextStop, read_text};
 use crate::writing::append_byte;
 use crate::{Name, NoMemory, Row, Spelling, Target, write_method_type, write_name};
 use std::alloc::Global;
@@ -116,8 +116,8 @@ pub fn read_target(alloc: Global, text: &[u8]) -> Result<Target, TargetRefusal>
     let start = TargetStage::InClass(NameStage::Plain(Name::new(alloc)));
     match read_text(alloc, start, text) {
         Ok(target) => Ok(target),
-        Err(Stop::At(at)) => Err(TargetRefusal::BadTarget(at)),
-        Err(Stop::NoMemory) => Err(TargetRefusal::NoMemory),
+        Err(TextStop::At(at)) => Err(TargetRefusal::BadTarget(at)),
+        Err(TextStop::NoMemory) => Err(TargetRefusal::NoMemory),
     }
 }
 

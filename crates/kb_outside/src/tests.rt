@@ -158,6 +158,21 @@ fn files_are_read_up_to_the_limit(rt: HostRuntime) -> Result<(), Fail> {
     Ok(())
 }
 
+#[test]
+fn a_directory_is_no_file(rt: HostRuntime) -> Result<(), Fail> {
+    let directory = env::temp_dir(&rt)?;
+    let name = directory.as_path().as_str();
+    let mut shelf = FileShelf::new(&rt);
+    assert!(rt;
+        matches!(
+            read_all(rt.alloc(), &mut shelf, name, 9),
+            Err(ShelfStop::Failed)
+        )
+    );
+    assert_eq!(rt; shelf.faults(), 1);
+    Ok(())
+}
+
 // Gives its bytes in blocks of at most `most`, and fails at the call of that number, which counts from 0.
 #[derive(Drop)]
 struct Blocks<'a> {
@@ -191,6 +206,8 @@ fn short_blocks_are_read_and_an_error_in_the_middle_refuses(rt: HostRuntime) -> 
         (998, u64::MAX, Ok(999)),
         (5000, u64::MAX, Ok(1000)),
         (5000, 144, Ok(1000)),
+        // One byte past the limit is the last of block 143: no further block is asked for.
+        (998, 143, Ok(999)),
         (5000, 0, Err(ShelfStop::Failed)),
         (5000, 70, Err(ShelfStop::Failed)),
         (5000, 143, Err(ShelfStop::Failed)),

@@ -1,3 +1,4 @@
+//! Each call of a row once.
 use crate::Row;
 use std::test::Fail;
 

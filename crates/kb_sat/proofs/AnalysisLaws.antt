@@ -8,7 +8,7 @@ use Rattle.kb_chain.specs.Index.{has_number}
 use Rattle.kb_chain.specs.declared.log.Chain.{Chain}
 use Rattle.kb_chain.proofs.LiteralLaws.{negated-negated}
 use Rattle.kb_chain.proofs.PropagationLaws.{all_negated-from, all_negated-at, has-others}
-use Rattle.kb_eliminate.specs.Trail.{Assigned, IsTrail, start_of, before_level}
+use Rattle.kb_eliminate.specs.Trail.{Assigned, IsTrail, level_start, before_level}
 use Rattle.kb_eliminate.specs.Store.{IsJustified}
 use Rattle.kb_eliminate.specs.Base.{IsConflict}
 use Rattle.kb_sat.specs.Search.{IsLearned}
@@ -93,10 +93,10 @@ reached_start all rows t levels number row old new once is justified e negates c
 -- the level of the position, if there is one
 abbrev pub IsLeveled : Assigned → Option ℕ → ℕ → Type 0
 IsLeveled t None level = level ≡ 0
-IsLeveled t (Some q) level = (level < length t.starts) × (q < start_of t.starts level) × (0 < level → start_of t.starts (level - 1) ≤ q)
+IsLeveled t (Some q) level = (level < length t.starts) × (q < level_start t.starts level) × (0 < level → level_start t.starts (level - 1) ≤ q)
 
-pub leveled_some : (t : Assigned) (highest : Option ℕ) (q level found : ℕ) → highest ≡ Some q → level ≡ found → found < length t.starts → q < start_of t.starts found
-    → (0 < found → start_of t.starts (found - 1) ≤ q) → IsLeveled t highest level
+pub leveled_some : (t : Assigned) (highest : Option ℕ) (q level found : ℕ) → highest ≡ Some q → level ≡ found → found < length t.starts → q < level_start t.starts found
+    → (0 < found → level_start t.starts (found - 1) ≤ q) → IsLeveled t highest level
 leveled_some t highest q level found e f inside below above =
     subst (λ z. IsLeveled t z level) (sym e) (subst (λ z. IsLeveled t (Some q) z) (sym f) (inside, below, above))
 
@@ -128,17 +128,17 @@ rest_of t levels None level row first once is put leveled = record {
 }
 rest_of t levels (Some q) level row first once is put leveled =
     let below : q < levels.start = put.below in
-    let inside : q < start_of t.starts level = leveled.1 in
+    let inside : q < level_start t.starts level = leveled.1 in
     record {
       rest = put.first ∷ put.more;
       shape = put.shape;
       earlier = negated_fewer t.literals (q + 1) levels.start (put.first ∷ put.more) (omega (arith, below)) put.earlier;
       below = leveled.0;
-      returns = negated_fewer t.literals (q + 1) (start_of t.starts level) (put.first ∷ put.more) (omega (arith, inside)) put.earlier;
+      returns = negated_fewer t.literals (q + 1) (level_start t.starts level) (put.first ∷ put.more) (omega (arith, inside)) put.earlier;
       second = λ lt. (
         put.first,
         ap (λ z. slice_get z 1) put.shape,
-        not_before t.literals once q (start_of t.starts (level - 1)) (negated put.first) put.at (leveled.2 lt),
+        not_before t.literals once q (level_start t.starts (level - 1)) (negated put.first) put.at (leveled.2 lt),
       );
     }
 

@@ -11,14 +11,14 @@ use Rattle.kb_chain.proofs.LiteralLaws.{same-true, same_refl, has_head, negated-
 use Rattle.kb_chain.proofs.PropagationLaws.{IsPart, all_negated-at, has-others, taken_part, place_of-negated}
 use Rattle.kb_chain.proofs.LogLaws.{derived-push, EachEntry-push}
 use Rattle.kb_chain.proofs.LeastSets.{Misses-by}
-use Rattle.kb_eliminate.specs.Trail.{Assigned, IsTrail, level_zero, start_of, before_level, cut_back}
+use Rattle.kb_eliminate.specs.Trail.{Assigned, IsTrail, level_zero, level_start, before_level, cut_back}
 use Rattle.kb_eliminate.specs.Store.{IsRow, IsJustified}
 use Rattle.kb_sat.specs.Search.{IsLearned}
 use Rattle.kb_eliminate.specs.Watches.{Quiet, paired, put_pair}
-use Rattle.kb_eliminate.specs.Base.{IsBase, IsSecond}
+use Rattle.kb_eliminate.specs.Base.{IsBase, IsSecondLiteral}
 use Rattle.kb_eliminate.specs.declared.watch.Pair.{Pair}
 use Rattle.kb_eliminate.specs.declared.watch.Watch.{Watch}
-use Rattle.kb_eliminate.proofs.Places.{at_pushed, at_kept, at_last, at_inside, at_has}
+use Rattle.kb_eliminate.proofs.Places.{at_last, at_inside, at_has}
 use Rattle.kb_eliminate.proofs.TrailLaws.{length_taken, has_pushed, IsTrail-cut, start_taken}
 use Rattle.kb_eliminate.proofs.WatchLaws.{is_met-from, IsWatching-push, AllListed-push, AllAwake-push, Quiet-push, Quiet_more}
 use Rattle.kb_eliminate.proofs.JustifyLaws.{IsJustified-grow, pushed, IsJustified-push, IsJustified-cut, level_zero-cut, push_part}
@@ -61,7 +61,7 @@ pub learned_false : (clauses : List (List Literal)) (t : Assigned) (chain : Chai
     → (m : Literal) → has row m ≡ true → has t.literals (negated m) ≡ true
 learned_false clauses t chain row level k m e = elim (or_cases (same m k.asserting) (has k.rest m) (ap (λ z. has z m) (sym k.shape) ∙ e)) [
   | inl q ↦ ap (λ z. has t.literals (negated z)) (same-true m k.asserting q) ∙ k.false_now
-  | inr q ↦ taken_part t.literals (start_of t.starts level) (negated m) (all_negated-at (has (before_level t level)) k.rest k.returns m q)
+  | inr q ↦ taken_part t.literals (level_start t.starts level) (negated m) (all_negated-at (has (before_level t level)) k.rest k.returns m q)
 ]
 
 row_second : (x : Literal) (rest : List Literal) (y : Literal) → slice_get (x ∷ rest) 1 ≡ Some y → has rest y ≡ true
@@ -69,7 +69,7 @@ row_second x [] y e = cc
 row_second x (z ∷ zs) y e = at_has (z ∷ zs) 0 y e
 
 pub IsAsserting-from : (clauses : List (List Literal)) (t : Assigned) (chain : Chain) (row : List Literal) (level : ℕ) (a b : Literal) → IsTrail t → IsLearned clauses t chain row level
-    → a ≡ get_or row 0 a → IsSecond row b → IsAsserting t row level a b
+    → a ≡ get_or row 0 a → IsSecondLiteral row b → IsAsserting t row level a b
 IsAsserting-from clauses t chain row level a b h k at_a at_b =
     let some : level < length t.starts = k.below in
     let below : level ≤ length t.starts - 1 = omega (arith, some) in
@@ -97,11 +97,11 @@ IsAsserting-from clauses t chain row level a b h k at_a at_b =
       false_row = learned_false clauses t chain row level k;
     }
   where
-    second_is : (row : List Literal) (y : Literal) → slice_get row 1 ≡ Some y → IsSecond row b → b ≡ y
+    second_is : (row : List Literal) (y : Literal) → slice_get row 1 ≡ Some y → IsSecondLiteral row b → b ≡ y
     second_is row y e (inl g) = let q : Some b ≡ Some y = sym g ∙ e in cc
     second_is row y e (inr g) = absurd (let n : 1 < length row = at_inside row 1 y e in let m : length row ≡ 1 = g.0 in omega (arith, n, m))
 
-    second_in : (row : List Literal) → IsSecond row b → has row b ≡ true
+    second_in : (row : List Literal) → IsSecondLiteral row b → has row b ≡ true
     second_in row (inl g) = at_has row 1 b g
     second_in row (inr g) = at_has row 0 b g.1
 
@@ -133,7 +133,7 @@ IsBase-learn formula entries rows pairs lists t whole s chain row level a b n h 
         AllAwake-push pairs a b (s.fresh w).0,
         EachEntry-push IsNew entries formula.clauses s.clauses chain k.clause s.derives (s.fresh w).1 k.derives
             (IsNew-from s.clauses k.clause k.asserting (has t.literals) (has (before_level t (length t.starts - 1))) h.consistent
-            (taken_part t.literals (start_of t.starts (length t.starts - 1)))
+            (taken_part t.literals (level_start t.starts (length t.starts - 1)))
             (k.stored.part k.asserting (ap (λ z. has z k.asserting) k.shape ∙ has_head k.asserting k.rest)) k.false_now k.earlier
             (cut_settled formula entries rows pairs lists t whole s h (s.fresh w).0 (length t.starts - 1) inside)),
       );
@@ -144,13 +144,13 @@ IsBase-learn formula entries rows pairs lists t whole s chain row level a b n h 
       listed = AllListed-push pairs lists a b n s.listed (at ∙ sym count) (omega (arith, low_a, places)) (omega (arith, low_b, places));
       cuts = λ j e. (let levels : length (take level t.starts) ≡ level = length_taken level t.starts (omega (arith, lt)) in
           let below : j < level = omega (arith, e, levels) in
-          let early : start_of t.starts j < start_of t.starts level = h.rising j level below lt in
-          let in_cut : start_of t.starts level < length t.literals = h.inside level lt in
-          let size : length (before_level t level) ≡ start_of t.starts level = length_taken (start_of t.starts level) t.literals (omega (arith, in_cut)) in
+          let early : level_start t.starts j < level_start t.starts level = h.rising j level below lt in
+          let in_cut : level_start t.starts level < length t.literals = h.inside level lt in
+          let size : length (before_level t level) ≡ level_start t.starts level = length_taken (level_start t.starts level) t.literals (omega (arith, in_cut)) in
           let first_cut : before_level (cut_back t level) j ≡ before_level t j = before_cut t level j h lt below in
-          let starts_at : start_of (take level t.starts) j ≡ start_of t.starts j = start_taken level t.starts j below in
-          let same_cut : take (start_of (take level t.starts) j) (before_level t level ++ a ∷ []) ≡ before_level t j =
-          take-append-le (start_of (take level t.starts) j) (before_level t level) (a ∷ []) (omega (arith, starts_at, early, size)) ∙ first_cut in
+          let starts_at : level_start (take level t.starts) j ≡ level_start t.starts j = start_taken level t.starts j below in
+          let same_cut : take (level_start (take level t.starts) j) (before_level t level ++ a ∷ []) ≡ before_level t j =
+          take-append-le (level_start (take level t.starts) j) (before_level t level) (a ∷ []) (omega (arith, starts_at, early, size)) ∙ first_cut in
           subst (λ z. Quiet (rows ++ row ∷ []) (pairs ++ paired a b ∷ []) (has z) (has z)) (sym same_cut)
           (Quiet-push rows pairs (has (before_level t j)) (has (before_level t j)) row (paired a b) count (s.cuts j (omega (arith, below, lt))) (record {
             first = λ g. absurd (false≢true (sym (p.free j (omega (arith, below))) ∙ g));
@@ -161,14 +161,14 @@ IsBase-learn formula entries rows pairs lists t whole s chain row level a b n h 
 
 pub ready-learn : (formula : Cnf) (entries : List Chain) (rows : List (List Literal)) (pairs : List Pair) (lists : List (List Watch)) (t : Assigned) (whole : Bool)
     → IsBase formula entries rows pairs lists t whole → (row : List Literal) (level : ℕ) (a b : Literal) → IsTrail t → level < length t.starts → IsAsserting t row level a b
-    → (start_of t.starts level ≤ length (before_level t level ++ a ∷ []))
-    × Quiet (rows ++ row ∷ []) (pairs ++ paired a b ∷ []) (has (take (start_of t.starts level) (before_level t level ++ a ∷ []))) (has (before_level t level ++ a ∷ []))
+    → (level_start t.starts level ≤ length (before_level t level ++ a ∷ []))
+    × Quiet (rows ++ row ∷ []) (pairs ++ paired a b ∷ []) (has (take (level_start t.starts level) (before_level t level ++ a ∷ []))) (has (before_level t level ++ a ∷ []))
 ready-learn formula entries rows pairs lists t whole s row level a b h lt p =
-    let in_cut : start_of t.starts level < length t.literals = h.inside level lt in
-    let size : length (before_level t level) ≡ start_of t.starts level = length_taken (start_of t.starts level) t.literals (omega (arith, in_cut)) in
+    let in_cut : level_start t.starts level < length t.literals = h.inside level lt in
+    let size : length (before_level t level) ≡ level_start t.starts level = length_taken (level_start t.starts level) t.literals (omega (arith, in_cut)) in
     let more : length (before_level t level ++ a ∷ []) ≡ length (before_level t level) + 1 = length_push (before_level t level) a in
-    let front : take (start_of t.starts level) (before_level t level ++ a ∷ []) ≡ before_level t level =
-    take-append-le (start_of t.starts level) (before_level t level) (a ∷ []) (omega (arith, size)) ∙ take_all (start_of t.starts level) (before_level t level) (omega (arith, size)) in
+    let front : take (level_start t.starts level) (before_level t level ++ a ∷ []) ≡ before_level t level =
+    take-append-le (level_start t.starts level) (before_level t level) (a ∷ []) (omega (arith, size)) ∙ take_all (level_start t.starts level) (before_level t level) (omega (arith, size)) in
     let has_a : has (before_level t level ++ a ∷ []) a ≡ true = has_pushed (before_level t level) a a ∙ or_right _ _ (same_refl a) in (
       (omega (arith, size, more)),
       subst (λ z. Quiet (rows ++ row ∷ []) (pairs ++ paired a b ∷ []) (has z) (has (before_level t level ++ a ∷ []))) (sym front)
@@ -187,4 +187,4 @@ asserting_place t row level a b h p l e =
 
 pub asserting_absent : (t : Assigned) (row : List Literal) (level : ℕ) (a b : Literal) → IsTrail t → IsAsserting t row level a b → has (before_level t level) a ≡ false
 asserting_absent t row level a b h p =
-    false_from_ne_true _ (λ e. false≢true (sym (h.consistent a (taken_part t.literals (start_of t.starts level) a e)) ∙ p.false_row a p.first))
+    false_from_ne_true _ (λ e. false≢true (sym (h.consistent a (taken_part t.literals (level_start t.starts level) a e)) ∙ p.false_row a p.first))

@@ -4,21 +4,21 @@ use Rattle.std.proofs.lemmas.Bool.{false≢true, cases_eq, cases_lt, le-leb, ne_
 use Rattle.kb_chain.specs.Literal.{Literal, has, negated}
 use Rattle.kb_eliminate.specs.Trail.{Assigned, IsTrail}
 use Rattle.kb_eliminate.specs.Store.{IsJustified}
-use Rattle.kb_sat.specs.Analysis.{is_seen, literal_at, pending_below, IsLevels, AreMarked, MarksOthers, IsLastSeen, NoneSeen, IsReached}
+use Rattle.kb_sat.specs.Analysis.{is_seen, at_position, pending_below, IsLevels, AreMarked, MarksOthers, IsLastSeen, NoneSeen, IsReached}
 use Rattle.kb_sat.specs.declared.analysis.Levels.{Levels}
 use Rattle.kb_sat.specs.declared.analysis.Marks.{Marks}
 use Rattle.kb_eliminate.proofs.Places.{at_within, at_has}
-use Rattle.kb_sat.proofs.MarkLaws.{IsOnce, literal_at-is, seen_other, pending_none, pending_zero}
+use Rattle.kb_sat.proofs.MarkLaws.{IsOnce, at_position-is, seen_other, pending_none, pending_zero}
 use Rattle.kb_sat.proofs.MarkedLaws.{variable_inside, AreMarked-last}
 use Rattle.kb_sat.proofs.HeldLaws.{reached_skip, reached_keep, reached_resolve}
 use Rattle.kb_sat.proofs.ReasonLaws.{stored_of}
 
 unseen_at : (literals : List Literal) (seen : List Bool) (end : ℕ) → end ≤ length literals
     → (start : ℕ) → ((q : ℕ) (l : Literal) → start ≤ q → q < end → slice_get literals q ≡ Some l → is_seen seen l.variable ≡ false)
-    → (q : ℕ) → start ≤ q → q < end → is_seen seen (literal_at literals q).variable ≡ false
+    → (q : ℕ) → start ≤ q → q < end → is_seen seen (at_position literals q).variable ≡ false
 unseen_at literals seen end inside start f q le lt =
     let r = at_within literals q (omega (arith, lt, inside)) in
-    ap (λ z. is_seen seen z.variable) (literal_at-is literals q r.0 r.1) ∙ f q r.0 le lt r.1
+    ap (λ z. is_seen seen z.variable) (at_position-is literals q r.0 r.1) ∙ f q r.0 le lt r.1
 
 -- the last marked variable is of the last level, as long as one is
 pub found_above : (vars : ℕ) (literals : List Literal) (levels : Levels) (end p : ℕ) (marks : Marks) → AreMarked vars literals levels end marks → 0 < marks.pending
@@ -53,7 +53,7 @@ none_found vars literals levels end marks h some none =
 pub level_done : (vars : ℕ) (literals : List Literal) (levels : Levels) (p : ℕ) (marks : Marks) → AreMarked vars literals levels p marks → marks.pending ≡ 0
     → (q : ℕ) (l : Literal) → levels.start ≤ q → q < p → slice_get literals q ≡ Some l → is_seen marks.seen.items l.variable ≡ false
 level_done vars literals levels p marks h none q l le lt e =
-    sym (ap (λ z. is_seen marks.seen.items z.variable) (literal_at-is literals q l e))
+    sym (ap (λ z. is_seen marks.seen.items z.variable) (at_position-is literals q l e))
     ∙ pending_zero marks.seen.items literals levels.start p q (sym h.pending ∙ none) le lt
 
 pub AreMarked-start : (vars : ℕ) (literals : List Literal) (levels : Levels) (p : ℕ) (marks : Marks) → AreMarked vars literals levels p marks → marks.pending ≡ 0

@@ -8,13 +8,13 @@ use Rattle.kb_chain.specs.Index.{has_number}
 use Rattle.kb_chain.proofs.LiteralLaws.{same-true, same_refl, negated-negated, has_head}
 use Rattle.kb_chain.proofs.PropagationLaws.{taken_part}
 use Rattle.kb_chain.proofs.OrderLaws.{has_take-suc}
-use Rattle.kb_sat.specs.Analysis.{is_seen, is_pivot, literal_at, pending_below, AreFalseBefore, AreMarked, MarksOthers, IsLastSeen, AreCovered}
+use Rattle.kb_sat.specs.Analysis.{is_seen, is_pivot, at_position, pending_below, AreFalseBefore, AreMarked, MarksOthers, IsLastSeen, AreCovered}
 use Rattle.kb_eliminate.specs.Trail.{Assigned, IsTrail}
 use Rattle.kb_eliminate.specs.Tables.{IsDistinct}
 use Rattle.kb_sat.specs.declared.analysis.Levels.{Levels}
 use Rattle.kb_sat.specs.declared.analysis.Marks.{Marks}
 use Rattle.kb_eliminate.proofs.Places.{at_same, at_inside, at_has, at_within, get_or_at_place, at_get_or}
-use Rattle.kb_sat.proofs.MarkLaws.{IsOnce, IsOnce-from, has_taken_at, literal_at-is, seen_set, seen_other, pending_same, pending_skip, pending_one, pending_marked}
+use Rattle.kb_sat.proofs.MarkLaws.{IsOnce, IsOnce-from, has_taken_at, at_position-is, seen_set, seen_other, pending_same, pending_skip, pending_one, pending_marked}
 
 pub once_of : (t : Assigned) → IsTrail t → IsDistinct t.literals → IsOnce t.literals
 once_of t trail distinct = IsOnce-from t.literals trail.consistent distinct
@@ -94,7 +94,7 @@ AreMarked-more vars literals levels end old new l p once at above below inside u
       pending = more.pending
           ∙ (ap (λ n. cond (nat_le levels.start p) 1 0 + n) h.pending
           ∙ (sym (pending_marked old.seen.items literals levels.start p end l.variable below
-          (ap (λ z. z.variable) (literal_at-is literals p l at)) size unseen (λ q lt v. same_place q lt v))
+          (ap (λ z. z.variable) (at_position-is literals p l at)) size unseen (λ q lt v. same_place q lt v))
           ∙ ap (λ z. pending_below z literals levels.start end) (sym more.seen)));
       lower = λ q e. elim (more.lower q e) [
         | inl k ↦ h.lower q k
@@ -108,11 +108,11 @@ AreMarked-more vars literals levels end old new l p once at above below inside u
       ];
     }
   where
-    same_place : (q : ℕ) → q < end → (literal_at literals q).variable ≡ l.variable → q ≡ p
+    same_place : (q : ℕ) → q < end → (at_position literals q).variable ≡ l.variable → q ≡ p
     same_place q lt v =
         let inside : end ≤ length literals = h.inside in
         let r = at_within literals q (omega (arith, lt, inside)) in
-        sym (once p q l r.0 at r.1 (sym (ap (λ z. z.variable) (literal_at-is literals q r.0 r.1)) ∙ v))
+        sym (once p q l r.0 at r.1 (sym (ap (λ z. z.variable) (at_position-is literals q r.0 r.1)) ∙ v))
 
 pub more_lower : (levels : Levels) (old new : Marks) (p v : ℕ) → new.seen.items ≡ set old.seen.items v true → p < levels.start
     → new.lower.items ≡ old.lower.items ++ p ∷ [] → new.pending ≡ old.pending → IsMarkedMore levels old new p v
@@ -165,13 +165,13 @@ AreMarked-last vars literals levels end old new l p once at above last inside se
           let b : pending_below old.seen.items literals levels.start end ≡ pending_below old.seen.items literals levels.start (suc p) =
           pending_skip old.seen.items literals levels.start (suc p) end (omega (arith, below))
           (λ q le lt. (let r = at_within literals q (omega (arith, lt, whole)) in
-          ap (λ z. is_seen old.seen.items z.variable) (literal_at-is literals q r.0 r.1) ∙ last.last q r.0 (omega (arith, le)) lt r.1)) in
+          ap (λ z. is_seen old.seen.items z.variable) (at_position-is literals q r.0 r.1) ∙ last.last q r.0 (omega (arith, le)) lt r.1)) in
           let d : pending_below old.seen.items literals levels.start (suc p) ≡ 1 + pending_below old.seen.items literals levels.start p =
-          pending_one old.seen.items literals levels.start p above (ap (λ z. is_seen old.seen.items z.variable) (literal_at-is literals p l at) ∙ last.marked l at) in
+          pending_one old.seen.items literals levels.start p above (ap (λ z. is_seen old.seen.items z.variable) (at_position-is literals p l at) ∙ last.marked l at) in
           let e : pending_below new.seen.items literals levels.start p ≡ pending_below old.seen.items literals levels.start p =
           pending_same new.seen.items old.seen.items literals levels.start p (λ q lt. (let r = at_within literals q (omega (arith, lt, below, whole)) in
-          ap (λ z. is_seen z (literal_at literals q).variable) seen ∙ seen_other old.seen.items l.variable false (literal_at literals q).variable
-          (λ v. (let i : p ≡ q = once p q l r.0 at r.1 (sym (ap (λ z. z.variable) (literal_at-is literals q r.0 r.1)) ∙ v) in absurd (omega (arith, i, lt)))))) in
+          ap (λ z. is_seen z (at_position literals q).variable) seen ∙ seen_other old.seen.items l.variable false (at_position literals q).variable
+          (λ v. (let i : p ≡ q = once p q l r.0 at r.1 (sym (ap (λ z. z.variable) (at_position-is literals q r.0 r.1)) ∙ v) in absurd (omega (arith, i, lt)))))) in
           omega (arith, a, b, d, e, pending));
       lower = λ q e. h.lower q (sym (ap (λ z. has_number z q) lower) ∙ e);
       each = λ q m e ge lt s. ap (λ z. has_number z q) lower ∙ h.each q m e ge lt (still m.variable s);

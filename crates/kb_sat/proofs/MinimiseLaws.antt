@@ -9,11 +9,11 @@ use Rattle.kb_chain.specs.Index.{has_number}
 use Rattle.kb_chain.proofs.LiteralLaws.{negated-negated}
 use Rattle.kb_eliminate.specs.Trail.{Assigned, IsTrail}
 use Rattle.kb_eliminate.specs.Store.{IsJustified}
-use Rattle.kb_sat.specs.Analysis.{is_seen, literal_at, pending_below, IsLevels, AreMarked, AreCovered, IsReached, IsClean, ArePut}
+use Rattle.kb_sat.specs.Analysis.{is_seen, at_position, pending_below, IsLevels, AreMarked, AreCovered, IsReached, IsClean, ArePut}
 use Rattle.kb_sat.specs.declared.analysis.Levels.{Levels}
 use Rattle.kb_sat.specs.declared.analysis.Marks.{Marks}
 use Rattle.kb_eliminate.proofs.Places.{at_same, at_within}
-use Rattle.kb_sat.proofs.MarkLaws.{IsOnce, at_has_taken, literal_at-is, seen_set, seen_other, pending_none}
+use Rattle.kb_sat.proofs.MarkLaws.{IsOnce, at_has_taken, at_position-is, seen_set, seen_other, pending_none}
 use Rattle.kb_sat.proofs.HeldLaws.{not_before, reached_skip, reached_keep, reached_resolve}
 use Rattle.kb_sat.proofs.LevelLaws.{others_same}
 use Rattle.kb_sat.proofs.ReasonLaws.{stored_of, reason_inside}
@@ -182,7 +182,7 @@ covered_same false false f = refl
 pub reached_away : (all rows : List (List Literal)) (t : Assigned) (number : ℕ) (steps : List (ℕ × ℕ)) (levels : Levels) (end p : ℕ) (seen : List Bool) (row : List Literal)
     (l : Literal) (c v : ℕ) → IsTrail t → IsOnce t.literals → IsLevels t levels → IsJustified all rows t
     → slice_get t.literals p ≡ Some l → slice_get t.reasons p ≡ Some (Some c) → v ≡ l.variable → is_seen seen l.variable ≡ true → IsPopped t.literals levels end p seen
-    → ((stored : List Literal) → slice_get rows c ≡ Some stored → AreCovered t.literals levels.zero (set seen v false) (literal_at t.literals p).variable stored)
+    → ((stored : List Literal) → slice_get rows c ≡ Some stored → AreCovered t.literals levels.zero (set seen v false) (at_position t.literals p).variable stored)
     → IsReached all number steps t.literals levels.zero end seen row
     → IsReached all number (steps ++ (v, c) ∷ []) t.literals levels.zero p (set seen v false) row
 reached_away all rows t number steps levels end p seen row l c v trail once is justified at reason same marked top covered r =
@@ -200,9 +200,9 @@ reached_away all rows t number steps levels end p seen row l c v trail once is j
     known : (stored : List Literal) → slice_get rows c ≡ Some stored → (q : ℕ) (m : Literal) → levels.zero ≤ q → q < p → slice_get t.literals q ≡ Some m
         → has stored (negated m) ≡ true → is_seen seen m.variable ≡ true
     known stored s q m ge lt e h =
-        let pivot : (literal_at t.literals p).variable ≡ l.variable = ap (λ z. z.variable) (literal_at-is t.literals p l at) in
+        let pivot : (at_position t.literals p).variable ≡ l.variable = ap (λ z. z.variable) (at_position-is t.literals p l at) in
         let apart : m.variable ≡ l.variable → ⊥ = λ w. (let i : p ≡ q = once p q l m at e w in omega (arith, i, lt)) in
-        elim (covered stored s (negated m) h (ne_eqb m.variable (literal_at t.literals p).variable (λ w. apart (w ∙ pivot)))) [
+        elim (covered stored s (negated m) h (ne_eqb m.variable (at_position t.literals p).variable (λ w. apart (w ∙ pivot)))) [
           | inl k ↦ sym (others_same t.literals seen p l v once at same q m lt e) ∙ k
           | inr k ↦ absurd (false≢true (sym (not_before t.literals once q levels.zero m e ge) ∙ (ap (has (take levels.zero t.literals)) (sym (negated-negated m)) ∙ k)))
         ]

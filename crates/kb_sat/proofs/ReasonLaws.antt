@@ -6,7 +6,7 @@ use Rattle.kb_chain.specs.Literal.{Literal, has, same, negated}
 use Rattle.kb_chain.specs.Propagation.{others}
 use Rattle.kb_chain.proofs.LiteralLaws.{same-true}
 use Rattle.kb_chain.proofs.PropagationLaws.{all_negated-at, has-others}
-use Rattle.kb_eliminate.specs.Trail.{Assigned, IsTrail, start_of, level_zero}
+use Rattle.kb_eliminate.specs.Trail.{Assigned, IsTrail, level_start, level_zero}
 use Rattle.kb_eliminate.specs.Store.{IsStored, IsJustified}
 use Rattle.kb_sat.specs.Analysis.{IsLevels, AreFalseBefore}
 use Rattle.kb_sat.specs.declared.analysis.Levels.{Levels}
@@ -58,28 +58,28 @@ pub decision_at : (t : Assigned) (levels : Levels) → IsTrail t → IsLevels t 
 decision_at t levels trail is p above e =
     let d = trail.decisions p e in
     let inside : d.0 < length t.starts = d.1 in
-    let at : start_of t.starts d.0 ≡ p = d.2 in
-    let last : levels.start ≡ start_of t.starts (length t.starts - 1) = is.start in
+    let at : level_start t.starts d.0 ≡ p = d.2 in
+    let last : levels.start ≡ level_start t.starts (length t.starts - 1) = is.start in
     elim (cases_eq d.0 (length t.starts - 1)) [
-      | inl s ↦ sym at ∙ (ap (start_of t.starts) s ∙ sym last)
+      | inl s ↦ sym at ∙ (ap (level_start t.starts) s ∙ sym last)
       | inr n ↦
-          (let k : start_of t.starts d.0 < start_of t.starts (length t.starts - 1) = trail.rising d.0 (length t.starts - 1) (omega (arith, inside, n)) (omega (arith, inside)) in
+          (let k : level_start t.starts d.0 < level_start t.starts (length t.starts - 1) = trail.rising d.0 (length t.starts - 1) (omega (arith, inside, n)) (omega (arith, inside)) in
           absurd (omega (arith, k, at, last, above)))
     ]
 
 pub zero_below : (t : Assigned) (levels : Levels) → IsTrail t → IsLevels t levels → levels.zero ≤ levels.start
 zero_below t levels trail is =
-    let a : levels.zero ≡ start_of t.starts 0 = is.zero in
-    let b : levels.start ≡ start_of t.starts (length t.starts - 1) = is.start in
+    let a : levels.zero ≡ level_start t.starts 0 = is.zero in
+    let b : levels.start ≡ level_start t.starts (length t.starts - 1) = is.start in
     elim (cases_eq 0 (length t.starts - 1)) [
-      | inl s ↦ (let e : start_of t.starts 0 ≡ start_of t.starts (length t.starts - 1) = ap (start_of t.starts) s in omega (arith, a, b, e))
+      | inl s ↦ (let e : level_start t.starts 0 ≡ level_start t.starts (length t.starts - 1) = ap (level_start t.starts) s in omega (arith, a, b, e))
       | inr n ↦ (let inside : 0 < length t.starts = is.above in
-          let k : start_of t.starts 0 < start_of t.starts (length t.starts - 1) = trail.rising 0 (length t.starts - 1) (omega (arith, n)) (omega (arith, inside)) in omega (arith, a, b, k))
+          let k : level_start t.starts 0 < level_start t.starts (length t.starts - 1) = trail.rising 0 (length t.starts - 1) (omega (arith, n)) (omega (arith, inside)) in omega (arith, a, b, k))
     ]
 
 pub start_inside : (t : Assigned) (levels : Levels) → IsTrail t → IsLevels t levels → levels.start < length t.literals
 start_inside t levels trail is =
-    let a : levels.start ≡ start_of t.starts (length t.starts - 1) = is.start in
+    let a : levels.start ≡ level_start t.starts (length t.starts - 1) = is.start in
     let inside : 0 < length t.starts = is.above in
-    let b : start_of t.starts (length t.starts - 1) < length t.literals = trail.inside (length t.starts - 1) (omega (arith, inside)) in
+    let b : level_start t.starts (length t.starts - 1) < length t.literals = trail.inside (length t.starts - 1) (omega (arith, inside)) in
     omega (arith, a, b)

@@ -4,7 +4,7 @@ use Rattle.kb_chain.specs.Literal.{Literal, literal, has, negated}
 use Rattle.kb_chain.specs.Propagation.{all_negated}
 use Rattle.kb_chain.specs.Chains.{resolved}
 use Rattle.kb_chain.specs.Index.{has_number}
-use Rattle.kb_eliminate.specs.Trail.{Assigned, start_of}
+use Rattle.kb_eliminate.specs.Trail.{Assigned, level_start}
 use Rattle.kb_sat.specs.declared.analysis.Levels.{Levels}
 use Rattle.kb_sat.specs.declared.analysis.Marks.{Marks}
 
@@ -18,20 +18,20 @@ is_pivot None variable = false
 is_pivot (Some pivot) variable = pivot == variable
 
 -- the literal at a position
-abbrev pub literal_at : List Literal → ℕ → Literal
-literal_at literals p = slice_index_or literals p (literal 0 true)
+abbrev pub at_position : List Literal → ℕ → Literal
+at_position literals p = slice_index_or literals p (literal 0 true)
 
 -- how many variables from `start` on and below a position are marked
 abbrev pub pending_below : List Bool → List Literal → ℕ → ℕ → ℕ
 pending_below seen literals start zero = 0
 pending_below seen literals start (suc p) =
-    cond (nat_le start p && is_seen seen (literal_at literals p).variable) 1 0 + pending_below seen literals start p
+    cond (nat_le start p && is_seen seen (at_position literals p).variable) 1 0 + pending_below seen literals start p
 
 -- the trail has levels above 0, and these are the ends of the first and the last but one
 pub record IsLevels (t : Assigned) (levels : Levels) : Type 0 where
   pub above : 0 < length t.starts
-  pub zero : levels.zero ≡ start_of t.starts 0
-  pub start : levels.start ≡ start_of t.starts (length t.starts - 1)
+  pub zero : levels.zero ≡ level_start t.starts 0
+  pub start : levels.start ≡ level_start t.starts (length t.starts - 1)
 
 -- the literals of a row but the pivot's are marked or of level 0
 abbrev pub AreCovered : List Literal → ℕ → List Bool → ℕ → List Literal → Type 0

@@ -31,10 +31,10 @@ IfUndecided P (Unsat log) = Unit {0}
 IfUndecided P (Undecided log) = P log
 
 -- what an answer says of a formula
-abbrev pub Answers : Cnf → ℕ → Solved → Type 0
-Answers formula budget (Sat bits) = (length bits ≡ formula.vars) × Satisfies (assignment_of bits) formula.clauses
-Answers formula budget (Unsat log) = IsRefutation formula.clauses log.entries × (length log.entries ≤ budget)
-Answers formula budget (Undecided log) =
+abbrev pub Solves : Cnf → ℕ → Solved → Type 0
+Solves formula budget (Sat bits) = (length bits ≡ formula.vars) × Satisfies (assignment_of bits) formula.clauses
+Solves formula budget (Unsat log) = IsRefutation formula.clauses log.entries × (length log.entries ≤ budget)
+Solves formula budget (Undecided log) =
     IsFresh formula.clauses log.entries × (length log.entries ≡ budget) × (UnitRefutes formula.clauses → ⊥)
 
 -- a search of this formula at its start

@@ -9,13 +9,13 @@ ghost use Rattle.kb_chain.specs.Propagation.{all_negated};
 ghost use Rattle.kb_chain.specs.Index.{has_number};
 ghost use Rattle.kb_chain.specs.Chains.{derived};
 ghost use Rattle.kb_chain.specs.Needed.{cites};
-ghost use Rattle.kb_eliminate.specs.Trail.{start_of, before_level, HasReasons};
+ghost use Rattle.kb_eliminate.specs.Trail.{level_start, before_level, HasReasons};
 ghost use Rattle.kb_eliminate.specs.Store.{IsJustified};
 ghost use Rattle.kb_eliminate.specs.Base.{IsConflict};
 ghost use Rattle.kb_sat.specs.Search.{IsLearned, IsRefuting};
-ghost use Rattle.kb_sat.specs.Analysis.{is_seen, is_pivot, AreFalseBefore, AreMarked, IsClean, MarksOthers, IsLevels, AreCovered, IsReached, IsLastSeen, NoneSeen, ArePut, MayCite, literal_at};
+ghost use Rattle.kb_sat.specs.Analysis.{is_seen, is_pivot, AreFalseBefore, AreMarked, IsClean, MarksOthers, IsLevels, AreCovered, IsReached, IsLastSeen, NoneSeen, ArePut, MayCite, at_position};
 
-use crate::order::Order;
+use crate::order::ActivityOrder;
 use kb_chain::{Chain, Formula, Lit, Row, Store, derive_needed};
 use kb_eliminate::{Clauses, NoMemory, Trail};
 use std::alloc::Global;
@@ -66,7 +66,7 @@ impl Marks {
         &mut self,
         trail: &Trail,
         levels: Levels,
-        order: &mut Order,
+        order: &mut ActivityOrder,
         row: &[Lit],
         pivot: Option<u32>,
     ) -> Result<(), NoMemory>
@@ -91,7 +91,7 @@ impl Marks {
         &mut self,
         trail: &Trail,
         levels: Levels,
-        order: &mut Order,
+        order: &mut ActivityOrder,
         literal: Lit,
     ) -> Result<(), NoMemory>
         requires marked { (end : ℕ) × AreMarked trail.now.vars trail.now.literals levels end self.old
@@ -169,7 +169,7 @@ pub(crate) fn analyse(
     alloc: Global,
     clauses: &Clauses,
     trail: &Trail,
-    order: &mut Order,
+    order: &mut ActivityOrder,
     marks: &mut Marks,
     number: u32,
 ) -> Result<Learned, NoMemory>
@@ -217,7 +217,7 @@ fn resolve_level(
     clauses: &Clauses,
     trail: &Trail,
     levels: Levels,
-    order: &mut Order,
+    order: &mut ActivityOrder,
     marks: &mut Marks,
     steps: &mut Vec<(u32, u32)>,
 ) -> Result<Lit, NoMemory>
@@ -409,7 +409,7 @@ fn adds_nothing(
     requires justified { (all : List (List Literal)) × IsJustified all clauses.now trail.now }
     ensures reason { IfSome result (λ number. slice_get trail.now.reasons position ≡ Some (Some number)) }
     ensures covered { IfSome result (λ number. (row : List Literal) → slice_get clauses.now number ≡ Some row
-        → AreCovered trail.now.literals levels.zero marks.now.seen.items (literal_at trail.now.literals position).variable row) }
+        → AreCovered trail.now.literals levels.zero marks.now.seen.items (at_position trail.now.literals position).variable row) }
 {
     let number = trail.reason(position)?;
     let variable = trail.literals()[position].variable();
@@ -426,9 +426,9 @@ fn adds_nothing(
 /// The level of a position above level 0 and below the last level.
 pub(crate) fn level_of(trail: &Trail, position: usize) -> usize
     requires above { 0 < length trail.now.starts }
-    requires below { position < start_of trail.now.starts (length trail.now.starts - 1) }
-    ensures below { position < start_of trail.now.starts result }
-    ensures above { 0 < result → start_of trail.now.starts (result - 1) ≤ position }
+    requires below { position < level_start trail.now.starts (length trail.now.starts - 1) }
+    ensures below { position < level_start trail.now.starts result }
+    ensures above { 0 < result → level_start trail.now.starts (result - 1) ≤ position }
     ensures inside { result < length trail.now.starts }
 {
     let mut low = 0;

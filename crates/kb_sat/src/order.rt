@@ -1,7 +1,7 @@
 //! The order in which variables are decided, by their activity in conflicts (VSIDS of Chaff: Moskewicz and others, 2001, in MiniSat's
 //! form). Free: contracts see only that it holds variables.
 ghost use Rattle.std.specs.Prelude.{◌≡◌, ◌+◌, ◌<◌, ◌≤◌, length, IfOk, IfSome};
-ghost use Rattle.kb_sat.specs.Order.{AreVariables};
+ghost use Rattle.kb_sat.specs.Order.{HavePlaces};
 
 use crate::parameters::{
     ACTIVITY_FIRST, ACTIVITY_GROWTH, ACTIVITY_LEAST, ACTIVITY_LIMIT, ACTIVITY_SCALE,
@@ -17,7 +17,7 @@ const ABSENT: usize = usize::MAX;
 /// (the decaying sums of Chaff, in MiniSat's form with a growing increment). A binary heap with the place of each variable.
 /// Contracts see the number of variables.
 #[derive(Drop)]
-pub(crate) struct Order {
+pub(crate) struct ActivityOrder {
     limit: u32,
     heap: Vec<u32>,
     places: Vec<usize>,
@@ -25,24 +25,24 @@ pub(crate) struct Order {
     increment: u64,
 }
 
-impl Model for Order {
+impl Model for ActivityOrder {
     ghost use Rattle.std.specs.Prelude.{ℕ, ◌≡◌, ◌+◌, length};
-    ghost use Rattle.kb_sat.specs.Order.{AreVariables};
+    ghost use Rattle.kb_sat.specs.Order.{HavePlaces};
 
     ghost Value = { ℕ };
 
     ghost view = { λ o. o.limit };
 
     ghost invariant = { λ o. record {
-      variables : AreVariables (o.limit + 1) o.heap.items;
+      variables : HavePlaces (o.limit + 1) o.heap.items;
       places : length o.places.items ≡ o.limit + 1;
       activities : length o.activities.items ≡ o.limit + 1;
     } };
 }
 
-impl Order {
+impl ActivityOrder {
     /// All variables from 1 to `vars`, by rising number.
-    pub(crate) fn new(alloc: Global, vars: u32) -> Result<Order, NoMemory>
+    pub(crate) fn new(alloc: Global, vars: u32) -> Result<ActivityOrder, NoMemory>
         ensures { IfOk result (λ order. order ≡ vars) }
     {
         let heap = first_variables(alloc, vars)?;
@@ -51,7 +51,7 @@ impl Order {
             places[variable as usize] = variable as usize - 1;
         }
         let activities = vec![in alloc; 0; vars as usize + 1]?;
-        Ok(Order {
+        Ok(ActivityOrder {
             limit: vars,
             heap,
             places,
@@ -152,7 +152,7 @@ impl Order {
 }
 
 fn first_variables(alloc: Global, vars: u32) -> Result<Vec<u32>, NoMemory>
-    ensures { IfOk result (λ heap. AreVariables (vars + 1) heap.items) }
+    ensures { IfOk result (λ heap. HavePlaces (vars + 1) heap.items) }
 {
     let mut heap = Vec::with_capacity(alloc, vars as usize)?;
     for variable in 1..=vars {
@@ -164,9 +164,9 @@ fn first_variables(alloc: Global, vars: u32) -> Result<Vec<u32>, NoMemory>
 /// Moves the variable at a place towards the front, past those that are less active.
 fn sift_up(heap: &mut [u32], places: &mut [usize], activities: &[u64], start: usize)
     requires inside { start < length heap.old }
-    requires variables { AreVariables (length activities.now) heap.old }
+    requires variables { HavePlaces (length activities.now) heap.old }
     requires places { length places.old ≡ length activities.now }
-    ensures { AreVariables (length activities.now) heap.new }
+    ensures { HavePlaces (length activities.now) heap.new }
 {
     let variable = heap[start];
     let activity = activities[variable as usize];
@@ -190,9 +190,9 @@ fn sift_down(heap: &mut [u32], places: &mut [usize], activities: &[u64], variabl
     requires inside { 0 < length heap.old }
     requires above { 0 < variable }
     requires below { variable < length activities.now }
-    requires variables { AreVariables (length activities.now) heap.old }
+    requires variables { HavePlaces (length activities.now) heap.old }
     requires places { length places.old ≡ length activities.now }
-    ensures { AreVariables (length activities.now) heap.new }
+    ensures { HavePlaces (length activities.now) heap.new }
 {
     let activity = activities[variable as usize];
     let mut place = 0;
@@ -212,7 +212,7 @@ fn sift_down(heap: &mut [u32], places: &mut [usize], activities: &[u64], variabl
 /// The place of the more active one of the two variables below a place.
 fn more_active_child(heap: &[u32], activities: &[u64], place: usize) -> Option<usize>
     requires inside { place < length heap.now }
-    requires variables { AreVariables (length activities.now) heap.now }
+    requires variables { HavePlaces (length activities.now) heap.now }
     ensures { IfSome result (λ child. (place < child) × (child < length heap.now)) }
 {
     let left = 2 * place + 1;
@@ -234,7 +234,7 @@ mod tests {
 
     #[test]
     fn pops_by_activity(rt: HostRuntime) -> Result<(), Fail> {
-        let mut order = Order::new(rt.alloc(), 4)?;
+        let mut order = ActivityOrder::new(rt.alloc(), 4)?;
         order.bump(2);
         order.decay();
         order.bump(3);
@@ -253,7 +253,7 @@ mod tests {
 
     #[test]
     fn scales_without_loss_of_order(rt: HostRuntime) -> Result<(), Fail> {
-        let mut order = Order::new(rt.alloc(), 3)?;
+        let mut order = ActivityOrder::new(rt.alloc(), 3)?;
         order.bump(3);
         for _ in 0..2000 {
             order.decay();

@@ -1,18 +1,18 @@
 //! The decision: the most active variable without a value, with the sign that it had last (phase saving: Pipatsrisawat and
 //! Darwiche, 2007). Free, but for this: a literal is found unless all variables have a value.
 ghost use Rattle.std.specs.Prelude.{◌≡◌, ℕ, ◌+◌, ◌<◌, ◌≤◌, length, IfSome, IfNone};
-ghost use Rattle.kb_eliminate.specs.Base.{IsFree, IsValued, AllAssigned};
+ghost use Rattle.kb_eliminate.specs.Base.{HasNoValue, IsValued, AllAssigned};
 
-use crate::order::Order;
+use crate::order::ActivityOrder;
 use kb_chain::Lit;
 use kb_eliminate::Trail;
 
 /// The literal to decide next: of the most active variable that has no value, with the sign that it had last; none where all
 /// variables have a value.
-pub(crate) fn pick(order: &mut Order, phases: &[bool], trail: &Trail) -> Option<Lit>
+pub(crate) fn pick(order: &mut ActivityOrder, phases: &[bool], trail: &Trail) -> Option<Lit>
     requires order { order.old ≡ trail.now.vars }
     requires phases { length phases.now ≡ trail.now.vars + 1 }
-    ensures some { IfSome result (IsFree trail.now) }
+    ensures some { IfSome result (HasNoValue trail.now) }
     ensures none { IfNone result (AllAssigned trail.now) }
     ensures order { order.new ≡ order.old }
 {
@@ -22,10 +22,10 @@ pub(crate) fn pick(order: &mut Order, phases: &[bool], trail: &Trail) -> Option<
     first_free(phases, trail)
 }
 
-fn most_active(order: &mut Order, phases: &[bool], trail: &Trail) -> Option<Lit>
+fn most_active(order: &mut ActivityOrder, phases: &[bool], trail: &Trail) -> Option<Lit>
     requires order { order.old ≡ trail.now.vars }
     requires phases { length phases.now ≡ trail.now.vars + 1 }
-    ensures some { IfSome result (IsFree trail.now) }
+    ensures some { IfSome result (HasNoValue trail.now) }
     ensures order { order.new ≡ order.old }
 {
     for _ in 0..trail.vars() {
@@ -41,7 +41,7 @@ fn most_active(order: &mut Order, phases: &[bool], trail: &Trail) -> Option<Lit>
 
 fn first_free(phases: &[bool], trail: &Trail) -> Option<Lit>
     requires phases { length phases.now ≡ trail.now.vars + 1 }
-    ensures some { IfSome result (IsFree trail.now) }
+    ensures some { IfSome result (HasNoValue trail.now) }
     ensures none { IfNone result (AllAssigned trail.now) }
 {
     for before in 0..trail.vars() {
@@ -57,7 +57,7 @@ fn free_literal(phases: &[bool], trail: &Trail, variable: u32) -> Option<Lit>
     requires above { 0 < variable }
     requires below { variable ≤ trail.now.vars }
     requires phases { length phases.now ≡ trail.now.vars + 1 }
-    ensures some { IfSome result (IsFree trail.now) }
+    ensures some { IfSome result (HasNoValue trail.now) }
     ensures none { IfNone result (IsValued trail.now variable) }
 {
     if variable > i32::MAX as u32 {

@@ -2,7 +2,7 @@
 //! and whether it was of use lately. Free.
 ghost use Rattle.std.specs.Prelude.{◌≡◌, ◌-◌, ◌<◌, ◌≤◌, true, length};
 ghost use Rattle.kb_chain.specs.Literal.{Literal, has, negated};
-ghost use Rattle.kb_eliminate.specs.Trail.{start_of};
+ghost use Rattle.kb_eliminate.specs.Trail.{level_start};
 
 use crate::analysis::level_of;
 use kb_chain::{Chain, Lit};
@@ -93,7 +93,7 @@ pub(crate) fn levels_of(trail: &Trail, literals: &[Lit]) -> u32
 /// Where the level of a position begins.
 fn start_before(trail: &Trail, position: usize) -> usize
     requires above { 0 < length trail.now.starts }
-    requires below { position < start_of trail.now.starts (length trail.now.starts - 1) }
+    requires below { position < level_start trail.now.starts (length trail.now.starts - 1) }
     ensures { result ≤ position }
 {
     let level = level_of(trail, position);

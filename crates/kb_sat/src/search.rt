@@ -2,14 +2,14 @@
 //! back. That it stays within what the log derives is under proof; which literals it tries is free.
 ghost use Rattle.std.specs.Prelude.{◌≡◌, ℕ, ◌+◌, ◌*◌, ◌<◌, ◌≤◌, true, [], length, OnOk, IfOk, IfSome, IfNone};
 ghost use Rattle.kb_chain.specs.Literal.{Literal, has, place_of};
-ghost use Rattle.kb_eliminate.specs.Trail.{Grows, start_of, cut_back};
+ghost use Rattle.kb_eliminate.specs.Trail.{TrailGrows, level_start, cut_back};
 ghost use Rattle.kb_eliminate.specs.Watches.{IsAwake};
 ghost use Rattle.kb_eliminate.specs.Base.{Stands, IsReady, IsConflict, IsComplete, IsPropagated, IsDoomed};
 ghost use Rattle.kb_sat.specs.Solver.{Equipped, GoesOn, Keeps, StepIs};
 
 use crate::analysis::{Marks, analyse};
 use crate::counts::Counts;
-use crate::order::Order;
+use crate::order::ActivityOrder;
 use crate::parameters::FIRST_PHASE;
 use crate::pick::pick;
 use crate::ranks::{Ranks, levels_of};
@@ -21,7 +21,7 @@ use std::alloc::Global;
 #[derive(Drop)]
 pub(crate) struct Search<'a> {
     pub(crate) base: Base<'a>,
-    pub(crate) order: Order,
+    pub(crate) order: ActivityOrder,
     /// The sign that each variable had last.
     pub(crate) phases: Vec<bool>,
     pub(crate) marks: Marks,
@@ -49,7 +49,7 @@ impl<'a> Search<'a> {
         let (base, conflict) = Base::new(alloc, formula)?;
         let search = Search {
             base,
-            order: Order::new(alloc, vars)?,
+            order: ActivityOrder::new(alloc, vars)?,
             phases: vec![in alloc; FIRST_PHASE; vars as usize + 1]?,
             marks: Marks::new(alloc, vars)?,
             ranks: Ranks::new(alloc),
@@ -84,7 +84,7 @@ impl<'a> Search<'a> {
         ensures keeps { OnOk result (Keeps self.old self.new) }
         ensures conflict { IfOk result (λ conflict. IfSome conflict (λ number. IsConflict self.new.base.clauses self.new.base.trail number × IsAwake self.new.base.watches.pairs.items number)) }
         ensures settled { IfOk result (λ conflict. IfNone conflict (IsPropagated self.new.base)) }
-        ensures grows { OnOk result (Grows self.old.base.trail self.new.base.trail) }
+        ensures grows { OnOk result (TrailGrows self.old.base.trail self.new.base.trail) }
     {
         let before = self.base.trail.literals().len();
         let conflict = self.base.settle()?;
@@ -178,7 +178,7 @@ impl<'a> Search<'a> {
         requires level { level < length self.old.base.trail.starts }
         requires equipped { Equipped self.old }
         ensures trail { OnOk result (self.new.base.trail ≡ cut_back self.old.base.trail level) }
-        ensures head { OnOk result (self.new.base.head ≡ start_of self.old.base.trail.starts level) }
+        ensures head { OnOk result (self.new.base.head ≡ level_start self.old.base.trail.starts level) }
         ensures clauses { OnOk result (self.new.base.clauses ≡ self.old.base.clauses) }
         ensures watches { OnOk result (self.new.base.watches ≡ self.old.base.watches) }
         ensures entries { OnOk result (self.new.base.entries ≡ self.old.base.entries) }
@@ -196,7 +196,11 @@ impl<'a> Search<'a> {
 }
 
 /// Keeps the signs of literals that lose their values, and lets their variables be picked again.
-fn release(order: &mut Order, phases: &mut Vec<bool>, undone: &[Lit]) -> Result<(), NoMemory>
+fn release(
+    order: &mut ActivityOrder,
+    phases: &mut Vec<bool>,
+    undone: &[Lit],
+) -> Result<(), NoMemory>
     requires phases { length phases.old.items ≡ order.old + 1 }
     requires within { (l : Literal) → has undone.now l ≡ true → place_of l < 2 * order.old + 2 }
     ensures order { order.new ≡ order.old }

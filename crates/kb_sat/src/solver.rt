@@ -7,12 +7,12 @@ ghost use Rattle.kb_chain.specs.Cnf.{Cnf};
 ghost use Rattle.kb_chain.specs.Propagation.{IsFresh, UnitRefutes};
 ghost use Rattle.kb_eliminate.specs.Base.{Stands, IsReady, IsComplete, IsDoomed};
 ghost use Rattle.kb_sat.specs.Solver.{Equipped, GoesOn};
-ghost use Rattle.kb_sat.specs.Answer.{Answers, BegunIs, EndedIs, KeepsAll, IfSat, IfUnsat, IfUndecided, IsOpenOnly, ProgressIs};
+ghost use Rattle.kb_sat.specs.Answer.{Solves, BegunIs, EndedIs, KeepsAll, IfSat, IfUnsat, IfUndecided, IsOpenOnly, ProgressIs};
 
 use crate::analysis::refute;
 use crate::counts::Counts;
 use crate::forgetting::forget;
-use crate::order::Order;
+use crate::order::ActivityOrder;
 use crate::pace::{Crowding, Pace};
 use crate::parameters::{ELIMINATION, ELIMINATION_CLAUSES, SMALL_BUDGET};
 use crate::search::Search;
@@ -36,6 +36,10 @@ pub enum Solved {
 ///
 /// Where the budget is more than a few thousand, a first attempt eliminates variables and lets clauses go, so that its log isn't
 /// fresh. Only where it decides nothing comes a second one that keeps all clauses, which takes longer.
+///
+/// A formula that is decided within a budget is decided within every greater one, and alike: that the answer is no other follows
+/// from the clauses, and that there is one holds by construction. Both attempts begin and go on without the budget, which only
+/// ends them, and a second one follows wherever the first decides nothing.
 pub fn solve(alloc: Global, formula: &Formula, budget: u32) -> Result<Solved, NoMemory>
     requires { 0 < budget }
     ensures sat { IfOk result (IfSat (λ bits. (length bits ≡ formula.now.vars) × Satisfies (assignment_of bits) formula.now.clauses)) }
@@ -83,7 +87,7 @@ pub(crate) fn attempt(
     lets_go: bool,
 ) -> Result<(Option<Solved>, Counts), NoMemory>
     requires { 0 < budget }
-    ensures answers { IfOk result (λ found. IfSome found.0 (Answers formula.now budget)) }
+    ensures answers { IfOk result (λ found. IfSome found.0 (Solves formula.now budget)) }
     ensures some { IfOk result (λ found. lets_go ≡ false → IsSome found.0) }
 {
     match begin(alloc, formula, lets_go)? {
@@ -149,7 +153,7 @@ fn prepare<'a>(alloc: Global, search: Search<'a>) -> Result<Begun<'a>, NoMemory>
 }
 
 /// Lets variables be decided before all others.
-fn prefer(order: &mut Order, variables: &[u32])
+fn prefer(order: &mut ActivityOrder, variables: &[u32])
     ensures { order.new ≡ order.old }
 {
     for variable in variables {
@@ -243,7 +247,7 @@ fn conclude(
     eliminated: &Eliminated,
 ) -> Result<Option<Solved>, NoMemory>
     requires ended { (formula : Cnf) × (budget : ℕ) × EndedIs formula budget ended }
-    ensures answers { IfOk result (λ found. IfSome found (λ solved. (formula : Cnf) (budget : ℕ) → EndedIs formula budget ended.entry → Answers formula budget solved)) }
+    ensures answers { IfOk result (λ found. IfSome found (λ solved. (formula : Cnf) (budget : ℕ) → EndedIs formula budget ended.entry → Solves formula budget solved)) }
     ensures some { IfOk result (λ found. KeepsAll ended.entry → IsSome found) }
     ensures undecided { IfOk result (λ found. IfSome found (IsOpenOnly ended.entry)) }
 {

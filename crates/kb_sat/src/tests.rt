@@ -1,6 +1,7 @@
 //! Small formulas whose answers are known by hand, pigeonhole formulas, and formulas against a count by all assignments.
 ghost use Rattle.std.specs.Prelude.{◌<◌};
 
+use crate::parameters::{REDUCTION_FIRST, SMALL_BUDGET};
 use crate::solver::{Begun, attempt, begin};
 use crate::{Counts, NoMemory, Solved, solve, solve_counted};
 use kb_chain::{Clause, Formula, Lit, Log, Row, Verdict, check_fresh, check_refutation};
@@ -92,6 +93,12 @@ fn small_formulas(rt: HostRuntime) -> Result<(), Fail> {
     assert_eq!(rt; refutes(&rt, alloc, &empty, at_once)?, 1);
     let free = formula(alloc, 2, &[])?;
     assert_eq!(rt; model_bits(solve(alloc, &free, 1)?), 2);
+    // whatever is learned first, with it propagation finds the only model
+    let corner = formula(alloc, 2, &[&[1, 2], &[1, -2], &[-1, 2]])?;
+    match solve(alloc, &corner, 1)? {
+        Solved::Sat(bits) => assert_eq!(rt; bits.as_slice(), [true, true].as_slice()),
+        _ => assert!(rt; false),
+    }
     Ok(())
 }
 
@@ -146,11 +153,30 @@ fn pigeonholes(rt: HostRuntime) -> Result<(), Fail> {
 fn a_spent_budget_is_searched_anew(rt: HostRuntime) -> Result<(), Fail> {
     let alloc = rt.alloc();
     let crowded = pigeons(alloc, 11, 10)?;
-    let Solved::Undecided(log) = solve(alloc, &crowded, 5_000)? else {
+    let (solved, counts) = solve_counted(alloc, &crowded, 5_000)?;
+    let Solved::Undecided(log) = solved else {
         assert!(rt; false);
         return Ok(());
     };
     assert_eq!(rt; log.entries.as_slice().len(), 5_000);
+    // the second search meets a conflict for each entry and one more; all others are of the first
+    assert!(rt; counts.conflicts > 5_001);
+    assert!(rt; counts.restarts > 0);
+    Ok(())
+}
+
+#[test]
+fn a_search_that_lets_clauses_go_refutes(rt: HostRuntime) -> Result<(), Fail> {
+    let alloc = rt.alloc();
+    let crowded = pigeons(alloc, 8, 7)?;
+    let (found, counts) = attempt(alloc, &crowded, GREAT_BUDGET, true)?;
+    // after so many learned clauses the database was reduced at least once
+    assert!(rt; counts.conflicts > u64::from(REDUCTION_FIRST));
+    let Some(solved) = found else {
+        assert!(rt; false);
+        return Ok(());
+    };
+    assert!(rt; refutes(&rt, alloc, &crowded, solved)? > 0);
     Ok(())
 }
 
@@ -287,10 +313,7 @@ fn check_front(
     Ok(())
 }
 
-/// With this budget a search keeps all clauses.
-const SMALL_BUDGET: u32 = 4_000;
-
-/// With this one it eliminates variables and lets clauses go.
+/// With this budget, which is no small one, a search eliminates variables and lets clauses go.
 const GREAT_BUDGET: u32 = 100_000;
 
 /// Checks that an answer decides the formula, as the count of its models says and by a model or a log that is good; whether it

@@ -13,6 +13,6 @@ ReadsTests (Err (TestLine number)) tests = ⊥
 ReadsTests (Err no_memory) tests = Unit {0}
 
 -- no list of tests goes on at that line, unless memory ran out
-abbrev pub RefusesTests : ℕ → List ℕ → TestRefusal → Type 0
-RefusesTests literals text (TestLine number) = IsFirstBadLine (IsTestsText literals) text number
-RefusesTests literals text no_memory = Unit {0}
+abbrev pub RefusesTestText : ℕ → List ℕ → TestRefusal → Type 0
+RefusesTestText literals text (TestLine number) = IsFirstBadLine (IsTestsText literals) text number
+RefusesTestText literals text no_memory = Unit {0}

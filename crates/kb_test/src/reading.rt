@@ -3,7 +3,7 @@ ghost use Rattle.std.specs.Prelude.{◌≡◌, ◌↔◌, List, IfOk, IfErr, IsT
 ghost use Rattle.kb_test.specs.Texts.{SpellsTests, IsRunBounds};
 ghost use Rattle.kb_grammar.specs.Lines.{IsRead};
 ghost use Rattle.kb_test.specs.Fronts.{SpellsTestLine, SpellsBounds, SpellsAnyBounds, SpellsValueBehind, SpellsEnding, TakesLine, SpellsLines, StandsBehind, between, phase_of};
-ghost use Rattle.kb_test.specs.Refusals.{ReadsTests, RefusesTests};
+ghost use Rattle.kb_test.specs.Refusals.{ReadsTests, RefusesTestText};
 ghost use Rattle.kb_test.specs.declared.test_case.Test.{Test};
 
 use crate::test_case::literal_heap;
@@ -278,7 +278,7 @@ fn whole_tests(front: Front) -> Option<Row<Test>>
 pub fn read_tests(alloc: Global, text: &[u8], literals: u32) -> Result<Row<Test>, TestRefusal>
     ensures found { IfOk result (λ tests. SpellsTests literals tests text.now) }
     ensures only { (tests : List Test) → SpellsTests literals tests text.now → ReadsTests result tests }
-    ensures bad { IfErr result (RefusesTests literals text.now) }
+    ensures bad { IfErr result (RefusesTestText literals text.now) }
 {
     match read_lines(&TestTexts { alloc, literals }, text) {
         Ok(tests) => Ok(tests),

@@ -3,7 +3,7 @@ use Rattle.std.specs.Prelude.{IsSomeAnd}
 use Rattle.std.proofs.lemmas.Bool.{OnTrue_at, OnFalse_at}
 use Rattle.kb_chain.specs.Literal.{Literal}
 use Rattle.kb_chain.specs.Cnf.{IsWithin}
-use Rattle.kb_chain.specs.Chains.{entry_of, IsFirstBad}
+use Rattle.kb_chain.specs.Chains.{entry_of, IsFirstBadEntry}
 use Rattle.kb_chain.specs.Propagation.{IsNew}
 use Rattle.kb_chain.specs.Index.{IsRoot}
 use Rattle.kb_chain.specs.declared.log.Chain.{Chain}
@@ -24,7 +24,7 @@ pub returns-in_default : goal.returns-in_default
 returns-in_default c =
     let none : entry_of c.loop-i.store.clauses (get_or c.as_slice-entries.result.now c.loop-i.i c.index-entries-i.result) ≡ None =
     ap (λ (e : Chain). entry_of c.loop-i.store.clauses e) (sym c.index-entries-i.is) ∙ (sym c.in_ok-clause.ensures.found ∙ c.in_default.is) in
-    subst (λ (z : List Chain). IsFirstBad IsNew c.args.formula.now.clauses z c.loop-i.i) c.as_slice-entries.ensures
+    subst (λ (z : List Chain). IsFirstBadEntry IsNew c.args.formula.now.clauses z c.loop-i.i) c.as_slice-entries.ensures
     (first_bad IsNew c.as_slice-entries.result.now c.args.formula.now.clauses c.loop-i.store.clauses c.loop-i.i c.index-entries-i.result c.loop-i-test.true
     c.loop-i.invariant.derived c.loop-i.invariant.fresh
     (λ h. subst (λ o. IsSomeAnd o (IsNew c.loop-i.store.clauses)) none h))
@@ -36,7 +36,7 @@ is_new-requires-clause-within c =
 
 pub returns-then-not-branch : goal.returns-then-not-branch
 returns-then-not-branch c =
-    subst (λ (z : List Chain). IsFirstBad IsNew c.args.formula.now.clauses z c.loop-i.i) c.as_slice-entries.ensures
+    subst (λ (z : List Chain). IsFirstBadEntry IsNew c.args.formula.now.clauses z c.loop-i.i) c.as_slice-entries.ensures
     (first_bad IsNew c.as_slice-entries.result.now c.args.formula.now.clauses c.loop-i.store.clauses c.loop-i.i c.index-entries-i.result c.loop-i-test.true
     c.loop-i.invariant.derived c.loop-i.invariant.fresh
     (λ h. OnFalse_at c.if-not-branch.true c.in_ok-is_new.ensures.known
@@ -44,7 +44,7 @@ returns-then-not-branch c =
 
 pub returns-then-not-quiet : goal.returns-then-not-quiet
 returns-then-not-quiet c =
-    subst (λ (z : List Chain). IsFirstBad IsNew c.args.formula.now.clauses z c.loop-i.i) c.as_slice-entries.ensures
+    subst (λ (z : List Chain). IsFirstBadEntry IsNew c.args.formula.now.clauses z c.loop-i.i) c.as_slice-entries.ensures
     (first_bad IsNew c.as_slice-entries.result.now c.args.formula.now.clauses c.loop-i.store.clauses c.loop-i.i c.index-entries-i.result c.loop-i-test.true
     c.loop-i.invariant.derived c.loop-i.invariant.fresh
     (λ h. not_new c.loop-i.store.clauses c.in-Some.clause c.loop-i.trail.literals (OnFalse_at c.if-not-quiet.true c.loop-i.invariant.refuted)

@@ -1,23 +1,23 @@
-use Rattle.std.proofs.Common.{◌≡◌, ◌∙◌, ap, sym, subst, List, Bool, map, not, ◌||◌, inl, inr, take, length}
+use Rattle.std.proofs.Common.{◌∙◌, ap, sym, subst, List, Bool, map, not, inl, inr, take, length}
 use Rattle.std.proofs.lemmas.Bool.{OnTrue_from, OnFalse_from, OnTrue_at, OnFalse_at, or_cases, or_right, not-true, not-false}
 use Rattle.kb_chain.specs.Literal.{Literal, has, negated}
 use Rattle.kb_chain.specs.Propagation.{others, Misses, Includes, IsClosed}
 use Rattle.kb_chain.specs.Index.{AreSettled}
-use Rattle.kb_chain.proofs.PropagationLaws.{Extends-part, Extends-length, Extends-trans, AreSettled_more, settled_closed, settled_quiet}
+use Rattle.kb_chain.proofs.PropagationLaws.{IsFrontOf-part, IsFrontOf-length, IsFrontOf-trans, AreSettled_more, settled_closed, settled_quiet}
 use Rattle.kb_chain.proofs.FreshnessLaws.{Misses-from, not_missed, not_consistent}
 use Rattle.kb_chain.proofs.freshness.goes_on.Goals as goal
 use Rattle.kb_chain.proofs.freshness.goes_on.Goals.{In_ok-propagate}
 
 pub propagate-requires-clause-inside : goal.propagate-requires-clause-inside
 propagate-requires-clause-inside c =
-    rw (c.literals-root.ensures.value) (Extends-length c.args.trail.now.literals c.assume_others.new.trail.literals c.in_ok-assume_others.ensures.extended)
+    rw (c.literals-root.ensures.value) (IsFrontOf-length c.args.trail.now.literals c.assume_others.new.trail.literals c.in_ok-assume_others.ensures.extended)
 
 pub propagate-requires-clause-settled : goal.propagate-requires-clause-settled
 propagate-requires-clause-settled c =
     subst (λ (z : List Literal). AreSettled c.args.store.now.clauses z c.assume_others.new.trail.literals)
     (sym (ap (λ (z : List Literal). take (length z) c.assume_others.new.trail.literals) c.literals-root.ensures.value ∙ c.in_ok-assume_others.ensures.extended))
     (AreSettled_more c.args.store.now.clauses c.args.trail.now.literals c.args.trail.now.literals c.assume_others.new.trail.literals
-    (Extends-part c.args.trail.now.literals c.assume_others.new.trail.literals c.in_ok-assume_others.ensures.extended) c.requires.root.settled)
+    (IsFrontOf-part c.args.trail.now.literals c.assume_others.new.trail.literals c.in_ok-assume_others.ensures.extended) c.requires.root.settled)
 
 least : (c : In_ok-propagate) (set : Literal → Bool) → IsClosed c.args.store.now.clauses set
     → Includes set (map negated (others c.args.literal c.args.clause.now)) → Includes set c.propagate.new.trail.literals
@@ -35,7 +35,7 @@ returns-then-not-branch-clause-reached c =
 
 pub returns-then-not-branch-clause-extended : goal.returns-then-not-branch-clause-extended
 returns-then-not-branch-clause-extended c =
-    Extends-trans c.args.trail.now.literals c.assume_others.new.trail.literals c.propagate.new.trail.literals
+    IsFrontOf-trans c.args.trail.now.literals c.assume_others.new.trail.literals c.propagate.new.trail.literals
     c.in_ok-assume_others.ensures.extended c.in_ok-propagate.ensures.extended
 
 pub returns-clause-missed : goal.returns-clause-missed
@@ -44,7 +44,7 @@ returns-clause-missed c =
     OnTrue_from (not c.contains.result) (Misses c.args.store.now.clauses c.args.clause.now c.args.literal)
     (λ t. Misses-from c.args.store.now.clauses c.args.clause.now c.args.literal c.propagate.new.trail.literals
     (least (goal.at.returns-clause-missed c).In_ok-propagate)
-    (λ m i. Extends-part c.assume_others.new.trail.literals c.propagate.new.trail.literals c.in_ok-propagate.ensures.extended m
+    (λ m i. IsFrontOf-part c.assume_others.new.trail.literals c.propagate.new.trail.literals c.in_ok-propagate.ensures.extended m
     (c.in_ok-assume_others.ensures.has m ∙ or_right _ _ i))
     (settled_closed c.args.store.now.clauses c.propagate.new.trail.literals settled)
     (settled_quiet c.args.store.now.clauses c.propagate.new.trail.literals settled)
@@ -59,5 +59,5 @@ returns-clause-reached c =
 
 pub returns-clause-extended : goal.returns-clause-extended
 returns-clause-extended c =
-    Extends-trans c.args.trail.now.literals c.assume_others.new.trail.literals c.propagate.new.trail.literals
+    IsFrontOf-trans c.args.trail.now.literals c.assume_others.new.trail.literals c.propagate.new.trail.literals
     c.in_ok-assume_others.ensures.extended c.in_ok-propagate.ensures.extended

@@ -1,6 +1,6 @@
-use Rattle.std.proofs.Common.{◌∙◌, ap, sym, subst, List, length, take, get_or, inl, inr}
+use Rattle.std.proofs.Common.{◌∙◌, sym, subst, take, get_or, inl, inr}
 use Rattle.std.proofs.lemmas.Bool.{OnFalse_at, or_cases}
-use Rattle.kb_chain.specs.Literal.{Literal, has, same}
+use Rattle.kb_chain.specs.Literal.{has, same}
 use Rattle.kb_chain.specs.Propagation.{Misses}
 use Rattle.kb_chain.proofs.LiteralLaws.{same-true}
 use Rattle.kb_chain.proofs.OrderLaws.{has_take-suc}

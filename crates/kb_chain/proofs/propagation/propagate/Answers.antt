@@ -2,14 +2,14 @@ use Rattle.std.proofs.Common.{◌≡◌, ◌∙◌, ap, sym, refl, subst, true, 
 use Rattle.std.proofs.lemmas.Bool.{OnTrue_at}
 use Rattle.kb_chain.specs.Literal.{Literal, has, place_of, negated}
 use Rattle.kb_chain.proofs.OrderLaws.{has_get_or}
-use Rattle.kb_chain.proofs.PropagationLaws.{Extends-trans, Extends-length, IsSettled_taken, AreSettled_end, place_of-negated, Extends-refl}
+use Rattle.kb_chain.proofs.PropagationLaws.{IsFrontOf-trans, IsFrontOf-length, IsSettled_taken, AreSettled_end, place_of-negated, IsFrontOf-refl}
 use Rattle.kb_chain.proofs.propagation.propagate.Goals as goal
 
 pub loop-next-init : goal.loop-next-init
 loop-next-init c = record {
   places = refl;
   inside = c.requires.inside;
-  extended = Extends-refl c.args.trail.now.literals;
+  extended = IsFrontOf-refl c.args.trail.now.literals;
   settled = c.requires.settled;
   least = λ set closed includes. includes;
 }
@@ -36,14 +36,14 @@ pub loop-next-preserved : goal.loop-next-preserved
 loop-next-preserved c =
     let lt : c.loop-next.next < length c.loop-next.trail.literals = subst (λ (z : List Literal). c.loop-next.next < length z) c.literals.ensures.value c.loop-next-test.true in
     let grown = c.in_ok-visit.ensures.extended in
-    let longer : length c.loop-next.trail.literals ≤ length c.visit.new.trail.literals = Extends-length c.loop-next.trail.literals c.visit.new.trail.literals grown in
+    let longer : length c.loop-next.trail.literals ≤ length c.visit.new.trail.literals = IsFrontOf-length c.loop-next.trail.literals c.visit.new.trail.literals grown in
     let p : negated (get_or c.loop-next.trail.literals c.loop-next.next c.index-literals-next.result) ≡ c.negated-negation.result =
     sym (c.negated-negation.ensures ∙ ap negated (c.index-literals-next.is
     ∙ ap (λ (z : List Literal). get_or z c.loop-next.next c.index-literals-next.result) c.literals-in-loop-next.ensures.value)) in
     record {
       places = c.in_ok-visit.ensures.places ∙ c.loop-next.invariant.places;
       inside = omega (arith, lt, longer);
-      extended = Extends-trans c.args.trail.now.literals c.loop-next.trail.literals c.visit.new.trail.literals c.loop-next.invariant.extended grown;
+      extended = IsFrontOf-trans c.args.trail.now.literals c.loop-next.trail.literals c.visit.new.trail.literals c.loop-next.invariant.extended grown;
       settled = λ k clause e. IsSettled_taken c.loop-next.trail.literals c.visit.new.trail.literals c.loop-next.next c.index-literals-next.result clause lt grown
           (c.loop-next.invariant.settled k clause e)
           (λ i. OnTrue_at c.if-not-branch.false c.in_ok-visit.ensures.settled k clause e (ap (λ z. has clause z) (sym p) ∙ i));

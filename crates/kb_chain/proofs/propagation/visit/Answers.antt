@@ -5,7 +5,7 @@ use Rattle.std.proofs.lemmas.List.{take_all, get_or_read}
 use Rattle.kb_chain.specs.Literal.{has, place_of}
 use Rattle.kb_chain.specs.Index.{IsSettled, has_number}
 use Rattle.kb_chain.proofs.ChainLaws.{AreWithin-from}
-use Rattle.kb_chain.proofs.PropagationLaws.{Extends-trans, Extends-part, IsSettled_more, has_number_more}
+use Rattle.kb_chain.proofs.PropagationLaws.{IsFrontOf-trans, IsFrontOf-part, IsSettled_more, has_number_more}
 use Rattle.kb_chain.proofs.propagation.visit.Goals as goal
 use Rattle.kb_chain.proofs.propagation.visit.Goals.{in-Some+in_ok-examine+else-not-branch, in_default}
 
@@ -25,11 +25,11 @@ loop-number-preserved c =
           (let e : c.match-get.trail ≡ w.examine.new.trail = w.trail-is in
           let now : IsSettled (has c.loop-number.trail.literals) (has w.examine.new.trail.literals) w.in-Some.clause.now =
           OnTrue_at w.if-not-branch.false w.in_ok-examine.ensures.settled in
-          let grown = Extends-part c.loop-number.trail.literals w.examine.new.trail.literals w.in_ok-examine.ensures.extended in
-          let front = Extends-part c.args.trail.now.literals c.loop-number.trail.literals c.loop-number.invariant.extended in
+          let grown = IsFrontOf-part c.loop-number.trail.literals w.examine.new.trail.literals w.in_ok-examine.ensures.extended in
+          let front = IsFrontOf-part c.args.trail.now.literals c.loop-number.trail.literals c.loop-number.invariant.extended in
           record {
             places = ap (λ z. z.places) e ∙ (w.in_ok-examine.ensures.places ∙ c.loop-number.invariant.places);
-            extended = rw e (Extends-trans c.args.trail.now.literals c.loop-number.trail.literals w.examine.new.trail.literals c.loop-number.invariant.extended w.in_ok-examine.ensures.extended);
+            extended = rw e (IsFrontOf-trans c.args.trail.now.literals c.loop-number.trail.literals w.examine.new.trail.literals c.loop-number.invariant.extended w.in_ok-examine.ensures.extended);
             settled = λ k clause h g. rw e (elim (has_number_more c.as_slice-number-items.result.now c.loop-number.number-index 0 k c.loop-number-test.true h) [
               | inl s ↦ IsSettled_more (has c.args.trail.now.literals) (has c.args.trail.now.literals) (has c.loop-number.trail.literals) (has w.examine.new.trail.literals) clause
                   (λ l j. j) grown (c.loop-number.invariant.settled k clause s g)

@@ -3,7 +3,7 @@ use Rattle.std.proofs.lemmas.Bool.{false≢true}
 use Rattle.kb_chain.specs.Literal.{Literal}
 use Rattle.std.specs.Prelude.{IsSomeAnd}
 use Rattle.kb_chain.specs.Clause.{Satisfies}
-use Rattle.kb_chain.specs.Chains.{entry_of, derived, IsFirstBad, IsAny}
+use Rattle.kb_chain.specs.Chains.{entry_of, derived, IsFirstBadEntry, IsAnyEntry}
 use Rattle.kb_chain.specs.declared.log.Chain.{Chain}
 use Rattle.kb_chain.proofs.Soundness.{derived_true, Satisfies-last}
 use Rattle.kb_chain.proofs.LogLaws.{first_bad, EachEntry_more, derived_more, refutation_from, no_refutation, some_taken, empty_from, not_empty_from}
@@ -13,10 +13,10 @@ pub returns-in_default-clause-verdict : goal.returns-in_default-clause-verdict
 returns-in_default-clause-verdict c =
     let none : entry_of c.loop-i.store.clauses (get_or c.as_slice-entries.result.now c.loop-i.i c.index-entries-i.result) ≡ None =
     ap (λ (e : Chain). entry_of c.loop-i.store.clauses e) (sym c.index-entries-i.is) ∙ (sym c.in_ok-clause.ensures.found ∙ c.in_default.is) in
-    inl (subst (λ (z : List Chain). IsFirstBad IsAny c.args.formula.now.clauses z c.loop-i.i) c.as_slice-entries.ensures
-    (first_bad IsAny c.as_slice-entries.result.now c.args.formula.now.clauses c.loop-i.store.clauses c.loop-i.i c.index-entries-i.result c.loop-i-test.true
+    inl (subst (λ (z : List Chain). IsFirstBadEntry IsAnyEntry c.args.formula.now.clauses z c.loop-i.i) c.as_slice-entries.ensures
+    (first_bad IsAnyEntry c.as_slice-entries.result.now c.args.formula.now.clauses c.loop-i.store.clauses c.loop-i.i c.index-entries-i.result c.loop-i-test.true
     c.loop-i.invariant.derived c.loop-i.invariant.derives
-    (λ h. subst (λ o. IsSomeAnd o (IsAny c.loop-i.store.clauses)) none h)))
+    (λ h. subst (λ o. IsSomeAnd o (IsAnyEntry c.loop-i.store.clauses)) none h)))
 
 pub loop-i-preserved : goal.loop-i-preserved
 loop-i-preserved c =
@@ -30,7 +30,7 @@ loop-i-preserved c =
       places = c.in_ok-clause.ensures.places ∙ c.loop-i.invariant.places;
       empty = c.in_ok-clause.ensures.empty (search rules);
       derived = more ∙ ap Some (sym c.in_ok-push.ensures.ok);
-      derives = EachEntry_more IsAny c.as_slice-entries.result.now c.args.formula.now.clauses c.loop-i.store.clauses c.loop-i.i c.index-entries-i.result c.in-Some.clause
+      derives = EachEntry_more IsAnyEntry c.as_slice-entries.result.now c.args.formula.now.clauses c.loop-i.store.clauses c.loop-i.i c.index-entries-i.result c.in-Some.clause
           c.loop-i-test.true c.loop-i.invariant.derived c.loop-i.invariant.derives some tt;
       yes = λ t. refutation_from c.args.formula.now.clauses c.loop-i.store.clauses (take (c.loop-i.i + 1) c.as_slice-entries.result.now) c.in-Some.clause
           (some_taken c.as_slice-entries.result.now c.loop-i.i c.loop-i-test.true) more

@@ -3,7 +3,7 @@ use Rattle.std.specs.Option.{option_copied}
 use Rattle.kb_dimacs.specs.Lines.{lines}
 use Rattle.kb_dimacs.specs.Pieces.{lines_left, bytes_left}
 use Rattle.kb_dimacs.specs.Dimacs.{AreDimacs}
-use Rattle.kb_dimacs.specs.Fronts.{Stands, StopsAtLine}
+use Rattle.kb_dimacs.specs.Fronts.{HasRead, StopsAtLine}
 use Rattle.kb_dimacs.specs.Refusals.{IsStoppingLine, IsCauseAt}
 use Rattle.kb_dimacs.proofs.FrontLaws.{same_formula}
 use Rattle.kb_dimacs.proofs.LineLaws.{bad_line, bad_end, take_one_more, line_read, lines_behind, fewer_bytes, some_line, all_lines, no_lines}
@@ -19,7 +19,7 @@ loop-rest-preserved c =
     let all = ap (λ (l : List (List ℕ)). take n ls ++ l) (sym here) ∙ c.loop-rest.invariant.lines_are in
     let count = ap (λ (l : List (List ℕ)). n + length l) (sym here) ∙ c.loop-rest.invariant.number_is in
     record {
-      stands = subst (Stands c.in-Ok.next) (sym (take_one_more ls rest n line all count)) (c.in-Ok.ensures.ok (take n ls) c.loop-rest.invariant.stands);
+      stands = subst (HasRead c.in-Ok.next) (sym (take_one_more ls rest n line all count)) (c.in-Ok.ensures.ok (take n ls) c.loop-rest.invariant.stands);
       lines_are = line_read ls rest n line all count;
       number_is = omega (arith, count);
       short = omega (arith, fewer_bytes c.in-Some.left.now line c.cut.result.1 c.cut.ensures, ap (λ o. bytes_left (option_copied o)) c.in-Some.is, c.loop-rest.invariant.short);

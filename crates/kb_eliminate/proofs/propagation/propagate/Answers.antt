@@ -1,22 +1,22 @@
 use Rattle.std.proofs.Common.{◌+◌, ◌<◌, ◌≤◌, subst, length, take, List, arith}
 use Rattle.std.proofs.lemmas.List.{take_all}
 use Rattle.kb_chain.specs.Literal.{Literal, has}
-use Rattle.kb_chain.proofs.PropagationLaws.{Extends-length}
+use Rattle.kb_chain.proofs.PropagationLaws.{IsFrontOf-length}
 use Rattle.kb_eliminate.specs.Watches.{Quiet}
-use Rattle.kb_eliminate.proofs.JustifyLaws.{Grows-part, Grows-trans}
+use Rattle.kb_eliminate.proofs.JustifyLaws.{TrailGrows-part, TrailGrows-trans}
 use Rattle.kb_eliminate.proofs.WatchLaws.{StaysQuiet-trans, at_none}
 use Rattle.kb_eliminate.proofs.propagation.propagate.Goals as goal
 
 pub returns-in-Some-clause-stays : goal.returns-in-Some-clause-stays
 returns-in-Some-clause-stays c =
     StaysQuiet-trans c.args.clauses.now c.args.watches.now.pairs.items c.loop-next.watches.pairs.items c.visit.new.watches.pairs.items (has c.args.trail.now.literals)
-    (has c.loop-next.trail.literals) (Grows-part c.args.trail.now c.loop-next.trail c.loop-next.invariant.grows) c.loop-next.invariant.stays c.in_ok-number.ensures.stays
+    (has c.loop-next.trail.literals) (TrailGrows-part c.args.trail.now c.loop-next.trail c.loop-next.invariant.grows) c.loop-next.invariant.stays c.in_ok-number.ensures.stays
 
 pub loop-next-preserved : goal.loop-next-preserved
 loop-next-preserved c =
     let lt : c.loop-next.next < length c.loop-next.trail.literals = subst (λ (z : List Literal). c.loop-next.next < length z) c.literals.ensures.value c.loop-next-test.true in
     let grown : length c.loop-next.trail.literals ≤ length c.visit.new.trail.literals =
-    Extends-length c.loop-next.trail.literals c.visit.new.trail.literals c.in_ok-number.ensures.grows.literals in
+    IsFrontOf-length c.loop-next.trail.literals c.visit.new.trail.literals c.in_ok-number.ensures.grows.literals in
     record {
       watching = c.in_ok-number.ensures.watching;
       listed = c.in_ok-number.ensures.listed;
@@ -25,8 +25,8 @@ loop-next-preserved c =
           (Quiet c.args.clauses.now c.visit.new.watches.pairs.items (has (take (c.loop-next.next + 1) c.visit.new.trail.literals)) (has c.visit.new.trail.literals))
           c.in-None.is c.in_ok-number.ensures.quiet;
       stays = StaysQuiet-trans c.args.clauses.now c.args.watches.now.pairs.items c.loop-next.watches.pairs.items c.visit.new.watches.pairs.items (has c.args.trail.now.literals)
-          (has c.loop-next.trail.literals) (Grows-part c.args.trail.now c.loop-next.trail c.loop-next.invariant.grows) c.loop-next.invariant.stays c.in_ok-number.ensures.stays;
-      grows = Grows-trans c.args.trail.now c.loop-next.trail c.visit.new.trail c.loop-next.invariant.grows c.in_ok-number.ensures.grows;
+          (has c.loop-next.trail.literals) (TrailGrows-part c.args.trail.now c.loop-next.trail c.loop-next.invariant.grows) c.loop-next.invariant.stays c.in_ok-number.ensures.stays;
+      grows = TrailGrows-trans c.args.trail.now c.loop-next.trail c.visit.new.trail c.loop-next.invariant.grows c.in_ok-number.ensures.grows;
       justified = λ all j. c.in_ok-number.ensures.justified all (c.loop-next.invariant.justified all j);
     }
 

@@ -1,6 +1,6 @@
 use Rattle.std.proofs.Common.{◌+◌, ◌-◌, ◌*◌, ◌≤◌, length, List, take}
 use Rattle.kb_chain.specs.Literal.{Literal, has}
-use Rattle.kb_eliminate.specs.Trail.{Grows}
+use Rattle.kb_eliminate.specs.Trail.{TrailGrows}
 use Rattle.kb_eliminate.specs.Store.{IsJustified}
 use Rattle.kb_eliminate.specs.Watches.{IsWatching, AllListed, Quiet, StaysQuiet}
 use Rattle.kb_eliminate.proofs.propagation.propagate.Given as goal
@@ -12,7 +12,7 @@ invariant-loop-next l = record {
   inside : l.next ≤ length l.trail.literals;
   quiet : Quiet l.clauses l.watches.pairs.items (has (take l.next l.trail.literals)) (has l.trail.literals);
   stays : StaysQuiet l.clauses l.fn.watches.pairs.items l.watches.pairs.items (has l.fn.trail.literals);
-  grows : Grows l.fn.trail l.trail;
+  grows : TrailGrows l.fn.trail l.trail;
   justified : (all : List (List Literal)) → IsJustified all l.clauses l.fn.trail → IsJustified all l.clauses l.trail;
 }
 

@@ -2,7 +2,7 @@ use Rattle.std.proofs.Common.{◌≡◌, ◌+◌, ◌*◌, ◌<◌, ◌∙◌, a
 use Rattle.std.proofs.lemmas.List.{get_or_read}
 use Rattle.kb_chain.specs.Literal.{Literal, has, negated, place_of}
 use Rattle.kb_chain.proofs.OrderLaws.{has_get_or}
-use Rattle.kb_chain.proofs.PropagationLaws.{taken_part, Extends-take, place_of-negated}
+use Rattle.kb_chain.proofs.PropagationLaws.{taken_part, IsFrontOf-take, place_of-negated}
 use Rattle.kb_eliminate.specs.Watches.{IsWatching, Walks, Quiet, all_blocked, at_literal}
 use Rattle.kb_eliminate.proofs.WatchLaws.{IsWatching-out, Walks-taken, if_none}
 use Rattle.kb_eliminate.proofs.propagation.visit.Goals as goal
@@ -57,7 +57,7 @@ returns-clause-quiet c =
     let xs = c.args.trail.now.literals in
     let x = c.index-literals-position.result in
     let front : take (c.args.position + 1) c.walk.new.trail.literals ≡ take (c.args.position + 1) xs =
-    Extends-take xs c.walk.new.trail.literals (c.args.position + 1) c.in_ok-conflict.ensures.grows.literals (let lt : c.args.position < length xs = c.requires.inside in omega (arith, lt)) in
+    IsFrontOf-take xs c.walk.new.trail.literals (c.args.position + 1) c.in_ok-conflict.ensures.grows.literals (let lt : c.args.position < length xs = c.requires.inside in omega (arith, lt)) in
     if_none c.in_ok-conflict.conflict
     ((early : Literal → Bool) → ((l : Literal) → early l ≡ true → has xs l ≡ true)
     → Walks early (has xs) c.args.clauses.now c.args.watches.now.pairs.items (set c.args.watches.now.lists.items c.place.result c.swap.new.x) c.as_slice.result.now c.negated-falsified.result

@@ -5,7 +5,7 @@ use Rattle.kb_chain.specs.Literal.{has, negated, place_of}
 use Rattle.kb_eliminate.specs.Trail.{Assigned}
 use Rattle.kb_eliminate.specs.Watches.{Walks, AllListed, all_blocked}
 use Rattle.kb_eliminate.proofs.Places.{rest_parts}
-use Rattle.kb_eliminate.proofs.JustifyLaws.{Grows-part, Grows-trans}
+use Rattle.kb_eliminate.proofs.JustifyLaws.{TrailGrows-part, TrailGrows-trans}
 use Rattle.kb_eliminate.proofs.WatchLaws.{put_all, IsWatching-back, AllListed-back, StaysQuiet-trans, Walks-end}
 use Rattle.kb_eliminate.proofs.propagation.walk.Goals as goal
 
@@ -38,7 +38,7 @@ loop-rest-preserved c =
     let rest = take (length xs - 1) (drop 1 xs) in
     let split : xs ≡ w ∷ rest = rest_parts xs w c.in-len1-up.len_at_least c.watch-item.is in
     let grows = c.in_ok-examine.ensures.grows in
-    let part = Grows-part c.loop-rest.trail c.examine.new.trail grows in
+    let part = TrailGrows-part c.loop-rest.trail c.examine.new.trail grows in
     record {
       watching = c.in_ok-examine.ensures.watching;
       blocked = (and_parts _ _ (ap (all_blocked c.args.clauses.now) (sym split) ∙ c.loop-rest.invariant.blocked)).1;
@@ -50,7 +50,7 @@ loop-rest-preserved c =
           (c.loop-rest.invariant.walks early inside h));
       stays = StaysQuiet-trans c.args.clauses.now c.args.pairs.now.items c.loop-rest.pairs.items c.examine.new.pairs.items (has c.args.trail.now.literals) (has c.loop-rest.trail.literals)
           c.loop-rest.invariant.part c.loop-rest.invariant.stays c.in_ok-examine.ensures.stays;
-      grows = Grows-trans c.args.trail.now c.loop-rest.trail c.examine.new.trail c.loop-rest.invariant.grows grows;
+      grows = TrailGrows-trans c.args.trail.now c.loop-rest.trail c.examine.new.trail c.loop-rest.invariant.grows grows;
       justified = λ all j. c.in_ok-examine.ensures.justified all (c.loop-rest.invariant.justified all j);
     }
 

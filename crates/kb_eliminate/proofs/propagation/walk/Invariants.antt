@@ -1,6 +1,6 @@
 use Rattle.std.proofs.Common.{◌≡◌, ◌+◌, ◌*◌, ◌<◌, length, true, Bool, List}
 use Rattle.kb_chain.specs.Literal.{Literal, has, negated, place_of}
-use Rattle.kb_eliminate.specs.Trail.{Grows}
+use Rattle.kb_eliminate.specs.Trail.{TrailGrows}
 use Rattle.kb_eliminate.specs.Store.{IsJustified}
 use Rattle.kb_eliminate.specs.Watches.{IsWatching, Walks, StaysQuiet, all_blocked}
 use Rattle.kb_eliminate.proofs.propagation.walk.Given as goal
@@ -16,7 +16,7 @@ invariant-loop-rest l = record {
       → Walks early (has l.fn.trail.literals) l.clauses l.fn.pairs.items l.fn.lists.items l.fn.waiting l.falsified
       → Walks early (has l.trail.literals) l.clauses l.pairs.items l.lists.items l.rest l.falsified;
   stays : StaysQuiet l.clauses l.fn.pairs.items l.pairs.items (has l.fn.trail.literals);
-  grows : Grows l.fn.trail l.trail;
+  grows : TrailGrows l.fn.trail l.trail;
   justified : (all : List (List Literal)) → IsJustified all l.clauses l.fn.trail → IsJustified all l.clauses l.trail;
 }
 

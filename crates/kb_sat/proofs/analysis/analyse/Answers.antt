@@ -1,7 +1,7 @@
 use Rattle.std.proofs.Common.{◌≡◌, ◌-◌, ◌∙◌, ◌++◌, ◌∷◌, [], sym, ap, subst, length, ℕ, List}
 use Rattle.kb_chain.specs.declared.log.Chain.{Chain}
 use Rattle.kb_chain.specs.Literal.{Literal, negated}
-use Rattle.kb_eliminate.specs.Trail.{start_of}
+use Rattle.kb_eliminate.specs.Trail.{level_start}
 use Rattle.kb_sat.specs.Analysis.{IsLevels, IsReached, ArePut}
 use Rattle.kb_sat.specs.declared.analysis.Levels.{Levels}
 use Rattle.kb_sat.proofs.MarkedLaws.{once_of}
@@ -32,7 +32,7 @@ resolve_level-requires-clause-pending c =
     let is : IsLevels c.args.trail.now levels = record {
       above = c.requires.level;
       zero = c.start.ensures.value;
-      start = c.start-2.ensures.value ∙ ap (λ k. start_of c.args.trail.now.starts (k - 1)) c.level.ensures;
+      start = c.start-2.ensures.value ∙ ap (λ k. level_start c.args.trail.now.starts (k - 1)) c.level.ensures;
     } in
     let negates = conflict_false c.args.clauses.now c.args.trail.now c.args.number c.literals.result.now c.requires.conflict c.literals.ensures in
     some_pending c.args.trail.now levels c.literals.result.now c.args.marks.now c.mark_others.new.self c.facts.ensures is c.requires.clean c.in_ok-mark_others.ensures.marks
@@ -46,7 +46,7 @@ returns-clause-learned c all justified =
     let is : IsLevels c.args.trail.now levels = record {
       above = c.requires.level;
       zero = c.start.ensures.value;
-      start = c.start-2.ensures.value ∙ ap (λ k. start_of c.args.trail.now.starts (k - 1)) c.level.ensures;
+      start = c.start-2.ensures.value ∙ ap (λ k. level_start c.args.trail.now.starts (k - 1)) c.level.ensures;
     } in
     let negates = conflict_false c.args.clauses.now c.args.trail.now c.args.number c.literals.result.now c.requires.conflict c.literals.ensures in
     let once = once_of c.args.trail.now c.facts.ensures c.stands_once.ensures in

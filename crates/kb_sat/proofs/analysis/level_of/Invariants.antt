@@ -1,13 +1,13 @@
 use Rattle.std.proofs.Common.{◌<◌, ◌≤◌, ◌-◌, length}
-use Rattle.kb_eliminate.specs.Trail.{start_of}
+use Rattle.kb_eliminate.specs.Trail.{level_start}
 use Rattle.kb_sat.proofs.analysis.level_of.Given as goal
 
 abbrev pub invariant-loop-low : goal.invariant-loop-low
 invariant-loop-low l = record {
   order : l.low ≤ l.high;
   inside : l.high < length l.fn.trail.starts;
-  below : l.position < start_of l.fn.trail.starts l.high;
-  above : 0 < l.low → start_of l.fn.trail.starts (l.low - 1) ≤ l.position;
+  below : l.position < level_start l.fn.trail.starts l.high;
+  above : 0 < l.low → level_start l.fn.trail.starts (l.low - 1) ≤ l.position;
 }
 
 abbrev pub decreases-loop-low : goal.decreases-loop-low

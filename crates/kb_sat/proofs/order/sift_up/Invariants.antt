@@ -1,11 +1,11 @@
 use Rattle.std.proofs.Common.{◌<◌, length}
-use Rattle.kb_sat.specs.Order.{AreVariables}
+use Rattle.kb_sat.specs.Order.{HavePlaces}
 use Rattle.kb_sat.proofs.order.sift_up.Given as goal
 
 abbrev pub invariant-loop-place : goal.invariant-loop-place
 invariant-loop-place l = record {
   inside : l.place < length l.heap;
-  variables : AreVariables (length l.activities) l.heap;
+  variables : HavePlaces (length l.activities) l.heap;
 }
 
 abbrev pub decreases-loop-place : goal.decreases-loop-place

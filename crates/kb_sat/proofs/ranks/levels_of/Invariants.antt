@@ -1,6 +1,6 @@
 use Rattle.std.proofs.Common.{◌-◌, ◌≤◌, length}
-use Rattle.kb_eliminate.specs.Trail.{start_of}
+use Rattle.kb_eliminate.specs.Trail.{level_start}
 use Rattle.kb_sat.proofs.ranks.levels_of.Given as goal
 
 abbrev pub invariant-loop-literal : goal.invariant-loop-literal
-invariant-loop-literal l = l.start ≤ start_of l.trail.starts (length l.trail.starts - 1)
+invariant-loop-literal l = l.start ≤ level_start l.trail.starts (length l.trail.starts - 1)

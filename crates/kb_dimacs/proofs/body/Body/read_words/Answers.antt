@@ -1,6 +1,6 @@
 use Rattle.std.proofs.Common.{◌∙◌, ◌++◌, refl, List, ℕ, suc, take, drop, append-nil, subst, sym}
 use Rattle.std.proofs.lemmas.Result.{err_from_is_err_and}
-use Rattle.kb_dimacs.specs.Fronts.{Holds, AreFine, StopsAt}
+use Rattle.kb_dimacs.specs.Fronts.{HoldsWords, AreFine, StopsAtWords}
 use Rattle.kb_dimacs.proofs.WordLaws.{texts, texts_around, texts_push}
 use Rattle.kb_dimacs.proofs.ClauseLaws.{stops_behind, fine_none, fine_behind, held_behind}
 use Rattle.kb_dimacs.proofs.body.Body.read_words.Goals as goal
@@ -11,7 +11,7 @@ loop-word-init c =
     record {
       vars = refl;
       count = refl;
-      held = λ read held. subst (Holds self) (sym (append-nil read)) held;
+      held = λ read held. subst (HoldsWords self) (sym (append-nil read)) held;
       fine = λ read held. fine_none self.formula.vars self.count read;
     }
 
@@ -25,7 +25,7 @@ loop-word-preserved c =
       vars = c.in_ok-read_word.ensures.vars ∙ before.vars;
       count = c.in_ok-read_word.ensures.count ∙ before.count;
       held = λ read held.
-          subst (λ (l : List (List ℕ)). Holds c.read_word.new.self (read ++ l)) more
+          subst (λ (l : List (List ℕ)). HoldsWords c.read_word.new.self (read ++ l)) more
           (held_behind old c.loop-word.self c.read_word.new.self done _ before.held c.in_ok-read_word.ensures.ok read held);
       fine = λ read held.
           subst (λ (l : List (List ℕ)). AreFine old.formula.vars old.count read l) more
@@ -38,6 +38,6 @@ returns-in_err-read_word-clause-bad c =
     rw (p.1, p.2)
     (let words = c.args.words.now in
     let i = c.loop-word.word-index in
-    subst (λ (l : List (List ℕ)). StopsAt c.args.self.now l c.in_err-read_word.field-0.0) (sym (texts_around words i _ c.loop-word-test.true))
+    subst (λ (l : List (List ℕ)). StopsAtWords c.args.self.now l c.in_err-read_word.field-0.0) (sym (texts_around words i _ c.loop-word-test.true))
     (stops_behind c.args.self.now c.loop-word.self (texts (take i words)) (texts (drop (suc i) words)) _ c.in_err-read_word.field-0.0
     c.loop-word.invariant.vars c.loop-word.invariant.count c.loop-word.invariant.held c.loop-word.invariant.fine c.in_err-read_word.ensures.bad))

@@ -1,13 +1,13 @@
 use Rattle.std.proofs.Common.{◌≡◌, ◌+◌, ◌*◌, ◌<◌, ◌∙◌, ap, sym, subst, refl, length, true, [], ℕ, arith}
 use Rattle.std.proofs.lemmas.List.{take_all}
 use Rattle.kb_chain.specs.Cnf.{AllWithin}
-use Rattle.kb_chain.specs.Literal.{has, place_of}
+use Rattle.kb_chain.specs.Literal.{place_of}
 use Rattle.kb_eliminate.specs.Base.{IsConflict}
 use Rattle.kb_eliminate.specs.Base.{IsBase}
 use Rattle.kb_eliminate.proofs.BaseLaws.{IsBase_same}
 use Rattle.kb_eliminate.proofs.WatchLaws.{if_none, if_some}
-use Rattle.kb_eliminate.specs.Trail.{Assigned, HasReasons}
-use Rattle.kb_eliminate.specs.Watches.{IsBegun, Quiet}
+use Rattle.kb_eliminate.specs.Trail.{Assigned}
+use Rattle.kb_eliminate.specs.Watches.{IsBegun}
 use Rattle.kb_eliminate.proofs.BeginLaws.{IsBegun-none, IsBase-begin, clause_places, doomed}
 use Rattle.kb_eliminate.proofs.base.Base.new.Goals as goal
 

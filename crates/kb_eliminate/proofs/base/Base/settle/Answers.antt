@@ -1,4 +1,4 @@
-use Rattle.std.proofs.Common.{◌≡◌, ap, length, arith, refl}
+use Rattle.std.proofs.Common.{◌≡◌, ap, length, refl}
 use Rattle.kb_chain.specs.Literal.{has}
 use Rattle.kb_eliminate.specs.Watches.{Quiet}
 use Rattle.kb_eliminate.proofs.WatchLaws.{at_none}

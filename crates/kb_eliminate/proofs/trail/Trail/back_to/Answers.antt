@@ -3,7 +3,7 @@ use Rattle.std.proofs.lemmas.List.{get_or_read}
 use Rattle.kb_chain.specs.Literal.{Literal}
 use Rattle.kb_chain.specs.Trail.{IsMarked}
 use Rattle.kb_chain.proofs.WorkingLaws.{take_marks}
-use Rattle.kb_eliminate.specs.Trail.{Assigned, start_of}
+use Rattle.kb_eliminate.specs.Trail.{Assigned, level_start}
 use Rattle.kb_eliminate.specs.Tables.{IsTabled, IsDistinct}
 use Rattle.kb_eliminate.proofs.TrailLaws.{IsTabled-cut, IsDistinct-from}
 use Rattle.kb_eliminate.proofs.trail.Trail.back_to.Goals as goal
@@ -21,7 +21,7 @@ invariant_of-self c =
     let size : i.marks.len ≡ length new = omega (arith, c.unmark.auto.marks) in
     let whole : take i.marks.len (new ++ drop (length new) i.marks.items) ≡ new = take_marks i.marks.len new (drop (length new) i.marks.items) size in
     let level : c.args.level < length i.begins.items = subst (λ (z : Assigned). c.args.level < length z.starts) (sym c.self.view_is) c.requires in
-    let cut : c.index-cut.result.now ≡ start_of i.begins.items c.args.level = get_or_read i.begins.items c.args.level c.index-cut.result.now level c.index-cut.ensures 0 in
+    let cut : c.index-cut.result.now ≡ level_start i.begins.items c.args.level = get_or_read i.begins.items c.args.level c.index-cut.result.now level c.index-cut.ensures 0 in
     let same : length new ≡ length i.marks.items = c.unmark.auto.marks ∙ ap length c.as_mut_slice.ensures.value in
     subst (λ (z : List Bool). IsTabled i.limit z i.reached.items i.forced_by.items i.positions.items c.index-cut.result.now c.truncate.new.self.items) (sym whole)
     (subst (λ z. IsTabled i.limit new i.reached.items i.forced_by.items i.positions.items c.index-cut.result.now z) (sym c.truncate.ensures.items)

@@ -1,8 +1,8 @@
 use Rattle.std.proofs.Common.{◌≡◌, ◌+◌, ◌-◌, ◌*◌, ◌<◌, ◌≤◌, ◌∙◌, ap, sym, subst, length, take, [], ◌∷◌, ◌++◌, arith, Some, get_or}
 use Rattle.kb_chain.specs.Literal.{has, negated, place_of}
-use Rattle.kb_eliminate.specs.Trail.{Assigned, before_level, start_of}
+use Rattle.kb_eliminate.specs.Trail.{Assigned, before_level, level_start}
 use Rattle.kb_eliminate.specs.Watches.{Quiet, paired, put_pair}
-use Rattle.kb_eliminate.specs.Base.{IsSecond}
+use Rattle.kb_eliminate.specs.Base.{IsSecondLiteral}
 use Rattle.kb_eliminate.specs.declared.watches.Watches.{Watches}
 use Rattle.kb_eliminate.proofs.JustifyLaws.{pushed}
 use Rattle.kb_eliminate.proofs.BaseLaws.{not_false_before, IsBase_same}
@@ -31,7 +31,7 @@ watch_pair-requires-clause-first c =
     let a = c.index-row-0.result in
     let b = c.second_of-second.result in
     let p = IsAsserting-from c.requires.stands.clauses t l.chain l.literals l.level a b c.facts.ensures k
-    (c.index-row-0.is ∙ ap (λ z. get_or z 0 a) c.as_slice-row.ensures) (subst (λ z. IsSecond z b) c.as_slice-row.ensures c.second_of-second.ensures) in
+    (c.index-row-0.is ∙ ap (λ z. get_or z 0 a) c.as_slice-row.ensures) (subst (λ z. IsSecondLiteral z b) c.as_slice-row.ensures c.second_of-second.ensures) in
     let low : place_of a < 2 * t.vars + 2 = asserting_place t l.literals l.level a b c.facts.ensures p a p.first in
     let places : length s.watches.lists.items ≡ 2 * t.vars + 2 = c.requires.stands.watching.places in
     subst (λ (w : Watches). place_of a < length w.lists.items) (sym c.in_ok-go_back.ensures.watches) (omega (arith, low, places))
@@ -45,7 +45,7 @@ watch_pair-requires-clause-second c =
     let a = c.index-row-0.result in
     let b = c.second_of-second.result in
     let p = IsAsserting-from c.requires.stands.clauses t l.chain l.literals l.level a b c.facts.ensures k
-    (c.index-row-0.is ∙ ap (λ z. get_or z 0 a) c.as_slice-row.ensures) (subst (λ z. IsSecond z b) c.as_slice-row.ensures c.second_of-second.ensures) in
+    (c.index-row-0.is ∙ ap (λ z. get_or z 0 a) c.as_slice-row.ensures) (subst (λ z. IsSecondLiteral z b) c.as_slice-row.ensures c.second_of-second.ensures) in
     let low : place_of b < 2 * t.vars + 2 = asserting_place t l.literals l.level a b c.facts.ensures p b p.second in
     let places : length s.watches.lists.items ≡ 2 * t.vars + 2 = c.requires.stands.watching.places in
     subst (λ (w : Watches). place_of b < length w.lists.items) (sym c.in_ok-go_back.ensures.watches) (omega (arith, low, places))
@@ -59,7 +59,7 @@ assign-requires-clause-place c =
     let a = c.index-row-0.result in
     let b = c.second_of-second.result in
     let p = IsAsserting-from c.requires.stands.clauses t l.chain l.literals l.level a b c.facts.ensures k
-    (c.index-row-0.is ∙ ap (λ z. get_or z 0 a) c.as_slice-row.ensures) (subst (λ z. IsSecond z b) c.as_slice-row.ensures c.second_of-second.ensures) in
+    (c.index-row-0.is ∙ ap (λ z. get_or z 0 a) c.as_slice-row.ensures) (subst (λ z. IsSecondLiteral z b) c.as_slice-row.ensures c.second_of-second.ensures) in
     subst (λ (z : Assigned). place_of a < 2 * z.vars + 2) (sym c.in_ok-go_back.ensures.trail) (asserting_place t l.literals l.level a b c.facts.ensures p a p.first)
 
 pub assign-requires-clause-unassigned : goal.assign-requires-clause-unassigned
@@ -71,7 +71,7 @@ assign-requires-clause-unassigned c =
     let a = c.index-row-0.result in
     let b = c.second_of-second.result in
     let p = IsAsserting-from c.requires.stands.clauses t l.chain l.literals l.level a b c.facts.ensures k
-    (c.index-row-0.is ∙ ap (λ z. get_or z 0 a) c.as_slice-row.ensures) (subst (λ z. IsSecond z b) c.as_slice-row.ensures c.second_of-second.ensures) in
+    (c.index-row-0.is ∙ ap (λ z. get_or z 0 a) c.as_slice-row.ensures) (subst (λ z. IsSecondLiteral z b) c.as_slice-row.ensures c.second_of-second.ensures) in
     ap (λ (z : Assigned). has z.literals a) c.in_ok-go_back.ensures.trail ∙ asserting_absent t l.literals l.level a b c.facts.ensures p
 
 pub assign-requires-clause-possible : goal.assign-requires-clause-possible
@@ -83,7 +83,7 @@ assign-requires-clause-possible c =
     let a = c.index-row-0.result in
     let b = c.second_of-second.result in
     let p = IsAsserting-from c.requires.stands.clauses t l.chain l.literals l.level a b c.facts.ensures k
-    (c.index-row-0.is ∙ ap (λ z. get_or z 0 a) c.as_slice-row.ensures) (subst (λ z. IsSecond z b) c.as_slice-row.ensures c.second_of-second.ensures) in
+    (c.index-row-0.is ∙ ap (λ z. get_or z 0 a) c.as_slice-row.ensures) (subst (λ z. IsSecondLiteral z b) c.as_slice-row.ensures c.second_of-second.ensures) in
     ap (λ (z : Assigned). has z.literals (negated a)) c.in_ok-go_back.ensures.trail ∙ p.free l.level (omega arith)
 
 pub returns-clause-goes_on : goal.returns-clause-goes_on
@@ -95,7 +95,7 @@ returns-clause-goes_on c =
     let a = c.index-row-0.result in
     let b = c.second_of-second.result in
     let p = IsAsserting-from c.requires.stands.clauses t l.chain l.literals l.level a b c.facts.ensures k
-    (c.index-row-0.is ∙ ap (λ z. get_or z 0 a) c.as_slice-row.ensures) (subst (λ z. IsSecond z b) c.as_slice-row.ensures c.second_of-second.ensures) in
+    (c.index-row-0.is ∙ ap (λ z. get_or z 0 a) c.as_slice-row.ensures) (subst (λ z. IsSecondLiteral z b) c.as_slice-row.ensures c.second_of-second.ensures) in
     let n = c.len-number.result in
     let g = c.in_ok-go_back.ensures in
     let number : n ≡ length s.clauses = c.len-number.ensures ∙ ap length g.clauses in
@@ -128,7 +128,7 @@ returns-clause-ready c =
     let a = c.index-row-0.result in
     let b = c.second_of-second.result in
     let p = IsAsserting-from c.requires.stands.clauses t l.chain l.literals l.level a b c.facts.ensures k
-    (c.index-row-0.is ∙ ap (λ z. get_or z 0 a) c.as_slice-row.ensures) (subst (λ z. IsSecond z b) c.as_slice-row.ensures c.second_of-second.ensures) in
+    (c.index-row-0.is ∙ ap (λ z. get_or z 0 a) c.as_slice-row.ensures) (subst (λ z. IsSecondLiteral z b) c.as_slice-row.ensures c.second_of-second.ensures) in
     let n = c.len-number.result in
     let g = c.in_ok-go_back.ensures in
     let r = ready-learn s.formula.now s.entries s.clauses s.watches.pairs.items s.watches.lists.items t s.whole c.requires.stands l.literals l.level a b c.facts.ensures k.below p in
@@ -138,7 +138,7 @@ returns-clause-ready c =
     c.in_ok-watch_pair.ensures.pairs ∙ ap (λ (w : Watches). w.pairs.items ++ paired a b ∷ []) g.watches in
     let trail : c.assign.new.self ≡ learned_trail t l.level a n = c.assign.ensures ∙ ap (λ (z : Assigned). pushed z a (Some n) z.starts) g.trail in
     record {
-      head = subst (λ m. m ≤ length c.assign.new.self.literals) (sym g.head) (subst (λ (z : Assigned). start_of t.starts l.level ≤ length z.literals) (sym trail) r.0);
+      head = subst (λ m. m ≤ length c.assign.new.self.literals) (sym g.head) (subst (λ (z : Assigned). level_start t.starts l.level ≤ length z.literals) (sym trail) r.0);
       quiet = subst (λ z. Quiet z c.watch_pair.new.watches.pairs.items (has (take c.go_back.new.self.base.head c.assign.new.self.literals)) (has c.assign.new.self.literals)) (sym rows)
           (subst (λ z. Quiet (s.clauses ++ l.literals ∷ []) z (has (take c.go_back.new.self.base.head c.assign.new.self.literals)) (has c.assign.new.self.literals)) (sym pairs)
           (subst (λ (z : Assigned). Quiet (s.clauses ++ l.literals ∷ []) (s.watches.pairs.items ++ paired a b ∷ []) (has (take c.go_back.new.self.base.head z.literals)) (has z.literals)) (sym trail)

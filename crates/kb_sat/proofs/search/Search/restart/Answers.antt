@@ -1,6 +1,6 @@
 use Rattle.std.proofs.Common.{◌<◌, ◌≤◌, ap, sym, subst, length, take, arith}
 use Rattle.kb_chain.specs.Literal.{has}
-use Rattle.kb_eliminate.specs.Trail.{Assigned, cut_back, before_level, start_of}
+use Rattle.kb_eliminate.specs.Trail.{Assigned, cut_back, before_level, level_start}
 use Rattle.kb_eliminate.specs.Watches.{Quiet}
 use Rattle.kb_eliminate.specs.declared.watches.Watches.{Watches}
 use Rattle.kb_eliminate.proofs.BaseLaws.{IsBase_same, IsBase-cut, quiet-cut}
@@ -31,7 +31,7 @@ returns-clause-ready c =
     let lt : 0 < length t.starts = omega (arith, c.if-level-eq0.false, c.level.ensures) in
     let r = quiet-cut s.formula.now s.entries s.clauses s.watches.pairs.items s.watches.lists.items t s.whole 0 c.requires.stands c.facts.ensures lt in
     record {
-      head = subst (λ m. m ≤ length n.trail.literals) (sym g.head) (subst (λ (z : Assigned). start_of t.starts 0 ≤ length z.literals) (sym g.trail) r.0);
+      head = subst (λ m. m ≤ length n.trail.literals) (sym g.head) (subst (λ (z : Assigned). level_start t.starts 0 ≤ length z.literals) (sym g.trail) r.0);
       quiet = subst (λ z. Quiet z n.watches.pairs.items (has (take n.head n.trail.literals)) (has n.trail.literals)) (sym g.clauses)
           (subst (λ (w : Watches). Quiet s.clauses w.pairs.items (has (take n.head n.trail.literals)) (has n.trail.literals)) (sym g.watches)
           (subst (λ (z : Assigned). Quiet s.clauses s.watches.pairs.items (has (take n.head z.literals)) (has z.literals)) (sym g.trail)

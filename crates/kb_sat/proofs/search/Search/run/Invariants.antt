@@ -1,4 +1,4 @@
-use Rattle.std.proofs.Common.{◌≡◌, ◌+◌, ◌-◌, ◌*◌, length}
+use Rattle.std.proofs.Common.{◌+◌, ◌-◌, ◌*◌, length}
 use Rattle.kb_eliminate.specs.Base.{IsReady}
 use Rattle.kb_sat.specs.Solver.{Keeps}
 use Rattle.kb_sat.proofs.search.Search.run.Given as goal

@@ -1,7 +1,7 @@
 use Rattle.std.proofs.Common.{◌≡◌, ◌+◌, ◌≤◌, ◌∙◌, ap, sym, subst, length, take, [], ◌∷◌, ◌++◌, arith}
 use Rattle.std.proofs.lemmas.List.{length_push}
 use Rattle.kb_chain.specs.Literal.{has}
-use Rattle.kb_chain.proofs.PropagationLaws.{Extends-length}
+use Rattle.kb_chain.proofs.PropagationLaws.{IsFrontOf-length}
 use Rattle.kb_eliminate.specs.Trail.{Assigned}
 use Rattle.kb_eliminate.specs.Watches.{Quiet}
 use Rattle.kb_eliminate.specs.Base.{IsBase, IsPropagated}
@@ -37,7 +37,7 @@ returns-clause-step c =
     let settled = at_none c.in_ok-number.field-0 (IsPropagated s) c.in_default.is c.in_ok-number.ensures.settled in
     let after : c.decide.new.self.literals ≡ s.trail.literals ++ c.in-Some-pick.literal ∷ [] = ap (λ (z : Assigned). z.literals) c.in_ok-decide.ensures in
     let more : length c.decide.new.self.literals ≡ length s.trail.literals + 1 = ap length after ∙ length_push s.trail.literals c.in-Some-pick.literal in
-    let grown : length t.literals ≤ length s.trail.literals = Extends-length t.literals s.trail.literals c.in_ok-number.ensures.grows.literals in
+    let grown : length t.literals ≤ length s.trail.literals = IsFrontOf-length t.literals s.trail.literals c.in_ok-number.ensures.grows.literals in
     let at : s.head ≡ length s.trail.literals = settled.head in (
       record {
         head = omega (arith, more, at);

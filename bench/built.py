@@ -1,0 +1,90 @@
+"""Small programs of the scripts' own, over crates of this repository.
+
+A program is written into a throw-away repository, beside copies of the crates that it uses, proved and built there by
+`rt run`, and kept in build/ until one of these changes.
+"""
+
+import os
+import resource
+import shutil
+import subprocess
+import sys
+import tempfile
+import time
+from dataclasses import dataclass, field
+from pathlib import Path
+
+ROOT = Path(__file__).resolve().parent.parent
+
+
+@dataclass(frozen=True)
+class Program:
+    """A program by name: the lines of crates.txt (its own is the last), its source, its proof files, and the words of a
+    short run."""
+
+    name: str
+    crates: str
+    source: str
+    trial: list
+    proofs: dict = field(default_factory=dict)
+
+    @property
+    def path(self):
+        return ROOT / "build" / self.name
+
+    @property
+    def libraries(self):
+        names = [line.split(":")[0] for line in self.crates.splitlines()]
+        return [ROOT / "crates" / name for name in names if name != self.name]
+
+    def is_built(self, script):
+        """Whether the program is newer than each file that it is made of, its script among them."""
+        if not self.path.is_file():
+            return False
+        folders = [library / folder for library in self.libraries for folder in ("src", "specs", "proofs")]
+        sources = [file for folder in folders for file in folder.rglob("*")]
+        sources += [Path(script), Path(__file__)]
+        return all(file.stat().st_mtime <= self.path.stat().st_mtime for file in sources)
+
+    def write_repository(self, root):
+        """Writes the throw-away repository, and returns the folder of its program."""
+        (root / "crates.txt").write_text(self.crates)
+        for library in self.libraries:
+            shutil.copytree(library, root / "crates" / library.name, ignore=shutil.ignore_patterns("must-fail", "out"))
+        folder = root / "crates" / self.name
+        for file, text in {"src/main.rt": self.source, **self.proofs}.items():
+            (folder / file).parent.mkdir(parents=True, exist_ok=True)
+            (folder / file).write_text(text)
+        return folder
+
+    def build(self, script):
+        """Proves and builds the program, unless it is there. The copy that is kept has the time at which this began."""
+        if self.is_built(script):
+            return
+        log = self.path.with_suffix(".log")
+        print(f"building the program, which proves it first ({log})", file=sys.stderr)
+        start = time.time()
+        self.path.parent.mkdir(exist_ok=True)
+        with tempfile.TemporaryDirectory() as root, log.open("wb") as out:
+            folder = self.write_repository(Path(root))
+            words = ["rt", "run", "--", *self.trial]
+            if subprocess.run(words, cwd=folder, stdin=subprocess.DEVNULL, stdout=out, stderr=out).returncode != 0:
+                sys.exit(f"the program could not be built; see {log}")
+            fresh = shutil.copy(folder / "out" / self.name, self.path.with_suffix(".fresh"))
+            os.utime(fresh, (start, start))
+            os.replace(fresh, self.path)
+
+    def timed_run(self, words, wanted):
+        """The processor time of one run, whose output must be the one that is wanted."""
+        before = processor_seconds()
+        run = subprocess.run([str(self.path), *words], stdin=subprocess.DEVNULL, capture_output=True)
+        took = processor_seconds() - before
+        if run.returncode != 0 or run.stdout != wanted:
+            sys.exit(f"{' '.join(words)}: status {run.returncode}, {run.stdout!r} and not {wanted!r}")
+        return took
+
+
+def processor_seconds():
+    """The processor time of the runs that have ended."""
+    used = resource.getrusage(resource.RUSAGE_CHILDREN)
+    return used.ru_utime + used.ru_stime
