@@ -125,7 +125,7 @@ satisfies-agrees n v w (c ∷ cs) a h s =
 
 -- ---- circuits
 
-begins-push : (xs : List (List Literal)) (c : List Literal) → BeginsTrue xs → BeginsTrue (xs ++ c ∷ [])
+pub begins-push : (xs : List (List Literal)) (c : List Literal) → BeginsTrue xs → BeginsTrue (xs ++ c ∷ [])
 begins-push [] c h = absurd h
 begins-push (x ∷ xs) c h = h
 

@@ -10,3 +10,5 @@ pub mod Comparing
 pub mod Bitwise
 pub mod Shifting
 pub mod ShiftWords
+pub mod Beginning
+pub mod Lengths

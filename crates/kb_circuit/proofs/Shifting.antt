@@ -44,7 +44,7 @@ within-moved Shr n k bits low h =
     within-append n (drop k bits) _ (within-drop n k bits h) (within-copies n k (last_bit falsity bits) (within-get_or n bits (length bits - 1) falsity low h))
 within-moved Ushr n k bits low h = within-append n (drop k bits) _ (within-drop n k bits h) (within-copies n k falsity low)
 
-length-moved : (shift : Shift) (k : ℕ) (bits : List Literal) → k ≤ length bits → length (moved shift k bits) ≡ length bits
+pub length-moved : (shift : Shift) (k : ℕ) (bits : List Literal) → k ≤ length bits → length (moved shift k bits) ≡ length bits
 length-moved Shl k bits le =
     omega (arith, length-append (replicate k falsity) (take (length bits - k) bits), length-replicate k falsity, length-take (length bits - k) bits)
 length-moved Shr k bits le = omega (arith, length-append (drop k bits) (replicate k (last_bit falsity bits)), length-replicate k (last_bit falsity bits), length-drop k bits)

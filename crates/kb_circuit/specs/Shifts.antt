@@ -33,3 +33,12 @@ shift_word shift bits count = do
   four ← stage shift 4 (slice_index_or count 2 falsity) two
   eight ← stage shift 8 (slice_index_or count 3 falsity) four
   stage shift 16 (slice_index_or count 4 falsity) eight
+
+abbrev pub shl_word : List Literal → List Literal → Circuit (List Literal)
+shl_word bits count = shift_word Shl bits count
+
+abbrev pub shr_word : List Literal → List Literal → Circuit (List Literal)
+shr_word bits count = shift_word Shr bits count
+
+abbrev pub ushr_word : List Literal → List Literal → Circuit (List Literal)
+ushr_word bits count = shift_word Ushr bits count

@@ -32,6 +32,15 @@ bitwise gate (a ∷ left) (b ∷ right) = do
   bits ← bitwise gate left right
   done (bit ∷ bits)
 
+abbrev pub and_word : List Literal → List Literal → Circuit (List Literal)
+and_word left right = bitwise And left right
+
+abbrev pub or_word : List Literal → List Literal → Circuit (List Literal)
+or_word left right = bitwise Or left right
+
+abbrev pub xor_word : List Literal → List Literal → Circuit (List Literal)
+xor_word left right = bitwise Xor left right
+
 -- full adders from the lowest bit upwards, which begin with the carry c: the sums and the last carry
 unfoldable pub plus : List Literal → List Literal → Literal → Circuit (List Literal × Literal)
 plus [] _ c = done ([], c)

@@ -1,3 +1,4 @@
+//! The kinds of gates.
 use kb_chain::Lit;
 
 /// A gate of two inputs. `Mux` gives the first where its literal is true, else the second.

@@ -11,3 +11,4 @@ mod words;
 
 pub use builder::Builder;
 pub use memory::NoMemory;
+pub use words::truth_bits;

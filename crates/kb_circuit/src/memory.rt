@@ -1,3 +1,4 @@
+//! The refusal of a builder.
 use std::alloc::AllocError;
 
 /// There was no memory for a gate, or no number for its variable.

@@ -1,5 +1,5 @@
 //! Each operation on corner values, by the bits that the clauses force, against Rust's own arithmetic.
-ghost use Rattle.std.specs.Prelude.{◌≡◌, IfOk};
+ghost use Rattle.std.specs.Prelude.{◌≡◌, ◌≤◌, IfOk};
 ghost use Rattle.kb_chain.specs.Cnf.{IsWithin};
 
 use crate::{Builder, NoMemory};
@@ -152,7 +152,8 @@ fn check(rt: &impl Abort, alloc: Global, operation: Operation) -> Result<(), NoM
 
 /// A word of new inputs.
 fn word(builder: &mut Builder) -> Result<[Lit; 32], NoMemory>
-    ensures { IfOk result (λ word. IsWithin builder.new.vars word) }
+    ensures within { IfOk result (λ word. IsWithin builder.new.vars word) }
+    ensures grows { builder.old.vars ≤ builder.new.vars }
 {
     let mut bits = [builder.truth(); 32];
     for i in 0..32 {
@@ -241,5 +242,72 @@ fn inputs_and_units_are_counted(rt: HostRuntime) -> Result<(), Fail> {
     assert!(rt; formula.vars() == 2);
     assert!(rt; formula.clauses().len() == 2);
     assert!(rt; input.number() == 2);
+    Ok(())
+}
+
+/// The first clause, and those of bits 0 and 1 of a sum of the words 2 to 33 and 34 to 65; 0 stands for no literal.
+const SUM_CLAUSES: [[i32; 3]; 35] = [
+    [1, 0, 0],
+    // bit 0: 66 = xor(2, 34), 67 = xor(66, -1), 68 = and(2, 34), 69 = and(66, -1), 70 = and(-68, -69)
+    [2, 34, -66],
+    [-2, -34, -66],
+    [-2, 34, 66],
+    [2, -34, 66],
+    [-1, 66, -67],
+    [1, -66, -67],
+    [-1, -66, 67],
+    [1, 66, 67],
+    [2, -68, 0],
+    [34, -68, 0],
+    [-2, -34, 68],
+    [66, -69, 0],
+    [-1, -69, 0],
+    [1, -66, 69],
+    [-68, -70, 0],
+    [-69, -70, 0],
+    [68, 69, 70],
+    // bit 1: 71 = xor(3, 35), 72 = xor(71, -70), 73 = and(3, 35), 74 = and(71, -70), 75 = and(-73, -74)
+    [3, 35, -71],
+    [-3, -35, -71],
+    [-3, 35, 71],
+    [3, -35, 71],
+    [-70, 71, -72],
+    [70, -71, -72],
+    [-70, -71, 72],
+    [70, 71, 72],
+    [3, -73, 0],
+    [35, -73, 0],
+    [-3, -35, 73],
+    [71, -74, 0],
+    [-70, -74, 0],
+    [70, -71, 74],
+    [-73, -75, 0],
+    [-74, -75, 0],
+    [73, 74, 75],
+];
+
+/// The numbers of a clause of at most three literals.
+fn numbers(clause: &Clause) -> [i32; 3] {
+    let mut numbers = [0; 3];
+    for (number, literal) in numbers.iter_mut().zip(clause.literals()) {
+        *number = literal.number();
+    }
+    numbers
+}
+
+#[test]
+fn a_sum_has_its_clauses_in_order(rt: HostRuntime) -> Result<(), Fail> {
+    let mut builder = Builder::new(rt.alloc())?;
+    let left = word(&mut builder)?;
+    let right = word(&mut builder)?;
+    let sum = builder.add(&left, &right)?;
+    assert!(rt; sum[0].number() == 67);
+    assert!(rt; sum[1].number() == 72);
+    let formula = builder.finish();
+    for (clause, expected) in formula.clauses().iter().zip(&SUM_CLAUSES) {
+        assert!(rt; clause.literals().len() <= 3);
+        assert!(rt; numbers(clause) == *expected);
+    }
+    assert!(rt; formula.clauses().len() == 1 + 32 * 17);
     Ok(())
 }

@@ -4,10 +4,8 @@ ghost use Rattle.kb_arith.specs.Word.{word_add, word_sub, word_neg, word_shl, wo
 ghost use Rattle.kb_chain.specs.Cnf.{IsWithin};
 ghost use Rattle.kb_circuit.specs.Circuit.{truth, falsity, IsCircuit};
 ghost use Rattle.kb_circuit.specs.Meaning.{Computes};
-ghost use Rattle.kb_circuit.specs.Words.{negated_bits, sign_negated, false_bits, truth_bits, bitwise, plus, add_word, sub_word, neg_word, equal_from, equal, eq_word, below, ult_word, lt_word, GateFits};
-ghost use Rattle.kb_circuit.specs.Shifts.{stage, shift_word};
-ghost use Rattle.kb_circuit.specs.declared.gate.Gate.TheVariants.{And, Or, Xor, Mux};
-ghost use Rattle.kb_circuit.specs.declared.shift.Shift.TheVariants.{Shl, Shr, Ushr};
+ghost use Rattle.kb_circuit.specs.Words.{negated_bits, sign_negated, false_bits, truth_bits, bitwise, and_word, or_word, xor_word, plus, add_word, sub_word, neg_word, equal_from, equal, eq_word, below, ult_word, lt_word, GateFits};
+ghost use Rattle.kb_circuit.specs.Shifts.{stage, shift_word, shl_word, shr_word, ushr_word};
 
 use crate::builder::Builder;
 use crate::gate::Gate;
@@ -179,7 +177,7 @@ impl Builder {
     pub fn shl(&mut self, left: &[Lit; 32], right: &[Lit; 32]) -> Result<[Lit; 32], NoMemory>
         requires left { IsWithin self.old.vars left.now }
         requires right { IsWithin self.old.vars right.now }
-        ensures formula { IfOk result (λ out. shift_word Shl left.now right.now self.old ≡ (out, self.new)) }
+        ensures formula { IfOk result (λ out. shl_word left.now right.now self.old ≡ (out, self.new)) }
         ensures value { IfOk result (λ out. Computes word_shl left.now right.now self.old out self.new) }
         ensures grows { self.old.vars ≤ self.new.vars }
     {
@@ -190,7 +188,7 @@ impl Builder {
     pub fn shr(&mut self, left: &[Lit; 32], right: &[Lit; 32]) -> Result<[Lit; 32], NoMemory>
         requires left { IsWithin self.old.vars left.now }
         requires right { IsWithin self.old.vars right.now }
-        ensures formula { IfOk result (λ out. shift_word Shr left.now right.now self.old ≡ (out, self.new)) }
+        ensures formula { IfOk result (λ out. shr_word left.now right.now self.old ≡ (out, self.new)) }
         ensures value { IfOk result (λ out. Computes word_shr left.now right.now self.old out self.new) }
         ensures grows { self.old.vars ≤ self.new.vars }
     {
@@ -201,7 +199,7 @@ impl Builder {
     pub fn ushr(&mut self, left: &[Lit; 32], right: &[Lit; 32]) -> Result<[Lit; 32], NoMemory>
         requires left { IsWithin self.old.vars left.now }
         requires right { IsWithin self.old.vars right.now }
-        ensures formula { IfOk result (λ out. shift_word Ushr left.now right.now self.old ≡ (out, self.new)) }
+        ensures formula { IfOk result (λ out. ushr_word left.now right.now self.old ≡ (out, self.new)) }
         ensures value { IfOk result (λ out. Computes word_ushr left.now right.now self.old out self.new) }
         ensures grows { self.old.vars ≤ self.new.vars }
     {
@@ -212,7 +210,7 @@ impl Builder {
     pub fn and(&mut self, left: &[Lit; 32], right: &[Lit; 32]) -> Result<[Lit; 32], NoMemory>
         requires left { IsWithin self.old.vars left.now }
         requires right { IsWithin self.old.vars right.now }
-        ensures formula { IfOk result (λ out. bitwise And left.now right.now self.old ≡ (out, self.new)) }
+        ensures formula { IfOk result (λ out. and_word left.now right.now self.old ≡ (out, self.new)) }
         ensures value { IfOk result (λ out. Computes word_and left.now right.now self.old out self.new) }
         ensures grows { self.old.vars ≤ self.new.vars }
     {
@@ -224,7 +222,7 @@ impl Builder {
     pub fn or(&mut self, left: &[Lit; 32], right: &[Lit; 32]) -> Result<[Lit; 32], NoMemory>
         requires left { IsWithin self.old.vars left.now }
         requires right { IsWithin self.old.vars right.now }
-        ensures formula { IfOk result (λ out. bitwise Or left.now right.now self.old ≡ (out, self.new)) }
+        ensures formula { IfOk result (λ out. or_word left.now right.now self.old ≡ (out, self.new)) }
         ensures value { IfOk result (λ out. Computes word_or left.now right.now self.old out self.new) }
         ensures grows { self.old.vars ≤ self.new.vars }
     {
@@ -236,7 +234,7 @@ impl Builder {
     pub fn xor(&mut self, left: &[Lit; 32], right: &[Lit; 32]) -> Result<[Lit; 32], NoMemory>
         requires left { IsWithin self.old.vars left.now }
         requires right { IsWithin self.old.vars right.now }
-        ensures formula { IfOk result (λ out. bitwise Xor left.now right.now self.old ≡ (out, self.new)) }
+        ensures formula { IfOk result (λ out. xor_word left.now right.now self.old ≡ (out, self.new)) }
         ensures value { IfOk result (λ out. Computes word_xor left.now right.now self.old out self.new) }
         ensures grows { self.old.vars ≤ self.new.vars }
     {
@@ -306,7 +304,7 @@ fn sign_negated(bits: &[Lit; 32]) -> [Lit; 32]
 }
 
 /// A word with this lowest bit, the others false.
-fn truth_bits(lowest: Lit) -> [Lit; 32]
+pub fn truth_bits(lowest: Lit) -> [Lit; 32]
     ensures { result ≡ truth_bits lowest }
 {
     let mut out = [Lit::new(1, false); 32];

@@ -1,11 +1,13 @@
 //! Terms over ints: constants, variables and operations, each a node of a pool that has no two equal nodes.
 #![tactic(auto)]
 
+mod listing;
 mod node;
 mod numbering;
 mod op;
 mod pool;
 
+pub use listing::{Operand, Term};
 pub use node::{Node, TermId, VarKind};
 pub use numbering::Numbering;
 pub use op::Op;

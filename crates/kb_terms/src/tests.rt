@@ -1,3 +1,4 @@
+//! Terms that are made, folded, evaluated and numbered, with values that were worked out by hand.
 use crate::{Node, Op, Pool, TermId, VarKind};
 use std::test::Fail;
 

@@ -12,4 +12,5 @@ loop-i-preserved c =
     let new : c.in_ok-bits.field-0.variable ≡ before + 1 = ap (λ l. l.variable) c.in_ok-bits.ensures.literal in (
       length-set c.loop-i.bits c.loop-i.i c.in_ok-bits.field-0 ∙ c.loop-i.invariant.0,
       within-set after c.loop-i.bits c.loop-i.i c.in_ok-bits.field-0 (omega arith) (IsWithin_more before after c.loop-i.bits (omega arith) c.loop-i.invariant.1),
+      let low = c.loop-i.invariant.2 in omega arith,
     )

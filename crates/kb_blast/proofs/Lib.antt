@@ -1,0 +1,9 @@
+pub mod Ints
+pub mod Narrowing
+pub mod Operations
+pub mod Building
+pub mod Choosing
+pub mod Saying
+pub mod Listed
+pub mod Pooled
+pub mod Loops

@@ -1,0 +1,4 @@
+pub mod Query
+pub mod Conditions
+pub mod Meaning
+pub mod Listing
