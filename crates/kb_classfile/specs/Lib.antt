@@ -1,5 +1,4 @@
 pub mod Pool
 pub mod Spelling
-pub mod Small
 pub mod Reading
 pub mod Answers

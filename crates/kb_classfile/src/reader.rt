@@ -1,7 +1,7 @@
 //! Numbers and runs of bytes, from left to right.
 
-ghost use Rattle.std.specs.Prelude.{◌≡◌, ◌↔◌, ◌^◌, ◌+◌, ◌<◌, ◌≤◌, IsTrue, IfOk, IfErr, length};
-ghost use Rattle.kb_classfile.specs.Reading.{Gives, unbuilt, u1, u2, u4};
+ghost use Rattle.std.specs.Prelude.{◌≡◌, ◌↔◌, ◌^◌, ◌+◌, ◌<◌, ◌≤◌, IsTrue, IfOk, length};
+ghost use Rattle.kb_classfile.specs.Reading.{Gives, short, u1, u2, u4};
 ghost use Rattle.kb_grammar.specs.Reading.{run};
 
 use crate::refusal::ClassRefusal;
@@ -53,13 +53,12 @@ impl<'a> Reader<'a> {
     /// A run of `n` bytes.
     #[tactic(auto, unfolding(kb_grammar::specs::Reading::run))]
     pub fn run(&mut self, n: usize) -> Result<&'a [u8], ClassRefusal>
-        ensures read { Gives (λ text. (text.now, self.new)) result (run unbuilt n self.old) }
-        ensures short { IfErr result (λ refusal. refusal ≡ ClassRefusal.Unbuilt) }
+        ensures read { Gives (λ text. (text.now, self.new)) result (run short n self.old) }
         ensures len { IfOk result (λ text. length text.now ≡ n) }
         ensures within { IfOk result (λ text. length text.now ≤ length self.old.rest) }
     {
         if self.rest.len() < n {
-            return Err(ClassRefusal::Unbuilt);
+            return Err(ClassRefusal::Short(self.at));
         }
         let (text, rest) = self.rest.split_at(n);
         self.rest = rest;
@@ -85,8 +84,7 @@ impl<'a> Reader<'a> {
 
     #[tactic(auto, using(crate::proofs::Numbers::big_number_is), unfolding(kb_grammar::specs::Reading::number))]
     pub fn u4(&mut self) -> Result<u32, ClassRefusal>
-        ensures read { Gives (λ n. (n, self.new)) result (u4 self.old) }
-        ensures short { IfErr result (λ refusal. refusal ≡ ClassRefusal.Unbuilt) }
+        ensures { Gives (λ n. (n, self.new)) result (u4 self.old) }
     {
         let bytes = self.run(4)?;
         Ok(BigEndian::read_u32(bytes))

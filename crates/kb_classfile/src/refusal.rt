@@ -34,8 +34,6 @@ pub enum ClassRefusal {
     TwoCodes(u32),
     /// More than 1,048,576 bytes.
     Long,
-    /// The file is not of the form that is built.
-    Unbuilt,
     /// Memory ran out.
     NoMemory,
 }

@@ -1,1 +1,12 @@
+pub mod Numbers
+pub mod Steps
+pub mod Room
+pub mod Tables
+pub mod ItemLaws
+pub mod Marking
+pub mod ListingLaws
 pub mod Listings
+pub mod Answering
+pub mod Walking
+pub mod Switches
+pub mod PlacingLaws

@@ -4,13 +4,26 @@
 #![tactic(auto)]
 
 mod decoding;
+mod form;
 mod instruction;
+mod item_reader;
+#[cfg(test)]
+mod javac_tests;
+mod laws;
 mod listing;
+mod name;
 mod opcode;
+mod placing;
+mod reader;
+mod refusal;
+mod switch_reader;
 #[cfg(test)]
 mod tests;
 
-pub use decoding::{CodeRefusal, decode};
-pub use instruction::{Instr, IntCut, IntOp};
+pub use decoding::decode;
+pub use instruction::{Cond, Elem, Instr, IntCut, IntOp};
 pub use kb_rows::Row;
+pub use laws::one_listing;
 pub use listing::{Handler, Listing};
+pub use name::op_name;
+pub use refusal::CodeRefusal;

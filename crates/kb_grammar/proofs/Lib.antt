@@ -1,4 +1,6 @@
 pub mod Laws
+pub mod FaultLaws
+pub mod EndLaws
 pub mod Loops
 pub mod WordLaws
 pub mod NumberLaws

@@ -13,7 +13,7 @@ mod numbers;
 mod tests;
 mod words;
 
-ghost use Rattle.std.specs.Prelude.{ℕ};
+ghost use Rattle.std.specs.Prelude.{◌≡◌, ◌<◌, ℕ, List, length, Err};
 ghost use Rattle.kb_grammar.specs.Reading.{number, run};
 ghost use Rattle.kb_grammar.specs.Grammar.{Exact, IsNumber, IsRunOf};
 
@@ -21,8 +21,10 @@ pub use lines::{LineFormat, LineRefusal, read_lines};
 pub use numbers::{number_behind, number_within, read_int, read_number};
 pub use words::{behind, cut, is_line};
 
-/// A number of any width is read exactly where its bytes are whole, and a run of bytes likewise.
+/// A number of any width is read exactly where its bytes are whole, and a run of bytes likewise. One that is not whole has the
+/// offset at which it begins.
 pub fn numbers_and_runs()
-    ensures numbers { (width : ℕ) → Exact (number (λ at. at) width) (IsNumber width) }
-    ensures runs { (n : ℕ) → Exact (run (λ at. at) n) (IsRunOf n) }
+    ensures numbers { (width : ℕ) → Exact (λ at. at) (number (λ at. at) width) (IsNumber width) }
+    ensures runs { (n : ℕ) → Exact (λ at. at) (run (λ at. at) n) (IsRunOf n) }
+    ensures short { (n at : ℕ) (front : List ℕ) → length front < n → run (λ at. at) n (record { rest = front; at = at }) ≡ Err at }
 {}

@@ -16,7 +16,7 @@ use Rattle.kb_world.specs.declared.world.MethodInfo.{MethodInfo}
 use Rattle.kb_world.specs.World.{Declares, Describes, is_static}
 use Rattle.kb_world.proofs.Declared.{same_class, same_method, same_target}
 use Rattle.kb_machine.specs.declared.machine.MethodCode.{MethodCode}
-use Rattle.kb_machine.specs.Frames.{HasCode}
+use Rattle.kb_machine.specs.Frames.{HasMethodCode}
 
 some_is : {A : Type 0} (x y : A) → Some x ≡ Some y → x ≡ y
 some_is x y e = cc
@@ -38,7 +38,7 @@ listing_is world id method info listing d m told =
 pub has_code : (world : List GivenClass) (id : MethodId) (method : Method) (info : MethodInfo) (code : Code) (listing : Listing) (taken : MethodCode) → Describes world id info → IsMethod world id method →
     option_copied info.code ≡ Some code → option_copied info.listing ≡ Some listing →
     taken.limits.stack ≡ code.max_stack → taken.limits.locals ≡ code.max_locals → taken.listing.now ≡ listing.items → taken.size ≡ length code.bytes →
-    HasCode method taken
+    HasMethodCode method taken
 has_code world id method info code listing taken d m code_told listing_told stack locals items size =
     let same_code = code_is world id method info code d m code_told in
     let same_listing = listing_is world id method info listing d m listing_told in

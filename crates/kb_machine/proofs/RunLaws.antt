@@ -13,16 +13,16 @@ use Rattle.kb_machine.specs.declared.frame.Frame.{Frame}
 use Rattle.kb_machine.specs.declared.frame.Step.{Step}
 use Rattle.kb_machine.specs.declared.frame.Step.TheVariants as steps_of
 use Rattle.kb_machine.specs.declared.machine.MethodCode.{MethodCode}
-use Rattle.kb_machine.specs.declared.machine.Stop.{Stop}
-use Rattle.kb_machine.specs.declared.machine.Stop.TheVariants as stops
-use Rattle.kb_machine.specs.Frames.{config_of, ended_of, outcome_of, Follows, HasCode, HasLimits, IsSound, locals_of}
+use Rattle.kb_machine.specs.declared.machine.RunEnd.{RunEnd}
+use Rattle.kb_machine.specs.declared.machine.RunEnd.TheVariants as stops
+use Rattle.kb_machine.specs.Frames.{config_of, ended_of, outcome_of, Follows, HasMethodCode, HasLimits, IsSound, locals_of}
 
 -- The frame has carried out so many instructions, and stands at the instruction of an index: the run goes on from there.
 pub record IsRun (code : MethodCode) (args : List Value) (steps carried i : ℕ) (f : Frame) : Type 0 where
   pub sound : IsSound f
   pub limits : f.limits ≡ code.limits
   pub inside : i ≤ length code.listing.now
-  pub goes_on : (method : Method) (heap : Heap) → HasCode method code →
+  pub goes_on : (method : Method) (heap : Heap) → HasMethodCode method code →
       run steps (start_of method (record { heap = heap; args = args }))
       ≡ run (steps - carried) (config_of method (offset_of (drop i code.listing.now) code.size) carried heap f)
 
@@ -36,13 +36,13 @@ run_begins code args steps f laid_out sound limits locals stack = record {
   goes_on = λ method heap has. rw (laid_out.first, sub-zero, locals, stack, has.max_locals) refl;
 }
 
-has_limits : (code : MethodCode) (f : Frame) (method : Method) → f.limits ≡ code.limits → HasCode method code → HasLimits method f
+has_limits : (code : MethodCode) (f : Frame) (method : Method) → f.limits ≡ code.limits → HasMethodCode method code → HasLimits method f
 has_limits code f method limits has = record { stack = has.max_stack ∙ ap (λ l. l.stack) (sym limits); locals = has.max_locals ∙ ap (λ l. l.locals) (sym limits) }
 
 -- The instruction that is taken up decides how the run goes on.
 taken_up : (code : MethodCode) (args : List Value) (steps carried i : ℕ) (f new : Frame) (item : ℕ × Instr) (step : Step) →
     IsLaidOut code.listing.now code.size → IsRun code args steps carried i f → carried < steps → i < length code.listing.now → item ≡ get_or code.listing.now i item → Follows step f new (effect item.1) →
-    (method : Method) (heap : Heap) → HasCode method code →
+    (method : Method) (heap : Heap) → HasMethodCode method code →
     run steps (start_of method (record { heap = heap; args = args }))
     ≡ follow (outcome_of step method item.0 (offset_of (drop (i + 1) code.listing.now) code.size) carried heap f new) (λ d. run (steps - (carried + 1)) d)
 taken_up code args steps carried i f new item step laid_out is more inside read follows method heap has =
@@ -69,26 +69,26 @@ run_goes_on code args steps carried i f new item laid_out is more inside read fo
 }
 
 -- the step of an instruction at an offset ends the run so
-abbrev pub EndsAs : Step → ℕ → Stop → Type 0
+abbrev pub EndsAs : Step → ℕ → RunEnd → Type 0
 EndsAs steps_of.Goes at stop = ⊥
 EndsAs (steps_of.Returned v) at stop = stop ≡ stops.Returned v
 EndsAs steps_of.IllTyped at stop = stop ≡ stops.IllTyped at
 
 -- The instruction ends the run.
-pub run_ends : (code : MethodCode) (args : List Value) (steps carried i : ℕ) (f new : Frame) (item : ℕ × Instr) (step : Step) (stop : Stop) →
+pub run_ends : (code : MethodCode) (args : List Value) (steps carried i : ℕ) (f new : Frame) (item : ℕ × Instr) (step : Step) (stop : RunEnd) →
     IsLaidOut code.listing.now code.size → IsRun code args steps carried i f → carried < steps → i < length code.listing.now → item ≡ get_or code.listing.now i item → Follows step f new (effect item.1) →
     EndsAs step item.0 stop →
-    (method : Method) (heap : Heap) → HasCode method code → run steps (start_of method (record { heap = heap; args = args })) ≡ ended_of stop method.target heap
+    (method : Method) (heap : Heap) → HasMethodCode method code → run steps (start_of method (record { heap = heap; args = args })) ≡ ended_of stop method.target heap
 run_ends code args steps carried i f new item steps_of.Goes stop laid_out is more inside read follows ends method heap has = absurd ends
 run_ends code args steps carried i f new item (steps_of.Returned v) stop laid_out is more inside read follows ends method heap has =
-    taken_up code args steps carried i f new item (steps_of.Returned v) laid_out is more inside read follows method heap has ∙ ap (λ (s : Stop). ended_of s method.target heap) (sym ends)
+    taken_up code args steps carried i f new item (steps_of.Returned v) laid_out is more inside read follows method heap has ∙ ap (λ (s : RunEnd). ended_of s method.target heap) (sym ends)
 run_ends code args steps carried i f new item steps_of.IllTyped stop laid_out is more inside read follows ends method heap has =
-    taken_up code args steps carried i f new item steps_of.IllTyped laid_out is more inside read follows method heap has ∙ ap (λ (s : Stop). ended_of s method.target heap) (sym ends)
+    taken_up code args steps carried i f new item steps_of.IllTyped laid_out is more inside read follows method heap has ∙ ap (λ (s : RunEnd). ended_of s method.target heap) (sym ends)
 
 -- The code has run off its end.
 pub run_off : (code : MethodCode) (args : List Value) (steps carried i : ℕ) (f : Frame) →
     IsLaidOut code.listing.now code.size → IsRun code args steps carried i f → carried < steps → length code.listing.now ≤ i →
-    (method : Method) (heap : Heap) → HasCode method code → run steps (start_of method (record { heap = heap; args = args })) ≡ ended_of (stops.IllTyped code.size) method.target heap
+    (method : Method) (heap : Heap) → HasMethodCode method code → run steps (start_of method (record { heap = heap; args = args })) ≡ ended_of (stops.IllTyped code.size) method.target heap
 run_off code args steps carried i f laid_out is more passed method heap has =
     let listing = code.listing.now in
     let nothing : drop i listing ≡ [] = drop_of_length-le listing passed in
@@ -102,7 +102,7 @@ run_off code args steps carried i f laid_out is more passed method heap has =
 
 -- As many instructions are carried out as may be.
 pub run_past : (code : MethodCode) (args : List Value) (steps carried i : ℕ) (f : Frame) → IsRun code args steps carried i f → steps ≤ carried →
-    (method : Method) (heap : Heap) → HasCode method code → run steps (start_of method (record { heap = heap; args = args })) ≡ ended_of (stops.Past Steps) method.target heap
+    (method : Method) (heap : Heap) → HasMethodCode method code → run steps (start_of method (record { heap = heap; args = args })) ≡ ended_of (stops.Past Steps) method.target heap
 unfolding run
 run_past code args steps carried i f is spent method heap has =
     let none_left : steps - carried ≡ 0 = omega arith in

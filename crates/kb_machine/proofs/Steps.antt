@@ -1,5 +1,5 @@
 -- How the steps of a frame follow the machine's.
-use Rattle.std.proofs.Common.{◌≡◌, ℕ, ◌+◌, ◌-◌, ◌<◌, ◌≤◌, List, [], ◌++◌, replicate, slice_set, Option, nat_lt, length, drop, length-drop, ℤ, Some, None, Result, Ok, Err, IfOk, sym, refl, ◌∙◌, ap, arith, nat_le, true, ◌∷◌, w32, to_z, of_z, FitsSigned}
+use Rattle.std.proofs.Common.{◌≡◌, ℕ, ◌+◌, ◌-◌, ◌<◌, ◌≤◌, List, ◌++◌, replicate, slice_set, Option, nat_lt, length, drop, length-drop, ℤ, Some, None, Result, Ok, Err, IfOk, sym, refl, ◌∙◌, ap, arith, nat_le, true, ◌∷◌, w32, to_z, of_z, FitsSigned}
 use Rattle.std.proofs.lemmas.Int.{to_z-of_z}
 use Rattle.std.proofs.lemmas.Bool.{le-leb, lt-ltb}
 use Rattle.kb_arith.specs.Word.{word_add, word_neg}

@@ -10,8 +10,8 @@ use Rattle.kb_machine.specs.declared.frame.Frame.{Frame}
 use Rattle.kb_machine.specs.declared.frame.Step.{Step}
 use Rattle.kb_machine.specs.declared.frame.Step.TheVariants as steps
 use Rattle.kb_machine.specs.declared.machine.MethodCode.{MethodCode}
-use Rattle.kb_machine.specs.declared.machine.Stop.{Stop}
-use Rattle.kb_machine.specs.declared.machine.Stop.TheVariants as stops
+use Rattle.kb_machine.specs.declared.machine.RunEnd.{RunEnd}
+use Rattle.kb_machine.specs.declared.machine.RunEnd.TheVariants as stops
 
 -- these locals, and behind them those that were never written, up to a limit
 abbrev pub with_unwritten : ℕ → List (Option Value) → List (Option Value)
@@ -78,14 +78,14 @@ abbrev pub setting : ℕ → Value → Effect
 setting k v next c = option_map_or (λ locals. goes_on c next locals c.frame.stack) (with_local c.frame k v) (ill_typed c)
 
 -- the method has this code
-pub record HasCode (method : Method) (code : MethodCode) : Type 0 where
+pub record HasMethodCode (method : Method) (code : MethodCode) : Type 0 where
   pub max_stack : method.max_stack ≡ code.limits.stack
   pub max_locals : method.max_locals ≡ code.limits.locals
   pub listing : method.listing ≡ code.listing.now
   pub size : method.size ≡ code.size
 
 -- how a run of a method ended, with the heap that it leaves
-abbrev pub ended_of : Stop → Target → Heap → Ended
+abbrev pub ended_of : RunEnd → Target → Heap → Ended
 ended_of (stops.Returned v) target heap = record { ending = endings.Returned (Some v); heap = heap }
 ended_of (stops.IllTyped at) target heap = record { ending = endings.IllTyped (record { method = target; at = at }); heap = heap }
 ended_of (stops.Past bound) target heap = record { ending = endings.Past bound; heap = heap }

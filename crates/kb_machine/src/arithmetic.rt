@@ -13,6 +13,8 @@ pub(crate) fn int2_value(op: IntOp, left: i32, right: i32) -> i32
         IntOp::Add => kb_arith::add(left, right),
         IntOp::Sub => kb_arith::sub(left, right),
         IntOp::Mul => kb_arith::mul(left, right),
+        IntOp::Div => kb_arith::div(left, right),
+        IntOp::Rem => kb_arith::rem(left, right),
         IntOp::Shl => kb_arith::shl(left, right),
         IntOp::Shr => kb_arith::shr(left, right),
         IntOp::Ushr => kb_arith::ushr(left, right),

@@ -1,7 +1,7 @@
 //! The frame of a method that is run (JVMS 8 section 2.6).
 
-ghost use Rattle.std.specs.Prelude.{◌≡◌, ◌-◌, ◌++◌, [], length, map, replicate, Some, None, OnOk, OnErr, IfOk};
-ghost use Rattle.kb_semantics.specs.Machine.{effect, first_locals, int_of, top_of};
+ghost use Rattle.std.specs.Prelude.{◌≡◌, ◌-◌, ◌++◌, [], length, map, replicate, Some, None, OnOk, OnErr, IfOk, IsTrue};
+ghost use Rattle.kb_semantics.specs.Machine.{effect, first_locals, int_of, is_built, top_of};
 ghost use Rattle.kb_machine.specs.Frames.{IsSound, Keeps, Follows, local_value, locals_of, popped, pushing, setting};
 
 use crate::NoMemory;
@@ -227,24 +227,26 @@ impl Frame {
         }
     }
 
-    // Takes up an instruction.
-    pub(crate) fn take(&mut self, instr: Instr) -> Result<Step, NoMemory>
-        requires { IsSound self.old }
+    // Takes up an instruction that is built.
+    pub(crate) fn take(&mut self, instr: &Instr) -> Result<Step, NoMemory>
+        requires sound { IsSound self.old }
+        requires built { IsTrue (is_built instr.now) }
         ensures keeps { Keeps self.old self.new }
-        ensures step { IfOk result (λ step. Follows step self.old self.new (effect instr)) }
+        ensures step { IfOk result (λ step. Follows step self.old self.new (effect instr.now)) }
     {
         match instr {
             Instr::Nop => Ok(self.nop()),
-            Instr::PushInt(value) => self.push_int(value),
-            Instr::LoadInt(local) => self.load(local),
-            Instr::StoreInt(local) => self.store(local),
+            Instr::PushInt(value) => self.push_int(*value),
+            Instr::LoadInt(local) => self.load(*local),
+            Instr::StoreInt(local) => self.store(*local),
             Instr::Pop => Ok(self.pop()),
             Instr::Dup => self.duplicate(),
-            Instr::Int2(op) => self.apply_two(op),
+            Instr::Int2(op) => self.apply_two(*op),
             Instr::Neg => self.negate(),
-            Instr::Inc(local, by) => self.increase(local, by),
-            Instr::Narrow(cut) => self.narrow(cut),
+            Instr::Inc(local, by) => self.increase(*local, *by),
+            Instr::Narrow(cut) => self.narrow(*cut),
             Instr::ReturnInt => Ok(self.return_int()),
+            _ => unreachable!(),
         }
     }
 }

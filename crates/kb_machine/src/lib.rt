@@ -4,6 +4,7 @@
 #![tactic(auto)]
 
 mod arithmetic;
+mod built;
 mod fits;
 mod frame;
 mod machine;
@@ -11,6 +12,7 @@ mod machine;
 mod tests;
 mod value_stack;
 
+pub use built::are_built;
 pub use fits::fits_types;
 pub use machine::run;
 

@@ -3,9 +3,9 @@
 ghost use Rattle.std.specs.Prelude.{◌≡◌, IfOk};
 ghost use Rattle.kb_code.specs.Listing.{IsLaidOut};
 ghost use Rattle.kb_heap.specs.declared.heap.Heap.{Heap};
-ghost use Rattle.kb_semantics.specs.Machine.{Method, run, run_of, start_of};
+ghost use Rattle.kb_semantics.specs.Machine.{AreBuilt, Method, run, run_of, start_of};
 ghost use Rattle.kb_semantics.specs.Types.{IsMethod};
-ghost use Rattle.kb_machine.specs.Frames.{HasCode, ended_of};
+ghost use Rattle.kb_machine.specs.Frames.{HasMethodCode, ended_of};
 
 use crate::NoMemory;
 use crate::frame::{Frame, Limits, Step};
@@ -25,7 +25,7 @@ pub(crate) struct MethodCode<'a> {
 
 // How a run of straight code ends.
 #[derive(Clone, Copy, Debug, PartialEq, Eq)]
-pub(crate) enum Stop {
+pub(crate) enum RunEnd {
     Returned(Value),
     // At the instruction of that offset, or at the end of the code.
     IllTyped(u32),
@@ -34,7 +34,7 @@ pub(crate) enum Stop {
 
 /// The run of the method over the input within the bounds: how it ends, and the heap then.
 ///
-/// By now `steps` is the one bound that a run meets. An operand of another kind than the instruction takes, an operand
+/// By now only methods are run whose instructions are all built, and `steps` is the one bound that a run meets. An operand of another kind than the instruction takes, an operand
 /// stack or a local beyond its limit, and code that runs off its end are ill-typed. Code that is so long that no `u32`
 /// has its length is want of memory.
 ///
@@ -46,7 +46,7 @@ pub fn run(
     input: &Input,
     bounds: &RunBounds,
 ) -> Result<(Ending, Heap), NoMemory>
-    requires runs { (method : Method) × IsMethod world.now target method }
+    requires runs { (method : Method) × IsMethod world.now target method × AreBuilt method.listing }
     ensures { IfOk result (λ ended. (method : Method) → IsMethod world.now target method → run_of bounds.now method input.now ≡ record { ending = ended.0; heap = ended.1 }) }
 {
     let Some(info) = world.method_of(target) else {
@@ -79,36 +79,37 @@ pub(crate) fn run_code(
     code: &MethodCode<'_>,
     args: &[Value],
     steps: u32,
-) -> Result<Stop, NoMemory>
-    requires { IsLaidOut code.now.listing.now code.now.size }
-    ensures { IfOk result (λ stop. (method : Method) (heap : Heap) → HasCode method code.now → run steps (start_of method (record { heap = heap; args = args.now })) ≡ ended_of stop method.target heap) }
+) -> Result<RunEnd, NoMemory>
+    requires laid_out { IsLaidOut code.now.listing.now code.now.size }
+    requires built { AreBuilt code.now.listing.now }
+    ensures { IfOk result (λ stop. (method : Method) (heap : Heap) → HasMethodCode method code.now → run steps (start_of method (record { heap = heap; args = args.now })) ≡ ended_of stop method.target heap) }
 {
     let mut frame = Frame::begin(alloc, args, code.limits)?;
     let mut index = 0;
     for _ in 0..steps {
         let Some((at, instr)) = code.listing.get(index) else {
-            return Ok(Stop::IllTyped(code.size));
+            return Ok(RunEnd::IllTyped(code.size));
         };
-        match frame.take(*instr)? {
+        match frame.take(instr)? {
             Step::Goes => {}
-            Step::Returned(value) => return Ok(Stop::Returned(value)),
-            Step::IllTyped => return Ok(Stop::IllTyped(*at)),
+            Step::Returned(value) => return Ok(RunEnd::Returned(value)),
+            Step::IllTyped => return Ok(RunEnd::IllTyped(*at)),
         }
         index += 1;
     }
-    Ok(Stop::Past(Bound::Steps))
+    Ok(RunEnd::Past(Bound::Steps))
 }
 
 // The ending of a run of that method.
-fn ending_of(alloc: Global, stop: Stop, method: &Target) -> Result<Ending, NoMemory>
+fn ending_of(alloc: Global, stop: RunEnd, method: &Target) -> Result<Ending, NoMemory>
     ensures { IfOk result (λ ending. (heap : Heap) → ended_of stop method.now heap ≡ record { ending = ending; heap = heap }) }
 {
     match stop {
-        Stop::Returned(value) => Ok(Ending::Returned(Some(value))),
-        Stop::IllTyped(at) => match method.copied(alloc) {
+        RunEnd::Returned(value) => Ok(Ending::Returned(Some(value))),
+        RunEnd::IllTyped(at) => match method.copied(alloc) {
             Ok(method) => Ok(Ending::IllTyped(Place { method, at })),
             Err(_) => Err(NoMemory),
         },
-        Stop::Past(bound) => Ok(Ending::Past(bound)),
+        RunEnd::Past(bound) => Ok(Ending::Past(bound)),
     }
 }

@@ -1,8 +1,9 @@
 //! Code is spelled as `javap -c` shows it; expected values are those of the JVM (JVMS 8 section 6.5).
 
+use crate::built::are_built;
 use crate::fits::are_values_of;
 use crate::frame::Limits;
-use crate::machine::{MethodCode, Stop, run_code};
+use crate::machine::{MethodCode, RunEnd, run_code};
 use kb_code::decode;
 use kb_heap::{Bound, Value};
 use kb_names::JType;
@@ -14,14 +15,17 @@ const LIMITS: Limits = Limits {
     locals: 2,
 };
 
-// None where the bytes have no listing, or for want of memory.
-fn run_bytes(alloc: Global, bytes: &[u8], args: &[Value], steps: u32) -> Option<Stop> {
+// None where the bytes have no listing, or an instruction that is not built, or for want of memory.
+fn run_bytes(alloc: Global, bytes: &[u8], args: &[Value], steps: u32) -> Option<RunEnd> {
     let Ok(size) = u32::try_from(bytes.len()) else {
         return None;
     };
     let Ok(listing) = decode(alloc, bytes, &[]) else {
         return None;
     };
+    if !are_built(listing.items.as_slice()) {
+        return None;
+    }
     let code = MethodCode {
         limits: LIMITS,
         listing: listing.items.as_slice(),
@@ -30,8 +34,8 @@ fn run_bytes(alloc: Global, bytes: &[u8], args: &[Value], steps: u32) -> Option<
     run_code(alloc, &code, args, steps).ok()
 }
 
-fn returned(value: i32) -> Option<Stop> {
-    Some(Stop::Returned(Value::Int(value)))
+fn returned(value: i32) -> Option<RunEnd> {
+    Some(RunEnd::Returned(Value::Int(value)))
 }
 
 #[test]
@@ -72,12 +76,12 @@ fn a_run_keeps_its_bound(rt: HostRuntime) {
     let args = [Value::Int(2), Value::Int(3)];
     assert_eq!(rt;
         run_bytes(rt.alloc(), &sum, &args, 3),
-        Some(Stop::Past(Bound::Steps))
+        Some(RunEnd::Past(Bound::Steps))
     );
     assert_eq!(rt; run_bytes(rt.alloc(), &sum, &args, 4), returned(5));
     assert_eq!(rt;
         run_bytes(rt.alloc(), &sum, &args, 0),
-        Some(Stop::Past(Bound::Steps))
+        Some(RunEnd::Past(Bound::Steps))
     );
 }
 
@@ -104,7 +108,7 @@ fn code_that_does_not_fit_its_values_is_ill_typed(rt: HostRuntime) {
     for (bytes, at) in cases {
         assert_eq!(rt;
             run_bytes(alloc, bytes, &args, 2000),
-            Some(Stop::IllTyped(at)),
+            Some(RunEnd::IllTyped(at)),
             "{at}"
         );
     }
@@ -131,6 +135,6 @@ fn locals_above_the_arguments_are_written_and_read(rt: HostRuntime) {
     let unwritten = [0x1b, 0xac];
     assert_eq!(rt;
         run_bytes(alloc, &unwritten, &[], 2000),
-        Some(Stop::IllTyped(0))
+        Some(RunEnd::IllTyped(0))
     );
 }

@@ -1,10 +1,10 @@
 -- Which instruction a step takes up, and how a run goes on from it.
-use Rattle.std.proofs.Common.{◌≡◌, ℕ, ◌+◌, ◌<◌, ◌≤◌, List, [], ◌∷◌, length, drop, get_or, Some, None, refl, sym, ap, arith, zero, suc, nat_eq, true, false, drop-cons, eq-eqb, ne_eqb}
+use Rattle.std.proofs.Common.{◌≡◌, ℕ, ◌+◌, ◌<◌, ◌≤◌, List, [], ◌∷◌, length, drop, get_or, Some, None, refl, sym, ap, arith, zero, suc, nat_eq, true, false, IsTrue, drop-cons, eq-eqb, ne_eqb}
 use Rattle.std.proofs.Math.ListN.{drop_of_length-le}
 use Rattle.kb_code.specs.declared.instruction.Instr.{Instr}
 use Rattle.kb_code.specs.declared.instruction.Instr.TheVariants.{Nop}
 use Rattle.kb_code.specs.Listing.{offset_of, IsRising, IsLaidOut}
-use Rattle.kb_semantics.specs.Machine.{Config, Outcome, effect, step, follow, run, instruction_at, ill_typed}
+use Rattle.kb_semantics.specs.Machine.{AreBuilt, Config, Outcome, effect, is_built, step, follow, run, instruction_at, ill_typed}
 
 -- ---- the instruction at an offset
 
@@ -49,6 +49,12 @@ pub item_is : (listing : List (ℕ × Instr)) (i : ℕ) (d : ℕ × Instr) → i
 item_is [] i d inside = absurd (omega arith)
 item_is (x ∷ rest) zero d inside = refl
 item_is (x ∷ rest) (suc i) d inside = item_is rest i d (omega arith)
+
+-- one of a built listing is built
+pub built_at : (listing : List (ℕ × Instr)) (i : ℕ) (item : ℕ × Instr) → AreBuilt listing → i < length listing → item ≡ get_or listing i item → IsTrue (is_built item.1)
+built_at [] i item are inside e = absurd (omega arith)
+built_at (x ∷ rest) zero item are inside e = rw e are.0
+built_at (x ∷ rest) (suc i) item are inside e = built_at rest i item are.1 (omega arith) e
 
 -- ---- steps and runs
 

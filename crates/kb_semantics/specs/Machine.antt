@@ -1,12 +1,13 @@
 -- The machine: configurations, one step, and runs (The Java Virtual Machine Specification, Java SE 8 Edition, sections
 -- 2.5, 2.6, 2.11 and 6.5). A configuration has the frames, the heap and the count of instructions that were carried out.
 -- Each instruction is one case of `effect`; a further instruction joins as a further case.
-use Rattle.std.specs.Prelude.{ℕ, ◌+◌, ◌-◌, List, [], ◌∷◌, ◌++◌, length, map, replicate, ℤ, Option, Some, None, cond, zero, suc, drop, nat_lt, nat_le, nat_eq, slice_get, slice_set, option_and_then}
+use Rattle.std.specs.Prelude.{ℕ, ◌+◌, ◌-◌, Bool, true, false, IsTrue, List, [], ◌∷◌, ◌++◌, length, map, replicate, ℤ, Option, Some, None, cond, zero, suc, drop, nat_lt, nat_le, nat_eq, slice_get, slice_set, option_and_then}
+use Rattle.std.specs.List.{AllByRecursion}
 use Rattle.std.specs.Option.{option_map_or}
-use Rattle.kb_arith.specs.Word.{word_add, word_sub, word_mul, word_shl, word_shr, word_ushr, word_and, word_or, word_xor, word_neg, word_byte, word_char, word_short}
+use Rattle.kb_arith.specs.Word.{word_add, word_sub, word_mul, word_div, word_rem, word_shl, word_shr, word_ushr, word_and, word_or, word_xor, word_neg, word_byte, word_char, word_short}
 use Rattle.kb_code.specs.Listing.{offset_of}
 use Rattle.kb_code.specs.declared.instruction.IntOp.{IntOp}
-use Rattle.kb_code.specs.declared.instruction.IntOp.TheVariants.{Add, Sub, Mul, Shl, Shr, Ushr, And, Or, Xor}
+use Rattle.kb_code.specs.declared.instruction.IntOp.TheVariants.{Add, Sub, Mul, Div, Rem, Shl, Shr, Ushr, And, Or, Xor}
 use Rattle.kb_code.specs.declared.instruction.IntCut.{IntCut}
 use Rattle.kb_code.specs.declared.instruction.IntCut.TheVariants.{Byte, Char, Short}
 use Rattle.kb_code.specs.declared.instruction.Instr.{Instr}
@@ -101,11 +102,14 @@ with_int c (Some z) f = f z
 abbrev pub pops_int : Config → List Value → (ℤ → List Value → Outcome) → Outcome
 pops_int c stack f = with_int c (int_of (top_of stack)) (λ z. f z (drop 1 stack))
 
--- The value of an instruction on two ints, the lower one first.
+-- The value of an instruction on two ints, the lower one first. Where idiv and irem throw, it is that of `word_div` and
+-- `word_rem`.
 abbrev pub int2_value : IntOp → ℤ → ℤ → ℤ
 int2_value Add a b = word_add a b
 int2_value Sub a b = word_sub a b
 int2_value Mul a b = word_mul a b
+int2_value Div a b = word_div a b
+int2_value Rem a b = word_rem a b
 int2_value Shl a b = word_shl a b
 int2_value Shr a b = word_shr a b
 int2_value Ushr a b = word_ushr a b
@@ -131,7 +135,29 @@ returned c (caller ∷ more) v =
     (Goes (record { frame = record caller { at = behind caller; stack = v ∷ caller.stack }; callers = more; heap = c.heap; carried = c.carried + 1 }))
     (ill_typed c)
 
--- What an instruction does in a configuration, where `next` is the offset behind it (section 6.5).
+-- The instructions that are built by now: those of ints that neither branch nor throw, but for the return.
+abbrev pub is_built : Instr → Bool
+is_built Nop = true
+is_built (PushInt z) = true
+is_built (LoadInt k) = true
+is_built (StoreInt k) = true
+is_built Pop = true
+is_built Dup = true
+is_built (Int2 Div) = false
+is_built (Int2 Rem) = false
+is_built (Int2 op) = true
+is_built Neg = true
+is_built (Inc k z) = true
+is_built (Narrow cut) = true
+is_built ReturnInt = true
+is_built _ = false
+
+-- all instructions of a listing are built
+abbrev pub AreBuilt : List (ℕ × Instr) → Type 0
+AreBuilt listing = AllByRecursion (λ item. IsTrue (is_built item.1)) listing
+
+-- What an instruction does in a configuration, where `next` is the offset behind it (section 6.5). Of an instruction that is
+-- not built nothing is meant by its case: no run meets it, since methods that have one are not run.
 unfoldable pub effect : Instr → ℕ → Config → Outcome
 effect Nop next c = goes_on c next c.frame.locals c.frame.stack
 effect (PushInt z) next c = goes_on c next c.frame.locals (Int z ∷ c.frame.stack)
@@ -148,6 +174,7 @@ effect (Inc k z) next c =
     (λ a. option_map_or (λ locals. goes_on c next locals c.frame.stack) (with_local c.frame k (Int (word_add a z))) (ill_typed c))
 effect (Narrow cut) next c = pops_int c c.frame.stack (λ a rest. goes_on c next c.frame.locals (Int (narrowed cut a) ∷ rest))
 effect ReturnInt next c = pops_int c c.frame.stack (λ a rest. returned c c.callers (Int a))
+effect _ next c = ill_typed c
 
 -- One step: the instruction at the current offset is taken up. Where there is none, the code has run off its end.
 unfoldable pub step : Config → Outcome

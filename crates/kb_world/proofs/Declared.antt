@@ -1,5 +1,5 @@
 -- A method of a world is one method, and one target names it.
-use Rattle.std.proofs.Common.{◌≡◌, ℕ, List, Option, Some, sym, ◌∙◌, ap, slice_get}
+use Rattle.std.proofs.Common.{◌≡◌, ℕ, List, Option, Some, ◌∙◌, ap, slice_get}
 use Rattle.kb_classfile.specs.declared.file.Method.{Method as ClassMethod}
 use Rattle.kb_classfile.specs.Pool.{utf8_of, class_name_of}
 use Rattle.kb_names.specs.declared.types.MethodType.{MethodType}
@@ -10,7 +10,7 @@ use Rattle.kb_names.specs.Stages.{method_read}
 use Rattle.kb_names.proofs.MethodReader.{method_reader}
 use Rattle.kb_world.specs.declared.world.GivenClass.{GivenClass}
 use Rattle.kb_world.specs.declared.world.MethodId.{MethodId}
-use Rattle.kb_world.specs.World.{Names, Declares}
+use Rattle.kb_world.specs.World.{Declares}
 
 same_value : {A : Type 0} (o : Option A) (x y : A) → o ≡ Some x → o ≡ Some y → x ≡ y
 same_value o x y a b = cc

@@ -1,6 +1,10 @@
 pub mod Declared
+pub mod Distinct
+pub mod LinkLaws
 pub mod Listings
+pub mod NameLaws
 pub mod Numbers
 pub mod Places
 pub mod Targets
+pub mod Walks
 pub mod Worlds

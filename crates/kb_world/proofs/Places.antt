@@ -1,7 +1,7 @@
 -- Lists by the places of their items.
 use Rattle.std.proofs.Common.{◌≡◌, ℕ, zero, suc, ◌⊎◌, inl, inr, List, [], ◌∷◌, ◌++◌, length, Some, slice_get, refl, ap, subst, ◌∙◌}
 use Rattle.std.specs.List.{AllZip}
-use Rattle.kb_classfile.specs.Small.{IsNoneOf, AllDiffer}
+use Rattle.kb_world.specs.Names.{IsNoneOf, AllDiffer}
 
 -- ---- lists place by place
 

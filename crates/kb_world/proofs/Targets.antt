@@ -6,14 +6,14 @@ use Rattle.kb_classfile.specs.declared.file.ClassFile.{ClassFile}
 use Rattle.kb_classfile.specs.declared.file.Method.{Method as ClassMethod}
 use Rattle.kb_classfile.specs.declared.file.Code.{Code}
 use Rattle.kb_classfile.specs.Pool.{utf8_of, class_name_of}
-use Rattle.kb_classfile.specs.Small.{member_of}
+use Rattle.kb_world.specs.Names.{member_of}
 use Rattle.kb_code.specs.declared.listing.Listing.{Listing}
 use Rattle.kb_code.specs.Listing.{Lists}
 use Rattle.kb_names.specs.declared.types.MethodType.{MethodType}
 use Rattle.kb_names.specs.declared.types.Target.{Target}
 use Rattle.kb_names.specs.declared.class_names.Spelling.TheVariants.{Raw}
 use Rattle.kb_names.specs.Descriptors.{SpellsMethod}
-use Rattle.kb_world.specs.World.{Names, IsGiven, AreListings}
+use Rattle.kb_world.specs.World.{Names, IsLinkedClass, AreListings, handlers_of}
 use Rattle.kb_world.specs.Linked.{NamesMethod, TellsKind, TellsTarget, HasTargets, TellsMethod}
 use Rattle.kb_world.specs.declared.world.GivenClass.{GivenClass}
 use Rattle.kb_world.specs.declared.world.MethodInfo.{MethodInfo}
@@ -81,7 +81,7 @@ listing_at (m ∷ methods) (l ∷ listings) (suc number) method are at = listing
 
 -- it lists the method's code, where there are both
 pub listed_at : (methods : List ClassMethod) (listings : List (Option Listing)) (number : ℕ) (method : ClassMethod) (listing : Listing) (code : Code)
-    → AreListings methods listings → slice_get methods number ≡ Some method → slice_get listings number ≡ Some (Some listing) → method.code ≡ Some code → Lists listing code.bytes []
+    → AreListings methods listings → slice_get methods number ≡ Some method → slice_get listings number ≡ Some (Some listing) → method.code ≡ Some code → Lists listing code.bytes (handlers_of code)
 listed_at [] listings number method listing code are at entry has = absurd cc
 listed_at (m ∷ methods) [] number method listing code are at entry has = absurd are
 listed_at (m ∷ methods) (l ∷ listings) zero method listing code are at entry has =
@@ -92,15 +92,15 @@ listed_at (m ∷ methods) (l ∷ listings) zero method listing code are at entry
 listed_at (m ∷ methods) (l ∷ listings) (suc number) method listing code are at entry has = listed_at methods listings number method listing code are.1 at entry has
 
 -- a target names one method of a class
-pub one_number : (class : GivenClass) (i j : ℕ) (target : Target) → IsGiven class → Names class i target → Names class j target → i ≡ j
-one_number class i j target given first second =
+pub one_number : (class : GivenClass) (i j : ℕ) (target : Target) → IsLinkedClass class → Names class i target → Names class j target → i ≡ j
+one_number class i j target linked first second =
     let member : ClassMethod → Option (List ℕ) × Option (List ℕ) = member_of class.file in
     let text : first.kind.0 ≡ second.kind.0 = first.kind.2.1 ∙ sym second.kind.2.1 in
     let at : slice_get (map member class.file.methods) i ≡ Some (Some target.name, Some first.kind.0) =
     slice_get-map member class.file.methods i ∙ rw first.there (ap (λ (m : Option (List ℕ) × Option (List ℕ)). Some m) (rw (first.name, first.kind.1) refl)) in
     let again : slice_get (map member class.file.methods) j ≡ Some (Some target.name, Some first.kind.0) =
     slice_get-map member class.file.methods j ∙ rw second.there (ap (λ (m : Option (List ℕ) × Option (List ℕ)). Some m) (rw (second.name, second.kind.1, text) refl)) in
-    one_place (map member class.file.methods) i j (Some target.name, Some first.kind.0) given.small.names.members at again
+    one_place (map member class.file.methods) i j (Some target.name, Some first.kind.0) linked.linkable.rules.members.methods at again
 
 -- what is said where there is no value may be said otherwise
 pub if_none : {T P Q : Type 0} (o : Option T) → IfNone o P → (P → Q) → IfNone o Q

@@ -1,20 +1,22 @@
 -- Classes by their names, and the numbers at names.
-use Rattle.std.proofs.Common.{◌≡◌, ◌≢◌, ℕ, zero, suc, ◌<◌, ◌⊎◌, inl, inr, Bool, true, false, List, [], ◌∷◌, ◌++◌, length, map, Option, Some, None, IsSome, is_some, true≢false, slice_get, get_or, refl, sym, ap, subst, ◌∙◌, arith, length-append}
+use Rattle.std.proofs.Common.{◌≡◌, ◌≢◌, ℕ, ◌⊎◌, inl, inr, Bool, true, false, List, [], ◌∷◌, ◌++◌, length, map, Option, Some, None, IsSome, is_some, true≢false, slice_get, refl, sym, ap, subst, ◌∙◌}
 use Rattle.std.specs.Borrow.{Bor}
 use Rattle.std.specs.HashMap.{HashMap, UpdatesBy}
 use Rattle.std.specs.Option.{option_copied}
 use Rattle.std.specs.Str.{bytes_eq}
 use Rattle.std.specs.declared.vec.Vec.{Vec}
 use Rattle.std.specs.declared.alloc.Global.{Global}
-use Rattle.std.proofs.lemmas.List.{map-append, get_or_append_left}
-use Rattle.std.proofs.lemmas.Option.{slice_get-map, slice_get_within, get_or_from_slice_get, same_Some, none-some}
+use Rattle.std.proofs.lemmas.List.{map-append}
+use Rattle.std.proofs.lemmas.Option.{slice_get-map, same_Some, none-some}
 use Rattle.std.proofs.lemmas.Slice.Eq.{bytes_eq-Decides}
+use Rattle.kb_classfile.specs.declared.file.ClassFile.{ClassFile}
 use Rattle.kb_classfile.specs.declared.file.Code.{Code}
 use Rattle.kb_classfile.specs.declared.file.Method.{Method as ClassMethod}
-use Rattle.kb_classfile.specs.Small.{AllDiffer}
 use Rattle.kb_code.specs.declared.listing.Listing.{Listing}
 use Rattle.kb_names.specs.declared.types.Target.{Target}
-use Rattle.kb_world.specs.World.{IsGiven, AreGiven, Names, Declares, Describes, IsTargetOf}
+use Rattle.kb_world.specs.Linkable.{IsLinkable, AreLinkable}
+use Rattle.kb_world.specs.Names.{AllDiffer, IsNoPlatformClass, class_name}
+use Rattle.kb_world.specs.World.{IsGiven, IsLinkedClass, AreLinked, Names, Declares, Describes, IsTargetOf, file_of}
 use Rattle.kb_world.specs.Linked.{own_name_of, number_at, AddsName, IsNumbered, TellsMethod}
 use Rattle.kb_world.specs.declared.world.GivenClass.{GivenClass}
 use Rattle.kb_world.specs.declared.world.MethodId.{MethodId}
@@ -22,31 +24,37 @@ use Rattle.kb_world.specs.declared.world.MethodInfo.{MethodInfo}
 use Rattle.kb_world.proofs.Places.{get_kept, get_last, get_pushed, one_place, differ_front}
 use Rattle.kb_world.proofs.Numbers.{others_kept}
 use Rattle.kb_world.proofs.Targets.{one_number, listed_at}
+use Rattle.kb_world.proofs.Walks.{all_get, all_front}
 
 -- a class of the world is such
-pub given_at : (world : List GivenClass) (i : ℕ) (class : GivenClass) → AreGiven world → slice_get world i ≡ Some class → IsGiven class
-given_at world i class are at =
-    subst IsGiven (get_or_from_slice_get world i class class at) (are.each i class (slice_get_within world i class at))
+pub linked_at : (world : List GivenClass) (i : ℕ) (class : GivenClass) → AreLinked world → slice_get world i ≡ Some class → IsLinkedClass class
+linked_at world i class are at = record {
+  given = all_get IsGiven world i class are.given at;
+  linkable = all_get IsLinkable (map file_of world) i class.file are.linkable.each (slice_get-map file_of world i ∙ rw at refl);
+}
 
 -- one class has a name
-pub one_class : (world : List GivenClass) (i j : ℕ) (one other : GivenClass) (name : List ℕ) → AreGiven world
+pub one_class : (world : List GivenClass) (i j : ℕ) (one other : GivenClass) (name : List ℕ) → AreLinked world
     → slice_get world i ≡ Some one → slice_get world j ≡ Some other → own_name_of one ≡ Some name → own_name_of other ≡ Some name → i ≡ j
 one_class world i j one other name are first second named again =
-    let a : slice_get (map own_name_of world) i ≡ Some (Some name) = slice_get-map own_name_of world i ∙ rw (first, named) refl in
-    let b : slice_get (map own_name_of world) j ≡ Some (Some name) = slice_get-map own_name_of world j ∙ rw (second, again) refl in
-    one_place (map own_name_of world) i j (Some name) are.differ a b
+    one_place (map class_name (map file_of world)) i j (Some name) are.linkable.names.differ (at i one first named) (at j other second again)
+  where
+    at : (k : ℕ) (class : GivenClass) → slice_get world k ≡ Some class → own_name_of class ≡ Some name → slice_get (map class_name (map file_of world)) k ≡ Some (Some name)
+    at k class there is =
+        let file : slice_get (map file_of world) k ≡ Some class.file = slice_get-map file_of world k ∙ rw there refl in
+        slice_get-map class_name (map file_of world) k ∙ rw (file, is) refl
 
 same_id : (a b : MethodId) → a.class ≡ b.class → a.number ≡ b.number → a ≡ b
 same_id a b classes numbers = λ i. record { class = classes i; number = numbers i }
 
 -- a target names one method of a world
-pub one_id : (world : List GivenClass) (a b : MethodId) (target : Target) → AreGiven world → Declares world a target → Declares world b target → a ≡ b
+pub one_id : (world : List GivenClass) (a b : MethodId) (target : Target) → AreLinked world → Declares world a target → Declares world b target → a ≡ b
 one_id world a b target are first second =
     let classes : a.class ≡ b.class = one_class world a.class b.class first.class second.class target.class are first.class_is second.class_is first.names.own second.names.own in
     let there : slice_get world a.class ≡ Some second.class = ap (λ (i : ℕ). slice_get world i) classes ∙ second.class_is in
     let same : second.class ≡ first.class = cc in
     let names : Names first.class b.number target = subst (λ (c : GivenClass). Names c b.number target) same second.names in
-    same_id a b classes (one_number first.class a.number b.number target (given_at world a.class first.class are first.class_is) first.names names)
+    same_id a b classes (one_number first.class a.number b.number target (linked_at world a.class first.class are first.class_is) first.names names)
 
 -- a number has one method
 pub one_method : (world : List GivenClass) (id : MethodId) (one other : Target) (first : Declares world id one) (second : Declares world id other) → first.names.method ≡ second.names.method
@@ -56,14 +64,14 @@ one_method world id one other first second =
     same_Some first.names.method second.names.method (sym first.names.there ∙ methods)
 
 -- what a class tells of its method is what the world knows of it
-pub describes : (world : List GivenClass) (id : MethodId) (class : GivenClass) (info : MethodInfo) → AreGiven world → slice_get world id.class ≡ Some class → TellsMethod class id.number info → Describes world id info
+pub describes : (world : List GivenClass) (id : MethodId) (class : GivenClass) (info : MethodInfo) → AreLinked world → slice_get world id.class ≡ Some class → TellsMethod class id.number info → Describes world id info
 describes world id class info are at tells = record {
   declared = record { class = class; class_is = at; names = tells.names };
   access = tells.access;
   code = tells.code;
   listing = tells.listing;
   listed = λ listing code lists has.
-      listed_at class.file.methods class.listings id.number tells.names.method listing code (given_at world id.class class are at).listed tells.names.there
+      listed_at class.file.methods class.listings id.number tells.names.method listing code (linked_at world id.class class are at).given.listed tells.names.there
       (tells.listing ∙ ap (λ (l : Option Listing). Some l) lists) (sym tells.code ∙ has);
 }
 
@@ -85,15 +93,28 @@ has_no_code world id other target info known none same is =
     absurd (true≢false (sym code ∙ ap (λ (o : Option Code). is_some o) no))
 
 -- the first classes are such too
-pub given_front : (xs ys : List GivenClass) → AreGiven (xs ++ ys) → AreGiven xs
-given_front xs ys are = record {
-  each = λ k d within. subst IsGiven (get_or_append_left xs ys d k within) (are.each k d (omega (arith, length-append xs ys)));
-  differ = differ_front (map own_name_of xs) (map own_name_of ys) (subst AllDiffer (map-append own_name_of xs ys) are.differ);
+pub linked_front : (xs ys : List GivenClass) → AreLinked (xs ++ ys) → AreLinked xs
+linked_front xs ys are = record {
+  given = all_front IsGiven xs ys are.given;
+  linkable = linkable_front (map file_of xs) (map file_of ys) (subst AreLinkable (map-append file_of xs ys) are.linkable);
 }
+  where
+    linkable_front : (files others : List ClassFile) → AreLinkable (files ++ others) → AreLinkable files
+    linkable_front files others all = record {
+      each = all_front IsLinkable files others all.each;
+      names = record {
+        own = all_front IsNoPlatformClass files others all.names.own;
+        differ = differ_front (map class_name files) (map class_name others) (subst AllDiffer (map-append class_name files others) all.names.differ);
+      };
+    }
+
+-- the class behind others is such
+pub linked_last : (xs : List GivenClass) (class : GivenClass) → AreLinked (xs ++ class ∷ []) → IsLinkedClass class
+linked_last xs class are = linked_at (xs ++ class ∷ []) (length xs) class are (get_last xs class)
 
 -- ---- the numbers at names
 
-module _ (before after : List ℕ → Option ℕ) (classes : List GivenClass) (class : GivenClass) (are : AreGiven (classes ++ class ∷ []))
+module _ (before after : List ℕ → Option ℕ) (classes : List GivenClass) (class : GivenClass) (are : AreLinked (classes ++ class ∷ []))
     (adds : AddsName before after (own_name_of class) (length classes)) (numbered : IsNumbered before classes) where
   -- the last class stands at a name, or the number is that of before
   at_name : (name : List ℕ) → ((own_name_of class ≡ Some name) × (after name ≡ Some (length classes))) ⊎ ((own_name_of class ≢ Some name) × (after name ≡ before name))
@@ -161,12 +182,3 @@ none_declared number_of world target number class numbered at there none id decl
 pub none_at : (world : List GivenClass) (id : MethodId) (class : GivenClass) → slice_get world id.class ≡ Some class → ((target : Target) → Names class id.number target → ⊥) → (target : Target) → Declares world id target → ⊥
 none_at world id class at none target declared =
     none target (subst (λ (c : GivenClass). Names c id.number target) (same_Some declared.class class (sym declared.class_is ∙ at)) declared.names)
-
--- two classes of different names
-pub two_given : (first second : GivenClass) → IsGiven first → IsGiven second → own_name_of first ≢ own_name_of second → AreGiven (first ∷ second ∷ [])
-two_given first second one other apart = record { each = each; differ = ((apart, tt), (tt, tt)) }
-  where
-    each : (k : ℕ) (d : GivenClass) → k < 2 → IsGiven (get_or (first ∷ second ∷ []) k d)
-    each zero d within = one
-    each (suc zero) d within = other
-    each (suc (suc k)) d within = absurd (omega arith)

@@ -1,2 +1,4 @@
+pub mod Names
+pub mod Linkable
 pub mod World
 pub mod Linked

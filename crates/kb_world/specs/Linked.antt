@@ -9,6 +9,7 @@ use Rattle.std.specs.declared.alloc.Global.{Global}
 use Rattle.kb_classfile.specs.declared.file.ClassFile.{ClassFile}
 use Rattle.kb_classfile.specs.declared.file.Method.{Method as ClassMethod}
 use Rattle.kb_classfile.specs.Pool.{utf8_of, class_name_of}
+use Rattle.kb_world.specs.Names.{class_name}
 use Rattle.kb_names.specs.declared.types.MethodType.{MethodType}
 use Rattle.kb_names.specs.declared.types.Target.{Target}
 use Rattle.kb_names.specs.declared.class_names.Spelling.TheVariants.{Raw}
@@ -69,7 +70,7 @@ pub record TellsMethod (class : GivenClass) (number : ℕ) (info : MethodInfo) :
 
 -- the name of a class, as its file has it
 abbrev pub own_name_of : GivenClass → Option (List ℕ)
-own_name_of class = class_name_of class.file class.file.this
+own_name_of class = class_name class.file
 
 -- the number at a name
 abbrev pub number_at : {S : Type 0} → HashMap (Vec ℕ Global) ℕ S → List ℕ → Option ℕ

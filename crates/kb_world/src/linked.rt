@@ -2,7 +2,7 @@
 
 ghost use Rattle.std.specs.Prelude.{◌≡◌, ℕ, IfSome, IfNone, IfOk};
 ghost use Rattle.kb_names.specs.declared.types.Target.{Target};
-ghost use Rattle.kb_world.specs.World.{Names, IsGiven};
+ghost use Rattle.kb_world.specs.World.{Names, IsLinkedClass};
 ghost use Rattle.kb_world.specs.Linked.{TellsKind, TellsTarget, HasTargets, TellsMethod};
 
 use crate::by_name::{number_among, numbers_by_name};
@@ -29,18 +29,18 @@ impl Model for LinkedClass {
 
     ghost Value = { GivenClass };
 
-    ghost use Rattle.kb_world.specs.World.{IsGiven};
+    ghost use Rattle.kb_world.specs.World.{IsLinkedClass};
     ghost use Rattle.kb_world.specs.Linked.{HasTargets, Indexes, numbers_at};
 
     ghost view = { λ class. class.given };
 
-    ghost invariant = { λ class. IsGiven class.given × HasTargets class.given.file class.targets.items × Indexes (numbers_at class.by_name) class.targets.items };
+    ghost invariant = { λ class. IsLinkedClass class.given × HasTargets class.given.file class.targets.items × Indexes (numbers_at class.by_name) class.targets.items };
 }
 
 impl LinkedClass {
     /// The class, with each descriptor read once and its methods put into a table.
     pub(crate) fn new(alloc: Global, given: GivenClass) -> Result<LinkedClass, NoMemory>
-        requires { IsGiven given }
+        requires { IsLinkedClass given }
         ensures { IfOk result (λ class. class ≡ given) }
     {
         let targets = targets_of(alloc, &given.file)?;

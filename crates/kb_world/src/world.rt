@@ -3,7 +3,7 @@
 ghost use Rattle.std.specs.Prelude.{◌≡◌, [], ◌∷◌, ◌++◌, IfOk, IfErr, OnOk, IfSome, IfNone};
 ghost use Rattle.kb_classfile.specs.Pool.{class_name_of};
 ghost use Rattle.kb_names.specs.declared.types.Target.{Target};
-ghost use Rattle.kb_world.specs.World.{AreGiven, Declares, Describes, IsTargetOf, Refuses, is_special};
+ghost use Rattle.kb_world.specs.World.{AreLinked, Declares, Describes, IsTargetOf, Refuses, is_special};
 ghost use Rattle.kb_world.specs.Linked.{AddsName, number_at};
 ghost use Rattle.kb_world.specs.declared.world.MethodId.{MethodId};
 
@@ -17,8 +17,7 @@ use std::alloc::Global;
 use std::collections::HashMap;
 use std::marker::Model;
 
-/// A class file with the listing of each method's code, in file order: None where a method has no code, or none of the
-/// instructions that are built.
+/// A class file with the listing of each method's code, in file order: None where a method has no code.
 #[derive(Debug, Drop)]
 pub struct GivenClass {
     pub file: ClassFile,
@@ -57,12 +56,12 @@ impl Model for World {
 
     ghost Value = { List GivenClass };
 
-    ghost use Rattle.kb_world.specs.World.{AreGiven};
+    ghost use Rattle.kb_world.specs.World.{AreLinked};
     ghost use Rattle.kb_world.specs.Linked.{IsNumbered, number_at};
 
     ghost view = { λ w. w.classes.items };
 
-    ghost invariant = { λ w. AreGiven w.classes.items × IsNumbered (number_at w.numbers) w.classes.items };
+    ghost invariant = { λ w. AreLinked w.classes.items × IsNumbered (number_at w.numbers) w.classes.items };
 }
 
 impl World {
@@ -78,7 +77,7 @@ impl World {
 
     // The world with one class more. Classes without a number of 32 bits are want of memory.
     pub(crate) fn with(self, alloc: Global, given: GivenClass) -> Result<World, NoMemory>
-        requires { AreGiven (self ++ given ∷ []) }
+        requires { AreLinked (self ++ given ∷ []) }
         ensures { IfOk result (λ world. world ≡ self ++ given ∷ []) }
     {
         let mut classes = self.classes;

@@ -1,151 +1,201 @@
--- The world of a class file.
-use Rattle.std.proofs.Common.{◌≡◌, ℕ, ◌+◌, ◌<◌, ◌≤◌, List, [], ◌∷◌, ◌++◌, length, map, take, drop, get_or, append_assoc, Option, Result, Err, refl, sym, ◌∙◌, ap, subst, arith, suc, drop-cons}
-use Rattle.std.proofs.lemmas.List.{take-append-drop, append-nil, map-append}
-use Rattle.std.specs.List.{AllByRecursion}
+-- Classes, from their bytes to their world.
+use Rattle.std.proofs.Common.{◌≡◌, ℕ, ◌+◌, ◌<◌, ◌≤◌, List, [], ◌∷◌, ◌++◌, length, map, take, drop, get_or, Option, Some, None, Result, Ok, Err, refl, sym, ◌∙◌, ap, subst, arith, suc, drop-cons, inl, inr}
+use Rattle.std.proofs.lemmas.List.{take_all, take-append-drop, length-take}
 use Rattle.std.proofs.Math.Seq.{take-suc}
-use Rattle.kb_classfile.specs.declared.file.Method.{Method as ClassMethod}
-use Rattle.kb_code.specs.declared.listing.Listing.{Listing}
-use Rattle.std.proofs.lemmas.List.Elements.{All-from_recursion}
 use Rattle.kb_classfile.specs.declared.file.ClassFile.{ClassFile}
+use Rattle.kb_classfile.specs.declared.file.Code.{Code}
+use Rattle.kb_classfile.specs.declared.file.Method.{Method as ClassMethod}
 use Rattle.kb_classfile.specs.declared.refusal.ClassRefusal.{ClassRefusal}
 use Rattle.kb_classfile.specs.declared.refusal.ClassRefusal.TheVariants as classes
-use Rattle.kb_classfile.specs.Answers.{BeginsAsClass, IsMagicUnbuiltOrNoMemory, IsNotBuilt}
-use Rattle.kb_classfile.specs.Small.{IsSmallForm, SpellsSmall}
+use Rattle.kb_classfile.specs.Answers.{Refuses}
+use Rattle.kb_classfile.specs.Spelling.{IsClassFile}
+use Rattle.kb_code.specs.declared.listing.Listing.{Listing}
+use Rattle.kb_code.specs.declared.refusal.CodeRefusal.{CodeRefusal}
+use Rattle.kb_code.specs.declared.refusal.CodeRefusal.TheVariants as codes_of
+use Rattle.kb_code.specs.Answers.{Refuses as RefusesCode, fault_in, first_fault}
+use Rattle.kb_code.proofs.ListingLaws.{listed_decodes}
 use Rattle.kb_world.specs.declared.world.GivenClass.{GivenClass}
-use Rattle.kb_world.specs.World.{AreListings, IsGiven, AreGiven}
+use Rattle.kb_world.specs.Linkable.{AreLinkable}
+use Rattle.kb_world.specs.World.{AreGiven, AreLinked, AreListings, IsGiven, RefusesLink, file_of, handlers_of}
+use Rattle.kb_world.specs.declared.linking.LinkRefusal.{LinkRefusal}
+use Rattle.kb_world.specs.declared.linking.LinkRefusal.TheVariants as links
+use Rattle.kb_world.proofs.Listings.{listings_pushed}
 use Rattle.kiasan.specs.declared.refusals.Refusal.{Refusal}
 use Rattle.kiasan.specs.declared.refusals.Stop.{Stop}
-use Rattle.kiasan.specs.Answers.{AreClasses, ClassRefuses, IsListed, IsOneSmall, IsWorldOf, RefusesClasses, file_of}
-use Rattle.kiasan.specs.Refusals.{Gives, class_refusal}
+use Rattle.kiasan.specs.Answers.{AreClasses, ClassRefuses, FileRefuses, IsClassOf, IsWorldOf, RefusesClasses, WorldRefuses}
+use Rattle.kiasan.specs.CodeFaults.{CodeRefuses, MethodsRefuse, fault_of, fault_or, methods_fault}
+use Rattle.kiasan.specs.Refusals.{Gives, class_refusal, code_refusal, link_refusal}
 use Rattle.kiasan.proofs.StageLaws.{gives_by}
 
-listed_more : (ms : List ClassMethod) (ls : List (Option Listing)) (m : ClassMethod) (l : Option Listing) → AreListings ms ls → AreListings (m ∷ []) (l ∷ []) →
-    AreListings (ms ++ m ∷ []) (ls ++ l ∷ [])
-listed_more [] [] m l a b = b
-listed_more (x ∷ ms) (y ∷ ls) m l a b = (a.0, listed_more ms ls m l a.1 b)
-listed_more [] (y ∷ ls) m l a b = absurd a
-listed_more (x ∷ ms) [] m l a b = absurd a
+-- ---- the code of methods
 
-pub listed_next : (ms : List ClassMethod) (i : ℕ) (m : ClassMethod) (ls : List (Option Listing)) (l : Option Listing) → i < length ms → m ≡ get_or ms i m →
-    AreListings (take i ms) ls → AreListings (m ∷ []) (l ∷ []) → AreListings (take (i + 1) ms) (ls ++ l ∷ [])
-listed_next ms i m ls l inside is a b =
+fault_is : (method : ClassMethod) (code : Code) (found : CodeRefusal) → method.code ≡ Some code → first_fault code.bytes (handlers_of code) ≡ Some found → fault_of method ≡ Some found
+fault_is method code found has is = rw has is
+
+-- what stops the reading of a method's code
+pub code_stops : {A : Type 0} (file number : ℕ) (method : ClassMethod) (code : Code) (found : CodeRefusal) (Passes : A → Type 0) → method.code ≡ Some code →
+    RefusesCode code.bytes (handlers_of code) found → Gives {A = A} ⊥ (CodeRefuses file number method) Passes (Err (code_refusal file number found))
+code_stops file number method code (codes_of.Opcode at op) Passes has is = (codes_of.Opcode at op, fault_is method code (codes_of.Opcode at op) has is, refl)
+code_stops file number method code (codes_of.Cut at) Passes has is = (codes_of.Cut at, fault_is method code (codes_of.Cut at) has is, refl)
+code_stops file number method code (codes_of.Target at to) Passes has is = (codes_of.Target at to, fault_is method code (codes_of.Target at to) has is, refl)
+code_stops file number method code (codes_of.Switch at) Passes has is = (codes_of.Switch at, fault_is method code (codes_of.Switch at) has is, refl)
+code_stops file number method code (codes_of.Range handler) Passes has is = (codes_of.Range handler, fault_is method code (codes_of.Range handler) has is, refl)
+code_stops file number method code codes_of.NoMemory Passes has is = tt
+
+-- a method that has its listing has no fault
+pub no_fault : (method : ClassMethod) (listing : Option Listing) → AreListings (method ∷ []) (listing ∷ []) → fault_of method ≡ None
+no_fault method None are = go method.code refl
+  where
+    go : (code : Option Code) → method.code ≡ code → fault_of method ≡ None
+    go None e = rw e refl
+    go (Some code) e = absurd (rw e at are.0)
+no_fault method (Some listing) are = go method.code refl
+  where
+    go : (code : Option Code) → method.code ≡ code → fault_of method ≡ None
+    go None e = absurd (rw e at are.0)
+    go (Some code) e = rw e (ap fault_in (listed_decodes listing code.bytes (handlers_of code) (rw e at are.0)))
+
+-- methods that have their listings have none
+pub no_faults : (number : ℕ) (methods : List ClassMethod) (listings : List (Option Listing)) → AreListings methods listings → methods_fault number methods ≡ None
+no_faults number [] [] are = refl
+no_faults number [] (l ∷ listings) are = absurd are
+no_faults number (m ∷ methods) [] are = absurd are
+no_faults number (m ∷ methods) (l ∷ listings) are = rw (no_fault m l (are.0, tt)) (no_faults (number + 1) methods listings are.1)
+
+-- the methods up to an index have their listings, and what is left has the first fault of all
+pub record AreListed (methods : List ClassMethod) (i : ℕ) (listings : List (Option Listing)) : Type 0 where
+  pub listed : AreListings (take i methods) listings
+  pub fault : methods_fault i (drop i methods) ≡ methods_fault 0 methods
+
+pub none_listed : (methods : List ClassMethod) → AreListed methods 0 []
+none_listed methods = record { listed = tt; fault = refl }
+
+as_many_listed : (methods : List ClassMethod) (listings : List (Option Listing)) → AreListings methods listings → length methods ≡ length listings
+as_many_listed [] [] are = refl
+as_many_listed (m ∷ methods) (l ∷ listings) are = ap suc (as_many_listed methods listings are.1)
+as_many_listed [] (l ∷ listings) are = absurd are
+as_many_listed (m ∷ methods) [] are = absurd are
+
+next_method : (methods : List ClassMethod) (i : ℕ) (method : ClassMethod) → i < length methods → method ≡ get_or methods i method → drop i methods ≡ method ∷ drop (i + 1) methods
+next_method methods i method inside at =
+    let next : suc i ≡ i + 1 = omega arith in
+    drop-cons methods i method inside ∙ ap (λ (m : ClassMethod). m ∷ drop (suc i) methods) (sym at) ∙ ap (λ (n : ℕ). method ∷ drop n methods) next
+
+pub one_listed : (methods : List ClassMethod) (i : ℕ) (method : ClassMethod) (listings now : List (Option Listing)) (listing : Option Listing) → i < length methods → method ≡ get_or methods i method →
+    AreListed methods i listings → AreListings (method ∷ []) (listing ∷ []) → now ≡ listings ++ listing ∷ [] → AreListed methods (i + 1) now
+one_listed methods i method listings now listing inside at are is e =
     let next : i + 1 ≡ suc i = omega arith in
-    rw (next, take-suc ms i m inside, ← is) (listed_more (take i ms) ls m l a b)
+    let more : AreListings (take (i + 1) methods) (listings ++ listing ∷ []) =
+    rw (next, take-suc methods i method inside, ← at) (listings_pushed (take i methods) listings method listing are.listed is) in
+    let later : methods_fault (i + 1) (drop (i + 1) methods) ≡ methods_fault i (drop i methods) =
+    rw (next_method methods i method inside at, no_fault method listing is) refl in
+    record { listed = subst (λ ls. AreListings (take (i + 1) methods) ls) (sym e) more; fault = later ∙ are.fault }
 
--- ---- class files in order
+pub all_listed : (methods : List ClassMethod) (i : ℕ) (listings : List (Option Listing)) → AreListed methods i listings → length methods ≤ i → AreListings methods listings
+all_listed methods i listings are end = subst (λ ms. AreListings ms listings) (take_all i methods end) are.listed
+
+pub first_code : {A B : Type 0} (file : ℕ) (methods : List ClassMethod) (i : ℕ) (method : ClassMethod) (listings : List (Option Listing)) (number : ℕ) (stop : Stop) (Passes : A → Type 0) (Also : B → Type 0) →
+    i < length methods → method ≡ get_or methods i method → AreListed methods i listings → number ≡ length listings →
+    Gives {A = A} ⊥ (CodeRefuses file number method) Passes (Err stop) → Gives {A = B} ⊥ (MethodsRefuse file methods) Also (Err stop)
+first_code file methods i method listings number stop Passes Also inside at are n given =
+    gives_by ⊥ ⊥ (CodeRefuses file number method) (MethodsRefuse file methods) Passes Also stop (λ wrong. wrong) more given
+  where
+    more : (refusal : Refusal) → CodeRefuses file number method refusal → MethodsRefuse file methods refusal
+    more refusal (found, is, e) =
+        let long : length (take i methods) ≡ length listings = as_many_listed (take i methods) listings are.listed in
+        let here : number ≡ i = omega (arith, n, long, length-take i methods, inside) in
+        let first : methods_fault i (drop i methods) ≡ Some (i, found) = rw (next_method methods i method inside at, is) refl in
+        ((number, found), sym are.fault ∙ first ∙ ap (λ (k : ℕ). Some (k, found)) (sym here), e)
+
+-- ---- classes in order
 
 -- what stops the reading of a class file
-pub class_stops : {A : Type 0} (number : ℕ) (bytes : List ℕ) (found : ClassRefusal) (Passes : A → Type 0) → IsMagicUnbuiltOrNoMemory found →
-    (found ≡ classes.Magic → (4 ≤ length bytes) × (BeginsAsClass bytes → ⊥)) → (found ≡ classes.Unbuilt → IsNotBuilt bytes) →
-    Gives {A = A} ⊥ (ClassRefuses number bytes) Passes (Err (class_refusal number found))
-class_stops number bytes classes.Magic Passes kind magic unbuilt = (classes.Magic, magic refl, refl)
-class_stops number bytes (classes.Version v) Passes kind magic unbuilt = absurd kind
-class_stops number bytes (classes.Short at) Passes kind magic unbuilt = absurd kind
-class_stops number bytes (classes.Tag entry tag) Passes kind magic unbuilt = absurd kind
-class_stops number bytes (classes.PoolIndex at index) Passes kind magic unbuilt = absurd kind
-class_stops number bytes (classes.PoolKind at index) Passes kind magic unbuilt = absurd kind
-class_stops number bytes (classes.CodeLength at) Passes kind magic unbuilt = absurd kind
-class_stops number bytes (classes.Extra at) Passes kind magic unbuilt = absurd kind
-class_stops number bytes (classes.TwoCodes n) Passes kind magic unbuilt = absurd kind
-class_stops number bytes classes.Long Passes kind magic unbuilt = absurd kind
-class_stops number bytes classes.Unbuilt Passes kind magic unbuilt = (classes.Unbuilt, unbuilt refl, refl)
-class_stops number bytes classes.NoMemory Passes kind magic unbuilt = tt
+pub class_stops : {A : Type 0} (number : ℕ) (bytes : List ℕ) (found : ClassRefusal) (Passes : A → Type 0) → Refuses bytes found →
+    Gives {A = A} ⊥ (FileRefuses number bytes) Passes (Err (class_refusal number found))
+class_stops number bytes classes.Magic Passes is = (classes.Magic, is, refl)
+class_stops number bytes (classes.Version major) Passes is = (classes.Version major, is, refl)
+class_stops number bytes (classes.Short at) Passes is = (classes.Short at, is, refl)
+class_stops number bytes (classes.Tag entry tag) Passes is = (classes.Tag entry tag, is, refl)
+class_stops number bytes (classes.PoolIndex at index) Passes is = (classes.PoolIndex at index, is, refl)
+class_stops number bytes (classes.PoolKind at index) Passes is = (classes.PoolKind at index, is, refl)
+class_stops number bytes (classes.CodeLength at) Passes is = (classes.CodeLength at, is, refl)
+class_stops number bytes (classes.Extra at) Passes is = (classes.Extra at, is, refl)
+class_stops number bytes (classes.TwoCodes method) Passes is = (classes.TwoCodes method, is, refl)
+class_stops number bytes classes.Long Passes is = (classes.Long, is, refl)
+class_stops number bytes classes.NoMemory Passes is = tt
 
-spelled_more : (classes : List (List ℕ)) (files : List ClassFile) (bytes : List ℕ) (file : ClassFile) → AreClasses classes files → SpellsSmall file bytes →
-    AreClasses (classes ++ bytes ∷ []) (files ++ file ∷ [])
-spelled_more [] [] bytes file are is = (is, tt)
-spelled_more (c ∷ classes) (f ∷ files) bytes file are is = (are.0, spelled_more classes files bytes file are.1 is)
-spelled_more [] (f ∷ files) bytes file are is = absurd are
-spelled_more (c ∷ classes) [] bytes file are is = absurd are
+-- what stops the reading of a class
+pub file_stops : {A B : Type 0} (number : ℕ) (bytes : List ℕ) (stop : Stop) (Passes : A → Type 0) (Also : B → Type 0) →
+    Gives {A = A} ⊥ (FileRefuses number bytes) Passes (Err stop) → Gives {A = B} ⊥ (ClassRefuses number bytes) Also (Err stop)
+file_stops number bytes stop Passes Also given =
+    gives_by ⊥ ⊥ (FileRefuses number bytes) (ClassRefuses number bytes) Passes Also stop (λ wrong. wrong) (λ refusal refused. inl refused) given
 
-as_many : (classes : List (List ℕ)) (files : List ClassFile) → AreClasses classes files → length classes ≡ length files
+pub methods_stop : {A B : Type 0} (number : ℕ) (bytes : List ℕ) (file : ClassFile) (stop : Stop) (Passes : A → Type 0) (Also : B → Type 0) → IsClassFile file bytes →
+    Gives {A = A} ⊥ (MethodsRefuse number file.methods) Passes (Err stop) → Gives {A = B} ⊥ (ClassRefuses number bytes) Also (Err stop)
+methods_stop number bytes file stop Passes Also is given =
+    gives_by ⊥ ⊥ (MethodsRefuse number file.methods) (ClassRefuses number bytes) Passes Also stop (λ wrong. wrong) (λ refusal refused. inr (file, is, refused)) given
+
+classes_more : (classes : List (List ℕ)) (given : List GivenClass) (bytes : List ℕ) (class : GivenClass) → AreClasses classes given → IsClassOf bytes class →
+    AreClasses (classes ++ bytes ∷ []) (given ++ class ∷ [])
+classes_more [] [] bytes class are is = (is, tt)
+classes_more (c ∷ classes) (g ∷ given) bytes class are is = (are.0, classes_more classes given bytes class are.1 is)
+classes_more [] (g ∷ given) bytes class are is = absurd are
+classes_more (c ∷ classes) [] bytes class are is = absurd are
+
+as_many : (classes : List (List ℕ)) (given : List GivenClass) → AreClasses classes given → length classes ≡ length given
 as_many [] [] are = refl
-as_many (c ∷ classes) (f ∷ files) are = ap suc (as_many classes files are.1)
-as_many [] (f ∷ files) are = absurd are
+as_many (c ∷ classes) (g ∷ given) are = ap suc (as_many classes given are.1)
+as_many [] (g ∷ given) are = absurd are
 as_many (c ∷ classes) [] are = absurd are
 
-pub spelled_next : (classes : List (List ℕ)) (i : ℕ) (bytes : List ℕ) (files : List ClassFile) (file : ClassFile) → i < length classes → bytes ≡ get_or classes i bytes →
-    AreClasses (take i classes) files → SpellsSmall file bytes → AreClasses (take (i + 1) classes) (files ++ file ∷ [])
-spelled_next classes i bytes files file inside is are spelled =
+pub class_next : (classes : List (List ℕ)) (i : ℕ) (bytes : List ℕ) (given : List GivenClass) (class : GivenClass) → i < length classes → bytes ≡ get_or classes i bytes →
+    AreClasses (take i classes) given → IsClassOf bytes class → AreClasses (take (i + 1) classes) (given ++ class ∷ [])
+class_next classes i bytes given class inside at are is =
     let next : i + 1 ≡ suc i = omega arith in
-    rw (next, take-suc classes i bytes inside, ← is) (spelled_more (take i classes) files bytes file are spelled)
+    rw (next, take-suc classes i bytes inside, ← at) (classes_more (take i classes) given bytes class are is)
 
-pub first_class : (classes : List (List ℕ)) (files : List ClassFile) (i : ℕ) (bytes : List ℕ) (number : ℕ) (stop : Stop) → i < length classes → bytes ≡ get_or classes i bytes →
-    AreClasses (take i classes) files → number ≡ length files → Gives {A = ClassFile} ⊥ (ClassRefuses number bytes) (λ file. SpellsSmall file bytes) (Err stop) →
+pub first_class : (classes : List (List ℕ)) (given : List GivenClass) (i : ℕ) (bytes : List ℕ) (number : ℕ) (stop : Stop) → i < length classes → bytes ≡ get_or classes i bytes →
+    AreClasses (take i classes) given → number ≡ length given → Gives {A = GivenClass} ⊥ (ClassRefuses number bytes) (IsClassOf bytes) (Err stop) →
     {A : Type 0} (Passes : A → Type 0) → Gives {A = A} ⊥ (RefusesClasses classes) Passes (Err stop)
-first_class classes files i bytes number stop inside at are n given Passes =
-    gives_by ⊥ ⊥ (ClassRefuses number bytes) (RefusesClasses classes) (λ file. SpellsSmall file bytes) Passes stop (λ wrong. wrong) more given
+first_class classes given i bytes number stop inside at are n told Passes =
+    gives_by ⊥ ⊥ (ClassRefuses number bytes) (RefusesClasses classes) (IsClassOf bytes) Passes stop (λ wrong. wrong) more told
   where
     more : (refusal : Refusal) → ClassRefuses number bytes refusal → RefusesClasses classes refusal
     more refusal bad =
         let next : suc i ≡ i + 1 = omega arith in
         let behind : drop i classes ≡ bytes ∷ drop (i + 1) classes =
         drop-cons classes i bytes inside ∙ ap (λ (x : List ℕ). x ∷ drop (suc i) classes) (sym at) ∙ ap (λ (n : ℕ). bytes ∷ drop n classes) next in
-        let before : number ≡ length (take i classes) = n ∙ sym (as_many (take i classes) files are) in
+        let before : number ≡ length (take i classes) = n ∙ sym (as_many (take i classes) given are) in
         record {
           before = take i classes;
           bytes = bytes;
           after = drop (i + 1) classes;
           classes_are = sym (take-append-drop i classes) ∙ ap (λ (rest : List (List ℕ)). take i classes ++ rest) behind;
-          files = files;
+          given = given;
           good = are;
           bad = subst (λ (m : ℕ). ClassRefuses m bytes refusal) before bad;
         }
 
--- one class file is spelled by one list of bytes
-pub one_small : (classes : List (List ℕ)) (files : List ClassFile) → length classes ≡ 1 → AreClasses classes files → IsOneSmall files
-one_small [] files one are = absurd (omega (arith, one))
-one_small (bytes ∷ []) [] one are = absurd are
-one_small (bytes ∷ []) (file ∷ []) one are = record { file = file; small = are.0.small; files_are = refl }
-one_small (bytes ∷ []) (file ∷ f ∷ files) one are = absurd are.1
-one_small (bytes ∷ c ∷ classes) files one are = absurd (omega (arith, one))
-
 -- ---- their world
 
-listed_behind : (world : List GivenClass) (class : GivenClass) → AllByRecursion IsListed world → IsListed class → AllByRecursion IsListed (world ++ class ∷ [])
-listed_behind [] class are is = (is, tt)
-listed_behind (c ∷ world) class are is = (are.0, listed_behind world class are.1 is)
+-- classes that are spelled may be given
+pub are_given : (classes : List (List ℕ)) (given : List GivenClass) → AreClasses classes given → AreGiven given
+are_given [] [] are = tt
+are_given (bytes ∷ classes) (class ∷ given) are = (record { bytes = bytes; spelled = are.0.file.spelled; listed = are.0.listed }, are_given classes given are.1)
+are_given [] (class ∷ given) are = absurd are
+are_given (bytes ∷ classes) [] are = absurd are
 
--- so many classes are linked, and these files are left
-pub record AreLinked (files : List ClassFile) (world : List GivenClass) (rest : List ClassFile) : Type 0 where
-  pub files_are : map file_of world ++ rest ≡ files
-  pub listed : AllByRecursion IsListed world
+-- classes that are linked are their world
+pub world_of_classes : (given world : List GivenClass) → world ≡ given → AreLinkable (map file_of given) → IsWorldOf given world
+world_of_classes given world is linkable = record { linkable = linkable; classes_are = is }
 
-pub none_linked : (files : List ClassFile) → AreLinked files [] files
-none_linked files = record { files_are = refl; listed = tt }
+-- their world is linked
+pub linked_world : (given world : List GivenClass) → AreGiven given → IsWorldOf given world → AreLinked world
+linked_world given world are is = subst AreLinked (sym is.classes_are) (record { given = are; linkable = is.linkable })
 
-pub world_next : (files rest behind : List ClassFile) (file : ClassFile) (world now : List GivenClass) (listings : List (Option Listing)) →
-    AreLinked files world rest → rest ≡ file ∷ behind → AreListings file.methods listings → now ≡ world ++ record { file = file; listings = listings } ∷ [] → AreLinked files now behind
-world_next files rest behind file world now listings linked next listed e =
-    let class : GivenClass = record { file = file; listings = listings } in
-    let front : map file_of (world ++ class ∷ []) ++ behind ≡ files =
-    ap (λ (fs : List ClassFile). fs ++ behind) (map-append file_of world (class ∷ [])) ∙ append_assoc (map file_of world) (file ∷ []) behind
-    ∙ ap (λ (fs : List ClassFile). map file_of world ++ fs) (sym next) ∙ linked.files_are in
-    record {
-      files_are = ap (λ (w : List GivenClass). map file_of w ++ behind) e ∙ front;
-      listed = subst (AllByRecursion IsListed) (sym e) (listed_behind world class linked.listed listed);
-    }
-
-pub no_more : {A : Type 0} (xs : List A) → length xs ≡ 0 → xs ≡ []
-no_more [] e = refl
-no_more (x ∷ xs) e = absurd (omega (arith, e))
-
-pub all_linked : (files rest : List ClassFile) (world : List GivenClass) → AreLinked files world rest → rest ≡ [] → IsWorldOf files world
-all_linked files rest world linked end = record {
-  files_are = sym (append-nil (map file_of world)) ∙ ap (λ (fs : List ClassFile). map file_of world ++ fs) (sym end) ∙ linked.files_are;
-  listed = linked.listed;
-}
-
--- one class of the form that is built may be linked
-pub one_given : (files : List ClassFile) (classes : List GivenClass) → IsOneSmall files → IsWorldOf files classes → AreGiven classes
-one_given files classes one is = go classes (is.files_are ∙ one.files_are) is.listed
-  where
-    go : (classes : List GivenClass) → map file_of classes ≡ one.file ∷ [] → AllByRecursion IsListed classes → AreGiven classes
-    go [] e listed = absurd (omega (arith, ap length e))
-    go (class ∷ []) e listed =
-        let same : class.file ≡ one.file = cc in
-        record {
-          each = All-from_recursion IsGiven (class ∷ []) (record { small = subst IsSmallForm (sym same) one.small; listed = listed.0 }, tt);
-          differ = (tt, tt);
-        }
-    go (class ∷ c ∷ classes) e listed = absurd (omega (arith, ap length e))
+-- what is said of classes that are not linked
+pub link_stops : {A : Type 0} (given : List GivenClass) (found : LinkRefusal) (Passes : A → Type 0) → RefusesLink given found →
+    Gives {A = A} ⊥ (WorldRefuses given) Passes (Err (link_refusal found))
+link_stops given links.Unbuilt Passes refuses = (refl, refuses)
+link_stops given (links.NoMethod target) Passes refuses = absurd refuses
+link_stops given links.NoMemory Passes refuses = tt

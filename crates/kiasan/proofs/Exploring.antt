@@ -10,10 +10,10 @@ use Rattle.kiasan.specs.declared.explore.Explored.{Explored}
 use Rattle.kiasan.specs.declared.state.State.{State}
 use Rattle.kb_arith.specs.Word.{AreInts}
 use Rattle.kb_code.specs.declared.instruction.Instr.{Instr}
-use Rattle.kb_code.specs.declared.instruction.Instr.TheVariants.{Nop, PushInt, LoadInt, StoreInt, Pop, Dup, Int2, Neg, Inc, Narrow, ReturnInt}
+use Rattle.kb_code.specs.declared.instruction.Instr.TheVariants.{Nop, ReturnInt}
 use Rattle.kiasan.specs.declared.explore.StraightCode.{StraightCode}
 use Rattle.kb_code.specs.Listing.{offset_of, IsLaidOut}
-use Rattle.kb_semantics.proofs.Runs.{StandsAt, step_at, run_on, item_at, item_is}
+use Rattle.kb_semantics.proofs.Runs.{StandsAt, step_at, run_on}
 use Rattle.kb_heap.specs.declared.heap.Heap.{Heap}
 use Rattle.kb_heap.specs.declared.heap.Value.TheVariants.{Int}
 use Rattle.kb_heap.specs.declared.ending.Ending.TheVariants.{Returned}
@@ -76,70 +76,62 @@ run_of_step code params i s item o steps method heap inputs laid_out is inside e
     ap (λ (n : ℕ). run n (config_of method (offset_of (drop i code.listing.now) code.size) i heap inputs s)) left ∙
     run_on (steps - (i + 1)) (config_of method (offset_of (drop i code.listing.now) code.size) i heap inputs s) o (taken ∙ given)
 
-pub run_goes_on : (code : StraightCode) (params i : ℕ) (s new : State) →
-    IsLaidOut code.listing.now code.size → IsRun code params i s → i < length code.listing.now →
-    Keeps s new → Follows StepGoes s new (λ inputs. effect (item_at code.listing.now i).1) → IsRun code params (i + 1) new
-run_goes_on code params i s new laid_out is inside keeps follows = record {
+pub run_goes_on : (code : StraightCode) (params i : ℕ) (s new : State) (item : ℕ × Instr) →
+    IsLaidOut code.listing.now code.size → IsRun code params i s → i < length code.listing.now → item ≡ get_or code.listing.now i item →
+    Keeps s new → Follows StepGoes s new (λ inputs. effect item.1) → IsRun code params (i + 1) new
+run_goes_on code params i s new item laid_out is inside at keeps follows = record {
   sound = keeps.sound;
   limits = keeps.limits ∙ is.limits;
   variables = keeps.variables ∙ is.variables;
   goes_on = λ steps method heap inputs has enough long.
-      run_of_step code params i s (item_at code.listing.now i) (Goes (config_of method (offset_of (drop (i + 1) code.listing.now) code.size) (i + 1) heap inputs new)) steps method heap inputs
-      laid_out is inside (item_is code.listing.now i (0, Nop) inside) has enough long
+      run_of_step code params i s item (Goes (config_of method (offset_of (drop (i + 1) code.listing.now) code.size) (i + 1) heap inputs new)) steps method heap inputs
+      laid_out is inside at has enough long
       (follows method (offset_of (drop i code.listing.now) code.size) (offset_of (drop (i + 1) code.listing.now) code.size) i heap inputs (has_limits code params i s method is has));
 }
 
 -- the run ends as ill-typed
-pub run_is_ill_typed : (code : StraightCode) (params i : ℕ) (s new : State) →
-    IsLaidOut code.listing.now code.size → IsRun code params i s → i < length code.listing.now →
-    Follows StepIllTyped s new (λ inputs. effect (item_at code.listing.now i).1) →
+pub run_is_ill_typed : (code : StraightCode) (params i : ℕ) (s new : State) (item : ℕ × Instr) →
+    IsLaidOut code.listing.now code.size → IsRun code params i s → i < length code.listing.now → item ≡ get_or code.listing.now i item →
+    Follows StepIllTyped s new (λ inputs. effect item.1) →
     (steps : ℕ) (method : Method) (heap : Heap) (inputs : List ℤ) → HasCode method code → length code.listing.now ≤ steps → length inputs ≡ params → AreInts inputs →
     IsIllTyped (run_over steps method heap inputs).ending
-run_is_ill_typed code params i s new laid_out is inside follows steps method heap inputs has enough long fit =
-    rw (run_of_step code params i s (item_at code.listing.now i) (ill_typed (config_of method (offset_of (drop i code.listing.now) code.size) i heap inputs s)) steps method heap inputs
-    laid_out is inside (item_is code.listing.now i (0, Nop) inside) has enough long
+run_is_ill_typed code params i s new item laid_out is inside at follows steps method heap inputs has enough long fit =
+    rw (run_of_step code params i s item (ill_typed (config_of method (offset_of (drop i code.listing.now) code.size) i heap inputs s)) steps method heap inputs
+    laid_out is inside at has enough long
     (follows method (offset_of (drop i code.listing.now) code.size) (offset_of (drop (i + 1) code.listing.now) code.size) i heap inputs (has_limits code params i s method is has))) tt
 
 -- the run returns what a return gives
-pub run_returns : (code : StraightCode) (params i : ℕ) (s : State) (value : List ℤ → ℤ) →
-    IsLaidOut code.listing.now code.size → IsRun code params i s → i < length code.listing.now → (item_at code.listing.now i).1 ≡ ReturnInt → Returns s value →
+pub run_returns : (code : StraightCode) (params i : ℕ) (s : State) (item : ℕ × Instr) (value : List ℤ → ℤ) →
+    IsLaidOut code.listing.now code.size → IsRun code params i s → i < length code.listing.now → item ≡ get_or code.listing.now i item → item.1 ≡ ReturnInt → Returns s value →
     (steps : ℕ) (method : Method) (heap : Heap) (inputs : List ℤ) → HasCode method code → length code.listing.now ≤ steps → length inputs ≡ params → AreInts inputs →
     run_over steps method heap inputs ≡ record { ending = Returned (Some (Int (value inputs))); heap = heap }
-run_returns code params i s value laid_out is inside return returns steps method heap inputs has enough long fit =
-    run_of_step code params i s (item_at code.listing.now i) (Ends (record { ending = Returned (Some (Int (value inputs))); heap = heap })) steps method heap inputs laid_out is inside (item_is code.listing.now i (0, Nop) inside) has enough long
+run_returns code params i s item value laid_out is inside at return returns steps method heap inputs has enough long fit =
+    run_of_step code params i s item (Ends (record { ending = Returned (Some (Int (value inputs))); heap = heap })) steps method heap inputs laid_out is inside at has enough long
     (rw return (returns method (offset_of (drop i code.listing.now) code.size) (offset_of (drop (i + 1) code.listing.now) code.size) i heap inputs))
 
 -- a return without an int is ill-typed
-pub run_returns_none : (code : StraightCode) (params i : ℕ) (s : State) →
-    IsLaidOut code.listing.now code.size → IsRun code params i s → i < length code.listing.now → (item_at code.listing.now i).1 ≡ ReturnInt → ReturnsNone s →
+pub run_returns_none : (code : StraightCode) (params i : ℕ) (s : State) (item : ℕ × Instr) →
+    IsLaidOut code.listing.now code.size → IsRun code params i s → i < length code.listing.now → item ≡ get_or code.listing.now i item → item.1 ≡ ReturnInt → ReturnsNone s →
     (steps : ℕ) (method : Method) (heap : Heap) (inputs : List ℤ) → HasCode method code → length code.listing.now ≤ steps → length inputs ≡ params → AreInts inputs →
     IsIllTyped (run_over steps method heap inputs).ending
-run_returns_none code params i s laid_out is inside return none steps method heap inputs has enough long fit =
-    rw (run_of_step code params i s (item_at code.listing.now i) (ill_typed (config_of method (offset_of (drop i code.listing.now) code.size) i heap inputs s)) steps method heap inputs laid_out is inside (item_is code.listing.now i (0, Nop) inside) has enough long
+run_returns_none code params i s item laid_out is inside at return none steps method heap inputs has enough long fit =
+    rw (run_of_step code params i s item (ill_typed (config_of method (offset_of (drop i code.listing.now) code.size) i heap inputs s)) steps method heap inputs laid_out is inside at has enough long
     (rw return (none method (offset_of (drop i code.listing.now) code.size) (offset_of (drop (i + 1) code.listing.now) code.size) i heap inputs))) tt
 
 -- ---- the last instruction
 
 not_return : (instr : Instr) → (instr ≡ ReturnInt → ⊥) → is_return instr ≡ false
 not_return ReturnInt other = absurd (other refl)
-not_return Nop other = refl
-not_return (PushInt z) other = refl
-not_return (LoadInt k) other = refl
-not_return (StoreInt k) other = refl
-not_return Pop other = refl
-not_return Dup other = refl
-not_return (Int2 op) other = refl
-not_return Neg other = refl
-not_return (Inc k z) other = refl
-not_return (Narrow cut) other = refl
+not_return _ other = refl
 
 -- behind an instruction that is no return the first return is still the last instruction
-pub ends_later : (listing : List (ℕ × Instr)) (i : ℕ) → ends_by_return (drop i listing) ≡ true → i < length listing → ((item_at listing i).1 ≡ ReturnInt → ⊥) →
+pub ends_later : (listing : List (ℕ × Instr)) (i : ℕ) (item : ℕ × Instr) → ends_by_return (drop i listing) ≡ true → i < length listing → item ≡ get_or listing i item → (item.1 ≡ ReturnInt → ⊥) →
     ends_by_return (drop (i + 1) listing) ≡ true
-ends_later [] i ends inside other = absurd (omega arith)
-ends_later (x ∷ rest) zero ends inside other = let more : is_return x.1 ≡ false = not_return x.1 other in rw more at ends
-ends_later (x ∷ rest) (suc i) ends inside other =
-    let next : suc i + 1 ≡ suc (i + 1) = omega arith in rw next (ends_later rest i ends (omega arith) other)
+ends_later [] i item ends inside at other = absurd (omega arith)
+ends_later (x ∷ rest) zero item ends inside at other =
+    let more : is_return x.1 ≡ false = ap (λ (y : ℕ × Instr). is_return y.1) (sym at) ∙ not_return item.1 other in rw more at ends
+ends_later (x ∷ rest) (suc i) item ends inside at other =
+    let next : suc i + 1 ≡ suc (i + 1) = omega arith in rw next (ends_later rest i item ends (omega arith) at other)
 
 -- so it comes
 pub never_ends : (listing : List (ℕ × Instr)) (i : ℕ) → ends_by_return (drop i listing) ≡ true → length listing ≤ i → ⊥
@@ -147,13 +139,13 @@ never_ends listing i ends passed = let none : drop i listing ≡ [] = drop_of_le
 
 -- ---- at a return
 
-pub return_some : (r : Option Explored) (code : StraightCode) (params i : ℕ) (s : State) →
-    IsLaidOut code.listing.now code.size → IsRun code params i s → i < length code.listing.now → (item_at code.listing.now i).1 ≡ ReturnInt →
+pub return_some : (r : Option Explored) (code : StraightCode) (params i : ℕ) (s : State) (item : ℕ × Instr) →
+    IsLaidOut code.listing.now code.size → IsRun code params i s → i < length code.listing.now → item ≡ get_or code.listing.now i item → item.1 ≡ ReturnInt →
     IfSome r (λ e. Returns s (value_of e.pool e.result)) →
     IfSome r (λ e. (steps : ℕ) (method : Method) (heap : Heap) (inputs : List ℤ) → HasCode method code → length code.listing.now ≤ steps → length inputs ≡ params → AreInts inputs →
     run_over steps method heap inputs ≡ record { ending = Returned (Some (Int (value_of e.pool e.result inputs))); heap = heap })
-return_some None code params i s laid_out is inside return h = tt
-return_some (Some e) code params i s laid_out is inside return h = run_returns code params i s (value_of e.pool e.result) laid_out is inside return h
+return_some None code params i s item laid_out is inside at return h = tt
+return_some (Some e) code params i s item laid_out is inside at return h = run_returns code params i s item (value_of e.pool e.result) laid_out is inside at return h
 
 pub return_variables : (r : Option Explored) (code : StraightCode) (params i : ℕ) (s : State) → IsRun code params i s → IfSome r (λ e. e.pool ≡ s.pool) →
     IfSome r (λ e. variable_kinds e.pool ≡ replicate params IntKind)
@@ -164,10 +156,10 @@ return_variables (Some e) code params i s is h = ap variable_kinds h ∙ is.vari
 abbrev pub IsNothing : Option Explored → Type 0
 IsNothing r = let given : Result (Option Explored) NoMemory = Ok r in given ≡ Ok None
 
-pub return_none : (r : Option Explored) (code : StraightCode) (params i : ℕ) (s : State) →
-    IsLaidOut code.listing.now code.size → IsRun code params i s → i < length code.listing.now → (item_at code.listing.now i).1 ≡ ReturnInt →
+pub return_none : (r : Option Explored) (code : StraightCode) (params i : ℕ) (s : State) (item : ℕ × Instr) →
+    IsLaidOut code.listing.now code.size → IsRun code params i s → i < length code.listing.now → item ≡ get_or code.listing.now i item → item.1 ≡ ReturnInt →
     IfNone r (ReturnsNone s) → IsNothing r →
     (steps : ℕ) (method : Method) (heap : Heap) (inputs : List ℤ) → HasCode method code → length code.listing.now ≤ steps → length inputs ≡ params → AreInts inputs →
     IsIllTyped (run_over steps method heap inputs).ending
-return_none None code params i s laid_out is inside return h nothing = run_returns_none code params i s laid_out is inside return h
-return_none (Some e) code params i s laid_out is inside return h nothing = cc
+return_none None code params i s item laid_out is inside at return h nothing = run_returns_none code params i s item laid_out is inside at return h
+return_none (Some e) code params i s item laid_out is inside at return h nothing = cc

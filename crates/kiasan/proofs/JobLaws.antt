@@ -39,6 +39,7 @@ all_told (path ∷ leaves) = rw (told path.leaf, all_told leaves) refl
 pub reach_stops : {A : Type 0} (Built : MethodId → Type 0) (world : List GivenClass) (target : Target) (found : LinkRefusal) (Passes : A → Type 0) → Refuses world target found →
     Gives {A = A} ⊥ (TargetRefuses Built world target) Passes (Err (link_refusal found))
 reach_stops Built world target (links.NoMethod of) Passes is = inl (links.NoMethod of, is, refl)
+reach_stops Built world target links.Unbuilt Passes is = absurd is
 reach_stops Built world target links.NoMemory Passes is = tt
 
 pub job_stops : (IsTextOf : Method → Report → List ℕ → Type 0) (world : List GivenClass) (job : Job) (stop : Stop) →

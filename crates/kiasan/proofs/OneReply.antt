@@ -1,21 +1,17 @@
 -- Words have one reply where the shelf tells each file that is read.
 use Rattle.std.proofs.Common.{◌≡◌, ◌⊎◌, ℕ, ◌+◌, ◌<◌, ◌≤◌, List, [], ◌∷◌, ◌++◌, length, map, take, Option, Some, None, IsSome, Result, Ok, Err, refl, sym, ◌∙◌, ap, subst, arith, inl, inr, append_assoc, append-nil, length-append, zero, suc, slice_get}
 use Rattle.std.specs.List.{AllByRecursion}
+use Rattle.std.proofs.lemmas.Option.{none-some, same_Some}
 use Rattle.kb_classfile.specs.declared.file.ClassFile.{ClassFile}
 use Rattle.kb_classfile.specs.declared.file.Code.{Code}
 use Rattle.kb_classfile.specs.declared.file.Method.{Method as ClassMethod}
 use Rattle.kb_classfile.specs.declared.refusal.ClassRefusal.{ClassRefusal}
-use Rattle.kb_classfile.specs.declared.refusal.ClassRefusal.TheVariants as classes
-use Rattle.kb_classfile.specs.Answers.{BeginsAsClass, IsNotBuilt}
-use Rattle.kb_classfile.specs.Small.{SpellsSmall}
-use Rattle.kb_classfile.specs.Spelling.{Spells}
-use Rattle.kb_classfile.specs.Reading.{class_file, unbuilt}
-use Rattle.kb_classfile.proofs.Begins.{spelled_begins}
-use Rattle.kb_classfile.proofs.Exactness.{class_file_exact}
-use Rattle.kb_classfile.proofs.Form.{one_file}
+use Rattle.kb_classfile.specs.Reading.{fault_in, first_fault, reading}
+use Rattle.kb_classfile.specs.Spelling.{IsClassFile}
+use Rattle.kb_classfile.proofs.ClassLaws.{spelled_is_read}
 use Rattle.kb_code.specs.declared.listing.Listing.{Listing}
+use Rattle.kb_code.specs.declared.refusal.CodeRefusal.{CodeRefusal}
 use Rattle.kb_grammar.specs.Lines.{Lacks, AreLines, IsFirstBadLine, lines_text}
-use Rattle.kb_grammar.proofs.Laws.{whole_only}
 use Rattle.kb_grammar.proofs.LineLaws.{lines_beyond, no_lines}
 use Rattle.kb_grammar.proofs.WordLaws.{same_cut}
 use Rattle.kb_heap.specs.declared.ending.Ending.{Ending}
@@ -31,7 +27,7 @@ use Rattle.kb_world.specs.declared.linking.LinkRefusal.{LinkRefusal}
 use Rattle.kb_world.specs.declared.linking.LinkRefusal.TheVariants as links
 use Rattle.kb_world.specs.declared.world.GivenClass.{GivenClass}
 use Rattle.kb_world.specs.declared.world.MethodId.{MethodId}
-use Rattle.kb_world.specs.World.{AreGiven, AreListings, Declares, IsTargetOf}
+use Rattle.kb_world.specs.World.{AreLinked, AreListings, Declares, IsTargetOf, file_of}
 use Rattle.kb_world.proofs.Declared.{same_class, same_method}
 use Rattle.kb_world.proofs.Worlds.{one_id}
 use Rattle.kiasan.specs.declared.answer.Contents.{Contents}
@@ -47,18 +43,18 @@ use Rattle.kiasan.specs.declared.words.Job.{Job}
 use Rattle.kiasan.specs.declared.words.Order.{Order}
 use Rattle.kiasan.specs.declared.words.Order.TheVariants.{Explore, Tests, Diagrams, Replay, Assemble, Sample}
 use Rattle.kiasan.specs.declared.words.WordFault.{WordFault}
-use Rattle.kiasan.specs.Answers.{Reply, refuses, ends, Stage, Last, RefusesNothing, Replies, RepliesTo, RepliesOn, RepliesIn, RepliesJob, RepliesReplay, WordsRefuse, IsRead, AreRead, IsContents, RefusesClasses, ClassRefuses, AreClasses, IsWorldOf, IsListed, file_of, TextRefuses, AreTestsOf, EndsReplay, EndsJob, AreTold, IsReplay, IsSameReply, class_limit, text_limit}
+use Rattle.kiasan.specs.Answers.{Reply, refuses, ends, Stage, Last, RefusesNothing, Replies, RepliesTo, RepliesOn, RepliesIn, RepliesJob, RepliesReplay, WordsRefuse, IsRead, AreRead, IsContents, RefusesClasses, ClassRefuses, FileRefuses, AreClasses, IsClassOf, IsWorldOf, WorldRefuses, TextRefuses, AreTestsOf, EndsReplay, EndsJob, AreTold, IsReplay, IsSameReply, class_limit, text_limit}
 use Rattle.kiasan.specs.Orders.{Orders, files_of, texts_of, classes_of}
 use Rattle.kiasan.specs.Reach.{ReachRefuses, TargetRefuses}
-use Rattle.kiasan.specs.Refusals.{word_refusal}
+use Rattle.kiasan.specs.CodeFaults.{MethodsRefuse, methods_fault}
+use Rattle.kiasan.specs.Refusals.{class_refusal, code_refusal, word_refusal}
 use Rattle.kiasan.specs.Tests.{AreRunnable, AreVerdicts, IsRunnable, IsVerdict, EndsAsStated, RefusesTest, RefusesTests, no_literals, replay_status}
 use Rattle.kiasan.specs.Unbuilt.{IsBuiltFor, IsBuiltMethod}
-use Rattle.kiasan.proofs.ClassLaws.{one_small, one_given}
+use Rattle.kiasan.proofs.ClassLaws.{are_given, linked_world, no_faults}
 use Rattle.kiasan.proofs.OneListing.{listings_one}
-use Rattle.kiasan.proofs.ReadLaws.{read_as_many}
 use Rattle.kiasan.proofs.StageLaws.{AreOne, HasOne, stage_one}
 use Rattle.kiasan.specs.Verdicts.{replay_text}
-use Rattle.kiasan.proofs.WordsLaws.{orders_one, one_order, fault_or_order, one_class}
+use Rattle.kiasan.proofs.WordsLaws.{orders_one, one_order, fault_or_order}
 
 -- ---- the first of a list
 
@@ -110,98 +106,94 @@ one_contents holds order told a b p q =
 
 -- ---- classes
 
-spelled_one : (a b : ClassFile) (bytes : List ℕ) → Spells a bytes → Spells b bytes → b ≡ a
-spelled_one a b bytes p q = one_file a b bytes (whole_only unbuilt class_file Spells class_file_exact bytes 0 a p) q
+spelled_one : (a b : ClassFile) (bytes : List ℕ) → IsClassFile a bytes → IsClassFile b bytes → a ≡ b
+spelled_one a b bytes p q =
+    let same : read_as a ≡ read_as b = sym (spelled_is_read a bytes p) ∙ spelled_is_read b bytes q in
+    cc
+  where
+    read_as : ClassFile → Result ClassFile ClassRefusal
+    read_as file = Ok file
 
 abbrev IsClass : List ℕ → Type 0
-IsClass bytes = (file : ClassFile) × SpellsSmall file bytes
+IsClass bytes = (class : GivenClass) × IsClassOf bytes class
 
 abbrev IsBadClass : List ℕ → Type 0
 IsBadClass bytes = (number : ℕ) × (refusal : Refusal) × ClassRefuses number bytes refusal
 
--- what refuses a class file, by cases
-class_fault : (number : ℕ) (bytes : List ℕ) (refusal : Refusal) → ClassRefuses number bytes refusal →
-    ((refusal ≡ refusals.Magic number) × (4 ≤ length bytes) × (BeginsAsClass bytes → ⊥)) ⊎ ((refusal ≡ refusals.Unbuilt) × IsNotBuilt bytes)
-class_fault number bytes refusal (classes.Magic, is, e) = let same : refusals.Magic number ≡ refusal = cc in inl (sym same, is.0, is.1)
-class_fault number bytes refusal (classes.Version v, is, e) = absurd is
-class_fault number bytes refusal (classes.Short at, is, e) = absurd is
-class_fault number bytes refusal (classes.Tag entry tag, is, e) = absurd is
-class_fault number bytes refusal (classes.PoolIndex at index, is, e) = absurd is
-class_fault number bytes refusal (classes.PoolKind at index, is, e) = absurd is
-class_fault number bytes refusal (classes.CodeLength at, is, e) = absurd is
-class_fault number bytes refusal (classes.Extra at, is, e) = absurd is
-class_fault number bytes refusal (classes.TwoCodes n, is, e) = absurd is
-class_fault number bytes refusal (classes.Long, is, e) = absurd is
-class_fault number bytes refusal (classes.Unbuilt, is, e) = let same : refusals.Unbuilt ≡ refusal = cc in inr (sym same, is)
-class_fault number bytes refusal (classes.NoMemory, is, e) = absurd is
+-- bytes that spell a class file have no fault of their own
+file_apart : (number : ℕ) (bytes : List ℕ) (file : ClassFile) (refusal : Refusal) → IsClassFile file bytes → FileRefuses number bytes refusal → ⊥
+file_apart number bytes file refusal is (found, fault, e) =
+    let none : first_fault bytes ≡ None = ap fault_in (spelled_is_read file bytes is) in
+    none-some found (sym none ∙ fault)
 
 class_apart : (bytes : List ℕ) → IsClass bytes → IsBadClass bytes → ⊥
-class_apart bytes (file, small) (number, refusal, bad) = go (class_fault number bytes refusal bad)
-  where
-    go : ((refusal ≡ refusals.Magic number) × (4 ≤ length bytes) × (BeginsAsClass bytes → ⊥)) ⊎ ((refusal ≡ refusals.Unbuilt) × IsNotBuilt bytes) → ⊥
-    go (inl magic) = magic.2 (spelled_begins file bytes small.spelled).1
-    go (inr other) = other.1.none file small
+class_apart bytes (class, is) (number, refusal, inl bad) = file_apart number bytes class.file refusal is.file bad
+class_apart bytes (class, is) (number, refusal, inr (file, spelled, (found, fault, e))) =
+    let same : file ≡ class.file = spelled_one file class.file bytes spelled is.file in
+    let none : methods_fault 0 file.methods ≡ None = ap (λ (f : ClassFile). methods_fault 0 f.methods) same ∙ no_faults 0 class.file.methods class.listings is.listed in
+    none-some found (sym none ∙ fault)
 
-each_class : (classes : List (List ℕ)) (files : List ClassFile) → AreClasses classes files → AllByRecursion IsClass classes
+each_class : (classes : List (List ℕ)) (given : List GivenClass) → AreClasses classes given → AllByRecursion IsClass classes
 each_class [] [] are = tt
-each_class (c ∷ classes) (f ∷ files) are = ((f, are.0), each_class classes files are.1)
-each_class [] (f ∷ files) are = absurd are
+each_class (c ∷ classes) (g ∷ given) are = ((g, are.0), each_class classes given are.1)
+each_class [] (g ∷ given) are = absurd are
 each_class (c ∷ classes) [] are = absurd are
 
-one_class_refusal : (number : ℕ) (bytes : List ℕ) (r s : Refusal) → ClassRefuses number bytes r → ClassRefuses number bytes s → r ≡ s
-one_class_refusal number bytes r s a b = go (class_fault number bytes r a) (class_fault number bytes s b)
-  where
-    either : (4 ≤ length bytes) → (BeginsAsClass bytes → ⊥) → (length bytes < 4) ⊎ BeginsAsClass bytes → ⊥
-    either long wrong (inl few) = omega (arith, few, long)
-    either long wrong (inr begins) = wrong begins
+abbrev refused_by : Refusal → Stop
+refused_by r = Refused r
 
-    go : ((r ≡ refusals.Magic number) × (4 ≤ length bytes) × (BeginsAsClass bytes → ⊥)) ⊎ ((r ≡ refusals.Unbuilt) × IsNotBuilt bytes) →
-        ((s ≡ refusals.Magic number) × (4 ≤ length bytes) × (BeginsAsClass bytes → ⊥)) ⊎ ((s ≡ refusals.Unbuilt) × IsNotBuilt bytes) → r ≡ s
-    go (inl x) (inl y) = x.0 ∙ sym y.0
-    go (inr x) (inr y) = x.0 ∙ sym y.0
-    go (inl x) (inr y) = absurd (either x.1 x.2 y.1.begins)
-    go (inr x) (inl y) = absurd (either y.1 y.2 x.1.begins)
+file_refusal : (number : ℕ) (bytes : List ℕ) (r s : Refusal) → FileRefuses number bytes r → FileRefuses number bytes s → r ≡ s
+file_refusal number bytes r s (f, p, e) (g, q, h) =
+    let faults : f ≡ g = same_Some f g (sym p ∙ q) in
+    let stops : refused_by r ≡ refused_by s = sym e ∙ ap (class_refusal number) faults ∙ h in
+    cc
+
+methods_refusal : (number : ℕ) (methods : List ClassMethod) (r s : Refusal) → MethodsRefuse number methods r → MethodsRefuse number methods s → r ≡ s
+methods_refusal number methods r s (f, p, e) (g, q, h) =
+    let faults : f ≡ g = same_Some f g (sym p ∙ q) in
+    let stops : refused_by r ≡ refused_by s = sym e ∙ ap (λ (found : ℕ × CodeRefusal). code_refusal number found.0 found.1) faults ∙ h in
+    cc
+
+one_class_refusal : (number : ℕ) (bytes : List ℕ) (r s : Refusal) → ClassRefuses number bytes r → ClassRefuses number bytes s → r ≡ s
+one_class_refusal number bytes r s (inl a) (inl b) = file_refusal number bytes r s a b
+one_class_refusal number bytes r s (inl a) (inr (file, is, b)) = absurd (file_apart number bytes file r is a)
+one_class_refusal number bytes r s (inr (file, is, a)) (inl b) = absurd (file_apart number bytes file s is b)
+one_class_refusal number bytes r s (inr (one, is, a)) (inr (other, also, b)) =
+    let same : one ≡ other = spelled_one one other bytes is also in
+    methods_refusal number other.methods r s (subst (λ (f : ClassFile). MethodsRefuse number f.methods r) same a) b
 
 classes_refusal : (classes : List (List ℕ)) (r s : Refusal) → RefusesClasses classes r → RefusesClasses classes s → r ≡ s
 classes_refusal classes r s a b =
-    let same = same_first IsClass IsBadClass class_apart a.before b.before a.bytes b.bytes a.after b.after (each_class a.before a.files a.good) (each_class b.before b.files b.good)
+    let same = same_first IsClass IsBadClass class_apart a.before b.before a.bytes b.bytes a.after b.after (each_class a.before a.given a.good) (each_class b.before b.given b.good)
     (length a.before, r, a.bad) (length b.before, s, b.bad) (sym a.classes_are ∙ b.classes_are) in
     one_class_refusal (length b.before) b.bytes r s
     (subst (λ (bytes : List ℕ). ClassRefuses (length b.before) bytes r) same.1 (subst (λ (n : ℕ). ClassRefuses n a.bytes r) same.0 a.bad)) b.bad
 
-classes_apart : (classes : List (List ℕ)) (r : Refusal) (files : List ClassFile) → RefusesClasses classes r → AreClasses classes files → ⊥
-classes_apart classes r files a are =
-    class_apart a.bytes (all_at IsClass a.before a.bytes a.after (subst (AllByRecursion IsClass) a.classes_are (each_class classes files are))) (length a.before, r, a.bad)
-
-one_files : (classes : List (List ℕ)) (xs ys : List ClassFile) → AreClasses classes xs → AreClasses classes ys → xs ≡ ys
-one_files [] [] [] a b = refl
-one_files [] (x ∷ xs) ys a b = absurd a
-one_files [] [] (y ∷ ys) a b = absurd b
-one_files (c ∷ classes) [] ys a b = absurd a
-one_files (c ∷ classes) (x ∷ xs) [] a b = absurd b
-one_files (c ∷ classes) (x ∷ xs) (y ∷ ys) a b =
-    let first : x ≡ y = spelled_one y x c b.0.spelled a.0.spelled in
-    let rest : xs ≡ ys = one_files classes xs ys a.1 b.1 in
-    rw (first, rest) refl
+classes_apart : (classes : List (List ℕ)) (r : Refusal) (given : List GivenClass) → RefusesClasses classes r → AreClasses classes given → ⊥
+classes_apart classes r given a are =
+    class_apart a.bytes (all_at IsClass a.before a.bytes a.after (subst (AllByRecursion IsClass) a.classes_are (each_class classes given are))) (length a.before, r, a.bad)
 
 same_given : (a b : GivenClass) → a.file ≡ b.file → a.listings ≡ b.listings → a ≡ b
 same_given a b e f = λ i. record { file = e i; listings = f i }
 
-one_world : (xs ys : List GivenClass) → map file_of xs ≡ map file_of ys → AllByRecursion IsListed xs → AllByRecursion IsListed ys → xs ≡ ys
-one_world [] [] e a b = refl
-one_world [] (y ∷ ys) e a b = absurd (omega (arith, ap length e))
-one_world (x ∷ xs) [] e a b = absurd (omega (arith, ap length e))
-one_world (x ∷ xs) (y ∷ ys) e a b =
-    let files : x.file ≡ y.file = cc in
-    let tails : map file_of xs ≡ map file_of ys = cc in
-    let listings : x.listings ≡ y.listings =
-    listings_one y.file.methods x.listings y.listings (subst (λ (f : ClassFile). AreListings f.methods x.listings) files a.0) b.0 in
-    let first : x ≡ y = same_given x y files listings in
-    let rest : xs ≡ ys = one_world xs ys tails a.1 b.1 in
+one_class : (bytes : List ℕ) (a b : GivenClass) → IsClassOf bytes a → IsClassOf bytes b → a ≡ b
+one_class bytes a b p q =
+    let files : a.file ≡ b.file = spelled_one a.file b.file bytes p.file q.file in
+    same_given a b files (listings_one b.file.methods a.listings b.listings (subst (λ (f : ClassFile). AreListings f.methods a.listings) files p.listed) q.listed)
+
+one_classes : (classes : List (List ℕ)) (xs ys : List GivenClass) → AreClasses classes xs → AreClasses classes ys → xs ≡ ys
+one_classes [] [] [] a b = refl
+one_classes [] (x ∷ xs) ys a b = absurd a
+one_classes [] [] (y ∷ ys) a b = absurd b
+one_classes (c ∷ classes) [] ys a b = absurd a
+one_classes (c ∷ classes) (x ∷ xs) [] a b = absurd b
+one_classes (c ∷ classes) (x ∷ xs) (y ∷ ys) a b =
+    let first : x ≡ y = one_class c x y a.0 b.0 in
+    let rest : xs ≡ ys = one_classes classes xs ys a.1 b.1 in
     rw (first, rest) refl
 
-worlds_one : (files : List ClassFile) (a b : List GivenClass) → IsWorldOf files a → IsWorldOf files b → a ≡ b
-worlds_one files a b p q = one_world a b (p.files_are ∙ sym q.files_are) p.listed q.listed
+worlds_one : (given a b : List GivenClass) → IsWorldOf given a → IsWorldOf given b → a ≡ b
+worlds_one given a b p q = p.classes_are ∙ sym q.classes_are
 
 -- ---- targets
 
@@ -211,6 +203,7 @@ reach_none : (world : List GivenClass) (target : Target) (refusal : Refusal) →
 reach_none world target refusal (links.NoMethod of, (is, none), e) =
     let same : refusals.NoMethod of ≡ refusal = cc in
     (sym same ∙ ap refusals.NoMethod is, none)
+reach_none world target refusal (links.Unbuilt, is, e) = absurd is
 reach_none world target refusal (links.NoMemory, is, e) = absurd cc
 
 target_refusal : (Built : MethodId → Type 0) (world : List GivenClass) (target : Target) (r s : Refusal) → TargetRefuses Built world target r → TargetRefuses Built world target s → r ≡ s
@@ -219,16 +212,16 @@ target_refusal Built world target r s (inr a) (inr b) = a.0 ∙ sym b.0
 target_refusal Built world target r s (inl a) (inr b) = absurd ((reach_none world target r a).1 b.1.id b.1.found)
 target_refusal Built world target r s (inr a) (inl b) = absurd ((reach_none world target s b).1 a.1.id a.1.found)
 
-ids_one : (world : List GivenClass) (target : Target) → AreGiven world → (a b : MethodId) → IsTargetOf world target a → IsTargetOf world target b → a ≡ b
+ids_one : (world : List GivenClass) (target : Target) → AreLinked world → (a b : MethodId) → IsTargetOf world target a → IsTargetOf world target b → a ≡ b
 ids_one world target given a b p q = one_id world a b target given p.declared q.declared
 
-target_apart : (Built : MethodId → Type 0) (world : List GivenClass) (target : Target) → AreGiven world → ((id : MethodId) → Built id → IsTargetOf world target id) →
+target_apart : (Built : MethodId → Type 0) (world : List GivenClass) (target : Target) → AreLinked world → ((id : MethodId) → Built id → IsTargetOf world target id) →
     (r : Refusal) (id : MethodId) → TargetRefuses Built world target r → Built id → ⊥
 target_apart Built world target given found r id (inl a) built = (reach_none world target r a).1 id (found id built)
 target_apart Built world target given found r id (inr a) built =
     a.1.none (subst Built (ids_one world target given id a.1.id (found id built) a.1.found) built)
 
-job_one : (Same : Status → List ℕ → Status → List ℕ → Type 0) (IsTextOf : Method → Report → List ℕ → Type 0) (world : List GivenClass) (job : Job) → AreGiven world →
+job_one : (Same : Status → List ℕ → Status → List ℕ → Type 0) (IsTextOf : Method → Report → List ℕ → Type 0) (world : List GivenClass) (job : Job) → AreLinked world →
     ((a b : Status) (t u : List ℕ) → Same a t b u) → HasOne Same (RepliesJob IsTextOf world job)
 unfolding RepliesJob
 job_one Same IsTextOf world job given any =
@@ -307,7 +300,7 @@ IsBadTest world test = (number : ℕ) × (refusal : Refusal) × RefusesTest worl
 built_found : (world : List GivenClass) (target : Target) (id : MethodId) → IsBuiltMethod world target id → IsTargetOf world target id
 built_found world target id built = built.1.found
 
-test_apart : (world : List GivenClass) → AreGiven world → (test : Test) → IsFine world test → IsBadTest world test → ⊥
+test_apart : (world : List GivenClass) → AreLinked world → (test : Test) → IsFine world test → IsBadTest world test → ⊥
 test_apart world given test (id, method, run) (number, refusal, inl bad) = bad.1 id run.straight.found
 test_apart world given test (id, method, run) (number, refusal, inr (inl bad)) =
     bad.3 (subst (λ (i : MethodId). IsTypeCorrect world i test.input) (ids_one world test.target given id bad.1 run.straight.found bad.2) run.correct)
@@ -320,7 +313,7 @@ each_fine world (t ∷ tests) (i ∷ ids) are = ((i, are.0.0, are.0.1), each_fin
 each_fine world [] (i ∷ ids) are = absurd are
 each_fine world (t ∷ tests) [] are = absurd are
 
-one_test_refusal : (world : List GivenClass) → AreGiven world → (number : ℕ) (test : Test) (r s : Refusal) → RefusesTest world number test r → RefusesTest world number test s → r ≡ s
+one_test_refusal : (world : List GivenClass) → AreLinked world → (number : ℕ) (test : Test) (r s : Refusal) → RefusesTest world number test r → RefusesTest world number test s → r ≡ s
 one_test_refusal world given number test r s (inl a) (inl b) = a.0 ∙ sym b.0
 one_test_refusal world given number test r s (inl a) (inr (inl b)) = absurd (a.1 b.1 b.2)
 one_test_refusal world given number test r s (inl a) (inr (inr b)) = absurd (a.1 b.0 b.1.found)
@@ -333,19 +326,19 @@ one_test_refusal world given number test r s (inr (inr a)) (inr (inl b)) =
     absurd (b.3 (subst (λ (i : MethodId). IsTypeCorrect world i test.input) (ids_one world test.target given a.0 b.1 a.1.found b.2) a.1.correct))
 one_test_refusal world given number test r s (inr (inr a)) (inr (inr b)) = target_refusal (IsBuiltMethod world test.target) world test.target r s a.2 b.2
 
-tests_refusal_one : (world : List GivenClass) → AreGiven world → (tests : List Test) (r s : Refusal) → RefusesTests world tests r → RefusesTests world tests s → r ≡ s
+tests_refusal_one : (world : List GivenClass) → AreLinked world → (tests : List Test) (r s : Refusal) → RefusesTests world tests r → RefusesTests world tests s → r ≡ s
 tests_refusal_one world given tests r s a b =
     let same = same_first (IsFine world) (IsBadTest world) (test_apart world given) a.before b.before a.test b.test a.after b.after (each_fine world a.before a.ids a.good)
     (each_fine world b.before b.ids b.good) (length a.before, r, a.bad) (length b.before, s, b.bad) (sym a.tests_are ∙ b.tests_are) in
     one_test_refusal world given (length b.before) b.test r s
     (subst (λ (t : Test). RefusesTest world (length b.before) t r) same.1 (subst (λ (n : ℕ). RefusesTest world n a.test r) same.0 a.bad)) b.bad
 
-tests_apart : (world : List GivenClass) → AreGiven world → (tests : List Test) (r : Refusal) (ids : List MethodId) → RefusesTests world tests r → AreRunnable world tests ids → ⊥
+tests_apart : (world : List GivenClass) → AreLinked world → (tests : List Test) (r : Refusal) (ids : List MethodId) → RefusesTests world tests r → AreRunnable world tests ids → ⊥
 tests_apart world given tests r ids a are =
     test_apart world given a.test (all_at (IsFine world) a.before a.test a.after (subst (AllByRecursion (IsFine world)) a.tests_are (each_fine world tests ids are)))
     (length a.before, r, a.bad)
 
-one_ids : (world : List GivenClass) → AreGiven world → (tests : List Test) (xs ys : List MethodId) → AreRunnable world tests xs → AreRunnable world tests ys → xs ≡ ys
+one_ids : (world : List GivenClass) → AreLinked world → (tests : List Test) (xs ys : List MethodId) → AreRunnable world tests xs → AreRunnable world tests ys → xs ≡ ys
 one_ids world given [] [] [] a b = refl
 one_ids world given [] (x ∷ xs) ys a b = absurd a
 one_ids world given [] [] (y ∷ ys) a b = absurd b
@@ -386,7 +379,7 @@ one_verdict method test (Differs ending heap) (Differs other last) a b =
     let heaps : heap ≡ last = ap (λ (e : Ended). e.heap) same in
     rw (endings, heaps) refl
 
-one_verdicts : (world : List GivenClass) → AreGiven world → (tests : List Test) (xs ys : List Replayed) → AreVerdicts world tests xs → AreVerdicts world tests ys → xs ≡ ys
+one_verdicts : (world : List GivenClass) → AreLinked world → (tests : List Test) (xs ys : List Replayed) → AreVerdicts world tests xs → AreVerdicts world tests ys → xs ≡ ys
 one_verdicts world given [] [] [] a b = refl
 one_verdicts world given [] (x ∷ xs) ys a b = absurd a
 one_verdicts world given [] [] (y ∷ ys) a b = absurd b
@@ -402,7 +395,7 @@ one_verdicts world given (t ∷ tests) (x ∷ xs) (y ∷ ys) a b =
     let rest : xs ≡ ys = one_verdicts world given tests xs ys a.1 b.1 in
     rw (first, rest) refl
 
-replay_one : (Same : Status → List ℕ → Status → List ℕ → Type 0) (bytes : List ℕ) (world : List GivenClass) → AreGiven world →
+replay_one : (Same : Status → List ℕ → Status → List ℕ → Type 0) (bytes : List ℕ) (world : List GivenClass) → AreLinked world →
     ((a b : Status) (t u : List ℕ) → a ≡ b → t ≡ u → Same a t b u) → HasOne Same (RepliesReplay bytes world)
 unfolding RepliesReplay
 replay_one Same bytes world given same =
@@ -430,7 +423,7 @@ not_both words order ordered other (tests, files, replay) =
     result_of : Order → Result Order WordFault
     result_of o = Ok o
 
-order_one : (words : List (List ℕ)) (order : Order) → Orders words (Ok order) → (texts : List (List ℕ)) (world : List GivenClass) → AreGiven world → HasOne (SameEnd words) (RepliesIn order texts world)
+order_one : (words : List (List ℕ)) (order : Order) → Orders words (Ok order) → (texts : List (List ℕ)) (world : List GivenClass) → AreLinked world → HasOne (SameEnd words) (RepliesIn order texts world)
 order_one words (Explore job) ordered texts world given =
     job_one (SameEnd words) _ world job given (λ a b t u replay. absurd (not_both words (Explore job) ordered (λ tests files e. cc) replay))
 order_one words (Tests job) ordered texts world given =
@@ -442,21 +435,20 @@ order_one words (Diagrams job) ordered texts world given = λ one other a b. abs
 order_one words (Assemble name) ordered texts world given = λ one other a b. absurd a
 order_one words (Sample blocks) ordered texts world given = λ one other a b. absurd a
 
-contents_one : (words : List (List ℕ)) (order : Order) → Orders words (Ok order) → (contents : Contents) → length contents.classes ≡ 1 → HasOne (SameEnd words) (RepliesOn order contents)
+contents_one : (words : List (List ℕ)) (order : Order) → Orders words (Ok order) → (contents : Contents) → HasOne (SameEnd words) (RepliesOn order contents)
 unfolding RepliesOn
-contents_one words order ordered contents one =
+contents_one words order ordered contents =
     stage_one (SameEnd words) (RefusesClasses contents.classes) (AreClasses contents.classes) _ (classes_refusal contents.classes) (classes_apart contents.classes)
-    (one_files contents.classes) (λ files are.
-    stage_one (SameEnd words) RefusesNothing (IsWorldOf files) (λ world. RepliesIn order contents.texts world) (λ r s wrong more. absurd wrong) (λ r world wrong is. wrong)
-    (worlds_one files) (λ world is.
-    order_one words order ordered contents.texts world (one_given files world (one_small contents.classes files one are) is)))
+    (one_classes contents.classes) (λ given are.
+    stage_one (SameEnd words) (WorldRefuses given) (IsWorldOf given) (λ world. RepliesIn order contents.texts world) (λ r s one other. one.0 ∙ sym other.0)
+    (λ r world refused is. refused.1 is.linkable) (worlds_one given) (λ world is.
+    order_one words order ordered contents.texts world (linked_world given world (are_given contents.classes given are) is)))
 
 to_one : (words : List (List ℕ)) (holds : List ℕ → Option (List ℕ)) (order : Order) → Orders words (Ok order) → AreTold words holds → HasOne (SameEnd words) (RepliesTo order holds)
 unfolding RepliesTo
 to_one words holds order ordered told =
     stage_one (SameEnd words) RefusesNothing (IsRead holds order) (RepliesOn order) (λ r s wrong more. absurd wrong) (λ r contents wrong is. wrong)
-    (one_contents holds order (told order ordered)) (λ contents read.
-    contents_one words order ordered contents (read_as_many class_limit holds (classes_of order) contents.classes read.classes ∙ one_class words order ordered))
+    (one_contents holds order (told order ordered)) (λ contents read. contents_one words order ordered contents)
 
 fault_one : (words : List (List ℕ)) (r s : Refusal) → WordsRefuse words r → WordsRefuse words s → r ≡ s
 fault_one words r s (f, p, e) (g, q, h) =

@@ -25,7 +25,7 @@ use Rattle.kiasan.specs.declared.state.State.{State}
 use Rattle.kiasan.specs.declared.state.Step.{Step}
 use Rattle.kiasan.specs.declared.state.Step.TheVariants.{Goes as StepGoes, IllTyped as StepIllTyped}
 use Rattle.kb_code.specs.declared.instruction.IntOp.{IntOp}
-use Rattle.kb_code.specs.declared.instruction.IntOp.TheVariants.{Add, Sub, Mul, Shl, Shr, Ushr, And, Or, Xor}
+use Rattle.kb_code.specs.declared.instruction.IntOp.TheVariants.{Add, Sub, Mul, Div, Rem, Shl, Shr, Ushr, And, Or, Xor}
 use Rattle.kb_code.specs.declared.instruction.IntCut.{IntCut}
 use Rattle.kb_code.specs.declared.instruction.IntCut.TheVariants.{Byte, Char, Short}
 use Rattle.kiasan.specs.Operations.{term_op_of, narrowing_op_of}
@@ -245,6 +245,8 @@ unfolding effect
 int2_follows r old new Add h = h
 int2_follows r old new Sub h = h
 int2_follows r old new Mul h = h
+int2_follows r old new Div h = h
+int2_follows r old new Rem h = h
 int2_follows r old new Shl h = h
 int2_follows r old new Shr h = h
 int2_follows r old new Ushr h = h

@@ -1,12 +1,15 @@
 -- When a method of a world is straight.
-use Rattle.std.proofs.Common.{◌≡◌, ℕ, ◌≤◌, ℤ, pos, List, [], length, replicate, Option, Some, None, Result, Ok, Err, IfOk, IfSome, IfNone, refl, sym, ◌∙◌, ap, true, not, nat_eq, bit_and, rules, zero, suc}
+use Rattle.std.proofs.Common.{◌≡◌, ℕ, ◌≤◌, ℤ, pos, List, [], length, replicate, Option, Some, None, Result, Ok, Err, IfOk, IfSome, IfNone, refl, sym, ◌∙◌, ap, subst, inl, inr, true, false, not, nat_eq, bit_and, rules, zero, suc}
 use Rattle.std.proofs.lemmas.List.{length-replicate}
+use Rattle.std.specs.Option.{option_copied}
 use Rattle.kb_arith.specs.Word.{AreInts}
+use Rattle.kb_classfile.specs.declared.file.Code.{Code}
+use Rattle.kb_code.specs.declared.listing.Listing.{Listing}
 use Rattle.kb_code.proofs.Listings.{listed_laid_out}
 use Rattle.kb_code.specs.Listing.{IsLaidOut}
 use Rattle.kb_heap.specs.declared.heap.Heap.{Heap}
 use Rattle.kb_names.specs.declared.types.Target.{Target}
-use Rattle.kb_semantics.specs.Machine.{Method}
+use Rattle.kb_semantics.specs.Machine.{AreBuilt, Method}
 use Rattle.kb_semantics.specs.Types.{IsMethod}
 use Rattle.kb_world.specs.declared.world.GivenClass.{GivenClass}
 use Rattle.kb_world.specs.declared.world.MethodId.{MethodId}
@@ -15,8 +18,8 @@ use Rattle.kb_world.specs.World.{Declares, Describes, IsTargetOf}
 use Rattle.kiasan.specs.declared.explore.Explored.{Explored}
 use Rattle.kiasan.specs.declared.explore.StraightCode.{StraightCode}
 use Rattle.kiasan.specs.declared.memory.NoMemory.{NoMemory}
-use Rattle.kiasan.specs.Explored.{IsExplored, IsCarriedOut, IsStraightRun, IsCodeOf, RunsReturn}
-use Rattle.kiasan.specs.Straight.{HasCode, IsIllTyped, IsStraight, ends_by_return, most_instructions, run_over}
+use Rattle.kiasan.specs.Explored.{HasNoCode, IsExplored, IsCarriedOut, IsOtherCode, IsStraightRun, IsCodeOf, RunsReturn}
+use Rattle.kiasan.specs.Straight.{HasCode, IsIllTyped, IsStraight, ends_by_return, has_wide, most_instructions, run_over}
 use Rattle.kiasan.specs.Target.{takes_ints, params_of}
 
 no_objects : Heap
@@ -81,6 +84,38 @@ has_code_told world id info straight method d is m =
       size = m.size ∙ ap (λ c. length c.bytes) (sym codes) ∙ sym is.size;
     }
 
+-- a method without the code of a straight one is none
+pub none_without_code : (world : List GivenClass) (target : Target) (id : MethodId) (info : MethodInfo) → Describes world id info → HasNoCode info → (method : Method) → IsStraight world target id method → ⊥
+none_without_code world target id info d (inl flag) method s =
+    let methods = one_method world id info.target.now method.target d.declared s.runs.declared in
+    let access : info.access ≡ s.runs.declared.names.method.access = d.access ∙ ap (λ m. m.access) methods in
+    let wrong : false ≡ true = sym (ap not (ap (λ a. nat_eq (bit_and a 8) 0) (sym access) ∙ flag)) ∙ s.static in
+    cc
+none_without_code world target id info d (inr (inl none)) method s =
+    let methods = one_method world id info.target.now method.target d.declared s.runs.declared in
+    let told-code = d.code in
+    let own-code = s.runs.has_code in
+    cc
+none_without_code world target id info d (inr (inr (inl none))) method s =
+    let classes = one_class world id info.target.now method.target d.declared s.runs.declared in
+    let told-listing = d.listing in
+    let own-listing = s.runs.has_listing in
+    cc
+none_without_code world target id info d (inr (inr (inr is))) method s =
+    let methods = one_method world id info.target.now method.target d.declared s.runs.declared in
+    let classes = one_class world id info.target.now method.target d.declared s.runs.declared in
+    let told-code = d.code in
+    let own-code = s.runs.has_code in
+    let has-code = is.has_code in
+    let codes : is.code ≡ s.runs.code = cc in
+    let told-listing = d.listing in
+    let own-listing = s.runs.has_listing in
+    let has-listing = is.has_listing in
+    let listings : is.listing ≡ s.runs.listing = cc in
+    let items : method.listing ≡ is.listing.items = s.runs.items ∙ ap (λ l. l.items) (sym listings) in
+    is.other (ap (λ c. c.handlers) codes ∙ s.handlers) (subst AreBuilt items s.built)
+    (ap (λ c. has_wide c.bytes is.listing.items) codes ∙ ap (has_wide s.runs.code.bytes) (sym items) ∙ s.narrow)
+
 pub not_straight : (world : List GivenClass) (target : Target) (id : MethodId) (info : MethodInfo) (straight : StraightCode) (o : Option Explored) →
     Describes world id info → IsCodeOf info straight →
     IfNone o ((method : Method) → IsStraightRun straight (params_of target) method → ⊥) → IfNone o ((method : Method) → IsStraight world target id method → ⊥)
@@ -123,6 +158,9 @@ explored_is world target id info straight explored f d ints is c =
         named = refl;
         static = ap not (ap (λ a. nat_eq (bit_and a 8) 0) (sym flags) ∙ is.static);
         ints = ints;
+        handlers = is.handlers;
+        built = subst AreBuilt is.items is.built;
+        narrow = ap (has_wide is.code.bytes) (sym is.items) ∙ is.narrow;
         few = few;
         ends = ap ends_by_return (sym is.items) ∙ c.ends;
         typed = λ heap inputs long fit ill. let wrong = rw (returns most_instructions heap inputs few long fit) at ill in wrong;
@@ -144,3 +182,9 @@ pub not_straight_ok : (world : List GivenClass) (target : Target) (id : MethodId
     IfOk r (λ o. IfNone o ((method : Method) → IsStraightRun straight params method → ⊥)) → IfOk r (λ o. IfNone o ((method : Method) → IsStraight world target id method → ⊥))
 not_straight_ok world target id info straight params (Ok o) d is count none = not_straight world target id info straight o d is (rw (← count) none)
 not_straight_ok world target id info straight params (Err e) d is count none = tt
+
+-- other code than that of a straight method
+pub other_code : (info : MethodInfo) (code : Code) (listing : Listing) → option_copied info.code ≡ Some code → option_copied info.listing ≡ Some listing →
+    (code.handlers ≡ [] → AreBuilt listing.items → has_wide code.bytes listing.items ≡ false → ⊥) → HasNoCode info
+other_code info code listing has_code has_listing other =
+    inr (inr (inr (record { code = code; has_code = has_code; listing = listing; has_listing = has_listing; other = other })))

@@ -27,6 +27,20 @@ use Rattle.kiasan.proofs.OneReply.{one_reply}
 
 pub refusal_answers : (refusal : Refusal) → IsAnswer (refusal_status refusal)
 refusal_answers (refusals.Magic file) = tt
+refusal_answers (refusals.Version file major) = tt
+refusal_answers (refusals.Short file at) = tt
+refusal_answers (refusals.Tag file entry tag) = tt
+refusal_answers (refusals.PoolIndex file at entry) = tt
+refusal_answers (refusals.PoolKind file at entry) = tt
+refusal_answers (refusals.CodeLength file at) = tt
+refusal_answers (refusals.Extra file at) = tt
+refusal_answers (refusals.TwoCodes file method) = tt
+refusal_answers (refusals.LongClass file) = tt
+refusal_answers (refusals.Opcode file method at op) = tt
+refusal_answers (refusals.CutInstr file method at) = tt
+refusal_answers (refusals.JumpTarget file method at to) = tt
+refusal_answers (refusals.Switch file method at) = tt
+refusal_answers (refusals.HandlerRange file method handler) = tt
 refusal_answers (refusals.NoMethod target) = tt
 refusal_answers refusals.Unbuilt = tt
 refusal_answers (refusals.TestLine number) = tt

@@ -172,12 +172,3 @@ built_order words (Replay tests files) h = ap length h.files_are
 built_order words (Diagrams job) h = absurd h
 built_order words (Assemble text) h = absurd h
 built_order words (Sample blocks) h = absurd h
-
--- so each has one class file
-pub one_class : (words : List (List ℕ)) (order : Order) → Orders words (Ok order) → length (classes_of order) ≡ 1
-one_class words (Explore job) h = (job_writable words (codes "explore") job h).1
-one_class words (Tests job) h = (job_writable words (codes "tests") job h).1
-one_class words (Replay tests files) h = ap length h.files_are
-one_class words (Diagrams job) h = absurd h
-one_class words (Assemble text) h = absurd h
-one_class words (Sample blocks) h = absurd h

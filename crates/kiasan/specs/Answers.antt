@@ -4,10 +4,8 @@ use Rattle.std.specs.Prelude.{◌≡◌, ℕ, ◌+◌, ◌<◌, ◌≤◌, ◌�
 use Rattle.std.specs.List.{AllByRecursion}
 use Rattle.kb_classfile.specs.declared.file.ClassFile.{ClassFile}
 use Rattle.kb_classfile.specs.declared.refusal.ClassRefusal.{ClassRefusal}
-use Rattle.kb_classfile.specs.declared.refusal.ClassRefusal.TheVariants as class_faults
-use Rattle.kb_classfile.specs.Small.{SpellsSmall, IsSmallForm}
-use Rattle.kb_classfile.specs.Answers.{BeginsAsClass, IsNotBuilt}
-use Rattle.kb_code.specs.declared.listing.Listing.{Listing}
+use Rattle.kb_classfile.specs.Reading.{first_fault}
+use Rattle.kb_classfile.specs.Spelling.{IsClassFile}
 use Rattle.kb_names.specs.declared.types.Target.{Target}
 use Rattle.kb_outside.specs.Outside.{Rose, Grows, GrowsByPart}
 use Rattle.kb_semantics.specs.Machine.{Method}
@@ -17,11 +15,12 @@ use Rattle.kb_names.specs.Targets.{IsTarget}
 use Rattle.kb_test.specs.Texts.{SpellsTests, IsTestsText, AreTests, IsRunBounds}
 use Rattle.kb_world.specs.declared.world.GivenClass.{GivenClass}
 use Rattle.kb_world.specs.declared.world.MethodId.{MethodId}
-use Rattle.kb_world.specs.World.{IsTargetOf, AreListings}
+use Rattle.kb_world.specs.Linkable.{AreLinkable}
+use Rattle.kb_world.specs.World.{IsTargetOf, AreListings, file_of}
 use Rattle.kiasan.specs.declared.answer.Contents.{Contents}
 use Rattle.kiasan.specs.declared.refusals.Answer.{Answer}
 use Rattle.kiasan.specs.declared.refusals.Refusal.{Refusal}
-use Rattle.kiasan.specs.declared.refusals.Refusal.TheVariants.{TestLine, LongText}
+use Rattle.kiasan.specs.declared.refusals.Refusal.TheVariants.{TestLine, LongText, Unbuilt}
 use Rattle.kiasan.specs.declared.refusals.Stop.{Stop}
 use Rattle.kiasan.specs.declared.refusals.Stop.TheVariants.{Refused}
 use Rattle.kiasan.specs.declared.refusals.Stop.TheVariants as stops
@@ -33,13 +32,14 @@ use Rattle.kiasan.specs.declared.words.Order.TheVariants.{Explore, Tests, Diagra
 use Rattle.kiasan.specs.declared.words.WordFault.{WordFault}
 use Rattle.kiasan.specs.declared.status.Status.{Status}
 use Rattle.kiasan.specs.declared.status.Status.TheVariants.{Complete, Words, Class, Link, Outside, ReadFault, WriteFault, Memory, Text, Differs}
+use Rattle.kiasan.specs.CodeFaults.{MethodsRefuse}
 use Rattle.kiasan.specs.Orders.{Orders, texts_of, classes_of, files_of}
 use Rattle.kiasan.specs.Refusals.{Gives, class_refusal, refusal_status, refusal_line, word_refusal}
 use Rattle.kiasan.specs.Report.{report_text}
 use Rattle.kiasan.specs.Reach.{TargetRefuses}
 use Rattle.kiasan.specs.Covering.{IsReportOf, HasStatus, tests_of}
 use Rattle.kiasan.specs.Tests.{AreRunnable, AreVerdicts, EndsAsStated, RefusesTests, no_literals, replay_status}
-use Rattle.kiasan.specs.Unbuilt.{IsBuiltFor}
+use Rattle.kiasan.specs.Unbuilt.{AreUnbuiltClasses, IsBuiltFor}
 use Rattle.kiasan.specs.Verdicts.{replay_text}
 
 -- ---- replies and stages
@@ -160,21 +160,28 @@ IsBuiltOrder (Sample blocks) = ⊥
 
 -- ---- classes, and their world
 
--- what is wrong with the bytes of a class file
+-- what is wrong with the bytes of a class file: the first fault that is met
 abbrev pub HasClassFault : List ℕ → ClassRefusal → Type 0
-HasClassFault bytes class_faults.Magic = (4 ≤ length bytes) × (BeginsAsClass bytes → ⊥)
-HasClassFault bytes class_faults.Unbuilt = IsNotBuilt bytes
-HasClassFault bytes _ = ⊥
+HasClassFault bytes fault = first_fault bytes ≡ Some fault
 
--- what refuses the class file of that number, from 0
+-- what refuses the bytes of the class file of that number, from 0
+abbrev pub FileRefuses : ℕ → List ℕ → Refusal → Type 0
+FileRefuses number bytes refusal = (found : ClassRefusal) × HasClassFault bytes found × (class_refusal number found ≡ Refused refusal)
+
+-- What refuses the class file of that number: its bytes, and if they spell one the code of its methods.
 abbrev pub ClassRefuses : ℕ → List ℕ → Refusal → Type 0
-ClassRefuses number bytes refusal = (found : ClassRefusal) × HasClassFault bytes found × (class_refusal number found ≡ Refused refusal)
+ClassRefuses number bytes refusal = FileRefuses number bytes refusal ⊎ ((file : ClassFile) × IsClassFile file bytes × MethodsRefuse number file.methods refusal)
 
--- each spells a class file
-abbrev pub AreClasses : List (List ℕ) → List ClassFile → Type 0
+-- the bytes spell the class's file, and each method has its listing
+pub record IsClassOf (bytes : List ℕ) (class : GivenClass) : Type 0 where
+  pub file : IsClassFile class.file bytes
+  pub listed : AreListings class.file.methods class.listings
+
+-- each spells a class
+abbrev pub AreClasses : List (List ℕ) → List GivenClass → Type 0
 AreClasses [] [] = Unit {0}
-AreClasses (bytes ∷ classes) (file ∷ files) = SpellsSmall file bytes × AreClasses classes files
-AreClasses [] (file ∷ files) = ⊥
+AreClasses (bytes ∷ classes) (class ∷ given) = IsClassOf bytes class × AreClasses classes given
+AreClasses [] (class ∷ given) = ⊥
 AreClasses (bytes ∷ classes) [] = ⊥
 
 -- The first class file that is refused, and its number.
@@ -183,29 +190,18 @@ pub record RefusesClasses (classes : List (List ℕ)) (refusal : Refusal) : Type
   pub bytes : List ℕ
   pub after : List (List ℕ)
   pub classes_are : classes ≡ before ++ bytes ∷ after
-  pub files : List ClassFile
-  pub good : AreClasses before files
+  pub given : List GivenClass
+  pub good : AreClasses before given
   pub bad : ClassRefuses (length before) bytes refusal
 
--- The world of class files: each with the listings of its methods, as far as they are built.
-abbrev pub file_of : GivenClass → ClassFile
-file_of class = class.file
+-- what refuses the world of classes
+abbrev pub WorldRefuses : List GivenClass → Refusal → Type 0
+WorldRefuses given refusal = (refusal ≡ Unbuilt) × AreUnbuiltClasses (map file_of given)
 
-abbrev pub IsListed : GivenClass → Type 0
-IsListed class = AreListings class.file.methods class.listings
-
-pub record IsWorldOf (files : List ClassFile) (world : List GivenClass) : Type 0 where
-  pub files_are : map file_of world ≡ files
-  pub listed : AllByRecursion IsListed world
-
--- by now there is one class file
-pub record IsOneSmall (files : List ClassFile) : Type 0 where
-  pub file : ClassFile
-  pub small : IsSmallForm file
-  pub files_are : files ≡ file ∷ []
-
-abbrev pub IsWorldOfBytes : List (List ℕ) → List GivenClass → Type 0
-IsWorldOfBytes classes world = (files : List ClassFile) × AreClasses classes files × IsWorldOf files world
+-- the world of classes that are linked
+pub record IsWorldOf (given world : List GivenClass) : Type 0 where
+  pub linkable : AreLinkable (map file_of given)
+  pub classes_are : world ≡ given
 
 -- ---- reading
 
@@ -247,8 +243,8 @@ IsReadFaultOrNoMemory stops.NoMemory = Unit {0}
 
 unfoldable pub RepliesOn : Order → Contents → Reply → Type 0
 RepliesOn order contents =
-    Stage (RefusesClasses contents.classes) (AreClasses contents.classes) (λ files.
-    Stage RefusesNothing (IsWorldOf files) (λ world.
+    Stage (RefusesClasses contents.classes) (AreClasses contents.classes) (λ given.
+    Stage (WorldRefuses given) (IsWorldOf given) (λ world.
     RepliesIn order contents.texts world))
 
 unfoldable pub RepliesTo : Order → (List ℕ → Option (List ℕ)) → Reply → Type 0

@@ -1,5 +1,5 @@
 -- What the exploration of a straight method tells.
-use Rattle.std.specs.Prelude.{◌≡◌, ℕ, ◌≤◌, ◌⊎◌, ℤ, List, length, replicate, Some, None, true, false, bit_and, nat_eq}
+use Rattle.std.specs.Prelude.{◌≡◌, ℕ, ◌≤◌, ◌⊎◌, ℤ, List, [], length, replicate, Some, None, true, false, bit_and, nat_eq}
 use Rattle.std.specs.Option.{option_copied}
 use Rattle.kb_arith.specs.Word.{AreInts}
 use Rattle.kb_classfile.specs.declared.file.Code.{Code}
@@ -8,7 +8,7 @@ use Rattle.kb_heap.specs.declared.heap.Value.TheVariants.{Int}
 use Rattle.kb_heap.specs.declared.heap.Heap.{Heap}
 use Rattle.kb_heap.specs.declared.ending.Ending.TheVariants.{Returned}
 use Rattle.kb_names.specs.declared.types.Target.{Target}
-use Rattle.kb_semantics.specs.Machine.{Method}
+use Rattle.kb_semantics.specs.Machine.{AreBuilt, Method}
 use Rattle.kb_terms.specs.Terms.{IsTerm, value_of}
 use Rattle.kb_terms.specs.declared.node.VarKind.TheVariants.{Int as IntKind}
 use Rattle.kiasan.specs.Paths.{variable_kinds}
@@ -17,7 +17,7 @@ use Rattle.kb_world.specs.declared.world.MethodId.{MethodId}
 use Rattle.kb_world.specs.declared.world.MethodInfo.{MethodInfo}
 use Rattle.kiasan.specs.declared.explore.Explored.{Explored}
 use Rattle.kiasan.specs.declared.explore.StraightCode.{StraightCode}
-use Rattle.kiasan.specs.Straight.{HasCode, IsIllTyped, IsStraight, ends_by_return, most_instructions, run_over}
+use Rattle.kiasan.specs.Straight.{HasCode, IsIllTyped, IsStraight, ends_by_return, has_wide, most_instructions, run_over}
 use Rattle.kiasan.specs.Target.{params_of}
 
 -- Within enough steps, each run of the method over so many ints of 32 bits returns the value of the term, and leaves the heap
@@ -52,7 +52,8 @@ pub record IsStraightRun (code : StraightCode) (params : ℕ) (method : Method) 
   pub ends : ends_by_return method.listing ≡ true
   pub typed : (heap : Heap) (inputs : List ℤ) → length inputs ≡ params → AreInts inputs → IsIllTyped (run_over most_instructions method heap inputs).ending → ⊥
 
--- the code of a static method, and its listing, are these
+-- The code of a static method, and its listing, are these. It has no handlers, and its instructions are built and in their
+-- short forms.
 pub record IsCodeOf (info : MethodInfo) (straight : StraightCode) : Type 0 where
   pub static : nat_eq (bit_and info.access 8) 0 ≡ false
   pub code : Code
@@ -63,9 +64,20 @@ pub record IsCodeOf (info : MethodInfo) (straight : StraightCode) : Type 0 where
   pub locals : straight.limits.locals ≡ code.max_locals
   pub items : straight.listing.now ≡ listing.items
   pub size : straight.size ≡ length code.bytes
+  pub handlers : code.handlers ≡ []
+  pub built : AreBuilt straight.listing.now
+  pub narrow : has_wide code.bytes straight.listing.now ≡ false
 
--- the method is not static, or has no code, or none that is listed
+-- the method has this code and this listing, and a handler, or an instruction that is not built or in its wide form
+pub record IsOtherCode (info : MethodInfo) : Type 0 where
+  pub code : Code
+  pub has_code : option_copied info.code ≡ Some code
+  pub listing : Listing
+  pub has_listing : option_copied info.listing ≡ Some listing
+  pub other : code.handlers ≡ [] → AreBuilt listing.items → has_wide code.bytes listing.items ≡ false → ⊥
+
+-- the method is not static, has no code, or none that is listed, or other code than a straight method
 abbrev pub HasNoCode : MethodInfo → Type 0
 HasNoCode info =
     (nat_eq (bit_and info.access 8) 0 ≡ true)
-    ⊎ ((option_copied info.code ≡ None) ⊎ (option_copied info.listing ≡ None))
+    ⊎ ((option_copied info.code ≡ None) ⊎ (option_copied info.listing ≡ None) ⊎ IsOtherCode info)

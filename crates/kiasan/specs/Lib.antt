@@ -1,4 +1,5 @@
 pub mod Answers
+pub mod CodeFaults
 pub mod Covering
 pub mod Explored
 pub mod Operations

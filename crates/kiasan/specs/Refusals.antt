@@ -1,11 +1,13 @@
 -- The refusals: the status and the line of each, by rising number.
-use Rattle.std.specs.Prelude.{◌≡◌, ℕ, List, [], ◌∷◌, codes, Result, Ok, Err}
-use Rattle.std.specs.Fmt.{decimal}
+use Rattle.std.specs.Prelude.{◌≡◌, ℕ, ◌/◌, ◌%◌, ℤ, false, List, [], ◌∷◌, ◌++◌, codes, Result, Ok, Err}
+use Rattle.std.specs.Fmt.{decimal, signed_decimal, digit_glyph}
 use Rattle.kb_classfile.specs.declared.refusal.ClassRefusal.{ClassRefusal}
 use Rattle.kb_classfile.specs.declared.refusal.ClassRefusal.TheVariants as classes
+use Rattle.kb_code.specs.declared.refusal.CodeRefusal.{CodeRefusal}
+use Rattle.kb_code.specs.declared.refusal.CodeRefusal.TheVariants as codes_of
 use Rattle.kb_names.specs.Targets.{target_text}
 use Rattle.kiasan.specs.declared.refusals.Refusal.{Refusal}
-use Rattle.kiasan.specs.declared.refusals.Refusal.TheVariants.{Magic, NoMethod, Unbuilt, TestLine, NoTestMethod, IllTypedTest, LongText, NoCommand, BadTarget}
+use Rattle.kiasan.specs.declared.refusals.Refusal.TheVariants.{Magic, Version, Short, Tag, PoolIndex, PoolKind, CodeLength, Extra, TwoCodes, LongClass, Opcode, CutInstr, JumpTarget, Switch, HandlerRange, NoMethod, Unbuilt, TestLine, NoTestMethod, IllTypedTest, LongText, NoCommand, BadTarget}
 use Rattle.kiasan.specs.declared.refusals.Stop.{Stop}
 use Rattle.kiasan.specs.declared.refusals.Stop.TheVariants.{Refused, ReadFault, NoMemory}
 use Rattle.kb_test.specs.declared.reading.TestRefusal.{TestRefusal}
@@ -19,9 +21,57 @@ use Rattle.kiasan.specs.declared.status.Status.TheVariants.{Words, Class, Link, 
 use Rattle.kiasan.specs.Report.{line}
 use Rattle.kiasan.specs.Unbuilt.{unbuilt_status, unbuilt_line}
 
+-- the line of a refusal in the class file of a number, of one at an offset in it, and of one at an entry that is named there
+unfoldable pub file_line : ℕ → ℕ → List ℕ
+file_line number file = line (codes "refused " ∷ decimal number ∷ codes " file " ∷ decimal file ∷ [])
+
+unfoldable pub offset_line : ℕ → ℕ → ℕ → List ℕ
+offset_line number file at = line (codes "refused " ∷ decimal number ∷ codes " file " ∷ decimal file ∷ codes " at " ∷ decimal at ∷ [])
+
+unfoldable pub entry_line : ℕ → ℕ → ℕ → ℕ → List ℕ
+entry_line number file at entry =
+    line (codes "refused " ∷ decimal number ∷ codes " file " ∷ decimal file ∷ codes " at " ∷ decimal at ∷ codes " entry " ∷ decimal entry ∷ [])
+
+-- an opcode as two hexadecimal digits in lower case
+abbrev pub hexadecimal : ℕ → List ℕ
+hexadecimal op = digit_glyph false (op / 16) ∷ digit_glyph false (op % 16) ∷ []
+
+-- the line of a refusal at an instruction of a method, of an opcode there, of a target from there, and of a handler
+unfoldable pub code_line : ℕ → ℕ → ℕ → ℕ → List ℕ
+code_line number file method at =
+    line (codes "refused " ∷ decimal number ∷ codes " file " ∷ decimal file ∷ codes " method " ∷ decimal method ∷ codes " at " ∷ decimal at ∷ [])
+
+unfoldable pub opcode_front : ℕ → ℕ → ℕ → List ℕ
+opcode_front file method at = codes "refused 20 file " ++ (decimal file ++ (codes " method " ++ (decimal method ++ (codes " at " ++ (decimal at ++ codes " opcode ")))))
+
+unfoldable pub opcode_line : ℕ → ℕ → ℕ → ℕ → List ℕ
+opcode_line file method at op = opcode_front file method at ++ (hexadecimal op ++ codes "\n")
+
+unfoldable pub target_line : ℕ → ℕ → ℕ → ℤ → List ℕ
+target_line file method at to =
+    line (codes "refused 22 file " ∷ decimal file ∷ codes " method " ∷ decimal method ∷ codes " at " ∷ decimal at ∷ codes " to " ∷ signed_decimal to ∷ [])
+
+unfoldable pub handler_line : ℕ → ℕ → ℕ → List ℕ
+handler_line file method handler =
+    line (codes "refused 24 file " ∷ decimal file ∷ codes " method " ∷ decimal method ∷ codes " handler " ∷ decimal handler ∷ [])
+
 -- the line of a refusal: its number, and its place
 unfoldable pub refusal_line : Refusal → List ℕ
-refusal_line (Magic file) = line (codes "refused 10 file " ∷ decimal file ∷ [])
+refusal_line (Magic file) = file_line 10 file
+refusal_line (Version file major) = line (codes "refused 11 file " ∷ decimal file ∷ codes " version " ∷ decimal major ∷ [])
+refusal_line (Short file at) = offset_line 12 file at
+refusal_line (Tag file entry tag) = line (codes "refused 13 file " ∷ decimal file ∷ codes " entry " ∷ decimal entry ∷ codes " tag " ∷ decimal tag ∷ [])
+refusal_line (PoolIndex file at entry) = entry_line 14 file at entry
+refusal_line (PoolKind file at entry) = entry_line 15 file at entry
+refusal_line (CodeLength file at) = offset_line 16 file at
+refusal_line (Extra file at) = offset_line 17 file at
+refusal_line (TwoCodes file method) = line (codes "refused 18 file " ∷ decimal file ∷ codes " method " ∷ decimal method ∷ [])
+refusal_line (LongClass file) = file_line 19 file
+refusal_line (Opcode file method at op) = opcode_line file method at op
+refusal_line (CutInstr file method at) = code_line 21 file method at
+refusal_line (JumpTarget file method at to) = target_line file method at to
+refusal_line (Switch file method at) = code_line 23 file method at
+refusal_line (HandlerRange file method handler) = handler_line file method handler
 refusal_line (NoMethod target) = line (codes "refused 45 " ∷ target_text target ∷ [])
 refusal_line Unbuilt = unbuilt_line
 refusal_line (TestLine number) = line (codes "refused 60 line " ∷ decimal number ∷ [])
@@ -33,6 +83,20 @@ refusal_line (BadTarget word) = line (codes "refused 98 word " ∷ decimal word 
 
 abbrev pub refusal_status : Refusal → Status
 refusal_status (Magic file) = Class
+refusal_status (Version file major) = Class
+refusal_status (Short file at) = Class
+refusal_status (Tag file entry tag) = Class
+refusal_status (PoolIndex file at entry) = Class
+refusal_status (PoolKind file at entry) = Class
+refusal_status (CodeLength file at) = Class
+refusal_status (Extra file at) = Class
+refusal_status (TwoCodes file method) = Class
+refusal_status (LongClass file) = Class
+refusal_status (Opcode file method at op) = Class
+refusal_status (CutInstr file method at) = Class
+refusal_status (JumpTarget file method at to) = Class
+refusal_status (Switch file method at) = Class
+refusal_status (HandlerRange file method handler) = Class
 refusal_status (NoMethod target) = Link
 refusal_status Unbuilt = unbuilt_status
 refusal_status (TestLine number) = Text
@@ -49,14 +113,32 @@ word_refusal (faults.BadTarget word) = Refused (BadTarget word)
 word_refusal faults.Unbuilt = Refused Unbuilt
 word_refusal faults.NoMemory = NoMemory
 
--- the refusal of the class file of that number; of those that no class file has by now, that of what is not built
+-- the refusal of the class file of that number
 abbrev pub class_refusal : ℕ → ClassRefusal → Stop
-class_refusal number classes.Magic = Refused (Magic number)
-class_refusal number classes.NoMemory = NoMemory
-class_refusal number _ = Refused Unbuilt
+class_refusal file classes.Magic = Refused (Magic file)
+class_refusal file (classes.Version major) = Refused (Version file major)
+class_refusal file (classes.Short at) = Refused (Short file at)
+class_refusal file (classes.Tag entry tag) = Refused (Tag file entry tag)
+class_refusal file (classes.PoolIndex at entry) = Refused (PoolIndex file at entry)
+class_refusal file (classes.PoolKind at entry) = Refused (PoolKind file at entry)
+class_refusal file (classes.CodeLength at) = Refused (CodeLength file at)
+class_refusal file (classes.Extra at) = Refused (Extra file at)
+class_refusal file (classes.TwoCodes method) = Refused (TwoCodes file method)
+class_refusal file classes.Long = Refused (LongClass file)
+class_refusal file classes.NoMemory = NoMemory
+
+-- the refusal of the code of the method of that number, in the class file of a number
+abbrev pub code_refusal : ℕ → ℕ → CodeRefusal → Stop
+code_refusal file method (codes_of.Opcode at op) = Refused (Opcode file method at op)
+code_refusal file method (codes_of.Cut at) = Refused (CutInstr file method at)
+code_refusal file method (codes_of.Target at to) = Refused (JumpTarget file method at to)
+code_refusal file method (codes_of.Switch at) = Refused (Switch file method at)
+code_refusal file method (codes_of.Range handler) = Refused (HandlerRange file method handler)
+code_refusal file method codes_of.NoMemory = NoMemory
 
 -- the refusal of linking and reach, and of reading tests
 abbrev pub link_refusal : LinkRefusal → Stop
+link_refusal links.Unbuilt = Refused Unbuilt
 link_refusal (links.NoMethod target) = Refused (NoMethod target)
 link_refusal links.NoMemory = NoMemory
 

@@ -1,5 +1,6 @@
 -- Straight methods.
-use Rattle.std.specs.Prelude.{◌≡◌, ℕ, ◌≤◌, ℤ, List, [], ◌∷◌, length, map, Bool, true, false, ◌==◌, if◌then◌else◌}
+use Rattle.std.specs.Prelude.{◌≡◌, ℕ, ◌≤◌, ℤ, List, [], ◌∷◌, length, map, slice_get, Bool, true, false, ◌==◌, if◌then◌else◌}
+use Rattle.std.specs.Option.{option_map_or}
 use Rattle.kb_arith.specs.Word.{AreInts}
 use Rattle.kb_code.specs.declared.instruction.Instr.{Instr}
 use Rattle.kb_code.specs.declared.instruction.Instr.TheVariants.{ReturnInt}
@@ -9,7 +10,7 @@ use Rattle.kb_heap.specs.declared.heap.Input.{Input}
 use Rattle.kb_heap.specs.declared.ending.Ending.{Ending}
 use Rattle.kb_heap.specs.declared.ending.Ending.TheVariants.{Returned, Threw, IllTyped, Past}
 use Rattle.kb_names.specs.declared.types.Target.{Target}
-use Rattle.kb_semantics.specs.Machine.{Method, Ended, run, start_of}
+use Rattle.kb_semantics.specs.Machine.{AreBuilt, Method, Ended, run, start_of}
 use Rattle.kb_semantics.specs.Types.{IsMethod}
 use Rattle.kb_world.specs.declared.world.GivenClass.{GivenClass}
 use Rattle.kb_world.specs.declared.world.MethodId.{MethodId}
@@ -52,15 +53,27 @@ ends_by_return (item ∷ rest) = if is_return item.1 then length rest == 0 else 
 abbrev pub most_instructions : ℕ
 most_instructions = 2000
 
+-- whether an instruction stands behind wide (JVMS 8 section 6.5, wide)
+abbrev pub is_wide : List ℕ → ℕ × Instr → Bool
+is_wide code item = option_map_or (λ op. op == 0xc4) (slice_get code item.0) false
+
+abbrev pub has_wide : List ℕ → List (ℕ × Instr) → Bool
+has_wide code [] = false
+has_wide code (item ∷ rest) = if is_wide code item then true else has_wide code rest
+
 -- The target names a straight method of the world, which the machine runs as this method: it takes ints alone and gives an
--- int, is static, has code that is a list of whole instructions of those that are built, not too many of them, a return at
--- the end alone, and no run over ints of 32 bits that is ill-typed.
+-- int, is static, has code without handlers, not too many instructions, all of them built and none in its wide form, a return
+-- at the end alone, and no run over ints of 32 bits that is ill-typed. So its opcodes are among 00, 02 to 08, 10, 11, 15, 1a to
+-- 1d, 36, 3b to 3e, 57, 59, 60, 64, 68, 74, 78, 7a, 7c, 7e, 80, 82, 84, 91 to 93 and ac.
 pub record IsStraight (world : List GivenClass) (target : Target) (id : MethodId) (method : Method) : Type 0 where
   pub found : IsTargetOf world target id
   pub runs : IsMethod world id method
   pub named : method.target ≡ target
   pub static : is_static runs.declared.names.method ≡ true
   pub ints : takes_ints target.kind ≡ true
+  pub handlers : runs.code.handlers ≡ []
+  pub built : AreBuilt method.listing
+  pub narrow : has_wide runs.code.bytes method.listing ≡ false
   pub few : length method.listing ≤ most_instructions
   pub ends : ends_by_return method.listing ≡ true
   pub typed : (heap : Heap) (inputs : List ℤ) → length inputs ≡ params_of target → AreInts inputs → IsIllTyped (run_over most_instructions method heap inputs).ending → ⊥

@@ -17,7 +17,7 @@ use Rattle.kiasan.specs.Reach.{TargetRefuses}
 use Rattle.kiasan.specs.Straight.{IsStraight}
 use Rattle.kiasan.specs.Unbuilt.{IsBuiltMethod}
 
--- the literals of a world of the small form, whose class files have no strings
+-- the literals that the heaps of tests hold by now: none, as no instruction is built that reads one
 abbrev pub no_literals : ℕ
 no_literals = 0
 

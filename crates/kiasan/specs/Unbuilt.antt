@@ -1,9 +1,11 @@
 -- What is not built by now, and is refused by 50 until it is.
 use Rattle.std.specs.Prelude.{◌≡◌, ◌≢◌, List, [], ◌∷◌, ℕ, codes}
+use Rattle.kb_classfile.specs.declared.file.ClassFile.{ClassFile}
 use Rattle.kb_names.specs.declared.types.Target.{Target}
 use Rattle.kb_semantics.specs.Machine.{Method}
 use Rattle.kb_world.specs.declared.world.GivenClass.{GivenClass}
 use Rattle.kb_world.specs.declared.world.MethodId.{MethodId}
+use Rattle.kb_world.specs.Linkable.{AreLinkable}
 use Rattle.kb_world.specs.World.{IsTargetOf}
 use Rattle.kiasan.specs.declared.status.Status.{Status}
 use Rattle.kiasan.specs.declared.status.Status.TheVariants.{Outside}
@@ -24,6 +26,10 @@ pub record AreUnbuiltWords (words : List (List ℕ)) : Type 0 where
   pub some : words ≢ []
   pub no_job : (command method file : List ℕ) → IsJobCommand command → AreJobWords words command method file → ⊥
   pub no_replay : (tests file : List ℕ) → AreReplayWords words tests file → ⊥
+
+-- class files that are not all linked by now
+abbrev pub AreUnbuiltClasses : List ClassFile → Type 0
+AreUnbuiltClasses files = AreLinkable files → ⊥
 
 -- a method is built for tests where it is straight, and for a job where its runs also end within the job's bounds
 abbrev pub IsBuiltMethod : List GivenClass → Target → MethodId → Type 0

@@ -5,7 +5,7 @@ ghost use Rattle.kb_outside.specs.Outside.{Rose};
 ghost use Rattle.kiasan.specs.Answers.{Answers, AreRead, Carries, IsAnswer, IsBuiltOrder, IsContents, IsOf, IsRead, IsReadFault, IsReadFaultOrNoMemory, Replies, RepliesIn, RepliesOn, RepliesTo, SomeUnsound, class_limit, text_limit};
 ghost use Rattle.kiasan.specs.Orders.{classes_of, files_of, texts_of};
 
-use crate::classes::open_classes;
+use crate::classes::{link_classes, read_classes};
 use crate::methods::{answer_report, answer_tests};
 use crate::refusals::{Answer, Stop, answer_refusal};
 use crate::replay::replay;
@@ -121,14 +121,14 @@ fn read_file<S: Shelf>(
 }
 
 /// What the program answers to an order whose files are these.
-#[tactic(auto, unfolding(crate::specs::Answers::RepliesOn))]
+#[tactic(auto, using(crate::proofs::AnswerLaws::classes_stop, crate::proofs::AnswerLaws::world_stops, crate::proofs::AnswerLaws::world_goes))]
 fn answer_on(alloc: Global, order: &Order, contents: &Contents) -> Result<Answer, Stop>
     requires built { IsBuiltOrder order.now }
     requires texts { length contents.now.texts ≡ length (texts_of order.now) }
-    requires classes { length contents.now.classes ≡ length (classes_of order.now) }
     ensures { Carries ⊥ (RepliesOn order.now contents.now) result }
 {
-    let world = open_classes(alloc, contents.classes.as_slice())?;
+    let given = read_classes(alloc, contents.classes.as_slice())?;
+    let world = link_classes(alloc, given)?;
     answer_in(alloc, order, contents.texts.as_slice(), &world)
 }
 

@@ -1,44 +1,47 @@
 //! From the bytes of class files to their world.
 
-ghost use Rattle.std.specs.Prelude.{◌≡◌, [], ◌∷◌, length, IfOk};
-ghost use Rattle.kb_classfile.specs.Small.{SpellsSmall};
-ghost use Rattle.kb_world.specs.World.{AreListings};
-ghost use Rattle.kiasan.specs.Answers.{AreClasses, ClassRefuses, IsOneSmall, IsWorldOf, IsWorldOfBytes, RefusesClasses};
+ghost use Rattle.std.specs.Prelude.{[], ◌∷◌, IfOk};
+ghost use Rattle.kb_classfile.specs.Spelling.{IsClassFile};
+ghost use Rattle.kb_world.specs.World.{AreGiven, AreListings};
+ghost use Rattle.kiasan.specs.Answers.{AreClasses, ClassRefuses, FileRefuses, IsClassOf, IsWorldOf, RefusesClasses, WorldRefuses};
+ghost use Rattle.kiasan.specs.CodeFaults.{CodeRefuses, MethodsRefuse};
 ghost use Rattle.kiasan.specs.Refusals.{Gives};
 
-use crate::memory::NoMemory;
-use crate::refusals::{Stop, class_refusal};
+use crate::refusals::{Stop, class_refusal, code_refusal};
 use kb_classfile::{ClassFile, Method, read_class};
-use kb_code::{CodeRefusal, Listing, decode};
+use kb_code::{Listing, decode};
 use kb_rows::Row;
-use kb_world::{GivenClass, World, link};
+use kb_world::{GivenClass, World, handlers_of, link};
 use std::alloc::Global;
 
-/// Reads and links class files: by now there is one.
-pub fn open_classes(alloc: Global, classes: &[Row<u8>]) -> Result<World, Stop>
-    requires { length classes.now ≡ 1 }
-    ensures { Gives ⊥ (RefusesClasses classes.now) (IsWorldOfBytes classes.now) result }
+/// The classes that these bytes spell, in order, each with the listings of its methods.
+pub fn read_classes(alloc: Global, classes: &[Row<u8>]) -> Result<Vec<GivenClass>, Stop>
+    ensures { Gives ⊥ (RefusesClasses classes.now) (λ given. AreClasses classes.now given.items) result }
 {
-    let files = read_classes(alloc, classes)?;
-    Ok(world_of(alloc, files)?)
+    let mut given = Vec::new(alloc);
+    for bytes in classes {
+        let class = read_one(alloc, given.len(), bytes.as_slice())?;
+        given.push(class)?;
+    }
+    Ok(given)
 }
 
-/// The class files of these bytes, in order.
-fn read_classes(alloc: Global, classes: &[Row<u8>]) -> Result<Vec<ClassFile>, Stop>
-    ensures { Gives ⊥ (RefusesClasses classes.now) (λ files. AreClasses classes.now files.items) result }
+/// The class of the file of that number.
+fn read_one(alloc: Global, number: usize, bytes: &[u8]) -> Result<GivenClass, Stop>
+    ensures { Gives ⊥ (ClassRefuses number bytes.now) (λ class. IsClassOf bytes.now class) result }
 {
-    let mut files = Vec::new(alloc);
-    for bytes in classes {
-        let file = read_one(alloc, files.len(), bytes.as_slice())?;
-        files.push(file)?;
-    }
-    Ok(files)
+    let file = read_file(alloc, number, bytes)?;
+    let listings = list_methods(alloc, number, file.methods.as_slice())?;
+    Ok(GivenClass {
+        file,
+        listings: Row::from_vec(listings),
+    })
 }
 
 /// The class file of that number.
 #[tactic(auto, using(crate::proofs::ClassLaws::class_stops))]
-fn read_one(alloc: Global, number: usize, bytes: &[u8]) -> Result<ClassFile, Stop>
-    ensures { Gives ⊥ (ClassRefuses number bytes.now) (λ file. SpellsSmall file bytes.now) result }
+fn read_file(alloc: Global, number: usize, bytes: &[u8]) -> Result<ClassFile, Stop>
+    ensures { Gives ⊥ (FileRefuses number bytes.now) (λ file. IsClassFile file bytes.now) result }
 {
     match read_class(alloc, bytes) {
         Ok(file) => Ok(file),
@@ -46,46 +49,50 @@ fn read_one(alloc: Global, number: usize, bytes: &[u8]) -> Result<ClassFile, Sto
     }
 }
 
-/// The world of one class file of the form that is built.
-fn world_of(alloc: Global, files: Vec<ClassFile>) -> Result<World, NoMemory>
-    requires { IsOneSmall files.items }
-    ensures { IfOk result (IsWorldOf files.items) }
-{
-    let mut given = Vec::new(alloc);
-    for file in files {
-        let listings = list_methods(alloc, file.methods.as_slice())?;
-        given.push(GivenClass {
-            file,
-            listings: kb_classfile::Row::from_vec(listings),
-        })?;
-    }
-    match link(alloc, given) {
-        Ok(world) => Ok(world),
-        Err(_) => Err(NoMemory),
-    }
-}
-/// The listing of each method's code, where its instructions are built.
-fn list_methods(alloc: Global, methods: &[Method]) -> Result<Vec<Option<Listing>>, NoMemory>
-    ensures { IfOk result (λ listings. AreListings methods.now listings.items) }
+/// The listing of each method's code, in the class file of that number.
+#[tactic(auto, using(crate::proofs::ClassLaws::none_listed))]
+fn list_methods(
+    alloc: Global,
+    file: usize,
+    methods: &[Method],
+) -> Result<Vec<Option<Listing>>, Stop>
+    ensures { Gives ⊥ (MethodsRefuse file methods.now) (λ listings. AreListings methods.now listings.items) result }
 {
     let mut listings = Vec::new(alloc);
     for method in methods {
-        let listing = listing_of(alloc, method)?;
+        let listing = listing_of(alloc, file, listings.len(), method)?;
         listings.push(listing)?;
     }
     Ok(listings)
 }
 
-/// The listing of a method's code, where it has code whose instructions are built.
-fn listing_of(alloc: Global, method: &Method) -> Result<Option<Listing>, NoMemory>
-    ensures { IfOk result (λ listing. AreListings (method.now ∷ []) (listing ∷ [])) }
+/// The listing of a method's code, if it has code.
+#[tactic(auto, using(crate::proofs::ClassLaws::code_stops))]
+fn listing_of(
+    alloc: Global,
+    file: usize,
+    number: usize,
+    method: &Method,
+) -> Result<Option<Listing>, Stop>
+    ensures { Gives ⊥ (CodeRefuses file number method.now) (λ listing. AreListings (method.now ∷ []) (listing ∷ [])) result }
 {
     let Some(code) = &method.code else {
         return Ok(None);
     };
-    match decode(alloc, code.bytes.as_slice(), &[]) {
+    let Ok(handlers) = handlers_of(alloc, code) else {
+        return Err(Stop::NoMemory);
+    };
+    match decode(alloc, code.bytes.as_slice(), handlers.as_slice()) {
         Ok(listing) => Ok(Some(listing)),
-        Err(CodeRefusal::Unbuilt) => Ok(None),
-        Err(CodeRefusal::NoMemory) => Err(NoMemory),
+        Err(refusal) => Err(code_refusal(file, number, &refusal)),
     }
+}
+
+/// The world of classes.
+#[tactic(auto, using(crate::proofs::ClassLaws::link_stops, crate::proofs::ClassLaws::world_of_classes))]
+pub fn link_classes(alloc: Global, given: Vec<GivenClass>) -> Result<World, Stop>
+    requires { AreGiven given.items }
+    ensures { Gives ⊥ (WorldRefuses given.items) (IsWorldOf given.items) result }
+{
+    Ok(link(alloc, given)?)
 }

@@ -7,7 +7,7 @@ ghost use Rattle.kb_code.specs.Listing.{IsLaidOut};
 ghost use Rattle.kb_heap.specs.declared.heap.Heap.{Heap};
 ghost use Rattle.kb_heap.specs.declared.heap.Value.TheVariants.{Int};
 ghost use Rattle.kb_heap.specs.declared.ending.Ending.TheVariants.{Returned};
-ghost use Rattle.kb_semantics.specs.Machine.{Method};
+ghost use Rattle.kb_semantics.specs.Machine.{AreBuilt, Method};
 ghost use Rattle.kiasan.specs.Straight.{run_over};
 ghost use Rattle.kb_terms.specs.declared.node.VarKind.TheVariants.{Int as IntKind};
 ghost use Rattle.kiasan.specs.Paths.{variable_kinds};
@@ -45,6 +45,7 @@ pub fn explore(
     params: usize,
 ) -> Result<Option<Explored>, NoMemory>
     requires laid_out { IsLaidOut code.now.listing.now code.now.size }
+    requires built { AreBuilt code.now.listing.now }
     requires ends { IsTrue (ends_by_return code.now.listing.now) }
     ensures term { IfOk result (λ r. IfSome r (λ e. IsTerm e.pool e.result)) }
     ensures count { IfOk result (λ r. IfSome r (λ e. e.instructions ≡ length code.now.listing.now)) }
@@ -53,7 +54,7 @@ pub fn explore(
     ensures ill_typed { result ≡ Ok None → (steps : ℕ) (method : Method) (heap : Heap) (inputs : List ℤ) → HasCode method code.now → length code.now.listing.now ≤ steps → length inputs ≡ params → AreInts inputs → IsIllTyped (run_over steps method heap inputs).ending }
 {
     let mut state = State::start(alloc, params, code.limits)?;
-    for &(_, instr) in code.listing {
+    for (_, instr) in code.listing {
         if let Instr::ReturnInt = instr {
             return Ok(returned(state, code.listing.len()));
         }

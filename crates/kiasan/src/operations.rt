@@ -14,6 +14,8 @@ pub fn term_op(op: IntOp) -> Op
         IntOp::Add => Op::Add,
         IntOp::Sub => Op::Sub,
         IntOp::Mul => Op::Mul,
+        IntOp::Div => Op::Div,
+        IntOp::Rem => Op::Rem,
         IntOp::Shl => Op::Shl,
         IntOp::Shr => Op::Shr,
         IntOp::Ushr => Op::Ushr,

@@ -1,24 +1,55 @@
 //! Refusals, and the answer that each makes: a status, and one line with its number and place.
 
-ghost use Rattle.std.specs.Prelude.{◌≡◌, ◌++◌, [], ◌∷◌, codes, IfOk};
+ghost use Rattle.std.specs.Prelude.{◌≡◌, ◌<◌, false, ◌++◌, [], ◌∷◌, codes, IfOk};
+ghost use Rattle.std.specs.Fmt.{digit_glyph};
 ghost use Rattle.kb_names.specs.Targets.{target_text};
-ghost use Rattle.kiasan.specs.Refusals.{class_refusal, refusal_line, refusal_status};
+ghost use Rattle.kiasan.specs.Refusals.{class_refusal, refusal_line, code_refusal, refusal_status, file_line, offset_line, entry_line, code_line, opcode_front, opcode_line, target_line, handler_line};
 
 use crate::memory::NoMemory;
 use crate::status::Status;
 use crate::unbuilt::{UNBUILT_LINE, UNBUILT_STATUS};
 use crate::words::WordFault;
 use kb_classfile::ClassRefusal;
+use kb_code::CodeRefusal;
 use kb_names::{Target, write_target};
 use kb_test::TestRefusal;
 use kb_world::LinkRefusal;
 use std::alloc::{AllocError, AllocFailed, Global};
 
-/// Why what the words order is not done. Files, tests and words are numbered from 0, lines from 1.
+/// Why what the words order is not done. Files, methods, handlers, tests and words are numbered from 0, lines from 1. Offsets
+/// count the bytes of a class file from its front, those of instructions and targets the bytes of a method's code.
 #[derive(Debug, Drop)]
 pub enum Refusal {
     /// The class file of that number does not begin as one.
     Magic(usize),
+    /// A class file has a major version that is not read: the file, the version.
+    Version(usize, u16),
+    /// An item of a class file is not whole: the file, the item's offset.
+    Short(usize, usize),
+    /// An entry of a constant pool has a tag that there is not: the file, the entry, the tag.
+    Tag(usize, u16, u8),
+    /// A number in a class file names no entry of the constant pool: the file, the number's offset, the number.
+    PoolIndex(usize, usize, u16),
+    /// A number in a class file names an entry of the wrong kind: the file, the number's offset, the number.
+    PoolKind(usize, usize, u16),
+    /// A Code attribute has too little or too much code, or does not end at its length: the file, the content's offset.
+    CodeLength(usize, usize),
+    /// A class file has bytes behind its last attribute: the file, their offset.
+    Extra(usize, usize),
+    /// A method has two Code attributes: the file, the method.
+    TwoCodes(usize, u32),
+    /// A class file has too many bytes.
+    LongClass(usize),
+    /// Code has an opcode that there is not: the file, the method, the instruction's offset, the opcode.
+    Opcode(usize, usize, u32, u8),
+    /// An instruction runs past the end of its code: the file, the method, the instruction's offset.
+    CutInstr(usize, usize, u32),
+    /// No instruction begins at a target: the file, the method, the offset of the instruction that names it, the target.
+    JumpTarget(usize, usize, u32, i64),
+    /// A switch is not in order: the file, the method, the instruction's offset.
+    Switch(usize, usize, u32),
+    /// A handler is not of a range of instructions: the file, the method, the handler.
+    HandlerRange(usize, usize, u32),
     /// No method may be run that the target names.
     NoMethod(Target),
     /// Something that is not built was met.
@@ -108,6 +139,7 @@ impl From<LinkRefusal> for Stop {
 
     fn from(refusal: LinkRefusal) -> Stop {
         match refusal {
+            LinkRefusal::Unbuilt => Stop::Refused(Refusal::Unbuilt),
             LinkRefusal::NoMethod(target) => Stop::Refused(Refusal::NoMethod(target)),
             LinkRefusal::NoMemory => Stop::NoMemory,
         }
@@ -128,13 +160,35 @@ impl From<TestRefusal> for Stop {
 }
 
 /// What the refusal of the class file of that number comes to.
-pub fn class_refusal(number: usize, refusal: &ClassRefusal) -> Stop
-    ensures { result ≡ class_refusal number refusal.now }
+pub fn class_refusal(file: usize, refusal: &ClassRefusal) -> Stop
+    ensures { result ≡ class_refusal file refusal.now }
 {
-    match refusal {
-        ClassRefusal::Magic => Stop::Refused(Refusal::Magic(number)),
+    match *refusal {
+        ClassRefusal::Magic => Stop::Refused(Refusal::Magic(file)),
+        ClassRefusal::Version(major) => Stop::Refused(Refusal::Version(file, major)),
+        ClassRefusal::Short(at) => Stop::Refused(Refusal::Short(file, at)),
+        ClassRefusal::Tag(entry, tag) => Stop::Refused(Refusal::Tag(file, entry, tag)),
+        ClassRefusal::PoolIndex(at, entry) => Stop::Refused(Refusal::PoolIndex(file, at, entry)),
+        ClassRefusal::PoolKind(at, entry) => Stop::Refused(Refusal::PoolKind(file, at, entry)),
+        ClassRefusal::CodeLength(at) => Stop::Refused(Refusal::CodeLength(file, at)),
+        ClassRefusal::Extra(at) => Stop::Refused(Refusal::Extra(file, at)),
+        ClassRefusal::TwoCodes(method) => Stop::Refused(Refusal::TwoCodes(file, method)),
+        ClassRefusal::Long => Stop::Refused(Refusal::LongClass(file)),
         ClassRefusal::NoMemory => Stop::NoMemory,
-        _ => Stop::Refused(Refusal::Unbuilt),
+    }
+}
+
+/// What the refusal of the code of the method of that number comes to, in the class file of a number.
+pub fn code_refusal(file: usize, method: usize, refusal: &CodeRefusal) -> Stop
+    ensures { result ≡ code_refusal file method refusal.now }
+{
+    match *refusal {
+        CodeRefusal::Opcode(at, op) => Stop::Refused(Refusal::Opcode(file, method, at, op)),
+        CodeRefusal::Cut(at) => Stop::Refused(Refusal::CutInstr(file, method, at)),
+        CodeRefusal::Target(at, to) => Stop::Refused(Refusal::JumpTarget(file, method, at, to)),
+        CodeRefusal::Switch(at) => Stop::Refused(Refusal::Switch(file, method, at)),
+        CodeRefusal::Range(handler) => Stop::Refused(Refusal::HandlerRange(file, method, handler)),
+        CodeRefusal::NoMemory => Stop::NoMemory,
     }
 }
 
@@ -161,7 +215,21 @@ fn refusal_status(refusal: &Refusal) -> Status
     ensures { result ≡ refusal_status refusal.now }
 {
     match refusal {
-        Refusal::Magic(_) => Status::Class,
+        Refusal::Magic(_)
+        | Refusal::Version(..)
+        | Refusal::Short(..)
+        | Refusal::Tag(..)
+        | Refusal::PoolIndex(..)
+        | Refusal::PoolKind(..)
+        | Refusal::CodeLength(..)
+        | Refusal::Extra(..)
+        | Refusal::TwoCodes(..)
+        | Refusal::LongClass(_)
+        | Refusal::Opcode(..)
+        | Refusal::CutInstr(..)
+        | Refusal::JumpTarget(..)
+        | Refusal::Switch(..)
+        | Refusal::HandlerRange(..) => Status::Class,
         Refusal::NoMethod(_) => Status::Link,
         Refusal::Unbuilt => UNBUILT_STATUS,
         Refusal::TestLine(_)
@@ -177,7 +245,29 @@ fn refusal_line(alloc: Global, refusal: &Refusal) -> Result<Vec<u8>, NoMemory>
     ensures { IfOk result (λ text. text.items ≡ refusal_line refusal.now) }
 {
     match refusal {
-        Refusal::Magic(file) => { Ok(format!(in alloc; "refused 10 file {file}\n")?.into_bytes()) }
+        Refusal::Magic(file) => file_line(alloc, 10, *file),
+        Refusal::Version(file, major) => {
+            Ok(format!(in alloc; "refused 11 file {file} version {major}\n")?.into_bytes())
+        }
+        Refusal::Short(file, at) => offset_line(alloc, 12, *file, *at),
+        Refusal::Tag(file, entry, tag) => {
+            Ok(format!(in alloc; "refused 13 file {file} entry {entry} tag {tag}\n")?.into_bytes())
+        }
+        Refusal::PoolIndex(file, at, entry) => entry_line(alloc, 14, *file, *at, *entry),
+        Refusal::PoolKind(file, at, entry) => entry_line(alloc, 15, *file, *at, *entry),
+        Refusal::CodeLength(file, at) => offset_line(alloc, 16, *file, *at),
+        Refusal::Extra(file, at) => offset_line(alloc, 17, *file, *at),
+        Refusal::TwoCodes(file, method) => {
+            Ok(format!(in alloc; "refused 18 file {file} method {method}\n")?.into_bytes())
+        }
+        Refusal::LongClass(file) => file_line(alloc, 19, *file),
+        Refusal::Opcode(file, method, at, op) => opcode_line(alloc, *file, *method, *at, *op),
+        Refusal::CutInstr(file, method, at) => code_line(alloc, 21, *file, *method, *at),
+        Refusal::JumpTarget(file, method, at, to) => target_line(alloc, *file, *method, *at, *to),
+        Refusal::Switch(file, method, at) => code_line(alloc, 23, *file, *method, *at),
+        Refusal::HandlerRange(file, method, handler) => {
+            handler_line(alloc, *file, *method, *handler)
+        }
         Refusal::NoMethod(target) => method_line(alloc, "refused 45 ", target),
         Refusal::Unbuilt => Ok(String::from_str(alloc, UNBUILT_LINE)?.into_bytes()),
         Refusal::TestLine(number) => {
@@ -195,6 +285,118 @@ fn refusal_line(alloc: Global, refusal: &Refusal) -> Result<Vec<u8>, NoMemory>
             Ok(format!(in alloc; "refused 98 word {word}\n")?.into_bytes())
         }
     }
+}
+
+/// The line of a refusal in a class file.
+#[tactic(auto, unfolding(crate::specs::Refusals::file_line))]
+fn file_line(alloc: Global, number: u32, file: usize) -> Result<Vec<u8>, NoMemory>
+    ensures { IfOk result (λ text. text.items ≡ file_line number file) }
+{
+    Ok(format!(in alloc; "refused {number} file {file}\n")?.into_bytes())
+}
+
+/// The line of a refusal at an offset in a class file.
+#[tactic(auto, unfolding(crate::specs::Refusals::offset_line))]
+fn offset_line(alloc: Global, number: u32, file: usize, at: usize) -> Result<Vec<u8>, NoMemory>
+    ensures { IfOk result (λ text. text.items ≡ offset_line number file at) }
+{
+    Ok(format!(in alloc; "refused {number} file {file} at {at}\n")?.into_bytes())
+}
+
+/// The line of a refusal at an entry that is named at an offset in a class file.
+#[tactic(auto, unfolding(crate::specs::Refusals::entry_line))]
+fn entry_line(
+    alloc: Global,
+    number: u32,
+    file: usize,
+    at: usize,
+    entry: u16,
+) -> Result<Vec<u8>, NoMemory>
+    ensures { IfOk result (λ text. text.items ≡ entry_line number file at entry) }
+{
+    Ok(format!(in alloc; "refused {number} file {file} at {at} entry {entry}\n")?.into_bytes())
+}
+
+/// The line of a refusal at an instruction of a method.
+#[tactic(auto, unfolding(crate::specs::Refusals::code_line))]
+fn code_line(
+    alloc: Global,
+    number: u32,
+    file: usize,
+    method: usize,
+    at: u32,
+) -> Result<Vec<u8>, NoMemory>
+    ensures { IfOk result (λ text. text.items ≡ code_line number file method at) }
+{
+    let text = format!(in alloc; "refused {number} file {file} method {method} at {at}\n")?;
+    Ok(text.into_bytes())
+}
+
+/// The line of a refusal of an opcode, which is told by two hexadecimal digits.
+fn opcode_line(
+    alloc: Global,
+    file: usize,
+    method: usize,
+    at: u32,
+    op: u8,
+) -> Result<Vec<u8>, NoMemory>
+    ensures { IfOk result (λ text. text.items ≡ opcode_line file method at op) }
+{
+    let mut text = opcode_front(alloc, file, method, at)?;
+    text.push(digit(op / 16))?;
+    text.push(digit(op % 16))?;
+    text.push(b'\n')?;
+    Ok(text)
+}
+
+/// The line of a refusal of an opcode, up to the opcode.
+#[tactic(auto, unfolding(crate::specs::Refusals::opcode_front))]
+fn opcode_front(alloc: Global, file: usize, method: usize, at: u32) -> Result<Vec<u8>, NoMemory>
+    ensures { IfOk result (λ text. text.items ≡ opcode_front file method at) }
+{
+    let text = format!(in alloc; "refused 20 file {file} method {method} at {at} opcode ")?;
+    Ok(text.into_bytes())
+}
+
+/// The hexadecimal digit of a number, in lower case.
+fn digit(number: u8) -> u8
+    requires { number < 16 }
+    ensures { result ≡ digit_glyph false number }
+{
+    if number < 10 {
+        b'0' + number
+    } else {
+        b'a' - 10 + number
+    }
+}
+
+/// The line of a refusal of a target.
+#[tactic(auto, unfolding(crate::specs::Refusals::target_line))]
+fn target_line(
+    alloc: Global,
+    file: usize,
+    method: usize,
+    at: u32,
+    to: i64,
+) -> Result<Vec<u8>, NoMemory>
+    ensures { IfOk result (λ text. text.items ≡ target_line file method at to) }
+{
+    let text = format!(in alloc; "refused 22 file {file} method {method} at {at} to {to}\n")?;
+    Ok(text.into_bytes())
+}
+
+/// The line of a refusal of a handler.
+#[tactic(auto, unfolding(crate::specs::Refusals::handler_line))]
+fn handler_line(
+    alloc: Global,
+    file: usize,
+    method: usize,
+    handler: u32,
+) -> Result<Vec<u8>, NoMemory>
+    ensures { IfOk result (λ text. text.items ≡ handler_line file method handler) }
+{
+    let text = format!(in alloc; "refused 24 file {file} method {method} handler {handler}\n")?;
+    Ok(text.into_bytes())
 }
 
 /// A line that ends with a method.

@@ -5,7 +5,7 @@ ghost use Rattle.kb_terms.specs.Op.{is_binary, op_value};
 ghost use Rattle.kb_terms.specs.Terms.{IsTerm, AreOperands, Extends, value_of, operand_value};
 ghost use Rattle.kb_heap.specs.declared.heap.Heap.{Heap};
 ghost use Rattle.kb_heap.specs.declared.heap.Value.TheVariants.{Int};
-ghost use Rattle.kb_semantics.specs.Machine.{effect, Method, start_of};
+ghost use Rattle.kb_semantics.specs.Machine.{effect, is_built, Method, start_of};
 ghost use Rattle.kb_terms.specs.declared.node.VarKind.TheVariants.{Int as IntKind};
 ghost use Rattle.kiasan.specs.Paths.{variable_kinds};
 ghost use Rattle.kiasan.specs.Straight.{ints_input};
@@ -265,25 +265,26 @@ impl State {
         Ok(self.set_local(local, after))
     }
 
-    /// Takes up an instruction that is no return.
-    pub fn take(&mut self, instr: Instr) -> Result<Step, NoMemory>
+    /// Takes up an instruction that is built and no return.
+    pub fn take(&mut self, instr: &Instr) -> Result<Step, NoMemory>
         requires sound { IsSound self.old }
-        requires goes_on { instr ≢ Instr.ReturnInt }
+        requires built { IsTrue (is_built instr.now) }
+        requires goes_on { instr.now ≢ Instr.ReturnInt }
         ensures keeps { Keeps self.old self.new }
-        ensures step { IfOk result (λ step. Follows step self.old self.new (λ inputs. effect instr)) }
+        ensures step { IfOk result (λ step. Follows step self.old self.new (λ inputs. effect instr.now)) }
     {
         match instr {
             Instr::Nop => Ok(self.nop()),
-            Instr::PushInt(value) => self.push_int(value),
-            Instr::LoadInt(local) => self.load(local),
-            Instr::StoreInt(local) => Ok(self.store(local)),
+            Instr::PushInt(value) => self.push_int(*value),
+            Instr::LoadInt(local) => self.load(*local),
+            Instr::StoreInt(local) => Ok(self.store(*local)),
             Instr::Pop => Ok(self.pop()),
             Instr::Dup => self.duplicate(),
-            Instr::Int2(op) => self.apply_two(term_op(op)),
+            Instr::Int2(op) => self.apply_two(term_op(*op)),
             Instr::Neg => self.apply_one(Op::Neg),
-            Instr::Inc(local, by) => self.increase(local, by),
-            Instr::Narrow(cut) => self.apply_one(narrowing_op(cut)),
-            Instr::ReturnInt => unreachable!(),
+            Instr::Inc(local, by) => self.increase(*local, *by),
+            Instr::Narrow(cut) => self.apply_one(narrowing_op(*cut)),
+            _ => unreachable!(),
         }
     }
 }

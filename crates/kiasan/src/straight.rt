@@ -1,10 +1,10 @@
 //! Straight methods of a world, and what one returns.
 
-ghost use Rattle.std.specs.Prelude.{IfOk, IfSome, IfNone};
+ghost use Rattle.std.specs.Prelude.{◌≡◌, IfOk, IfSome, IfNone};
 ghost use Rattle.kb_code.specs.Listing.{IsLaidOut};
-ghost use Rattle.kb_semantics.specs.Machine.{Method};
+ghost use Rattle.kb_semantics.specs.Machine.{AreBuilt, Method};
 ghost use Rattle.kb_world.specs.World.{IsTargetOf};
-ghost use Rattle.kiasan.specs.Straight.{IsStraight};
+ghost use Rattle.kiasan.specs.Straight.{IsStraight, has_wide};
 ghost use Rattle.kiasan.specs.Explored.{IsExplored, IsCarriedOut, IsStraightRun, IsCodeOf, HasNoCode};
 
 use crate::explore::{Explored, StraightCode, ends_by_return, explore};
@@ -12,12 +12,17 @@ use crate::memory::NoMemory;
 use crate::state::Limits;
 use crate::target::takes_ints;
 use kb_classfile::STATIC;
+use kb_code::Instr;
+use kb_machine::are_built;
 use kb_names::Target;
 use kb_world::{MethodId, MethodInfo, World};
 use std::alloc::Global;
 
 /// The most instructions of a straight method.
 const MOST_INSTRUCTIONS: usize = 2_000;
+
+/// The opcode of wide (JVMS 8 section 6.5).
+const WIDE: u8 = 0xc4;
 
 /// What a straight method returns, for all ints at once. There is nothing where the method that the target names is not
 /// straight.
@@ -43,7 +48,7 @@ pub fn explore_method(
     }
 }
 
-/// The code of a static method, where it is a list of instructions that are built.
+/// The code of a static method, where it has no handlers, and its instructions are all built and in their short forms.
 fn straight_code<'a>(info: &MethodInfo<'a>) -> Option<StraightCode<'a>>
     ensures some { IfSome result (IsCodeOf info.now) }
     ensures none { IfNone result (HasNoCode info.now) }
@@ -53,6 +58,15 @@ fn straight_code<'a>(info: &MethodInfo<'a>) -> Option<StraightCode<'a>>
     }
     let code = info.code?;
     let listing = info.listing?;
+    if !code.handlers.as_slice().is_empty() {
+        return None;
+    }
+    if !are_built(listing.items.as_slice()) {
+        return None;
+    }
+    if has_wide(code.bytes.as_slice(), listing.items.as_slice()) {
+        return None;
+    }
     Some(StraightCode {
         limits: Limits {
             stack: code.max_stack,
@@ -63,6 +77,20 @@ fn straight_code<'a>(info: &MethodInfo<'a>) -> Option<StraightCode<'a>>
     })
 }
 
+/// Whether an instruction is in its wide form.
+fn has_wide(code: &[u8], listing: &[(u32, Instr)]) -> bool
+    ensures { result ≡ has_wide code.now listing.now }
+{
+    let mut rest = listing;
+    while let [(at, _), others @ ..] = rest {
+        if code.get(*at as usize) == Some(&WIDE) {
+            return true;
+        }
+        rest = others;
+    }
+    false
+}
+
 /// What code returns that takes so many ints, where it has not too many instructions, ends by its one return, and is never
 /// ill-typed.
 fn explore_straight(
@@ -70,7 +98,8 @@ fn explore_straight(
     code: &StraightCode<'_>,
     params: usize,
 ) -> Result<Option<Explored>, NoMemory>
-    requires { IsLaidOut code.now.listing.now code.now.size }
+    requires laid_out { IsLaidOut code.now.listing.now code.now.size }
+    requires built { AreBuilt code.now.listing.now }
     ensures some { IfOk result (λ r. IfSome r (IsCarriedOut code.now params)) }
     ensures none { IfOk result (λ r. IfNone r ((method : Method) → IsStraightRun code.now params method → ⊥)) }
 {

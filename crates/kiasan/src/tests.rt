@@ -116,16 +116,14 @@ fn shelf_with(alloc: Global, bytes: &[u8]) -> Result<MemoryShelf, AllocError> {
     shelf_of(alloc, &[("A.class", bytes)], Vec::new(alloc))
 }
 
-/// A shelf with class A and these tests, whose calls of these numbers fail.
+/// A shelf with a class file and these tests, whose calls of these numbers fail.
 fn shelf_with_tests(
     alloc: Global,
+    class: &[u8],
     tests: &str,
     fails: Vec<u64>,
 ) -> Result<MemoryShelf, AllocError> {
-    let files = [
-        ("A.class", CLASS_A.as_slice()),
-        ("A.tests", tests.as_bytes()),
-    ];
+    let files = [("A.class", class), ("A.tests", tests.as_bytes())];
     shelf_of(alloc, &files, fails)
 }
 
@@ -136,8 +134,19 @@ fn assert_replay<A: Abort + AllocGlobal>(
     status: Status,
     text: &str,
 ) -> Result<(), Fail> {
+    assert_replay_on(rt, &CLASS_A, tests, status, text)
+}
+
+/// Asserts that the tests of a class replay with this status and this text.
+fn assert_replay_on<A: Abort + AllocGlobal>(
+    rt: &A,
+    class: &[u8],
+    tests: &str,
+    status: Status,
+    text: &str,
+) -> Result<(), Fail> {
     let alloc = rt.alloc();
-    let mut shelf = shelf_with_tests(alloc, tests, Vec::new(alloc))?;
+    let mut shelf = shelf_with_tests(alloc, class, tests, Vec::new(alloc))?;
     let mut sink = sink_failing_at(alloc, Vec::new(alloc))?;
     let found = answer_to(alloc, REPLAY_A, &mut shelf, &mut sink)?;
     assert_eq!(rt; found, status, "{text}");
@@ -365,7 +374,7 @@ fn all_files_are_read_before_a_class_is_refused(rt: HostRuntime) -> Result<(), F
 #[test]
 fn a_replay_reads_each_of_its_files_once(rt: HostRuntime) -> Result<(), Fail> {
     let alloc = rt.alloc();
-    let mut shelf = shelf_with_tests(alloc, TEST_A, vec![in alloc; 2u64]?)?;
+    let mut shelf = shelf_with_tests(alloc, &CLASS_A, TEST_A, vec![in alloc; 2u64]?)?;
     let mut sink = sink_failing_at(alloc, Vec::new(alloc))?;
     let status = answer_to(alloc, REPLAY_A, &mut shelf, &mut sink)?;
     assert_eq!(rt; status, Status::Complete);
@@ -409,14 +418,269 @@ fn words_and_files_are_refused(rt: HostRuntime) -> Result<(), Fail> {
     let no_target = "explore --method A.f(II A.class";
     let bad_target = "refused 98 word 2\n";
     assert_answer(&rt, no_target, &CLASS_A, Status::Words, bad_target)?;
-    assert_answer(&rt, EXPLORE_A, &CLASS_A[..3], Status::Outside, unbuilt)?;
-    let abs = "explore --method B.abs(I)I A.class";
-    assert_answer(&rt, abs, &CLASS_B, Status::Outside, unbuilt)?;
     let mut changed = CLASS_A;
     changed[METHOD_FLAGS] = 1;
-    assert_answer(&rt, EXPLORE_A, &changed, Status::Outside, unbuilt)?;
+    assert_answer(&rt, EXPLORE_A, &changed, Status::Outside, unbuilt)
+}
+
+/// These bytes, one piece behind the other.
+fn joined(alloc: Global, pieces: &[&[u8]]) -> Result<Vec<u8>, AllocError> {
+    let mut all = Vec::new(alloc);
+    for piece in pieces {
+        all.extend_from_slice(piece)?;
+    }
+    Ok(all)
+}
+
+/// Class A with other bytes from an offset on.
+fn changed(alloc: Global, at: usize, bytes: &[u8]) -> Result<Vec<u8>, AllocError> {
+    let front = at.min(CLASS_A.len());
+    let behind = at.saturating_add(bytes.len()).min(CLASS_A.len());
+    joined(alloc, &[&CLASS_A[..front], bytes, &CLASS_A[behind..]])
+}
+
+/// Asserts that each change of bytes of class A, from an offset on, is refused by its line.
+fn assert_faults<A: Abort + AllocGlobal>(
+    rt: &A,
+    rows: &[(usize, &[u8], &str)],
+) -> Result<(), Fail> {
+    for (at, bytes, line) in rows {
+        let class = changed(rt.alloc(), *at, bytes)?;
+        assert_answer(rt, EXPLORE_A, class.as_slice(), Status::Class, line)?;
+    }
+    Ok(())
+}
+
+#[test]
+fn each_fault_of_a_class_file_has_its_line(rt: HostRuntime) -> Result<(), Fail> {
+    assert_faults(
+        &rt,
+        &[
+            (0, b"PK\x03\x04", "refused 10 file 0\n"),
+            (6, b"\x00\x35", "refused 11 file 0 version 53\n"),
+            (6, b"\x00\x2c", "refused 11 file 0 version 44\n"),
+            (14, b"\x02", "refused 13 file 0 entry 2 tag 2\n"),
+            (36, b"\xff", "refused 13 file 0 entry 4 tag 255\n"),
+            (15, b"\x00\x08", "refused 14 file 0 at 15 entry 8\n"),
+            (60, b"\x00\x00", "refused 14 file 0 at 60 entry 0\n"),
+            (37, b"\x00\x02", "refused 15 file 0 at 37 entry 2\n"),
+            (62, b"\x00\x05", "refused 15 file 0 at 62 entry 5\n"),
+            (91, b"\x00", "refused 16 file 0 at 84\n"),
+            (91, b"\x05", "refused 16 file 0 at 84\n"),
+            (102, b"\x00", "refused 17 file 0 at 102\n"),
+        ],
+    )
+}
+
+/// The items in which the files end: the count of attributes of a class, its flags, its magic number.
+#[test]
+fn a_class_file_that_ends_too_early_has_its_line(rt: HostRuntime) -> Result<(), Fail> {
+    let rows: [(&[u8], &str); 5] = [
+        (&CLASS_A[..101], "refused 12 file 0 at 100\n"),
+        (&CLASS_B[..260], "refused 12 file 0 at 259\n"),
+        (&CLASS_A[..59], "refused 12 file 0 at 58\n"),
+        (&CLASS_A[..3], "refused 12 file 0 at 0\n"),
+        (b"", "refused 12 file 0 at 0\n"),
+    ];
+    for (bytes, line) in rows {
+        assert_answer(&rt, EXPLORE_A, bytes, Status::Class, line)?;
+    }
+    let mut newer = CLASS_B;
+    newer[7] = 0x35;
+    let version = "refused 11 file 0 version 53\n";
+    assert_answer(&rt, EXPLORE_A, &newer, Status::Class, version)
+}
+
+/// The attribute of the method of class A stands at 78 to 100, behind the count of attributes.
+#[test]
+fn two_codes_of_a_method_are_refused(rt: HostRuntime) -> Result<(), Fail> {
+    let mut class = CLASS_A[..100].to_vec(rt.alloc())?;
+    class[77] = 2;
+    class.extend_from_slice(&CLASS_A[78..])?;
+    let line = "refused 18 file 0 method 0\n";
+    assert_answer(&rt, EXPLORE_A, class.as_slice(), Status::Class, line)
+}
+
+#[test]
+fn a_class_file_that_is_too_long_is_refused(rt: HostRuntime) -> Result<(), Fail> {
+    let most = vec![in rt.alloc(); 0u8; 1_048_576]?;
     let no_class = "refused 10 file 0\n";
-    assert_answer(&rt, EXPLORE_A, b"PK\x03\x04", Status::Class, no_class)
+    assert_answer(&rt, EXPLORE_A, most.as_slice(), Status::Class, no_class)?;
+    let more = vec![in rt.alloc(); 0u8; 1_048_577]?;
+    let long = "refused 19 file 0\n";
+    assert_answer(&rt, EXPLORE_A, more.as_slice(), Status::Class, long)
+}
+
+#[test]
+fn class_b_is_read(rt: HostRuntime) -> Result<(), Fail> {
+    let abs = "explore --method B.abs(I)I A.class";
+    assert_answer(&rt, abs, &CLASS_B, Status::Outside, "refused 50\n")?;
+    let constructor = "explore --method B.<init>()V A.class";
+    let no_init = "refused 45 B.<init>()V\n";
+    assert_answer(&rt, constructor, &CLASS_B, Status::Link, no_init)?;
+    let none = "tests 0 passed 0 differed 0\n";
+    assert_replay_on(&rt, &CLASS_B, "", Status::Complete, none)?;
+    let test = TEST_A.replace(rt.alloc(), "A.f(II)I", "B.g(II)I")?;
+    let missing = "refused 61 test 0\n";
+    assert_replay_on(&rt, &CLASS_B, test.as_str(), Status::Text, missing)
+}
+
+/// From 64 to 68 the counts of interfaces and of fields stand in class A, and at 61 the number of its own name.
+#[test]
+fn classes_that_are_linked_later_are_refused_before_texts(rt: HostRuntime) -> Result<(), Fail> {
+    let front = &CLASS_A[..64];
+    let behind = &CLASS_A[68..];
+    let interface = b"\x00\x01\x00\x04\x00\x00";
+    let field = b"\x00\x00\x00\x01\x00\x09\x00\x05\x00\x06\x00\x00";
+    let rows = [
+        joined(rt.alloc(), &[front, interface, behind])?,
+        joined(rt.alloc(), &[front, field, behind])?,
+        changed(rt.alloc(), 61, b"\x04")?,
+    ];
+    let unbuilt = "refused 50\n";
+    for class in &rows {
+        assert_answer(&rt, EXPLORE_A, class.as_slice(), Status::Outside, unbuilt)?;
+        assert_replay_on(&rt, class.as_slice(), "no tests", Status::Outside, unbuilt)?;
+    }
+    Ok(())
+}
+
+/// The handler covers the first instruction, and is reached at it.
+#[test]
+fn a_method_with_a_handler_is_not_straight(rt: HostRuntime) -> Result<(), Fail> {
+    let mut class = CLASS_A[..96].to_vec(rt.alloc())?;
+    class[83] = 0x18;
+    class.extend_from_slice(b"\x00\x01\x00\x00\x00\x01\x00\x00\x00\x00")?;
+    class.extend_from_slice(&CLASS_A[98..])?;
+    let unbuilt = "refused 50\n";
+    assert_answer(&rt, EXPLORE_A, class.as_slice(), Status::Outside, unbuilt)?;
+    assert_replay_on(&rt, class.as_slice(), TEST_A, Status::Outside, unbuilt)
+}
+
+/// Asserts that each code of the method of class A is refused by its line.
+fn assert_code_faults<A: Abort + AllocGlobal>(rt: &A, rows: &[(&[u8], &str)]) -> Result<(), Fail> {
+    for (code, line) in rows {
+        assert_row(rt, &row("I", 1, 1, code, line), Status::Class, line)?;
+    }
+    Ok(())
+}
+
+#[test]
+fn each_fault_of_instructions_has_its_line(rt: HostRuntime) -> Result<(), Fail> {
+    assert_code_faults(
+        &rt,
+        &[
+            // Opcodes that there are not, and nop behind wide.
+            (b"\xcb", "refused 20 file 0 method 0 at 0 opcode cb\n"),
+            (b"\x1a\xff", "refused 20 file 0 method 0 at 1 opcode ff\n"),
+            (
+                b"\x1a\xc4\x00\xac",
+                "refused 20 file 0 method 0 at 1 opcode 00\n",
+            ),
+            // bipush and iinc without a byte of theirs.
+            (b"\x10", "refused 21 file 0 method 0 at 0\n"),
+            (b"\x1a\x84\x00", "refused 21 file 0 method 0 at 1\n"),
+            // goto into itself, before the code and behind it.
+            (
+                b"\xa7\x00\x01\xac",
+                "refused 22 file 0 method 0 at 0 to 1\n",
+            ),
+            (
+                b"\x00\xa7\xff\xfe",
+                "refused 22 file 0 method 0 at 1 to -1\n",
+            ),
+            (
+                b"\x00\xa7\x00\x03",
+                "refused 22 file 0 method 0 at 1 to 4\n",
+            ),
+        ],
+    )
+}
+
+/// Each switch stands at 0, with three bytes before its default target, which is 0.
+#[test]
+fn each_fault_of_a_switch_has_its_line(rt: HostRuntime) -> Result<(), Fail> {
+    let table = b"\xaa\x00\x00\x00\x00\x00\x00\x00";
+    let lookup = b"\xab\x00\x00\x00\x00\x00\x00\x00";
+    let alloc = rt.alloc();
+    let falling = joined(alloc, &[table, b"\x00\x00\x00\x01\x00\x00\x00\x00"])?;
+    let longest = joined(alloc, &[table, b"\x80\x00\x00\x00\x7f\xff\xff\xff"])?;
+    let one = b"\x00\x00\x00\x01\x00\x00\x00\x00";
+    let twice = joined(alloc, &[lookup, b"\x00\x00\x00\x02", one, one])?;
+    let wrong = "refused 23 file 0 method 0 at 0\n";
+    assert_code_faults(
+        &rt,
+        &[
+            (falling.as_slice(), wrong),
+            (twice.as_slice(), wrong),
+            (longest.as_slice(), "refused 21 file 0 method 0 at 0\n"),
+        ],
+    )
+}
+
+/// Class A with these rows of a handler table, of 8 bytes each.
+fn class_with_handlers(alloc: Global, rows: &[&[u8]]) -> Result<Vec<u8>, Fail> {
+    let mut class = CLASS_A[..96].to_vec(alloc)?;
+    let count = u8::try_from(rows.len())?;
+    class[83] = count.saturating_mul(8).saturating_add(16);
+    class.extend_from_slice(&[0, count])?;
+    for row in rows {
+        class.extend_from_slice(row)?;
+    }
+    class.extend_from_slice(&CLASS_A[98..])?;
+    Ok(class)
+}
+
+/// Rows are a start, an end, a target and a class. The code has instructions at 0, 1, 2 and 3, and ends at 4.
+#[test]
+fn each_fault_of_a_handler_has_its_line(rt: HostRuntime) -> Result<(), Fail> {
+    let good = b"\x00\x00\x00\x04\x00\x03\x00\x00";
+    let bad: [&[u8]; 4] = [
+        b"\x00\x01\x00\x01\x00\x00\x00\x00",
+        b"\x00\x02\x00\x01\x00\x00\x00\x00",
+        b"\x00\x00\x00\x05\x00\x00\x00\x00",
+        b"\x00\x00\x00\x01\x00\x04\x00\x00",
+    ];
+    for row in bad {
+        let class = class_with_handlers(rt.alloc(), &[good, row])?;
+        let line = "refused 24 file 0 method 0 handler 1\n";
+        assert_answer(&rt, EXPLORE_A, class.as_slice(), Status::Class, line)?;
+    }
+    let class = class_with_handlers(rt.alloc(), &[good])?;
+    let unbuilt = "refused 50\n";
+    assert_answer(&rt, EXPLORE_A, class.as_slice(), Status::Outside, unbuilt)
+}
+
+/// The code of class A begins at 92, and that of the methods of class B at 174 and at 217.
+#[test]
+fn faults_of_code_come_behind_those_of_the_file(rt: HostRuntime) -> Result<(), Fail> {
+    let mut class = CLASS_B;
+    class[217] = 0xcb;
+    let second = "refused 20 file 0 method 1 at 0 opcode cb\n";
+    assert_answer(&rt, EXPLORE_A, &class, Status::Class, second)?;
+    assert_replay_on(&rt, &class, "no tests", Status::Class, second)?;
+    class[174] = 0xca;
+    let first = "refused 20 file 0 method 0 at 0 opcode ca\n";
+    assert_answer(&rt, EXPLORE_A, &class, Status::Class, first)?;
+    let bad = changed(rt.alloc(), 92, b"\xcb")?;
+    let longer = joined(rt.alloc(), &[bad.as_slice(), b"\x00"])?;
+    let extra = "refused 17 file 0 at 102\n";
+    assert_answer(&rt, EXPLORE_A, longer.as_slice(), Status::Class, extra)?;
+    let front = &bad.as_slice()[..64];
+    let behind = &bad.as_slice()[68..];
+    let interface = joined(rt.alloc(), &[front, b"\x00\x01\x00\x04\x00\x00", behind])?;
+    let line = "refused 20 file 0 method 0 at 0 opcode cb\n";
+    assert_answer(&rt, EXPLORE_A, interface.as_slice(), Status::Class, line)
+}
+
+/// The method has no attributes, so no code.
+#[test]
+fn a_method_without_code_is_no_target(rt: HostRuntime) -> Result<(), Fail> {
+    let mut class = CLASS_A[..78].to_vec(rt.alloc())?;
+    class[77] = 0;
+    class.extend_from_slice(&CLASS_A[100..])?;
+    let missing = "refused 45 A.f(II)I\n";
+    assert_answer(&rt, EXPLORE_A, class.as_slice(), Status::Link, missing)
 }
 
 #[test]
@@ -565,7 +829,12 @@ fn code_that_is_not_straight_is_refused(rt: HostRuntime) -> Result<(), Fail> {
             row("I", 1, 1, b"\x1a\xac\x1a\xac", "a return in the middle"),
             row("I", 1, 1, b"\x1a\x00", "no return"),
             row("", 1, 0, b"\x10\xac", "a return that is an operand"),
-            row("", 1, 0, b"\x10", "half a bipush"),
+            row("I", 1, 1, b"\xc4\x15\x00\x00\xac", "iload behind wide"),
+            row("I", 1, 1, b"\x1a\xc4\x36\x00\x00\x1a\xac", "istore"),
+            row("I", 1, 1, b"\xc4\x84\x00\x00\x00\x01\x1a\xac", "iinc"),
+            row("I", 1, 1, b"\xa7\x00\x03\x1a\xac", "goto"),
+            row("I", 1, 1, b"\x1a\x04\x70\xac", "irem"),
+            row("I", 1, 1, b"\xb1", "return"),
         ],
     )
 }

@@ -1,23 +1,36 @@
-use Rattle.std.proofs.Common.{◌≡◌, ◌∙◌, sym, ap, refl, length, List, rules}
+use Rattle.std.proofs.Common.{◌≡◌, ◌∙◌, sym, ap, refl, length, List, rules, subst}
 use Rattle.std.specs.Option.{option_copied}
 use Rattle.kb_heap.specs.declared.heap.Heap.{Heap}
 use Rattle.kb_heap.specs.declared.heap.Value.{Value}
 use Rattle.kb_names.specs.declared.types.Target.{Target}
-use Rattle.kb_semantics.specs.Machine.{run, start_of}
+use Rattle.kb_semantics.specs.Machine.{AreBuilt, run, start_of}
 use Rattle.kb_machine.specs.declared.machine.MethodCode.{MethodCode}
-use Rattle.kb_machine.specs.Frames.{ended_of, HasCode}
+use Rattle.kb_machine.specs.Frames.{ended_of, HasMethodCode}
 use Rattle.kb_machine.proofs.Methods.{has_code, target_is, laid_out}
 use Rattle.kb_machine.proofs.machine.run.Goals as goal
 
 pub unreachable-requires : goal.unreachable-requires
 unreachable-requires c = c.in_default.ensures.none c.requires.runs.0.target c.requires.runs.1.declared
 
-pub run_code-requires : goal.run_code-requires
-run_code-requires c =
+pub run_code-requires-clause-laid_out : goal.run_code-requires-clause-laid_out
+run_code-requires-clause-laid_out c =
     let long : c.in-Ok.size ≡ length c.in-Some-Some.code.now.bytes = search rules in
     rw (c.as_slice-2.ensures, long)
     (laid_out c.args.world.now c.args.target c.in-Some.info c.in-Some-Some.code.now c.in-Some-Some.listing.now c.in-Some.ensures.some
     (ap option_copied c.in-Some-Some.is-0) (ap option_copied c.in-Some-Some.is-1))
+
+pub run_code-requires-clause-built : goal.run_code-requires-clause-built
+run_code-requires-clause-built c =
+    let long : c.in-Ok.size ≡ length c.in-Some-Some.code.now.bytes = search rules in
+    let taken : MethodCode = record {
+      limits = record { stack = c.in-Some-Some.code.now.max_stack; locals = c.in-Some-Some.code.now.max_locals };
+      listing = c.as_slice-2.result;
+      size = c.in-Ok.size;
+    } in
+    let has : HasMethodCode c.requires.runs.0 taken =
+    has_code c.args.world.now c.args.target c.requires.runs.0 c.in-Some.info c.in-Some-Some.code.now c.in-Some-Some.listing.now taken c.in-Some.ensures.some c.requires.runs.1
+    (ap option_copied c.in-Some-Some.is-0) (ap option_copied c.in-Some-Some.is-1) refl refl c.as_slice-2.ensures long in
+    subst AreBuilt has.listing c.requires.runs.2
 
 pub returns : goal.returns
 returns c = λ method is.
@@ -27,7 +40,7 @@ returns c = λ method is.
       listing = c.as_slice-2.result;
       size = c.in-Ok.size;
     } in
-    let has : HasCode method taken =
+    let has : HasMethodCode method taken =
     has_code c.args.world.now c.args.target method c.in-Some.info c.in-Some-Some.code.now c.in-Some-Some.listing.now taken c.in-Some.ensures.some is
     (ap option_copied c.in-Some-Some.is-0) (ap option_copied c.in-Some-Some.is-1) refl refl c.as_slice-2.ensures long in
     let same_target : method.target ≡ c.in-Some.info.target.now = target_is c.args.world.now c.args.target method c.in-Some.info c.in-Some.ensures.some is in

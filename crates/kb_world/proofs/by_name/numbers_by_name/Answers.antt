@@ -1,7 +1,7 @@
-use Rattle.std.proofs.Common.{◌≡◌, ◌+◌, ℕ, List, ◌∷◌, ◌++◌, [], Option, Some, None, length, take, length-take, sym, ap, ◌∙◌, subst, arith}
+use Rattle.std.proofs.Common.{◌≡◌, ◌+◌, ◌∷◌, ◌++◌, [], Option, length, take, length-take, sym, ap, ◌∙◌, arith}
 use Rattle.std.proofs.lemmas.Grind.{take_at_read}
 use Rattle.kb_names.specs.declared.types.Target.{Target}
-use Rattle.kb_world.specs.Linked.{AddsNumber, Indexes, numbers_at}
+use Rattle.kb_world.specs.Linked.{AddsNumber, numbers_at}
 use Rattle.kb_world.proofs.Numbers.{indexes_none, indexes_target}
 use Rattle.kb_world.proofs.by_name.numbers_by_name.Goals.{in-Some+in_ok-add_number, in_default}
 use Rattle.kb_world.proofs.by_name.numbers_by_name.Goals as goal

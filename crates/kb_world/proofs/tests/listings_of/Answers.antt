@@ -1,4 +1,4 @@
-use Rattle.std.proofs.Common.{◌≡◌, ℕ, ◌+◌, take, List, ◌∷◌, ◌++◌, [], sym, ap, ◌∙◌, subst}
+use Rattle.std.proofs.Common.{◌≡◌, ◌+◌, take, List, ◌∷◌, ◌++◌, [], sym, ap, ◌∙◌, subst}
 use Rattle.std.proofs.lemmas.List.{take_all}
 use Rattle.std.proofs.lemmas.Grind.{take_at_read}
 use Rattle.kb_classfile.specs.declared.file.Method.{Method}

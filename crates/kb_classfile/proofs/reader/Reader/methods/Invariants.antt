@@ -1,9 +1,9 @@
-use Rattle.std.proofs.Common.{◌≡◌, ◌-◌}
-use Rattle.kb_grammar.specs.Reading.{times}
-use Rattle.kb_grammar.proofs.Loops.{with_front}
+use Rattle.std.proofs.Common.{◌≡◌, ◌-◌, [], length}
+use Rattle.kb_grammar.specs.Reading.{folded, one_more}
 use Rattle.kb_classfile.specs.Reading.{method}
 use Rattle.kb_classfile.proofs.reader.Reader.methods.Given as goal
 
-abbrev pub invariant-loop : goal.invariant-loop
-invariant-loop l =
-    with_front l.methods.items (times (l.count - l.counter) (method l.pool) l.self) ≡ times l.count (method l.pool) l.initial.self
+abbrev pub invariant-loop-number : goal.invariant-loop-number
+invariant-loop-number l =
+    (length l.methods.items ≡ l.number)
+    × (folded (one_more (method l.pool)) (l.count - l.number) l.methods.items l.self ≡ folded (one_more (method l.pool)) l.count [] l.initial.self)

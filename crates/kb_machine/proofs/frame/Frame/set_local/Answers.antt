@@ -1,6 +1,5 @@
-use Rattle.std.proofs.Common.{◌≡◌, ◌+◌, ◌-◌, ◌++◌, length, replicate, slice_set, Some, None, Option, List, refl, ap, ◌∙◌, ℕ, ◌<◌, arith, rules}
+use Rattle.std.proofs.Common.{◌≡◌, ◌+◌, ◌-◌, ◌++◌, length, replicate, slice_set, Some, None, refl, ap, ◌∙◌, ℕ, ◌<◌, arith, rules}
 use Rattle.std.specs.Vec.{with_item}
-use Rattle.kb_heap.specs.declared.heap.Value.{Value}
 use Rattle.kb_machine.specs.declared.frame.Frame.{Frame}
 use Rattle.kb_machine.proofs.Steps.{follows_set}
 use Rattle.kb_machine.proofs.frame.Frame.set_local.Goals as goal

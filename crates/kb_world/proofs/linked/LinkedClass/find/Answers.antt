@@ -1,4 +1,4 @@
-use Rattle.std.proofs.Common.{◌≡◌, ℕ, List, Option, Some, None, slice_get, ap, ◌∙◌, sym, subst}
+use Rattle.std.proofs.Common.{◌≡◌, ℕ, List, Some, None, slice_get, ap, ◌∙◌, sym, subst}
 use Rattle.std.proofs.lemmas.Option.{IfSome_then}
 use Rattle.kb_world.specs.Linked.{Holds, entry_at}
 use Rattle.kb_world.proofs.Numbers.{numbers_of_entry, none_without_entry}

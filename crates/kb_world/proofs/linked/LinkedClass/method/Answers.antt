@@ -34,7 +34,7 @@ returns-in_err-listing-clause-none c =
     rw c.from_residual-in_err-listing.ensures
     (λ target names.
     (let own : Names c.self.inside.given c.args.number target = subst (λ class. Names class c.args.number target) (sym c.self.view_is) names in
-    let at = listing_at c.self.inside.given.file.methods c.self.inside.given.listings c.args.number own.method c.self.invariant.0.listed own.there in
+    let at = listing_at c.self.inside.given.file.methods c.self.inside.given.listings c.args.number own.method c.self.invariant.0.given.listed own.there in
     none-some at.0 (c.in_err-listing.ensures ∙ ap (λ (ls : List (Option Listing)). slice_get ls c.args.number) c.as_slice-3.ensures ∙ at.1)))
 
 pub returns-clause-some : goal.returns-clause-some

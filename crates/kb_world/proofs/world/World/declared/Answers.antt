@@ -1,6 +1,6 @@
 use Rattle.std.proofs.Common.{◌≡◌, ℕ, List, Some, None, slice_get, sym, subst, ap, ◌∙◌}
 use Rattle.std.proofs.lemmas.Option.{none-some}
-use Rattle.kb_world.specs.World.{AreGiven, Declares}
+use Rattle.kb_world.specs.World.{AreLinked, Declares}
 use Rattle.kb_world.specs.Linked.{number_at}
 use Rattle.kb_world.specs.declared.world.GivenClass.{GivenClass}
 use Rattle.kb_world.proofs.Worlds.{none_named, none_declared, one_id}
@@ -32,7 +32,7 @@ returns-clause-found c =
 
 pub returns-clause-alone : goal.returns-clause-alone
 returns-clause-alone c = λ other declared.
-    let are : AreGiven c.args.self.now = subst (λ (cs : List GivenClass). AreGiven cs) c.self.view_is c.self.invariant.0 in
+    let are : AreLinked c.args.self.now = subst (λ (cs : List GivenClass). AreLinked cs) c.self.view_is c.self.invariant.0 in
     let there = c.in_ok-entry.ensures ∙ ap (λ (cs : List GivenClass). slice_get cs c.in_ok-class.field-0.now) (c.as_slice-2.ensures.value ∙ c.self.view_is) in
     let found : Declares c.args.self.now (record { class = c.in_ok-class.field-0.now; number = c.in_ok-number.number }) c.args.target.now = record { class = c.in_ok-entry.field-0.now; class_is = sym there; names = c.in_ok-number.ensures.found } in
     one_id c.args.self.now other (record { class = c.in_ok-class.field-0.now; number = c.in_ok-number.number }) c.args.target.now are declared found

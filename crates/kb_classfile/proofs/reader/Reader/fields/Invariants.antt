@@ -1,0 +1,8 @@
+use Rattle.std.proofs.Common.{◌≡◌, ℕ, ◌-◌, []}
+use Rattle.kb_grammar.specs.Reading.{folded, one_more}
+use Rattle.kb_classfile.specs.Reading.{field}
+use Rattle.kb_classfile.proofs.reader.Reader.fields.Given as goal
+
+abbrev pub invariant-loop : goal.invariant-loop
+invariant-loop l =
+    folded (one_more (λ (number : ℕ). field l.pool)) (l.count - l.counter) l.fields.items l.self ≡ folded (one_more (λ (number : ℕ). field l.pool)) l.count [] l.initial.self

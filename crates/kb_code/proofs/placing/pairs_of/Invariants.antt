@@ -1,0 +1,11 @@
+use Rattle.std.proofs.Common.{◌≡◌, length}
+use Rattle.kb_code.specs.Answers.{each_of, pair_of}
+use Rattle.kb_code.specs.Starts.{starts_in}
+use Rattle.kb_code.proofs.Steps.{behind}
+use Rattle.kb_code.proofs.placing.pairs_of.Given as goal
+
+abbrev pub invariant-loop-rest : goal.invariant-loop-rest
+invariant-loop-rest l = behind l.placed.items (each_of (pair_of (starts_in l.table) l.at) l.rest) ≡ each_of (pair_of (starts_in l.table) l.at) l.pairs
+
+abbrev pub decreases-loop-rest : goal.decreases-loop-rest
+decreases-loop-rest l = length l.rest

@@ -1,0 +1,31 @@
+use Rattle.std.proofs.Common.{ℕ, [], ◌<◌, ◌*◌, length, arith, rules, w64, SFits}
+use Rattle.std.proofs.lemmas.Int.{to_z-of_z}
+use Rattle.std.proofs.lemmas.Result.{err_from_is_err_and}
+use Rattle.kb_grammar.specs.Reading.{folded, one_more}
+use Rattle.kb_grammar.proofs.Loops.{is_over}
+use Rattle.kb_code.specs.Reading.{far}
+use Rattle.kb_code.proofs.Steps.{puts_behind, stops}
+use Rattle.kb_code.proofs.Room.{no_targets}
+use Rattle.kb_code.proofs.reader.Reader.targets.Goals as goal
+
+pub returns-then-left-count : goal.returns-then-left-count
+returns-then-left-count c =
+    let short : length c.args.self.now.rest < 4 * c.args.count = omega (arith, c.left.ensures, c.if-left-count.true) in
+    no_targets c.args.from c.args.count c.args.self.now short
+
+pub returns-in_err-far : goal.returns-in_err-far
+returns-in_err-far c =
+    let p = err_from_is_err_and c.from_residual.result c.from_residual.ensures.1 in
+    rw (p.1, p.2)
+    (stops c.in_err-far.field-0.0 (λ (number : ℕ). far c.args.from) c.loop.targets.items c.args.count c.loop.counter c.loop.self (folded (one_more (λ (number : ℕ). far c.args.from)) c.args.count [] c.args.self.now) c.loop-test.true c.in_err-far.ensures c.loop.invariant)
+
+pub loop-preserved : goal.loop-preserved
+loop-preserved c =
+    let fits : SFits w64 c.in_ok-far.field-0 = search rules in
+    rw (c.in_ok-push.ensures.items, to_z-of_z w64 c.in_ok-far.field-0 fits)
+    (puts_behind (λ (number : ℕ). far c.args.from) c.loop.targets.items c.in_ok-far.field-0 c.args.count c.loop.counter c.loop.self c.far.new.self (folded (one_more (λ (number : ℕ). far c.args.from)) c.args.count [] c.args.self.now) c.loop-test.true c.in_ok-far.ensures c.loop.invariant)
+
+pub returns : goal.returns
+returns c =
+    rw (c.from_vec.ensures)
+    (is_over (one_more (λ (number : ℕ). far c.args.from)) c.loop.targets.items c.args.count c.loop.counter c.loop.self (folded (one_more (λ (number : ℕ). far c.args.from)) c.args.count [] c.args.self.now) c.loop-test.false c.loop.invariant)

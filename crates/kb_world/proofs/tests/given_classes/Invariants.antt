@@ -1,0 +1,5 @@
+use Rattle.kb_world.specs.World.{AreGiven}
+use Rattle.kb_world.proofs.tests.given_classes.Given as goal
+
+abbrev pub invariant-loop-bytes : goal.invariant-loop-bytes
+invariant-loop-bytes l = AreGiven l.classes.items

@@ -1,0 +1,26 @@
+use Rattle.std.proofs.Common.{List, ℕ, Vec, Global, Err, subst}
+use Rattle.std.proofs.lemmas.Result.{err_from_is_err_and}
+use Rattle.kb_world.specs.declared.world.GivenClass.{GivenClass}
+use Rattle.kiasan.specs.Answers.{AreClasses, IsWorldOf, RefusesClasses}
+use Rattle.kiasan.specs.Refusals.{Gives}
+use Rattle.kiasan.proofs.AnswerLaws.{classes_stop, world_stops}
+use Rattle.kiasan.proofs.ClassLaws.{are_given}
+use Rattle.kiasan.proofs.answer.answer_on.Goals as goal
+
+pub link_classes-requires : goal.link_classes-requires
+link_classes-requires c = are_given _ c.in_ok-given.given.items c.in_ok-given.ensures
+
+pub returns-in_err-given : goal.returns-in_err-given
+returns-in_err-given c =
+    let p = err_from_is_err_and c.from_residual.result c.from_residual.ensures.1 in
+    rw (p.1, p.2)
+    (classes_stop c.args.order.now c.args.contents.now (λ (given : Vec GivenClass Global). AreClasses c.args.contents.now.classes given.items) c.in_err-given.field-0.0
+    (subst (λ (classes : List (List ℕ)). Gives {A = Vec GivenClass Global} ⊥ (RefusesClasses classes) (λ given. AreClasses classes given.items) (Err c.in_err-given.field-0.0))
+    c.as_slice.ensures c.in_err-given.ensures))
+
+pub returns-in_err-world : goal.returns-in_err-world
+returns-in_err-world c =
+    let p = err_from_is_err_and c.from_residual-in_err-world.result c.from_residual-in_err-world.ensures.1 in
+    rw (p.1, p.2)
+    (world_stops c.args.order.now c.args.contents.now c.in_ok-given.given.items (IsWorldOf c.in_ok-given.given.items) c.in_err-world.field-0.0
+    (subst (λ (classes : List (List ℕ)). AreClasses classes c.in_ok-given.given.items) c.as_slice.ensures c.in_ok-given.ensures) c.in_err-world.ensures)
