@@ -662,13 +662,13 @@ fn faults_of_code_come_behind_those_of_the_file(rt: HostRuntime) -> Result<(), F
     class[174] = 0xca;
     let first = "refused 20 file 0 method 0 at 0 opcode ca\n";
     assert_answer(&rt, EXPLORE_A, &class, Status::Class, first)?;
-    let bad = changed(rt.alloc(), 92, b"\xcb")?;
-    let longer = joined(rt.alloc(), &[bad.as_slice(), b"\x00"])?;
+    let mut bad = CLASS_A;
+    bad[92] = 0xcb;
+    let longer = joined(rt.alloc(), &[&bad[..], b"\x00"])?;
     let extra = "refused 17 file 0 at 102\n";
     assert_answer(&rt, EXPLORE_A, longer.as_slice(), Status::Class, extra)?;
-    let front = &bad.as_slice()[..64];
-    let behind = &bad.as_slice()[68..];
-    let interface = joined(rt.alloc(), &[front, b"\x00\x01\x00\x04\x00\x00", behind])?;
+    let pieces = [&bad[..64], b"\x00\x01\x00\x04\x00\x00", &bad[68..]];
+    let interface = joined(rt.alloc(), &pieces)?;
     let line = "refused 20 file 0 method 0 at 0 opcode cb\n";
     assert_answer(&rt, EXPLORE_A, interface.as_slice(), Status::Class, line)
 }
