@@ -170,7 +170,7 @@ terms_build vars words (term ∷ terms) f c h k fit inside =
     let right : List Literal = second_word vars words term.right in
     let one : List Literal × Cnf = built_term vars words term f in
     let o : Operates term.op left right f one =
-    op_operates term.op left right f fit.0.built c (word-operand f.vars vars words term.left c.variable h k) (word-second f.vars vars words term.right c.variable h k) in
+    op_operates term.op left right f c (word-operand f.vars vars words term.left c.variable h k) (word-second f.vars vars words term.right c.variable h k) in
     let up : f.vars ≤ one.1.vars = o.defines.grows in
     let rest : Builds vars (words ++ one.0 ∷ []) terms one.1 (term_words vars (words ++ one.0 ∷ []) terms one.1) =
     terms_build vars (words ++ one.0 ∷ []) terms one.1 o.circuit (words-more f.vars one.1.vars (literals_of vars) up h)

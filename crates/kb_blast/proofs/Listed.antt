@@ -16,7 +16,7 @@ use Rattle.kb_terms.specs.declared.listing.Operand.TheVariants.{Const as ConstOp
 use Rattle.kb_terms.specs.declared.listing.Term.{Term}
 use Rattle.kb_terms.specs.Terms.{IsTerm, node_at, is_variable, variables_of, IsPool}
 use Rattle.kb_terms.proofs.Walking.{first-before, second-before}
-use Rattle.kb_blast.specs.Query.{operand_from, operand_of, operands_of, listed_from, listed, kinds_of, node_passes, has_circuit, is_any}
+use Rattle.kb_blast.specs.Query.{operand_from, operand_of, operands_of, listed_from, listed, kinds_of, node_passes, is_any}
 use Rattle.kb_blast.specs.Conditions.{Words, with_number, with_operand, with_second, with_variables, occurring, kind_at, with_kinds}
 use Rattle.kb_blast.specs.Meaning.{OperandFits, SecondFits, TermsFit, IsBelowAll, IsRising, AreReadable}
 use Rattle.kb_blast.specs.Listing.{noted, noted_all, numbers_of, literals_of}
@@ -158,13 +158,13 @@ module _ (nodes : List Node) (formed : IsPool nodes) where
       → listed nodes numbered (t ∷ ts) ≡ record { op = op; left = operand_of nodes numbered left; right = operands_of nodes numbered right } ∷ listed nodes numbered ts
   listed-cons numbered t ts op left right e = ap (λ n. cons_option (listed_from nodes numbered n) (listed nodes numbered ts)) e
 
-  pub listed-fit : (numbered ts : List TermId) → list_all (λ t. node_passes has_circuit (node_at nodes t)) ts ≡ true → TermsFit (listed nodes numbered ts)
+  pub listed-fit : (numbered ts : List TermId) → list_all (λ t. node_passes is_any (node_at nodes t)) ts ≡ true → TermsFit (listed nodes numbered ts)
   listed-fit numbered [] h = tt
   listed-fit numbered (t ∷ ts) h =
       let p = and_parts _ _ h in
-      let o = is-operation (node_at nodes t) has_circuit p.0 in
+      let o = is-operation (node_at nodes t) is_any p.0 in
       subst TermsFit (sym (listed-cons numbered t ts o.0 o.1 o.2 o.3))
-      (record { built = o.4; left = operand-fits numbered o.1; right = second-fits numbered o.2 }, listed-fit numbered ts p.1)
+      (record { left = operand-fits numbered o.1; right = second-fits numbered o.2 }, listed-fit numbered ts p.1)
 
 -- ---- the numbers of variables are below how many there are
 
@@ -197,16 +197,16 @@ module _ (nodes : List Node) (formed : IsPool nodes) (numbered : List TermId) wh
   second-below ns None h = h
   second-below ns (Some t) h = operand-below ns t h
 
-  below-run : (ns : List ℕ) (ts : List TermId) → list_all (λ t. node_passes has_circuit (node_at nodes t)) ts ≡ true → AllBelow (variables_of nodes) ns
+  below-run : (ns : List ℕ) (ts : List TermId) → list_all (λ t. node_passes is_any (node_at nodes t)) ts ≡ true → AllBelow (variables_of nodes) ns
       → AllBelow (variables_of nodes) (fold with_variables ns (listed nodes numbered ts))
   below-run ns [] h k = k
   below-run ns (t ∷ ts) h k =
       let p = and_parts _ _ h in
-      let o = is-operation (node_at nodes t) has_circuit p.0 in
+      let o = is-operation (node_at nodes t) is_any p.0 in
       subst (λ terms. AllBelow (variables_of nodes) (fold with_variables ns terms)) (sym (listed-cons nodes formed numbered t ts o.0 o.1 o.2 o.3))
       (below-run (with_second (with_operand ns (operand_of nodes numbered o.1)) (operands_of nodes numbered o.2)) ts p.1 (second-below (with_operand ns (operand_of nodes numbered o.1)) o.2 (operand-below ns o.1 k)))
 
-  pub occurring-below : (ts : List TermId) → list_all (λ t. node_passes has_circuit (node_at nodes t)) ts ≡ true → AllBelow (variables_of nodes) (occurring (listed nodes numbered ts))
+  pub occurring-below : (ts : List TermId) → list_all (λ t. node_passes is_any (node_at nodes t)) ts ≡ true → AllBelow (variables_of nodes) (occurring (listed nodes numbered ts))
   occurring-below ts h = below-run [] ts h tt
 
 pub readable : (n places : ℕ) (words : Words) → AreWords n (literals_of words) → IsRising (numbers_of words) → AllBelow places (numbers_of words) → AreReadable n places words

@@ -21,7 +21,7 @@ use Rattle.kb_terms.specs.declared.node.VarKind.{VarKind}
 use Rattle.kb_terms.specs.declared.listing.Operand.{Operand}
 use Rattle.kb_terms.specs.declared.listing.Operand.TheVariants.{Const, Var, Term as TermOperand}
 use Rattle.kb_blast.specs.Conditions.{Words, bits, narrowed, new_bits, word_of, variable_word, variable_words, operand_word, second_word, built_term, term_words, occurring_kinds, with_conditions, first_formula, blasted}
-use Rattle.kb_blast.specs.Meaning.{Reads, read_into, IsElsewhere, IsBelowAll, IsRising, AreReadable, TermsFit}
+use Rattle.kb_blast.specs.Meaning.{Reads, read_into, IsElsewhere, IsBelowAll, IsRising, AreReadable}
 use Rattle.kb_blast.specs.Query.{Query}
 use Rattle.kb_terms.specs.declared.listing.Term.{Term}
 use Rattle.kb_blast.specs.Listing.{numbers_of, literals_of, words_in_front}
@@ -222,10 +222,6 @@ second-within n vars words (Some o) low h k = operand-within n vars words o low 
 
 pub rest-is : {A : Type 0} (x : A) (xs : List A) → take (length (x ∷ xs) - 1) (drop 1 (x ∷ xs)) ≡ xs
 rest-is x xs = let n : length (x ∷ xs) - 1 ≡ length xs = omega arith in ap (λ k. take k xs) n ∙ take_all (length xs) xs (omega arith)
-
-pub fit_next : (rest : List Term) → 1 ≤ length rest → TermsFit rest → TermsFit (take (length rest - 1) (drop 1 rest))
-fit_next [] le h = absurd (omega arith)
-fit_next (t ∷ ts) le h = subst TermsFit (sym (rest-is t ts)) h.1
 
 pub terms_next : (vars : Words) (words more : List (List Literal)) (rest : List Term) (d : Term) (word : List Literal) (f g : Cnf) → 1 ≤ length rest
     → built_term vars words (get_or rest 0 d) f ≡ (word, g) → more ≡ words ++ word ∷ [] → term_words vars more (take (length rest - 1) (drop 1 rest)) g ≡ term_words vars words rest f

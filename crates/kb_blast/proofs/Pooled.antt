@@ -1,5 +1,5 @@
 -- What the formula says of conditions on terms of a pool.
-use Rattle.std.proofs.Common.{◌≡◌, inl, inr, ℕ, zero, suc, ◌<◌, ◌==◌, ℤ, pos, Bool, true, List, [], ◌∷◌, ◌++◌, length, map, fold, get_or, slice_get, Option, Some, None, refl, sym, ap, subst, ◌∙◌, arith, append_assoc}
+use Rattle.std.proofs.Common.{◌≡◌, ◌↔◌, inl, inr, ℕ, zero, suc, ◌<◌, ◌==◌, ℤ, pos, Bool, true, List, [], ◌∷◌, ◌++◌, length, map, fold, get_or, slice_get, Option, Some, None, refl, sym, ap, subst, ◌∙◌, arith, append_assoc}
 use Rattle.std.specs.List.{list_all}
 use Rattle.std.specs.Prelude.{unwrap_or}
 use Rattle.std.proofs.lemmas.Bool.{and_parts, and_from, eqb-true}
@@ -16,7 +16,7 @@ use Rattle.kb_terms.specs.Numbering.{place_of, numbering, is_operation, IsOperan
 use Rattle.kb_terms.proofs.Entries.{slice_get-append-left, slice_get-append-end}
 use Rattle.kb_terms.proofs.Values.{value_of-constant, value_of-variable, value_of-operation}
 use Rattle.kb_terms.proofs.Walking.{first-before, second-before}
-use Rattle.kb_blast.specs.Query.{number_in, operand_from, operand_of, operands_of, listed, numbered_conditions, query_of, roots_of, node_passes, has_circuit, is_comparison, is_any, AreConditions}
+use Rattle.kb_blast.specs.Query.{number_in, operand_from, operand_of, operands_of, listed, numbered_conditions, query_of, roots_of, node_passes, is_comparison, is_any, AreConditions}
 use Rattle.kb_blast.specs.Conditions.{words_of, formula_of}
 use Rattle.kb_blast.specs.Meaning.{operand_value as listed_operand, second_value as listed_second, with_value, listed_values, AreMet, Meets, AreMetInPool, MeetsInPool, SaysExactly, IsComparison, ConditionsFit, IsQuery, IsRising, AreReadable}
 use Rattle.kb_blast.proofs.Listed.{is-operation, listed-cons, listed-fit, occurring-rising, AllBelow, occurring-below, readable}
@@ -37,12 +37,14 @@ at-place terms t j e =
     let same : get_or terms j d ≡ t = ap (λ k. record { 0 = k }) (sym (eqb-true t.0 (get_or terms j d).0 p.1)) in
     slice_get-get_or terms j d p.0 ∙ ap Some same
 
-passes-any : (n : Option Node) (test : Op → Bool) → node_passes test n ≡ true → node_passes is_any n ≡ true
-passes-any n test e = let o = is-operation n test e in ap (node_passes is_any) o.3
+operation-any : (n : Option Node) → is_operation n ≡ true → node_passes is_any n ≡ true
+operation-any n e = let o = as-operation n e in ap (node_passes is_any) o.3
 
-pub all-any : (nodes : List Node) (test : Op → Bool) (ts : List TermId) → list_all (λ t. node_passes test (node_at nodes t)) ts ≡ true → list_all (λ t. node_passes is_any (node_at nodes t)) ts ≡ true
-all-any nodes test [] h = refl
-all-any nodes test (t ∷ ts) h = let p = and_parts _ _ h in and_from _ _ (passes-any (node_at nodes t) test p.0) (all-any nodes test ts p.1)
+-- numbered terms are operations
+pub all-any : (nodes : List Node) (ts : List TermId) → ((i : ℕ) (t : TermId) → slice_get ts i ≡ Some t → is_operation (node_at nodes t) ≡ true)
+    → list_all (λ t. node_passes is_any (node_at nodes t)) ts ≡ true
+all-any nodes [] h = refl
+all-any nodes (t ∷ ts) h = and_from _ _ (operation-any (node_at nodes t) (h 0 t refl)) (all-any nodes ts (λ i x e. h (suc i) x e))
 
 -- terms with operations are terms of the pool
 pub are-terms : (nodes : List Node) (test : Op → Bool) (ts : List TermId) → list_all (λ t. node_passes test (node_at nodes t)) ts ≡ true → AreTerms nodes ts
@@ -131,7 +133,7 @@ module _ (nodes : List Node) (formed : IsPool nodes) (roots numbered : List Term
   met-in-list inputs [] h m = tt
   met-in-list inputs (condition ∷ when) h m = (value-at inputs condition.0 h.0.0 h.0.1 ∙ m.0, met-in-list inputs when h.1 m.1)
 
-  comparison-at : (ts : List TermId) (j : ℕ) (t : TermId) → list_all (λ x. node_passes has_circuit (node_at nodes x)) ts ≡ true → slice_get ts j ≡ Some t
+  comparison-at : (ts : List TermId) (j : ℕ) (t : TermId) → list_all (λ x. node_passes is_any (node_at nodes x)) ts ≡ true → slice_get ts j ≡ Some t
       → node_passes is_comparison (node_at nodes t) ≡ true → IsComparison (slice_get (listed nodes numbered ts) j)
   comparison-at [] j t h e c = absurd (cc)
   comparison-at (x ∷ ts) zero t h e c =
@@ -140,11 +142,11 @@ module _ (nodes : List Node) (formed : IsPool nodes) (roots numbered : List Term
       subst (λ xs. IsComparison (slice_get xs 0)) (sym (listed-cons nodes formed numbered x ts o.0 o.1 o.2 o.3)) o.4
   comparison-at (x ∷ ts) (suc j) t h e c =
       let p = and_parts _ _ h in
-      let o = is-operation (node_at nodes x) has_circuit p.0 in
+      let o = is-operation (node_at nodes x) is_any p.0 in
       subst (λ xs. IsComparison (slice_get xs (suc j))) (sym (listed-cons nodes formed numbered x ts o.0 o.1 o.2 o.3)) (comparison-at ts j t p.1 e c)
 
   conditions-fit : (when : List (TermId × Bool)) → list_all (λ t. node_passes is_comparison (node_at nodes t)) (roots_of when) ≡ true
-      → list_all (λ x. node_passes has_circuit (node_at nodes x)) numbered ≡ true → Placed when → ConditionsFit (listed nodes numbered numbered) (numbered_conditions numbered when)
+      → list_all (λ x. node_passes is_any (node_at nodes x)) numbered ≡ true → Placed when → ConditionsFit (listed nodes numbered numbered) (numbered_conditions numbered when)
   conditions-fit [] h k p = tt
   conditions-fit (condition ∷ when) h k p =
       let q = and_parts _ _ h in
@@ -155,22 +157,30 @@ module _ (nodes : List Node) (formed : IsPool nodes) (roots numbered : List Term
 module _ (nodes : List Node) (when : List (TermId × Bool)) (formed : IsPool nodes) (conditions : AreConditions nodes when)
     (n : IsNumbering nodes (roots_of when) (numbering nodes (roots_of when))) where
   all-placed : Placed nodes formed (roots_of when) (numbering nodes (roots_of when)) n when
-  all-placed = placed nodes formed (roots_of when) (numbering nodes (roots_of when)) n when conditions.comparisons (λ i root at is. n.rooted i root at is)
+  all-placed = placed nodes formed (roots_of when) (numbering nodes (roots_of when)) n when conditions (λ i root at is. n.rooted i root at is)
+
+  built : list_all (λ t. node_passes is_any (node_at nodes t)) (numbering nodes (roots_of when)) ≡ true
+  built = all-any nodes (numbering nodes (roots_of when)) n.operation
 
   fit : IsQuery (query_of nodes when)
   fit = record {
-    terms = listed-fit nodes formed (numbering nodes (roots_of when)) (numbering nodes (roots_of when)) conditions.built;
-    conditions = conditions-fit nodes formed (roots_of when) (numbering nodes (roots_of when)) n when conditions.comparisons conditions.built all-placed;
+    terms = listed-fit nodes formed (numbering nodes (roots_of when)) (numbering nodes (roots_of when)) built;
+    conditions = conditions-fit nodes formed (roots_of when) (numbering nodes (roots_of when)) n when conditions built all-placed;
   }
+
+  pub pool-meets : (inputs : List ℤ) → MeetsInPool nodes when inputs ↔ Meets (query_of nodes when) inputs
+  pool-meets inputs = (
+    λ m. (m.0, met-in-list nodes formed (roots_of when) (numbering nodes (roots_of when)) n inputs when all-placed m.1),
+    λ m. (m.0, met-in-pool nodes formed (roots_of when) (numbering nodes (roots_of when)) n inputs when all-placed m.1),
+  )
 
   pub pool-says : SaysExactly (words_of (query_of nodes when)) (formula_of (query_of nodes when)) (MeetsInPool nodes when)
   pool-says =
       let s : SaysExactly (words_of (query_of nodes when)) (formula_of (query_of nodes when)) (Meets (query_of nodes when)) = says (query_of nodes when) fit in
       record {
         reads = s.reads;
-        sound = λ v inputs sat r. let m = s.sound v inputs sat r in
-            (m.0, met-in-pool nodes formed (roots_of when) (numbering nodes (roots_of when)) n inputs when all-placed m.1);
-        complete = λ inputs m. s.complete inputs (m.0, met-in-list nodes formed (roots_of when) (numbering nodes (roots_of when)) n inputs when all-placed m.1);
+        sound = λ v inputs sat r. (pool-meets inputs).1 (s.sound v inputs sat r);
+        complete = λ inputs m. s.complete inputs ((pool-meets inputs).0 m);
       }
 
   pub pool-readable : AreReadable (formula_of (query_of nodes when)).vars (variables_of nodes) (words_of (query_of nodes when))
@@ -178,4 +188,4 @@ module _ (nodes : List Node) (when : List (TermId × Bool)) (formed : IsPool nod
       readable _ (variables_of nodes) (words_of (query_of nodes when)) (words-are (query_of nodes when) fit)
       (subst IsRising (sym (numbers-are (query_of nodes when) fit)) (occurring-rising (query_of nodes when).terms))
       (subst (AllBelow (variables_of nodes)) (sym (numbers-are (query_of nodes when) fit))
-      (occurring-below nodes formed (numbering nodes (roots_of when)) (numbering nodes (roots_of when)) conditions.built))
+      (occurring-below nodes formed (numbering nodes (roots_of when)) (numbering nodes (roots_of when)) built))

@@ -8,8 +8,10 @@ use Rattle.kb_chain.specs.Cnf.{Cnf}
 use Rattle.kb_circuit.specs.Circuit.{Circuit, ◌>>=◌, done, truth, falsity, next_literal, with_variable, with_clause}
 use Rattle.kb_circuit.specs.Words.{and_word, or_word, xor_word, add_word, sub_word, neg_word, eq_word, lt_word, ult_word, false_bits, truth_bits}
 use Rattle.kb_circuit.specs.Shifts.{shl_word, shr_word, ushr_word}
+use Rattle.kb_circuit.specs.Multiplication.{mul_word}
+use Rattle.kb_circuit.specs.Division.{div_word, rem_word}
 use Rattle.kb_terms.specs.declared.op.Op.{Op}
-use Rattle.kb_terms.specs.declared.op.Op.TheVariants.{Add, Sub, Neg, Shl, Shr, Ushr, And, Or, Xor, Byte, Char, Short, Eq, Lt, Ult}
+use Rattle.kb_terms.specs.declared.op.Op.TheVariants.{Add, Sub, Mul, Div, Rem, Neg, Shl, Shr, Ushr, And, Or, Xor, Byte, Char, Short, Eq, Lt, Ult}
 use Rattle.kb_terms.specs.declared.node.VarKind.{VarKind}
 use Rattle.kb_terms.specs.declared.node.VarKind.TheVariants.{Int as IntKind, Bool as BoolKind}
 use Rattle.kb_terms.specs.declared.listing.Operand.{Operand}
@@ -105,6 +107,9 @@ narrowed width above word = take width word ++ replicate (32 - width) above
 unfoldable pub op_word : Op → List Literal → List Literal → Circuit (List Literal)
 op_word Add left right = add_word left right
 op_word Sub left right = sub_word left right
+op_word Mul left right = mul_word left right
+op_word Div left right = div_word left right
+op_word Rem left right = rem_word left right
 op_word Neg left right = neg_word left
 op_word Shl left right = shl_word left right
 op_word Shr left right = shr_word left right
@@ -118,8 +123,6 @@ op_word Short left right = done (narrowed 16 (slice_index_or left 15 falsity) le
 op_word Eq left right = eq_word left right
 op_word Lt left right = lt_word left right
 op_word Ult left right = ult_word left right
--- products, quotients and remainders have no circuit yet
-op_word _ left right = done false_bits
 
 -- the word of the term of that number
 abbrev pub term_word : List (List Literal) → ℕ → List Literal

@@ -14,7 +14,7 @@ use Rattle.kb_terms.specs.declared.node.Node.{Node}
 use Rattle.kb_terms.specs.declared.listing.Operand.{Operand}
 use Rattle.kb_terms.specs.declared.listing.Operand.TheVariants.{Const, Var, Term as TermOperand}
 use Rattle.kb_terms.specs.declared.listing.Term.{Term}
-use Rattle.kb_blast.specs.Query.{Query, query_of, has_circuit, is_comparison}
+use Rattle.kb_blast.specs.Query.{Query, query_of, is_comparison}
 use Rattle.kb_blast.specs.Conditions.{Words, occurring_kinds}
 
 -- ---- values of listed terms
@@ -122,7 +122,6 @@ SecondFits None = Unit {0}
 SecondFits (Some operand) = OperandFits operand
 
 pub record TermFits (term : Term) : Type 0 where
-  pub built : has_circuit term.op ≡ true
   pub left : OperandFits term.left
   pub right : SecondFits term.right
 

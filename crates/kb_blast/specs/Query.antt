@@ -2,7 +2,7 @@
 use Rattle.std.specs.Prelude.{◌≡◌, ℕ, pos, Bool, true, false, List, map, Option, Some, None, option_map, unwrap_or}
 use Rattle.std.specs.List.{filter_map, list_all}
 use Rattle.kb_terms.specs.declared.op.Op.{Op}
-use Rattle.kb_terms.specs.declared.op.Op.TheVariants.{Mul, Div, Rem, Eq, Lt, Ult}
+use Rattle.kb_terms.specs.declared.op.Op.TheVariants.{Eq, Lt, Ult}
 use Rattle.kb_terms.specs.declared.node.TermId.{TermId}
 use Rattle.kb_terms.specs.declared.node.VarKind.{VarKind}
 use Rattle.kb_terms.specs.declared.node.Node.{Node}
@@ -80,13 +80,6 @@ query_of nodes when = numbered_query nodes when (numbering nodes (roots_of when)
 
 -- ---- which conditions can be blasted
 
--- products, quotients and remainders have no circuit yet
-abbrev pub has_circuit : Op → Bool
-has_circuit Mul = false
-has_circuit Div = false
-has_circuit Rem = false
-has_circuit _ = true
-
 abbrev pub is_any : Op → Bool
 is_any _ = true
 
@@ -103,7 +96,6 @@ node_passes test (Some (Var v kind)) = false
 node_passes test (Some (Apply op left right)) = test op
 node_passes test None = false
 
--- each condition is on a comparison, and no term at or below one is a product, a quotient or a remainder
-pub record AreConditions (nodes : List Node) (when : List (TermId × Bool)) : Type 0 where
-  pub comparisons : list_all (λ t. node_passes is_comparison (node_at nodes t)) (roots_of when) ≡ true
-  pub built : list_all (λ t. node_passes has_circuit (node_at nodes t)) (numbering nodes (roots_of when)) ≡ true
+-- each condition is on a comparison
+abbrev pub AreConditions : List Node → List (TermId × Bool) → Type 0
+AreConditions nodes when = list_all (λ t. node_passes is_comparison (node_at nodes t)) (roots_of when) ≡ true

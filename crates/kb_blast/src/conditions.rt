@@ -1,10 +1,10 @@
 //! Conditions as a formula.
-ghost use Rattle.std.specs.Prelude.{◌≡◌, ◌≤◌, length, map, IfOk};
+ghost use Rattle.std.specs.Prelude.{◌≡◌, ◌≤◌, ◌↔◌, ℤ, List, length, map, IfOk};
 ghost use Rattle.kb_chain.specs.Cnf.{AllWithin};
 ghost use Rattle.kb_terms.specs.Terms.{variables_of};
 ghost use Rattle.kb_blast.specs.Query.{AreConditions, query_of, numbered_conditions, roots_of};
 ghost use Rattle.kb_blast.specs.Conditions.{formula_of, words_of, condition_literal, with_conditions};
-ghost use Rattle.kb_blast.specs.Meaning.{SaysExactly, MeetsInPool, AreReadable};
+ghost use Rattle.kb_blast.specs.Meaning.{SaysExactly, Meets, MeetsInPool, AreReadable};
 
 use crate::listing::{listed, number_in};
 use crate::memory::NoMemory;
@@ -23,13 +23,14 @@ pub struct Blasted {
     pub vars: Row<(u32, [Lit; 32])>,
 }
 
-/// The formula of conditions on comparisons, each a term with its stated truth. It looks at no term of the pool but
-/// those at and below the conditions' terms. Refused for want of memory alone.
+/// The formula of conditions on comparisons, each a term with its stated truth. The terms below may have every
+/// operation. It looks at no term of the pool but those at and below the conditions' terms. Refused for want of memory, and where the formula would need more than 2^31 - 1 variables.
 pub fn blast(alloc: Global, pool: &Pool, when: &[(TermId, bool)]) -> Result<Blasted, NoMemory>
     requires { AreConditions pool.now when.now }
     ensures formula { IfOk result (λ b. b.formula ≡ formula_of (query_of pool.now when.now)) }
     ensures vars { IfOk result (λ b. b.vars ≡ words_of (query_of pool.now when.now)) }
     ensures law { IfOk result (λ b. SaysExactly b.vars b.formula (MeetsInPool pool.now when.now)) }
+    ensures listed { IfOk result (λ _. (inputs : List ℤ) → MeetsInPool pool.now when.now inputs ↔ Meets (query_of pool.now when.now) inputs) }
     ensures readable { IfOk result (λ b. AreReadable b.formula.vars (variables_of pool.now) b.vars) }
 {
     let roots = roots_of(alloc, when)?;

@@ -2,10 +2,8 @@
 ghost use Rattle.std.specs.Prelude.{◌≡◌, ◌≤◌, ◌<◌, [], true, IfOk};
 ghost use Rattle.kb_chain.specs.Cnf.{IsWithin, AllWithin};
 ghost use Rattle.kb_circuit.specs.Circuit.{IsCircuit};
-ghost use Rattle.kb_blast.specs.Query.{has_circuit};
 ghost use Rattle.kb_blast.specs.Conditions.{word_of, constant_word, narrowed, op_word, term_word, operand_word, second_word, built_term, term_words};
 ghost use Rattle.kb_blast.specs.Listing.{literals_of};
-ghost use Rattle.kb_blast.specs.Meaning.{TermsFit};
 
 use crate::memory::NoMemory;
 use kb_chain::Lit;
@@ -21,7 +19,6 @@ pub(crate) fn term_words(
     vars: &BTreeMap<u32, [Lit; 32]>,
     terms: &[Term],
 ) -> Result<Vec<[Lit; 32]>, NoMemory>
-    requires fit { TermsFit terms.now }
     requires within { AllWithin builder.old.vars (literals_of vars.now.entries) }
     ensures built { IfOk result (λ words. term_words vars.now.entries [] terms.now builder.old ≡ (words.items, builder.new)) }
     ensures within { IfOk result (λ words. AllWithin builder.new.vars words.items) }
@@ -44,7 +41,6 @@ fn built_term(
     words: &[[Lit; 32]],
     term: &Term,
 ) -> Result<[Lit; 32], NoMemory>
-    requires built { has_circuit term.now.op ≡ true }
     requires vars { AllWithin builder.old.vars (literals_of vars.now.entries) }
     requires words { AllWithin builder.old.vars words.now }
     ensures built { IfOk result (λ word. built_term vars.now.entries words.now term.now builder.old ≡ (word, builder.new)) }
@@ -66,7 +62,6 @@ fn operation(
     left: &[Lit; 32],
     right: &[Lit; 32],
 ) -> Result<[Lit; 32], kb_circuit::NoMemory>
-    requires built { has_circuit op ≡ true }
     requires left { IsWithin builder.old.vars left.now }
     requires right { IsWithin builder.old.vars right.now }
     ensures built { IfOk result (λ word. op_word op left.now right.now builder.old ≡ (word, builder.new)) }
@@ -77,6 +72,9 @@ fn operation(
     match op {
         Op::Add => builder.add(left, right),
         Op::Sub => builder.sub(left, right),
+        Op::Mul => builder.mul(left, right),
+        Op::Div => builder.div(left, right),
+        Op::Rem => builder.rem(left, right),
         Op::Neg => builder.neg(left),
         Op::Shl => builder.shl(left, right),
         Op::Shr => builder.shr(left, right),
@@ -90,7 +88,6 @@ fn operation(
         Op::Eq => builder.eq(left, right),
         Op::Lt => builder.lt(left, right),
         Op::Ult => builder.ult(left, right),
-        Op::Mul | Op::Div | Op::Rem => unreachable!(),
     }
 }
 

@@ -28,7 +28,7 @@ int_difference s a b n o lt at bt k e =
     let m : s ≡ (bits_of (int_of_bits a) + (2 ^ 32 - bits_of (int_of_bits b))) % 2 ^ 32 = rw (bits_of-int_of_bits a at, bits_of-int_of_bits b bt) (difference_mod s a b n o lt k e) in
     from_bits s _ (word_sub-fits (int_of_bits a) (int_of_bits b)) (m ∙ sym (bits_of-word_sub (int_of_bits a) (int_of_bits b) (int_of_bits-fits a) (int_of_bits-fits b)))
 
-negative_mod : (s a z n : ℕ) (o : Bool) → s < 2 ^ 32 → z ≡ 0 → n + a + 1 ≡ 2 ^ 32 → s + 2 ^ 32 * bit o ≡ z + n + 1 → s ≡ (2 ^ 32 - a) % 2 ^ 32
+pub negative_mod : (s a z n : ℕ) (o : Bool) → s < 2 ^ 32 → z ≡ 0 → n + a + 1 ≡ 2 ^ 32 → s + 2 ^ 32 * bit o ≡ z + n + 1 → s ≡ (2 ^ 32 - a) % 2 ^ 32
 negative_mod s a z n true lt h k e = omega arith
 negative_mod s a z n false lt h k e = omega arith
 

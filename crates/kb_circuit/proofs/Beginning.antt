@@ -3,11 +3,11 @@ use Rattle.std.proofs.Common.{ℕ, ◌≤◌, ℤ, List, [], ◌∷◌, arith}
 use Rattle.kb_chain.specs.Literal.{Literal, negated}
 use Rattle.kb_chain.specs.Cnf.{Cnf}
 use Rattle.kb_circuit.specs.Circuit.{Circuit, truth, falsity, with_variable, with_clause, with_clauses, BeginsTrue, IsCircuit, next_literal}
-use Rattle.kb_circuit.specs.Gates.{and_clauses, xor_clauses, and_gate, xor_gate, or_gate, mux_gate, gate_of, full_adder}
+use Rattle.kb_circuit.specs.Gates.{and_clauses, xor_clauses, and_gate, xor_gate, or_gate, mux_gate, masked_mux_gate, gate_of, full_adder}
 use Rattle.kb_circuit.specs.Words.{negated_bits, sign_negated, false_bits, bitwise, and_word, or_word, xor_word, plus, sums, add_word, sub_word, neg_word, equal_from, equal, eq_word, below, ult_word, lt_word}
 use Rattle.kb_circuit.specs.Shifts.{moved, stage, shift_word, shl_word, shr_word, ushr_word}
 use Rattle.kb_circuit.specs.declared.gate.Gate.{Gate}
-use Rattle.kb_circuit.specs.declared.gate.Gate.TheVariants.{And, Or, Xor, Mux}
+use Rattle.kb_circuit.specs.declared.gate.Gate.TheVariants.{And, Or, Xor, Mux, MaskedMux}
 use Rattle.kb_circuit.specs.declared.shift.Shift.{Shift}
 use Rattle.kb_circuit.specs.declared.shift.Shift.TheVariants.{Shl, Shr, Ushr}
 use Rattle.kb_circuit.specs.Meaning.{Computes}
@@ -24,11 +24,11 @@ keeps-and : (a b : Literal) → Keeps (and_gate a b)
 unfolding and_gate
 keeps-and a b f h = keeps-clauses (with_variable f) (and_clauses a b (next_literal f)) h
 
-keeps-xor : (a b : Literal) → Keeps (xor_gate a b)
+pub keeps-xor : (a b : Literal) → Keeps (xor_gate a b)
 unfolding xor_gate
 keeps-xor a b f h = keeps-clauses (with_variable f) (xor_clauses a b (next_literal f)) h
 
-keeps-or : (a b : Literal) → Keeps (or_gate a b)
+pub keeps-or : (a b : Literal) → Keeps (or_gate a b)
 unfolding or_gate
 keeps-or a b f h = keeps-and (negated a) (negated b) f h
 
@@ -39,11 +39,16 @@ keeps-mux s a b f h =
     let other = and_gate (negated s) b chosen.1 in
     keeps-or chosen.0 other.0 other.1 (keeps-and (negated s) b chosen.1 (keeps-and s a f h))
 
+keeps-masked : (m s a b : Literal) → Keeps (masked_mux_gate m s a b)
+unfolding masked_mux_gate
+keeps-masked m s a b f h = let chosen = mux_gate s a b f in keeps-and m chosen.0 chosen.1 (keeps-mux s a b f h)
+
 keeps-gate : (gate : Gate) (a b : Literal) → Keeps (gate_of gate a b)
 keeps-gate And a b f h = keeps-and a b f h
 keeps-gate Or a b f h = keeps-or a b f h
 keeps-gate Xor a b f h = keeps-xor a b f h
 keeps-gate (Mux s) a b f h = keeps-mux s a b f h
+keeps-gate (MaskedMux m s) a b f h = keeps-masked m s a b f h
 
 keeps-adder : (a b c : Literal) → Keeps (full_adder a b c)
 unfolding full_adder
@@ -54,7 +59,7 @@ keeps-adder a b c f h =
     let q = and_gate x.0 c p.1 in
     keeps-or p.0 q.0 q.1 (keeps-and x.0 c p.1 (keeps-and a b sum.1 (keeps-xor x.0 c x.1 (keeps-xor a b f h))))
 
-keeps-bitwise : (gate : Gate) (left right : List Literal) → Keeps (bitwise gate left right)
+pub keeps-bitwise : (gate : Gate) (left right : List Literal) → Keeps (bitwise gate left right)
 unfolding bitwise
 keeps-bitwise gate [] right f h = h
 keeps-bitwise gate (a ∷ left) [] f h = h
@@ -69,7 +74,7 @@ keeps-or_word left right f h = keeps-bitwise Or left right f h
 pub keeps-xor_word : (left right : List Literal) → Keeps (xor_word left right)
 keeps-xor_word left right f h = keeps-bitwise Xor left right f h
 
-keeps-plus : (left right : List Literal) (c : Literal) → Keeps (plus left right c)
+pub keeps-plus : (left right : List Literal) (c : Literal) → Keeps (plus left right c)
 unfolding plus
 keeps-plus [] right c f h = h
 keeps-plus (a ∷ left) [] c f h = h

@@ -82,14 +82,14 @@ computes_from op left right f r circuit within d k = record {
 pub number-32 : (v : ℕ → Bool) (ls : List Literal) → length ls ≡ 32 → number (bits_under v ls) < 2 ^ 32
 number-32 v ls e = subst (λ n. number (bits_under v ls) < 2 ^ n) (length-map ls (is_true v) ∙ e) (number-below (bits_under v ls))
 
-negated-32 : (v : ℕ → Bool) (ls : List Literal) → length ls ≡ 32 → number (bits_under v (negated_bits ls)) + number (bits_under v ls) + 1 ≡ 2 ^ 32
+pub negated-32 : (v : ℕ → Bool) (ls : List Literal) → length ls ≡ 32 → number (bits_under v (negated_bits ls)) + number (bits_under v ls) + 1 ≡ 2 ^ 32
 negated-32 v ls e = number-negated v ls ∙ ap (λ n. 2 ^ n) e
 
 pub falsity-false : (v : ℕ → Bool) (f : Cnf) → IsCircuit f → Satisfies v f.clauses → is_true v falsity ≡ false
 falsity-false v f h s = ap not (truth-true v f h s)
 
 -- a sum of 32 bits whose first carry is known
-known : (s w l r : ℕ) (o c d : Bool) → w ≡ 32 → c ≡ d → s + 2 ^ w * bit o ≡ l + r + bit c → s + 2 ^ 32 * bit o ≡ l + r + bit d
+pub known : (s w l r : ℕ) (o c d : Bool) → w ≡ 32 → c ≡ d → s + 2 ^ w * bit o ≡ l + r + bit c → s + 2 ^ 32 * bit o ≡ l + r + bit d
 known s w l r o c d e f h = subst (λ x. s + 2 ^ 32 * bit o ≡ l + r + bit x) f (subst (λ x. s + 2 ^ x * bit o ≡ l + r + bit c) e h)
 
 pub add_computes : (left right : List Literal) (f : Cnf) → IsCircuit f → length left ≡ 32 → length right ≡ 32 → IsWithin f.vars left → IsWithin f.vars right
@@ -115,11 +115,11 @@ sub_computes left right f circuit l r h k =
     (number-32 v out.0.0 (s.long ∙ l)) (number-32 v left l) (number-32 v right r) (negated-32 v right r)
     (known _ (length left) _ _ (is_true v out.0.1) (is_true v truth) true l (truth-true v f circuit sat) m))
 
-within-false : (n vars : ℕ) → 1 ≤ vars → IsWithin vars (replicate n falsity)
+pub within-false : (n vars : ℕ) → 1 ≤ vars → IsWithin vars (replicate n falsity)
 within-false zero vars h = refl
 within-false (suc n) vars h = within-more vars falsity (replicate n falsity) h (within-false n vars h)
 
-number-false : (v : ℕ → Bool) (n : ℕ) → is_true v falsity ≡ false → number (bits_under v (replicate n falsity)) ≡ 0
+pub number-false : (v : ℕ → Bool) (n : ℕ) → is_true v falsity ≡ false → number (bits_under v (replicate n falsity)) ≡ 0
 number-false v zero e = refl
 number-false v (suc n) e = let b = ap bit e in let r = number-false v n e in omega arith
 

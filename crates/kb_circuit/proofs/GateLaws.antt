@@ -4,10 +4,10 @@ use Rattle.std.proofs.lemmas.Bool.{false≢true}
 use Rattle.kb_chain.specs.Literal.{Literal, negated, is_true}
 use Rattle.kb_chain.specs.Cnf.{Cnf, IsWithin, AllWithin}
 use Rattle.kb_circuit.specs.Circuit.{next_literal}
-use Rattle.kb_circuit.specs.Gates.{and_clauses, xor_clauses, and_gate, xor_gate, or_gate, mux_gate, gate_of, full_adder}
+use Rattle.kb_circuit.specs.Gates.{and_clauses, xor_clauses, and_gate, xor_gate, or_gate, mux_gate, masked_mux_gate, gate_of, full_adder}
 use Rattle.kb_circuit.specs.Words.{GateFits}
 use Rattle.kb_circuit.specs.declared.gate.Gate.{Gate}
-use Rattle.kb_circuit.specs.declared.gate.Gate.TheVariants.{And, Or, Xor, Mux}
+use Rattle.kb_circuit.specs.declared.gate.Gate.TheVariants.{And, Or, Xor, Mux, MaskedMux}
 use Rattle.kb_circuit.specs.Meaning.{bit, Defines}
 use Rattle.kb_circuit.proofs.Formulas.{within-more, all-more, is_true-agrees}
 use Rattle.kb_circuit.proofs.Defining.{Defines-then, Defines-map, defined-defines}
@@ -192,12 +192,26 @@ mux_gives s a b f i h k =
           mux_of (is_true v s) (is_true v a) (is_true v b) (is_true v (negated s)) (is_true v p.0) (is_true v q.0) _ (is_true-negated v s) m.0 m.1.0 m.1.1);
     }
 
+pub masked_mux_gives : (m s a b : Literal) (f : Cnf) → m.variable ≤ f.vars → s.variable ≤ f.vars → a.variable ≤ f.vars → b.variable ≤ f.vars
+    → Gives f (masked_mux_gate m s a b f) (λ v. is_true v m && cond (is_true v s) (is_true v a) (is_true v b))
+unfolding masked_mux_gate
+masked_mux_gives m s a b f j i h k =
+    let p = mux_gate s a b f in
+    let d = mux_gives s a b f i h k in
+    let up : f.vars ≤ p.1.vars = d.defines.grows in
+    let e = and_gives m p.0 p.1 (omega arith) d.within in
+    record {
+      within = e.within;
+      defines = Defines-map _ (Defines-then d.defines e.defines) (λ v w. w.1 ∙ ap (λ x. is_true v m && x) w.0);
+    }
+
 -- what a gate gives of two bits, and that its own literal is of the formula
 abbrev pub gate_value : Gate → (ℕ → Bool) → Bool → Bool → Bool
 gate_value And v a b = a && b
 gate_value Or v a b = a || b
 gate_value Xor v a b = cond a (not b) b
 gate_value (Mux s) v a b = cond (is_true v s) a b
+gate_value (MaskedMux m s) v a b = is_true v m && cond (is_true v s) a b
 
 -- the sum of three bits
 adder_bits : (a b c x s p q o : Bool) → x ≡ cond a (not b) b → s ≡ cond x (not c) c → p ≡ (a && b) → q ≡ (x && c) → o ≡ (p || q) → bit s + 2 * bit o ≡ bit a + bit b + bit c
@@ -256,3 +270,4 @@ gate_gives And a b f i h k = and_gives a b f h k
 gate_gives Or a b f i h k = or_gives a b f h k
 gate_gives Xor a b f i h k = xor_gives a b f h k
 gate_gives (Mux s) a b f i h k = mux_gives s a b f i h k
+gate_gives (MaskedMux m s) a b f i h k = masked_mux_gives m s a b f i.0 i.1 h k

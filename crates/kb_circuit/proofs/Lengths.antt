@@ -13,7 +13,7 @@ use Rattle.kb_circuit.specs.declared.shift.Shift.{Shift}
 use Rattle.kb_circuit.specs.declared.shift.Shift.TheVariants.{Shl, Shr, Ushr}
 use Rattle.kb_circuit.proofs.Shifting.{length-moved}
 
-length-bitwise : (gate : Gate) (left right : List Literal) (f : Cnf) → length left ≡ length right → length (bitwise gate left right f).0 ≡ length left
+pub length-bitwise : (gate : Gate) (left right : List Literal) (f : Cnf) → length left ≡ length right → length (bitwise gate left right f).0 ≡ length left
 unfolding bitwise
 length-bitwise gate [] right f e = refl
 length-bitwise gate (a ∷ left) [] f e = absurd (omega arith)
@@ -28,7 +28,7 @@ length-or left right f e = length-bitwise Or left right f e
 pub length-xor : (left right : List Literal) (f : Cnf) → length left ≡ length right → length (xor_word left right f).0 ≡ length left
 length-xor left right f e = length-bitwise Xor left right f e
 
-length-plus : (left right : List Literal) (c : Literal) (f : Cnf) → length left ≡ length right → length (plus left right c f).0.0 ≡ length left
+pub length-plus : (left right : List Literal) (c : Literal) (f : Cnf) → length left ≡ length right → length (plus left right c f).0.0 ≡ length left
 unfolding plus
 length-plus [] right c f e = refl
 length-plus (a ∷ left) [] c f e = absurd (omega arith)

@@ -10,5 +10,11 @@ pub mod Comparing
 pub mod Bitwise
 pub mod Shifting
 pub mod ShiftWords
+pub mod DividingNumbers
+pub mod DividingLoops
+pub mod Dividing
 pub mod Beginning
 pub mod Lengths
+pub mod DividingWords
+pub mod Multiplying
+pub mod MultiplyingLoops

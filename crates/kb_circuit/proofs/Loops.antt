@@ -7,10 +7,10 @@ use Rattle.kb_chain.specs.Cnf.{Cnf, IsWithin}
 use Rattle.kb_circuit.specs.Gates.{xor_gate, and_gate, gate_of, full_adder}
 use Rattle.kb_circuit.specs.Words.{bitwise, plus, in_front, sums_in_front, sign_negated, GateFits, equal, equal_from}
 use Rattle.kb_circuit.specs.declared.gate.Gate.{Gate}
-use Rattle.kb_circuit.specs.declared.gate.Gate.TheVariants.{And, Or, Xor, Mux}
+use Rattle.kb_circuit.specs.declared.gate.Gate.TheVariants.{And, Or, Xor, Mux, MaskedMux}
 use Rattle.kb_circuit.proofs.Formulas.{within-more, within-head, within-tail}
 
-drop_next : (xs : List Literal) (i : ℕ) (d : Literal) → i < length xs → drop i xs ≡ get_or xs i d ∷ drop (i + 1) xs
+pub drop_next : (xs : List Literal) (i : ℕ) (d : Literal) → i < length xs → drop i xs ≡ get_or xs i d ∷ drop (i + 1) xs
 drop_next xs i d lt = let one : suc i ≡ i + 1 = omega arith in drop-cons xs i d lt ∙ ap (λ k. get_or xs i d ∷ drop k xs) one
 
 in_front-append : (xs ys : List Literal) (r : List Literal × Cnf) → in_front (xs ++ ys) r ≡ in_front xs (in_front ys r)
@@ -76,6 +76,7 @@ gate_fits-more And m n le h = tt
 gate_fits-more Or m n le h = tt
 gate_fits-more Xor m n le h = tt
 gate_fits-more (Mux s) m n le h = omega arith
+gate_fits-more (MaskedMux p s) m n le h = (let a : p.variable ≤ m = h.0 in omega arith, let b : s.variable ≤ m = h.1 in omega arith)
 
 pub negated_next : (bits out : List Literal) (i : ℕ) (d l : Literal) → i < length bits → i < length out → l ≡ negated (get_or bits i d)
     → take (i + 1) (set out i l) ++ map negated (drop (i + 1) bits) ≡ take i out ++ map negated (drop i bits)

@@ -30,7 +30,7 @@ number-append (b ∷ xs) ys =
     spread : (b x p q y n : ℕ) → q ≡ p * 2 → n ≡ x + p * y → b + 2 * n ≡ (b + 2 * x) + q * y
     spread b x p q y n e h = rw (e, h) (grind arith)
 
-number-copies : (v : ℕ → Bool) (n : ℕ) (l : Literal) → is_true v l ≡ false → number (bits_under v (replicate n l)) ≡ 0
+pub number-copies : (v : ℕ → Bool) (n : ℕ) (l : Literal) → is_true v l ≡ false → number (bits_under v (replicate n l)) ≡ 0
 number-copies v zero l e = refl
 number-copies v (suc n) l e = let b = ap bit e in let r = number-copies v n l e in omega arith
 
@@ -39,7 +39,7 @@ number-ones v zero l e = refl
 number-ones v (suc n) l e = let b = ap bit e in let r = number-ones v n l e in let p = pow-suc 2 n in omega arith
 
 -- the number of two words, one above the other
-number-under : (v : ℕ → Bool) (xs ys : List Literal) (n : ℕ) → length xs ≡ n → number (bits_under v (xs ++ ys)) ≡ number (bits_under v xs) + 2 ^ n * number (bits_under v ys)
+pub number-under : (v : ℕ → Bool) (xs ys : List Literal) (n : ℕ) → length xs ≡ n → number (bits_under v (xs ++ ys)) ≡ number (bits_under v xs) + 2 ^ n * number (bits_under v ys)
 number-under v xs ys n e =
     ap number (map-append (is_true v) xs ys) ∙ number-append (bits_under v xs) (bits_under v ys)
     ∙ ap (λ k. number (bits_under v xs) + 2 ^ k * number (bits_under v ys)) (length-map xs (is_true v) ∙ e)
@@ -93,7 +93,7 @@ ones_number eight_places t d n z e lt h hi below = record { high = omega arith; 
 ones_number sixteen_places t d n z e lt h hi below = record { high = omega arith; rest = omega arith }
 
 -- the bits below and from a place
-split_number : (v : ℕ → Bool) (ls : List Literal) (n : ℕ) → n ≤ length ls
+pub split_number : (v : ℕ → Bool) (ls : List Literal) (n : ℕ) → n ≤ length ls
     → number (bits_under v ls) ≡ number (bits_under v (take n ls)) + 2 ^ n * number (bits_under v (drop n ls))
 split_number v ls n le =
     ap (λ x. number (bits_under v x)) (sym (take-append-drop n ls))
@@ -125,7 +125,7 @@ moved_ushr v k ls l f =
     (split_number v ls n (omega arith)) (low_below v ls n (omega arith)) (number-copies v n falsity f)
 
 -- the highest bit tells which half a number is in
-halves : (v : ℕ → Bool) (ls : List Literal) (n : ℕ) (d : Literal) → length ls ≡ suc n
+pub halves : (v : ℕ → Bool) (ls : List Literal) (n : ℕ) (d : Literal) → length ls ≡ suc n
     → (is_true v (get_or ls n d) ≡ false → number (bits_under v ls) < 2 ^ n) × (is_true v (get_or ls n d) ≡ true → 2 ^ n ≤ number (bits_under v ls))
 halves v [] n d e = absurd (omega arith)
 halves v (l ∷ []) zero d e = (λ h. let b = ap bit h in omega arith, λ h. let b = ap bit h in omega arith)

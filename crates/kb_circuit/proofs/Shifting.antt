@@ -15,20 +15,20 @@ use Rattle.kb_circuit.proofs.WordLaws.{both_bits, GivesWord, bitwise_gives}
 
 -- ---- moved words are of the same variables and width
 
-within-append : (n : ℕ) (xs ys : List Literal) → IsWithin n xs → IsWithin n ys → IsWithin n (xs ++ ys)
+pub within-append : (n : ℕ) (xs ys : List Literal) → IsWithin n xs → IsWithin n ys → IsWithin n (xs ++ ys)
 within-append n [] ys h k = k
 within-append n (x ∷ xs) ys h k = within-more n x (xs ++ ys) (within-head n x xs h) (within-append n xs ys (within-tail n x xs h) k)
 
-within-copies : (n k : ℕ) (l : Literal) → l.variable ≤ n → IsWithin n (replicate k l)
+pub within-copies : (n k : ℕ) (l : Literal) → l.variable ≤ n → IsWithin n (replicate k l)
 within-copies n zero l h = refl
 within-copies n (suc k) l h = within-more n l (replicate k l) h (within-copies n k l h)
 
-within-take : (n k : ℕ) (xs : List Literal) → IsWithin n xs → IsWithin n (take k xs)
+pub within-take : (n k : ℕ) (xs : List Literal) → IsWithin n xs → IsWithin n (take k xs)
 within-take n zero xs h = refl
 within-take n (suc k) [] h = refl
 within-take n (suc k) (x ∷ xs) h = within-more n x (take k xs) (within-head n x xs h) (within-take n k xs (within-tail n x xs h))
 
-within-drop : (n k : ℕ) (xs : List Literal) → IsWithin n xs → IsWithin n (drop k xs)
+pub within-drop : (n k : ℕ) (xs : List Literal) → IsWithin n xs → IsWithin n (drop k xs)
 within-drop n zero xs h = h
 within-drop n (suc k) [] h = refl
 within-drop n (suc k) (x ∷ xs) h = within-drop n k xs (within-tail n x xs h)
@@ -52,7 +52,7 @@ length-moved Ushr k bits le = omega (arith, length-append (drop k bits) (replica
 
 -- ---- a stage
 
-both_chosen : (s : Bool) (xs ys : List Bool) → length xs ≡ length ys → both_bits (λ a b. cond s a b) xs ys ≡ cond s xs ys
+pub both_chosen : (s : Bool) (xs ys : List Bool) → length xs ≡ length ys → both_bits (λ a b. cond s a b) xs ys ≡ cond s xs ys
 both_chosen true [] [] e = refl
 both_chosen false [] [] e = refl
 both_chosen s [] (y ∷ ys) e = absurd (omega arith)

@@ -3,7 +3,7 @@ use Rattle.std.specs.Prelude.{List, [], ◌∷◌}
 use Rattle.kb_chain.specs.Literal.{Literal, negated}
 use Rattle.kb_circuit.specs.Circuit.{Circuit, ◌>>=◌, done, with_variable, next_literal, with_clauses}
 use Rattle.kb_circuit.specs.declared.gate.Gate.{Gate}
-use Rattle.kb_circuit.specs.declared.gate.Gate.TheVariants.{And, Or, Xor, Mux}
+use Rattle.kb_circuit.specs.declared.gate.Gate.TheVariants.{And, Or, Xor, Mux, MaskedMux}
 
 -- a new variable, with clauses that speak of it
 abbrev pub defined : (Literal → List (List Literal)) → Circuit Literal
@@ -34,11 +34,18 @@ mux_gate s a b = do
   other ← and_gate (negated s) b
   or_gate chosen other
 
+-- false where m is false
+unfoldable pub masked_mux_gate : Literal → Literal → Literal → Literal → Circuit Literal
+masked_mux_gate m s a b = do
+  chosen ← mux_gate s a b
+  and_gate m chosen
+
 abbrev pub gate_of : Gate → Literal → Literal → Circuit Literal
 gate_of And = and_gate
 gate_of Or = or_gate
 gate_of Xor = xor_gate
 gate_of (Mux s) = mux_gate s
+gate_of (MaskedMux m s) = masked_mux_gate m s
 
 -- the sum of three bits and its carry
 unfoldable pub full_adder : Literal → Literal → Literal → Circuit (Literal × Literal)

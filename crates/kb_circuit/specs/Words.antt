@@ -5,7 +5,7 @@ use Rattle.kb_chain.specs.Cnf.{Cnf}
 use Rattle.kb_circuit.specs.Circuit.{Circuit, ◌>>=◌, done, truth, falsity}
 use Rattle.kb_circuit.specs.Gates.{and_gate, xor_gate, gate_of, full_adder}
 use Rattle.kb_circuit.specs.declared.gate.Gate.{Gate}
-use Rattle.kb_circuit.specs.declared.gate.Gate.TheVariants.{And, Or, Xor, Mux}
+use Rattle.kb_circuit.specs.declared.gate.Gate.TheVariants.{And, Or, Xor, Mux, MaskedMux}
 
 abbrev pub negated_bits : List Literal → List Literal
 negated_bits bits = map negated bits
@@ -101,12 +101,13 @@ lt_word left right = do
   less ← below (sign_negated left) (sign_negated right)
   done (truth_bits less)
 
--- a gate's own literal is of the first variables
+-- a gate's own literals are of the first variables
 abbrev pub GateFits : Gate → ℕ → Type 0
 GateFits And vars = Unit {0}
 GateFits Or vars = Unit {0}
 GateFits Xor vars = Unit {0}
 GateFits (Mux s) vars = s.variable ≤ vars
+GateFits (MaskedMux m s) vars = (m.variable ≤ vars) × (s.variable ≤ vars)
 
 -- what a loop over the bits has so far, in front of what is left to build
 abbrev pub in_front : List Literal → List Literal × Cnf → List Literal × Cnf

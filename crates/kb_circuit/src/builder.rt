@@ -4,7 +4,7 @@ ghost use Rattle.kb_chain.specs.Cnf.{IsWithin};
 ghost use Rattle.kb_circuit.specs.Circuit.{truth, falsity, next_literal, with_variable, with_clause, IsCircuit};
 ghost use Rattle.kb_circuit.specs.Meaning.{IsFree};
 ghost use Rattle.kb_circuit.specs.Words.{GateFits};
-ghost use Rattle.kb_circuit.specs.Gates.{and_gate, xor_gate, or_gate, mux_gate, gate_of, full_adder};
+ghost use Rattle.kb_circuit.specs.Gates.{and_gate, xor_gate, or_gate, mux_gate, masked_mux_gate, gate_of, full_adder};
 
 use crate::gate::Gate;
 use crate::memory::NoMemory;
@@ -121,7 +121,7 @@ impl Builder {
     }
 
     #[tactic(auto, unfolding(crate::specs::Gates::or_gate))]
-    fn or_gate(&mut self, a: Lit, b: Lit) -> Result<Lit, NoMemory>
+    pub(crate) fn or_gate(&mut self, a: Lit, b: Lit) -> Result<Lit, NoMemory>
         requires left { a.variable ≤ self.old.vars }
         requires right { b.variable ≤ self.old.vars }
         ensures built { IfOk result (λ g. or_gate a b self.old ≡ (g, self.new)) }
@@ -146,6 +146,20 @@ impl Builder {
         self.or_gate(chosen, other)
     }
 
+    #[tactic(auto, unfolding(crate::specs::Gates::masked_mux_gate))]
+    fn masked_mux_gate(&mut self, mask: Lit, s: Lit, a: Lit, b: Lit) -> Result<Lit, NoMemory>
+        requires mask { mask.variable ≤ self.old.vars }
+        requires select { s.variable ≤ self.old.vars }
+        requires left { a.variable ≤ self.old.vars }
+        requires right { b.variable ≤ self.old.vars }
+        ensures built { IfOk result (λ g. masked_mux_gate mask s a b self.old ≡ (g, self.new)) }
+        ensures within { IfOk result (λ g. g.variable ≤ self.new.vars) }
+        ensures grows { self.old.vars ≤ self.new.vars }
+    {
+        let chosen = self.mux_gate(s, a, b)?;
+        self.and_gate(mask, chosen)
+    }
+
     pub(crate) fn gate(&mut self, gate: Gate, a: Lit, b: Lit) -> Result<Lit, NoMemory>
         requires select { GateFits gate self.old.vars }
         requires left { a.variable ≤ self.old.vars }
@@ -159,6 +173,7 @@ impl Builder {
             Gate::Or => self.or_gate(a, b),
             Gate::Xor => self.xor_gate(a, b),
             Gate::Mux(s) => self.mux_gate(s, a, b),
+            Gate::MaskedMux(mask, s) => self.masked_mux_gate(mask, s, a, b),
         }
     }
 

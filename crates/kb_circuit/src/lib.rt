@@ -2,8 +2,10 @@
 #![tactic(auto)]
 
 mod builder;
+mod division;
 mod gate;
 mod memory;
+mod multiplication;
 mod shift;
 #[cfg(test)]
 mod tests;

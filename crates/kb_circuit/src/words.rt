@@ -15,7 +15,7 @@ use kb_chain::Lit;
 
 impl Builder {
     /// A gate for each bit.
-    fn bitwise(
+    pub(crate) fn bitwise(
         &mut self,
         gate: Gate,
         left: &[Lit; 32],
@@ -35,7 +35,7 @@ impl Builder {
     }
 
     /// Full adders from the lowest bit upwards: the sums and the last carry.
-    fn plus(
+    pub(crate) fn plus(
         &mut self,
         left: &[Lit; 32],
         right: &[Lit; 32],
@@ -284,7 +284,7 @@ impl Builder {
 }
 
 /// Each bit negated.
-fn negated_bits(bits: &[Lit; 32]) -> [Lit; 32]
+pub(crate) fn negated_bits(bits: &[Lit; 32]) -> [Lit; 32]
     ensures { result ≡ negated_bits bits.now }
 {
     let mut out = *bits;

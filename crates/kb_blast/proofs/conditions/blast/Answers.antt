@@ -1,44 +1,30 @@
-use Rattle.std.proofs.Common.{◌≡◌, ◌∙◌, sym, ap, subst, true}
-use Rattle.std.specs.List.{list_all}
+use Rattle.std.proofs.Common.{◌≡◌, ◌∙◌, sym, ap, subst}
 use Rattle.kb_chain.specs.Cnf.{Cnf}
-use Rattle.kb_terms.specs.Terms.{AreTerms, IsPool, node_at, variables_of}
+use Rattle.kb_terms.specs.Terms.{AreTerms, IsPool, variables_of}
 use Rattle.kb_terms.specs.Numbering.{numbering, IsNumbering}
-use Rattle.kb_blast.specs.Query.{listed, kinds_of, numbered_conditions, query_of, roots_of, node_passes, is_any, is_comparison, has_circuit}
+use Rattle.kb_blast.specs.Query.{listed, kinds_of, numbered_conditions, query_of, roots_of, is_comparison}
 use Rattle.kb_blast.specs.Conditions.{Words, occurring, with_kinds, blasted}
-use Rattle.kb_blast.specs.Meaning.{IsRising, TermsFit, MeetsInPool, SaysExactly, AreReadable}
+use Rattle.kb_blast.specs.Meaning.{IsRising, MeetsInPool, SaysExactly, AreReadable}
 use Rattle.kb_blast.specs.Listing.{numbers_of}
 use Rattle.kb_blast.proofs.Loops.{blasted_is}
-use Rattle.kb_blast.proofs.Listed.{listed-fit, occurring-rising}
+use Rattle.kb_blast.proofs.Listed.{occurring-rising}
 use Rattle.kb_blast.proofs.Saying.{numbers-with_kinds}
-use Rattle.kb_blast.proofs.Pooled.{all-any, are-terms, pool-says, pool-readable}
+use Rattle.kb_blast.proofs.Pooled.{all-any, are-terms, pool-meets, pool-says, pool-readable}
 use Rattle.kb_blast.proofs.conditions.blast.Goals as goal
 
 pub numbering-requires : goal.numbering-requires
 numbering-requires c =
     let nodes = c.args.pool.now in
-    subst (AreTerms nodes) (sym (c.deref.ensures.value ∙ c.in_ok-roots.ensures)) (are-terms nodes is_comparison (roots_of c.args.when.now) c.requires.comparisons)
+    subst (AreTerms nodes) (sym (c.deref.ensures.value ∙ c.in_ok-roots.ensures)) (are-terms nodes is_comparison (roots_of c.args.when.now) c.requires)
 
 pub listed-requires : goal.listed-requires
-listed-requires c =
-    let nodes = c.args.pool.now in
-    let order : c.in_ok-numbering.numbering ≡ numbering nodes (roots_of c.args.when.now) =
-    c.in_ok-numbering.ensures.order ∙ ap (numbering nodes) (c.deref.ensures.value ∙ c.in_ok-roots.ensures) in
-    subst (λ ts. list_all (λ t. node_passes is_any (node_at nodes t)) ts ≡ true) (sym order) (all-any nodes has_circuit (numbering nodes (roots_of c.args.when.now)) c.requires.built)
+listed-requires c = all-any c.args.pool.now c.in_ok-numbering.numbering c.in_ok-numbering.ensures.numbered.operation
 
 pub variable_words-requires : goal.variable_words-requires
 variable_words-requires c =
     let terms = c.in_ok-listing.listing.terms.items in
     subst (λ kinds. IsRising (numbers_of kinds)) (sym c.in_ok-listing.ensures.kinds)
     (subst IsRising (sym (numbers-with_kinds (kinds_of c.args.pool.now) (occurring terms))) (occurring-rising terms))
-
-pub term_words-requires-clause-fit : goal.term_words-requires-clause-fit
-term_words-requires-clause-fit c =
-    let nodes = c.args.pool.now in
-    let formed : IsPool nodes = subst IsPool c.nodes-nodes.ensures.nodes c.nodes-nodes.ensures.formed in
-    let order : c.in_ok-numbering.numbering ≡ numbering nodes (roots_of c.args.when.now) =
-    c.in_ok-numbering.ensures.order ∙ ap (numbering nodes) (c.deref.ensures.value ∙ c.in_ok-roots.ensures) in
-    subst TermsFit (sym (c.deref-2.ensures.value ∙ c.in_ok-listing.ensures.terms)) (listed-fit nodes formed c.in_ok-numbering.numbering c.in_ok-numbering.numbering
-    (subst (λ ts. list_all (λ t. node_passes has_circuit (node_at nodes t)) ts ≡ true) (sym order) c.requires.built))
 
 whole : (c : goal.After-drop-roots-2) → (c.in_ok-vars.vars.entries, c.finish.result) ≡ blasted (query_of c.args.pool.now c.args.when.now)
 whole c =
@@ -85,6 +71,9 @@ returns-clause-law c =
     subst (λ vars. SaysExactly vars c.finish.result (MeetsInPool nodes when)) (sym (vars-are c))
     (subst (λ f. SaysExactly (blasted (query_of nodes when)).0 f (MeetsInPool nodes when)) (sym (formula-is c))
     (pool-says nodes when (formed-pool c) c.requires (is-numbering c)))
+
+pub returns-clause-listed : goal.returns-clause-listed
+returns-clause-listed c = pool-meets c.args.pool.now c.args.when.now (formed-pool c) c.requires (is-numbering c)
 
 pub returns-clause-readable : goal.returns-clause-readable
 returns-clause-readable c =

@@ -5,7 +5,7 @@ use Rattle.kb_terms.specs.declared.listing.Term.{Term}
 use Rattle.kb_chain.proofs.CnfLaws.{AllWithin_more}
 use Rattle.kb_blast.specs.Conditions.{built_term}
 use Rattle.kb_blast.specs.Listing.{literals_of}
-use Rattle.kb_blast.proofs.Loops.{fit_next, terms_next, terms_end, words-next}
+use Rattle.kb_blast.proofs.Loops.{terms_next, terms_end, words-next}
 use Rattle.kb_blast.proofs.terms.term_words.Goals as goal
 
 abbrev none : Term
@@ -18,7 +18,6 @@ built_term-requires-clause-vars c =
 pub loop-rest-preserved : goal.loop-rest-preserved
 loop-rest-preserved c =
     record {
-      fit = fit_next c.loop-rest.rest.now c.in-len1-up.len_at_least c.loop-rest.invariant.fit;
       built = terms_next c.args.vars.now.entries c.loop-rest.words.items c.push.new.self.items c.loop-rest.rest.now none c.in_ok-word.word c.loop-rest.builder c.built_term.new.builder
           c.in-len1-up.len_at_least
           (subst (λ ws. built_term c.args.vars.now.entries ws (get_or c.loop-rest.rest.now 0 none) c.loop-rest.builder ≡ (c.in_ok-word.word, c.built_term.new.builder)) c.deref.ensures.value c.in_ok-word.ensures.built)
