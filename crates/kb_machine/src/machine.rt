@@ -9,10 +9,11 @@ ghost use Rattle.kb_machine.specs.Frames.{HasMethodCode, ended_of};
 
 use crate::NoMemory;
 use crate::frame::{Frame, Limits, Step};
+use kb_class::{MethodId, MethodInfo};
 use kb_code::Instr;
 use kb_heap::{Bound, Ending, Heap, Input, Place, RunBounds, Value};
-use kb_names::Target;
-use kb_world::{MethodId, World};
+use kb_names::{Name, Target};
+use kb_world::World;
 use std::alloc::Global;
 
 // The code of a method: its limits, its instructions by offset, and its length in bytes.
@@ -35,8 +36,7 @@ pub(crate) enum RunEnd {
 /// The run of the method over the input within the bounds: how it ends, and the heap then.
 ///
 /// By now only methods are run whose instructions are all built, and `steps` is the one bound that a run meets. An operand of another kind than the instruction takes, an operand
-/// stack or a local beyond its limit, and code that runs off its end are ill-typed. Code that is so long that no `u32`
-/// has its length is want of memory.
+/// stack or a local beyond its limit, and code that runs off its end are ill-typed.
 ///
 /// Source: JVMS 8 sections 2.6, 2.11 and 6.5.
 pub fn run(
@@ -49,28 +49,26 @@ pub fn run(
     requires runs { (method : Method) × IsMethod world.now target method × AreBuilt method.listing }
     ensures { IfOk result (λ ended. (method : Method) → IsMethod world.now target method → run_of bounds.now method input.now ≡ record { ending = ended.0; heap = ended.1 }) }
 {
-    let Some(info) = world.method_of(target) else {
+    let info = world.method_of(target);
+    let Some(code) = &info.code else {
         unreachable!()
-    };
-    let (Some(code), Some(listing)) = (info.code, info.listing) else {
-        unreachable!()
-    };
-    let Ok(size) = u32::try_from(code.bytes.as_slice().len()) else {
-        return Err(NoMemory);
     };
     let code = MethodCode {
         limits: Limits {
             stack: code.max_stack,
             locals: code.max_locals,
         },
-        listing: listing.items.as_slice(),
-        size,
+        listing: code.listing.items.as_slice(),
+        size: code.size,
     };
     let Ok(heap) = input.heap.copied(alloc) else {
         return Err(NoMemory);
     };
     let stop = run_code(alloc, &code, input.args.as_slice(), bounds.steps)?;
-    Ok((ending_of(alloc, stop, info.target)?, heap))
+    Ok((
+        ending_of(alloc, stop, world.name_of(info.class), info)?,
+        heap,
+    ))
 }
 
 // The run of code over arguments, up to so many instructions.
@@ -100,16 +98,34 @@ pub(crate) fn run_code(
     Ok(RunEnd::Past(Bound::Steps))
 }
 
-// The ending of a run of that method.
-fn ending_of(alloc: Global, stop: RunEnd, method: &Target) -> Result<Ending, NoMemory>
-    ensures { IfOk result (λ ending. (heap : Heap) → ended_of stop method.now heap ≡ record { ending = ending; heap = heap }) }
+// The ending of a run of that method, in the class of that name.
+fn ending_of(
+    alloc: Global,
+    stop: RunEnd,
+    class: &Name,
+    method: &MethodInfo,
+) -> Result<Ending, NoMemory>
+    ensures { IfOk result (λ ending. (target : Target) (heap : Heap) → target.class ≡ class.now → target.name ≡ method.now.name → target.kind ≡ method.now.kind → ended_of stop target heap ≡ record { ending = ending; heap = heap }) }
 {
     match stop {
         RunEnd::Returned(value) => Ok(Ending::Returned(Some(value))),
-        RunEnd::IllTyped(at) => match method.copied(alloc) {
+        RunEnd::IllTyped(at) => match target_of(alloc, class, method) {
             Ok(method) => Ok(Ending::IllTyped(Place { method, at })),
             Err(_) => Err(NoMemory),
         },
         RunEnd::Past(bound) => Ok(Ending::Past(bound)),
     }
+}
+
+// The target of that method, in the class of that name.
+fn target_of(alloc: Global, class: &Name, method: &MethodInfo) -> Result<Target, kb_names::NoMemory>
+    ensures class { IfOk result (λ target. target.class ≡ class.now) }
+    ensures name { IfOk result (λ target. target.name ≡ method.now.name) }
+    ensures kind { IfOk result (λ target. target.kind ≡ method.now.kind) }
+{
+    Ok(Target {
+        class: class.copied(alloc)?,
+        name: method.name.copied(alloc)?,
+        kind: method.kind.copied(alloc)?,
+    })
 }

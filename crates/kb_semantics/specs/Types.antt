@@ -1,30 +1,28 @@
 -- What the world says of the methods that the machine runs, and which inputs are type-correct (JVMS 8 sections 2.3, 2.4 and
 -- 4.3.3).
-use Rattle.std.specs.Prelude.{◌≡◌, ◌⊎◌, pos, List, [], ◌∷◌, length, Bool, true, false, Some, slice_get}
+use Rattle.std.specs.Prelude.{◌≡◌, ◌⊎◌, pos, List, [], ◌∷◌, Bool, true, false, Some}
 use Rattle.std.specs.Int.{w32}
 use Rattle.std.specs.Int.RustNames.{FitsSigned}
-use Rattle.kb_classfile.specs.declared.file.Code.{Code}
-use Rattle.kb_code.specs.declared.listing.Listing.{Listing}
+use Rattle.kb_class.specs.declared.ids.MethodId.{MethodId}
+use Rattle.kb_class.specs.declared.members.MethodInfo.{MethodInfo}
+use Rattle.kb_class.specs.declared.members.MethodCode.{MethodCode}
 use Rattle.kb_heap.specs.declared.heap.Value.{Value}
 use Rattle.kb_heap.specs.declared.heap.Value.TheVariants.{Int as IntValue, Null}
 use Rattle.kb_heap.specs.declared.heap.Input.{Input}
 use Rattle.kb_names.specs.declared.types.JType.{JType}
 use Rattle.kb_names.specs.declared.types.JType.TheVariants.{Bool as BoolType, Int as IntType, Class as ClassType, Array as ArrayType}
-use Rattle.kb_names.specs.declared.types.Target.{Target}
-use Rattle.kb_world.specs.declared.world.GivenClass.{GivenClass}
-use Rattle.kb_world.specs.declared.world.MethodId.{MethodId}
-use Rattle.kb_world.specs.World.{Declares, is_static}
+use Rattle.kb_world.specs.World.{World}
+use Rattle.kb_world.specs.Slots.{is_static}
+use Rattle.kb_world.specs.Targets.{Declares, method_at}
 use Rattle.kb_semantics.specs.Machine.{Method}
 
 -- The method of that number, as the machine runs it: its code and the listing of it.
-pub record IsMethod (world : List GivenClass) (id : MethodId) (method : Method) : Type 0 where
+pub record IsMethod (world : World) (id : MethodId) (method : Method) : Type 0 where
   pub declared : Declares world id method.target
-  pub code : Code
-  pub has_code : declared.names.method.code ≡ Some code
-  pub listing : Listing
-  pub has_listing : slice_get declared.class.listings id.number ≡ Some (Some listing)
-  pub items : method.listing ≡ listing.items
-  pub size : method.size ≡ length code.bytes
+  pub code : MethodCode
+  pub has_code : declared.method.code ≡ Some code
+  pub items : method.listing ≡ code.listing.items
+  pub size : method.size ≡ code.size
   pub max_stack : method.max_stack ≡ code.max_stack
   pub max_locals : method.max_locals ≡ code.max_locals
 
@@ -50,9 +48,10 @@ abbrev pub AreArgumentsFor : Bool → List JType → List Value → Type 0
 AreArgumentsFor true params args = AreValuesOf params args
 AreArgumentsFor false params args = ⊥
 
--- The input is one of the method: its arguments are those that the parameters take, and it has no objects, which are not built by now.
-pub record IsTypeCorrect (world : List GivenClass) (id : MethodId) (input : Input) : Type 0 where
-  pub target : Target
-  pub declared : Declares world id target
+-- The input is one of the method of that number: its arguments are those that the parameters take, and it has no objects,
+-- which are not built by now.
+pub record IsTypeCorrect (world : World) (id : MethodId) (input : Input) : Type 0 where
+  pub method : MethodInfo
+  pub method_is : method_at world id.0 ≡ Some method
   pub objects : input.heap.objects ≡ []
-  pub arguments : AreArgumentsFor (is_static declared.names.method) target.kind.params input.args
+  pub arguments : AreArgumentsFor (is_static method.access) method.kind.params input.args

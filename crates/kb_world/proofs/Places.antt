@@ -1,7 +1,6 @@
 -- Lists by the places of their items.
 use Rattle.std.proofs.Common.{◌≡◌, ℕ, zero, suc, ◌⊎◌, inl, inr, List, [], ◌∷◌, ◌++◌, length, Some, slice_get, refl, ap, subst, ◌∙◌}
 use Rattle.std.specs.List.{AllZip}
-use Rattle.kb_world.specs.Names.{IsNoneOf, AllDiffer}
 
 -- ---- lists place by place
 
@@ -54,31 +53,3 @@ module _ {A : Type 0} where
   get_pushed (w ∷ xs) y zero x at = inl at
   get_pushed (w ∷ xs) y (suc i) x at =
       elim (get_pushed xs y i x at) [ inl h ↦ inl h | inr h ↦ inr (ap suc h.0, h.1) ]
-
-  -- ---- lists without equal items
-
-  none_there : (xs : List A) (i : ℕ) (x : A) → IsNoneOf xs x → slice_get xs i ≡ Some x → ⊥
-  none_there [] i x none at = absurd cc
-  none_there (w ∷ xs) zero x none at =
-      let same : x ≡ w = cc in
-      none.0 same
-  none_there (w ∷ xs) (suc i) x none at = none_there xs i x none.1 at
-
-  pub one_place : (xs : List A) (i j : ℕ) (x : A) → AllDiffer xs → slice_get xs i ≡ Some x → slice_get xs j ≡ Some x → i ≡ j
-  one_place [] i j x differ at again = absurd cc
-  one_place (w ∷ xs) zero zero x differ at again = refl
-  one_place (w ∷ xs) zero (suc j) x differ at again =
-      let same : x ≡ w = cc in
-      absurd (none_there xs j w differ.0 (again ∙ ap (λ (u : A). Some u) same))
-  one_place (w ∷ xs) (suc i) zero x differ at again =
-      let same : x ≡ w = cc in
-      absurd (none_there xs i w differ.0 (at ∙ ap (λ (u : A). Some u) same))
-  one_place (w ∷ xs) (suc i) (suc j) x differ at again = ap suc (one_place xs i j x differ.1 at again)
-
-  none_front : (xs ys : List A) (x : A) → IsNoneOf (xs ++ ys) x → IsNoneOf xs x
-  none_front [] ys x none = tt
-  none_front (w ∷ xs) ys x none = (none.0, none_front xs ys x none.1)
-
-  pub differ_front : (xs ys : List A) → AllDiffer (xs ++ ys) → AllDiffer xs
-  differ_front [] ys differ = tt
-  differ_front (w ∷ xs) ys differ = (none_front xs ys w differ.0, differ_front xs ys differ.1)

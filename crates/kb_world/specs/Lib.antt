@@ -1,4 +1,14 @@
-pub mod Names
-pub mod Linkable
 pub mod World
-pub mod Linked
+pub mod Subtypes
+pub mod Slots
+pub mod Universe
+pub mod Rules
+pub mod Split
+pub mod Links
+pub mod Tables
+pub mod ChainWalks
+pub mod Targets
+pub mod Sharing
+pub mod Initialisers
+pub mod Mentions
+pub mod Placing

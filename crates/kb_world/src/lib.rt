@@ -1,18 +1,33 @@
-//! The world of the given classes: which classes are linked, and where a method is found.
+//! The world of classes: the given classes and those of the platform, linked.
+//!
+//! `specs/Links.antt` says what the world of class files is, and why there is none; the files beside it say the rules of
+//! superclasses, slots, subtypes, the universe and literals over lists of classes.
 #![tactic(auto)]
 
 mod by_name;
-mod entries;
-mod handlers;
-mod linkable;
-mod linked;
+mod chains;
+mod circles;
+mod claims;
+mod classes;
+mod direct;
+mod initialisers;
+mod items;
 mod linking;
-mod rules;
+mod literals;
+mod loading;
+mod memory;
+mod mentions;
+mod methods;
+mod packages;
+mod placing;
+mod slots;
+mod subtypes;
+mod supers;
 #[cfg(test)]
 mod tests;
-mod texts;
+mod universe;
 mod world;
 
-pub use handlers::handlers_of;
 pub use linking::{LinkRefusal, link};
-pub use world::{GivenClass, MethodId, MethodInfo, World};
+pub use slots::FieldSlot;
+pub use world::World;

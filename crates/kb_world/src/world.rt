@@ -1,96 +1,228 @@
-//! The world of the given classes, in which methods are found by their targets.
+//! The world of classes, and what it knows of them.
+ghost use Rattle.std.specs.Prelude.{◌≡◌, ◌<◌, ◌↔◌, length, map, Some, slice_get, slice_index_or, option_map, IsTrue, IfOk, IfErr, IfSome, IfNone};
+ghost use Rattle.std.specs.Option.{option_copied, option_and_then};
+ghost use Rattle.kb_class.specs.Class.{Class};
+ghost use Rattle.kb_world.specs.World.{methods_in, number_in, type_entry_of, int_entry_of, literal_entry_of};
+ghost use Rattle.kb_world.specs.Subtypes.{direct_supers, AreChains, is_below};
+ghost use Rattle.kb_world.specs.Slots.{slots_of};
+ghost use Rattle.kb_world.specs.Rules.{HaveDifferentNames, HaveOwnMethods, HaveSupers, HaveNoCircle, HaveGoodSupers};
+ghost use Rattle.kb_world.specs.Split.{HaveNoSplit, is_special};
+ghost use Rattle.kb_world.specs.Links.{IsLinked, RefusesClasses};
+ghost use Rattle.kb_world.specs.Tables.{AreIndexed};
+ghost use Rattle.kb_world.specs.Initialisers.{is_initialised};
+ghost use Rattle.kb_world.specs.Placing.{place_in};
+ghost use Rattle.kb_world.specs.Targets.{Declares, IsTargetOf, Refuses, method_at};
 
-ghost use Rattle.std.specs.Prelude.{◌≡◌, [], ◌∷◌, ◌++◌, IfOk, IfErr, OnOk, IfSome, IfNone};
-ghost use Rattle.kb_classfile.specs.Pool.{class_name_of};
-ghost use Rattle.kb_names.specs.declared.types.Target.{Target};
-ghost use Rattle.kb_world.specs.World.{AreLinked, Declares, Describes, IsTargetOf, Refuses, is_special};
-ghost use Rattle.kb_world.specs.Linked.{AddsName, number_at};
-ghost use Rattle.kb_world.specs.declared.world.MethodId.{MethodId};
-
-use crate::entries::entry;
-use crate::linked::LinkedClass;
+use crate::by_name::{MethodIndex, number_of_method};
+use crate::classes::Classes;
+use crate::initialisers::initialised_of;
 use crate::linking::LinkRefusal;
-use kb_classfile::{ClassFile, Code, Row};
-use kb_code::Listing;
-use kb_names::{NoMemory, Target};
+use crate::literals::{literals_of, place_in};
+use crate::methods::{MethodPlace, places_of};
+use crate::placing::{placed_at, placings_of};
+use crate::slots::{FieldSlot, slots_of};
+use crate::supers::{is_super, supers_of};
+use crate::universe::universe_of;
+use kb_class::{ClassId, MethodId, MethodInfo};
+use kb_classfile::ClassFile;
+use kb_names::{ExactType, Name, NoMemory, Row, Target};
+use kb_order::{Order, TextSet};
 use std::alloc::Global;
-use std::collections::HashMap;
 use std::marker::Model;
 
-/// A class file with the listing of each method's code, in file order: None where a method has no code.
-#[derive(Debug, Drop)]
-pub struct GivenClass {
-    pub file: ClassFile,
-    pub listings: Row<Option<Listing>>,
-}
-
-/// A method of a world: its class and its place in the class's file, both numbered from 0.
-#[derive(Clone, Copy, Debug, PartialEq, Eq)]
-pub struct MethodId {
-    pub(crate) class: u32,
-    pub(crate) number: u32,
-}
-
-/// What a world knows of a method.
-#[derive(Clone, Copy)]
-pub struct MethodInfo<'a> {
-    /// The target that names it.
-    pub target: &'a Target,
-    /// Its access flags (JVMS 8 table 4.6-A).
-    pub access: u16,
-    pub code: Option<&'a Code>,
-    pub listing: Option<&'a Listing>,
-}
-
-/// The given classes, by name and in the order given. Contracts see them as their list.
+/// The given classes in the order given, and then the platform classes, with tables over them: no question searches a list
+/// of classes, members or superclasses.
 #[derive(Drop)]
 pub struct World {
-    classes: Vec<LinkedClass>,
-    // The number of each class that has a name, by its name.
-    numbers: HashMap<Vec<u8>, u32>,
+    classes: Classes,
+    chains: Vec<Row<u32>>,
+    supers: Vec<Row<bool>>,
+    universe: Row<ExactType>,
+    literals: TextSet,
+    slots: Vec<Row<FieldSlot>>,
+    places: Vec<MethodPlace>,
+    // The methods of each class by their names.
+    indexes: Vec<MethodIndex>,
+    // Of each class whether it or a superclass of it declares an initialiser.
+    initialised: Vec<bool>,
+    // Of each method the place of the instruction at each offset of its code.
+    placings: Vec<Row<Option<u32>>>,
 }
 
 impl Model for World {
-    ghost use Rattle.std.specs.Prelude.{List};
-    ghost use Rattle.kb_world.specs.declared.world.GivenClass.{GivenClass};
+    ghost use Rattle.std.specs.Prelude.{◌≡◌, map};
+    ghost use Rattle.kb_world.specs.World.{World as PlainWorld};
 
-    ghost Value = { List GivenClass };
+    ghost Value = { PlainWorld };
 
-    ghost use Rattle.kb_world.specs.World.{AreLinked};
-    ghost use Rattle.kb_world.specs.Linked.{IsNumbered, number_at};
+    ghost use Rattle.kb_world.specs.Links.{IsLinked};
+    ghost use Rattle.kb_world.specs.Slots.{slots_along};
+    ghost use Rattle.kb_world.specs.Initialisers.{has_initialiser};
+    ghost use Rattle.kb_world.specs.Tables.{HasPlaces, AreIndexed};
+    ghost use Rattle.kb_world.specs.World.{methods_in};
+    ghost use Rattle.kb_world.specs.Placing.{ArePlacings};
 
-    ghost view = { λ w. w.classes.items };
+    ghost view = { λ w. record { classes = w.classes; chains = w.chains.items; supers = w.supers.items; universe = w.universe; literals = w.literals } };
 
-    ghost invariant = { λ w. AreLinked w.classes.items × IsNumbered (number_at w.numbers) w.classes.items };
+    ghost invariant = { λ w. IsLinked (record { classes = w.classes; chains = w.chains.items; supers = w.supers.items; universe = w.universe; literals = w.literals }) × (w.slots.items ≡ map (slots_along w.classes) w.chains.items) × HasPlaces w.classes w.places.items × AreIndexed w.classes w.indexes.items × (w.initialised.items ≡ map (has_initialiser w.classes) w.chains.items) × ArePlacings (methods_in w.classes) w.placings.items };
+}
+
+/// The world of these classes, which keep the rules that classes keep together.
+pub(crate) fn world_of(
+    alloc: Global,
+    classes: Classes,
+    order: Order,
+    chains: Vec<Row<u32>>,
+    indexes: Vec<MethodIndex>,
+) -> Result<World, LinkRefusal>
+    requires { (order ≡ direct_supers classes) × HaveDifferentNames classes × HaveOwnMethods classes × HaveSupers classes × HaveNoCircle classes × HaveGoodSupers classes × AreChains classes chains.items × HaveNoSplit classes chains.items × AreIndexed classes indexes.items }
+    ensures classes { IfOk result (λ world. world.classes ≡ classes) }
+    ensures linked { IfOk result IsLinked }
+    ensures refused { IfErr result (RefusesClasses classes) }
+{
+    match tables_of(alloc, classes, &order, chains, indexes) {
+        Ok(world) => Ok(world),
+        Err(_) => Err(LinkRefusal::NoMemory),
+    }
+}
+
+fn tables_of(
+    alloc: Global,
+    classes: Classes,
+    order: &Order,
+    chains: Vec<Row<u32>>,
+    indexes: Vec<MethodIndex>,
+) -> Result<World, NoMemory>
+    requires { (order.now ≡ direct_supers classes) × HaveDifferentNames classes × HaveOwnMethods classes × HaveSupers classes × HaveNoCircle classes × HaveGoodSupers classes × AreChains classes chains.items × HaveNoSplit classes chains.items × AreIndexed classes indexes.items }
+    ensures classes { IfOk result (λ world. world.classes ≡ classes) }
+    ensures linked { IfOk result IsLinked }
+{
+    let supers = supers_of(alloc, &classes, order)?;
+    let universe = universe_of(alloc, &classes)?;
+    let literals = literals_of(alloc, &classes)?;
+    let slots = slots_of(alloc, &classes, chains.as_slice())?;
+    let places = places_of(alloc, &classes)?;
+    let initialised = initialised_of(alloc, &classes, chains.as_slice())?;
+    let placings = placings_of(alloc, &classes, places.as_slice())?;
+    Ok(World {
+        classes,
+        chains,
+        supers,
+        universe,
+        literals,
+        slots,
+        places,
+        indexes,
+        initialised,
+        placings,
+    })
 }
 
 impl World {
-    // The world of no classes.
-    pub(crate) fn new(alloc: Global) -> World
-        ensures { result ≡ [] }
+    /// The class of that name.
+    pub fn class_named(&self, name: &Name) -> Option<ClassId>
+        ensures { option_map (λ (id : ClassId). id.0) result ≡ number_in self.now.classes name.now }
     {
-        World {
-            classes: Vec::new(alloc),
-            numbers: HashMap::new(alloc),
-        }
+        let number = self.classes.number_of(name.as_slice())?;
+        Some(ClassId(number))
     }
 
-    // The world with one class more. Classes without a number of 32 bits are want of memory.
-    pub(crate) fn with(self, alloc: Global, given: GivenClass) -> Result<World, NoMemory>
-        requires { AreLinked (self ++ given ∷ []) }
-        ensures { IfOk result (λ world. world ≡ self ++ given ∷ []) }
+    /// The name of a class.
+    pub fn name_of(&self, class: ClassId) -> &Name
+        requires { class.0 < length self.now.classes }
+        ensures name { option_map (λ (c : Class). c.name) (slice_get self.now.classes class.0) ≡ Some result.now }
+        ensures linked { IsLinked self.now }
     {
-        let mut classes = self.classes;
-        let mut numbers = self.numbers;
-        let Ok(number) = u32::try_from(classes.len()) else {
-            return Err(NoMemory);
-        };
-        add_name(alloc, &mut numbers, &given.file, number)?;
-        let class = LinkedClass::new(alloc, given)?;
-        match classes.push(class) {
-            Ok(()) => Ok(World { classes, numbers }),
-            Err(_) => Err(NoMemory),
+        self.classes.as_slice()[class.0 as usize].name()
+    }
+
+    /// The class file of a class: None exactly for a platform class.
+    pub fn file_of(&self, class: ClassId) -> Option<&ClassFile>
+        requires { class.0 < length self.now.classes }
+        ensures { option_copied result ≡ option_and_then (λ (c : Class). c.file) (slice_get self.now.classes class.0) }
+    {
+        self.classes.as_slice()[class.0 as usize].file()
+    }
+
+    /// A method.
+    pub fn method_of(&self, method: MethodId) -> &MethodInfo
+        requires { method.0 < length (methods_in self.now.classes) }
+        ensures there { method_at self.now method.0 ≡ Some result.now }
+        ensures linked { IsLinked self.now }
+    {
+        let at = self.places[method.0 as usize];
+        &self.classes.as_slice()[at.class as usize].methods()[at.place as usize]
+    }
+
+    /// The place, in the listing of a method's code, of the instruction at an offset. A look into a table, without a search.
+    pub fn place_at(&self, method: MethodId, at: u32) -> Option<u32>
+        requires { method.0 < length (methods_in self.now.classes) }
+        ensures { result ≡ place_in (method_at self.now method.0) at }
+    {
+        let table = self.placings.get(method.0 as usize)?;
+        placed_at(table.as_slice(), at)
+    }
+
+    /// The slots of the objects of a class, by their numbers.
+    pub fn fields_of(&self, class: ClassId) -> &[FieldSlot]
+        requires { class.0 < length self.now.classes }
+        ensures { result.now ≡ slots_of self.now class.0 }
+    {
+        self.slots[class.0 as usize].as_slice()
+    }
+
+    /// The exact types that an object of an input may have.
+    pub fn universe(&self) -> &[ExactType]
+        ensures { result.now ≡ self.now.universe }
+    {
+        self.universe.as_slice()
+    }
+
+    /// How many string literals there are. Those beyond the numbers of 32 bits cannot be there: their entries are fewer.
+    pub fn literals(&self) -> u32
+        ensures { result ≡ length self.now.literals }
+    {
+        self.literals.as_slice().len() as u32
+    }
+
+    /// The type of a Class entry of a class: None exactly where the entry is none.
+    pub fn type_entry(&self, class: ClassId, entry: u16) -> Option<&ExactType>
+        requires { class.0 < length self.now.classes }
+        ensures { option_copied result ≡ type_entry_of self.now class.0 entry }
+    {
+        self.classes.as_slice()[class.0 as usize].type_entry(entry)
+    }
+
+    /// The int of an Integer entry of a class: None exactly where the entry is none.
+    pub fn int_entry(&self, class: ClassId, entry: u16) -> Option<i32>
+        requires { class.0 < length self.now.classes }
+        ensures { result ≡ int_entry_of self.now class.0 entry }
+    {
+        self.classes.as_slice()[class.0 as usize].int_entry(entry)
+    }
+
+    /// Whether the class is initialised by code: it or a superclass of it declares a method named `<clinit>`.
+    pub fn has_initialiser(&self, class: ClassId) -> bool
+        requires { class.0 < length self.now.classes }
+        ensures { result ≡ is_initialised self.now class.0 }
+    {
+        self.initialised[class.0 as usize]
+    }
+
+    /// Whether the first class or interface is the second one, or below it.
+    pub(crate) fn is_below(&self, low: &Name, high: &Name) -> bool
+        ensures { result ≡ is_below self.now low.now high.now }
+    {
+        if low == high {
+            return true;
         }
+        let Some(below) = self.classes.number_of(low.as_slice()) else {
+            return false;
+        };
+        let Some(above) = self.classes.number_of(high.as_slice()) else {
+            return false;
+        };
+        is_super(self.supers.as_slice(), below, above)
     }
 
     // The method that the target names.
@@ -99,9 +231,10 @@ impl World {
         ensures none { IfNone result ((id : MethodId) → Declares self.now id target.now → ⊥) }
         ensures alone { IfSome result (λ id. (other : MethodId) → Declares self.now other target.now → other ≡ id) }
     {
-        let class = *self.numbers.get(target.class.as_slice())?;
-        let number = entry(self.classes.as_slice(), class)?.find(target)?;
-        Some(MethodId { class, number })
+        let class = self.classes.number_of(target.class.as_slice())?;
+        let indexes = self.indexes.as_slice();
+        let number = number_of_method(&self.classes, indexes, class, &target.name, &target.kind)?;
+        Some(MethodId(number))
     }
 
     /// The method that the target names, where it has code and its name does not begin with `<`.
@@ -114,7 +247,9 @@ impl World {
             return None;
         }
         let id = self.declared(target)?;
-        self.method_of(id)?.code?;
+        if self.method_of(id).code.is_none() {
+            return None;
+        }
         Some(id)
     }
 
@@ -132,50 +267,21 @@ impl World {
         }
     }
 
-    /// What the world knows of a method. None where the number is no method's, or the method's descriptor is none.
-    pub fn method_of(&self, id: MethodId) -> Option<MethodInfo<'_>>
-        ensures some { IfSome result (Describes self.now id) }
-        ensures none { IfNone result ((target : Target) → Declares self.now id target → ⊥) }
+    /// The number of the literal of a String entry of a class: None exactly where the entry is none.
+    pub fn literal_entry(&self, class: ClassId, entry: u16) -> Option<u32>
+        ensures { result ≡ literal_entry_of self.now class.0 entry }
     {
-        entry(self.classes.as_slice(), id.class)?.method(id.number)
+        let class = self.classes.as_slice().get(class.0 as usize)?;
+        place_in(&self.literals, class.text_entry(entry)?)
     }
 }
 
 // Whether it is the name of an initialiser or the like.
-fn is_special(name: &[u8]) -> bool
+pub(crate) fn is_special(name: &[u8]) -> bool
     ensures { result ≡ is_special name.now }
 {
     match name {
         [first, ..] => *first == b'<',
         [] => false,
-    }
-}
-
-// Puts the number at the class's name, if it has one.
-fn add_name(
-    alloc: Global,
-    numbers: &mut HashMap<Vec<u8>, u32>,
-    file: &ClassFile,
-    number: u32,
-) -> Result<(), NoMemory>
-    ensures { OnOk result (AddsName (number_at numbers.old) (number_at numbers.new) (class_name_of file.now file.now.this) number) }
-{
-    let Some(name) = file.class_name(file.this) else {
-        return Ok(());
-    };
-    let key = key_of(alloc, name)?;
-    let Ok(_) = numbers.insert(key, number) else {
-        return Err(NoMemory);
-    };
-    Ok(())
-}
-
-/// The key of a name.
-pub(crate) fn key_of(alloc: Global, name: &[u8]) -> Result<Vec<u8>, NoMemory>
-    ensures { IfOk result (λ key. key.items ≡ name.now) }
-{
-    match name.to_vec(alloc) {
-        Ok(key) => Ok(key),
-        Err(_) => Err(NoMemory),
     }
 }

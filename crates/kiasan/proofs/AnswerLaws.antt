@@ -1,13 +1,15 @@
 -- From an order's answer to that of its words.
 use Rattle.std.proofs.Common.{List, ℕ, Option, Result, Ok, Err, inl, inr}
 use Rattle.kb_outside.specs.Outside.{Rose}
-use Rattle.kb_world.specs.declared.world.GivenClass.{GivenClass}
+use Rattle.kb_class.specs.declared.given.GivenClass.{GivenClass}
+use Rattle.kb_world.specs.Links.{Links}
+use Rattle.kb_world.specs.World.{World}
 use Rattle.kiasan.specs.declared.answer.Contents.{Contents}
 use Rattle.kiasan.specs.declared.refusals.Answer.{Answer}
 use Rattle.kiasan.specs.declared.refusals.Stop.{Stop}
 use Rattle.kiasan.specs.declared.refusals.Stop.TheVariants.{Refused, ReadFault, NoMemory}
 use Rattle.kiasan.specs.declared.words.Order.{Order}
-use Rattle.kiasan.specs.Answers.{AreClasses, Carries, IsReadFault, IsWorldOf, RefusesClasses, Replies, RepliesIn, RepliesOn, RepliesTo, SomeUnsound, WordsRefuse, WorldRefuses}
+use Rattle.kiasan.specs.Answers.{AreClasses, Carries, IsReadFault, RefusesClasses, Replies, RepliesIn, RepliesOn, RepliesTo, SomeUnsound, WordsRefuse, WorldRefuses}
 use Rattle.kiasan.specs.Orders.{Orders, files_of}
 use Rattle.kiasan.specs.Refusals.{Gives}
 use Rattle.kiasan.proofs.StageLaws.{stage_goes}
@@ -35,7 +37,7 @@ world_stops order contents given Passes (Refused refusal) are refuses = inr (giv
 world_stops order contents given Passes ReadFault are refuses = refuses
 world_stops order contents given Passes NoMemory are refuses = tt
 
-pub world_goes : (order : Order) (contents : Contents) (given : List GivenClass) (world : List GivenClass) (result : Result Answer Stop) → AreClasses contents.classes given → IsWorldOf given world →
+pub world_goes : (order : Order) (contents : Contents) (given : List GivenClass) (world : World) (result : Result Answer Stop) → AreClasses contents.classes given → Links given world →
     Carries ⊥ (RepliesIn order contents.texts world) result → Carries ⊥ (RepliesOn order contents) result
 unfolding RepliesOn
 world_goes order contents given world (Ok answer) are is carried = (given, are, (world, is, carried))

@@ -1,5 +1,5 @@
 -- Classes, from their bytes to their world.
-use Rattle.std.proofs.Common.{◌≡◌, ℕ, ◌+◌, ◌<◌, ◌≤◌, List, [], ◌∷◌, ◌++◌, length, map, take, drop, get_or, Option, Some, None, Result, Ok, Err, refl, sym, ◌∙◌, ap, subst, arith, suc, drop-cons, inl, inr}
+use Rattle.std.proofs.Common.{◌≡◌, ℕ, ◌+◌, ◌<◌, ◌≤◌, List, [], ◌∷◌, ◌++◌, length, take, drop, get_or, Option, Some, None, Err, refl, sym, ◌∙◌, ap, subst, arith, suc, drop-cons, inl, inr}
 use Rattle.std.proofs.lemmas.List.{take_all, take-append-drop, length-take}
 use Rattle.std.proofs.Math.Seq.{take-suc}
 use Rattle.kb_classfile.specs.declared.file.ClassFile.{ClassFile}
@@ -14,16 +14,16 @@ use Rattle.kb_code.specs.declared.refusal.CodeRefusal.{CodeRefusal}
 use Rattle.kb_code.specs.declared.refusal.CodeRefusal.TheVariants as codes_of
 use Rattle.kb_code.specs.Answers.{Refuses as RefusesCode, fault_in, first_fault}
 use Rattle.kb_code.proofs.ListingLaws.{listed_decodes}
-use Rattle.kb_world.specs.declared.world.GivenClass.{GivenClass}
-use Rattle.kb_world.specs.Linkable.{AreLinkable}
-use Rattle.kb_world.specs.World.{AreGiven, AreLinked, AreListings, IsGiven, RefusesLink, file_of, handlers_of}
+use Rattle.kb_class.specs.declared.given.GivenClass.{GivenClass}
+use Rattle.kb_class.specs.Given.{AreGiven, AreListings, handlers_of}
+use Rattle.kb_class.proofs.Listings.{listings_pushed}
 use Rattle.kb_world.specs.declared.linking.LinkRefusal.{LinkRefusal}
 use Rattle.kb_world.specs.declared.linking.LinkRefusal.TheVariants as links
-use Rattle.kb_world.proofs.Listings.{listings_pushed}
+use Rattle.kb_world.specs.Links.{RefusesLink}
 use Rattle.kiasan.specs.declared.refusals.Refusal.{Refusal}
 use Rattle.kiasan.specs.declared.refusals.Stop.{Stop}
-use Rattle.kiasan.specs.Answers.{AreClasses, ClassRefuses, FileRefuses, IsClassOf, IsWorldOf, RefusesClasses, WorldRefuses}
-use Rattle.kiasan.specs.CodeFaults.{CodeRefuses, MethodsRefuse, fault_of, fault_or, methods_fault}
+use Rattle.kiasan.specs.Answers.{AreClasses, ClassRefuses, FileRefuses, IsClassOf, RefusesClasses, WorldRefuses}
+use Rattle.kiasan.specs.CodeFaults.{CodeRefuses, MethodsRefuse, fault_of, methods_fault}
 use Rattle.kiasan.specs.Refusals.{Gives, class_refusal, code_refusal, link_refusal}
 use Rattle.kiasan.proofs.StageLaws.{gives_by}
 
@@ -185,17 +185,17 @@ are_given (bytes ∷ classes) (class ∷ given) are = (record { bytes = bytes; s
 are_given [] (class ∷ given) are = absurd are
 are_given (bytes ∷ classes) [] are = absurd are
 
--- classes that are linked are their world
-pub world_of_classes : (given world : List GivenClass) → world ≡ given → AreLinkable (map file_of given) → IsWorldOf given world
-world_of_classes given world is linkable = record { linkable = linkable; classes_are = is }
-
--- their world is linked
-pub linked_world : (given world : List GivenClass) → AreGiven given → IsWorldOf given world → AreLinked world
-linked_world given world are is = subst AreLinked (sym is.classes_are) (record { given = are; linkable = is.linkable })
-
 -- what is said of classes that are not linked
 pub link_stops : {A : Type 0} (given : List GivenClass) (found : LinkRefusal) (Passes : A → Type 0) → RefusesLink given found →
     Gives {A = A} ⊥ (WorldRefuses given) Passes (Err (link_refusal found))
-link_stops given links.Unbuilt Passes refuses = (refl, refuses)
+link_stops given links.TooMany Passes refuses = (links.TooMany, refuses, refl)
+link_stops given (links.BadName file entry) Passes refuses = (links.BadName file entry, refuses, refl)
+link_stops given (links.BadDescriptor file entry) Passes refuses = (links.BadDescriptor file entry, refuses, refl)
+link_stops given (links.TwoMembers file entry) Passes refuses = (links.TwoMembers file entry, refuses, refl)
+link_stops given (links.Twice name) Passes refuses = (links.Twice name, refuses, refl)
+link_stops given (links.Missing name) Passes refuses = (links.Missing name, refuses, refl)
+link_stops given (links.Circle name) Passes refuses = (links.Circle name, refuses, refl)
+link_stops given (links.BadSuper name) Passes refuses = (links.BadSuper name, refuses, refl)
+link_stops given (links.SplitPackage name method) Passes refuses = (links.SplitPackage name method, refuses, refl)
 link_stops given (links.NoMethod target) Passes refuses = absurd refuses
 link_stops given links.NoMemory Passes refuses = tt

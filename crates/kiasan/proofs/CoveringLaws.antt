@@ -1,5 +1,5 @@
 -- The one path of a straight method covers its inputs.
-use Rattle.std.proofs.Common.{◌≡◌, ℕ, ◌+◌, ◌<◌, ◌≤◌, ◌&&◌, ℤ, pos, List, [], ◌∷◌, ◌++◌, length, map, take, replicate, get_or, slice_get, Option, Some, None, Bool, true, false, refl, sym, ◌∙◌, ap, subst, inl, inr, arith, rules, zero, suc, add-one}
+use Rattle.std.proofs.Common.{◌≡◌, ℕ, ◌+◌, ◌<◌, ◌≤◌, ◌&&◌, ℤ, pos, List, [], ◌∷◌, ◌++◌, length, map, take, replicate, get_or, slice_get, Option, Some, Bool, true, false, refl, sym, ◌∙◌, ap, subst, inl, arith, rules, zero, suc}
 use Rattle.std.specs.List.{filter_map, list_all}
 use Rattle.std.specs.Option.{option_map_or}
 use Rattle.std.proofs.lemmas.List.{map-append, take_all, length-map, length-replicate}
@@ -17,23 +17,24 @@ use Rattle.kb_semantics.specs.Machine.{Method, Ended, int_of, run_of}
 use Rattle.kb_semantics.specs.Types.{AreArgumentsFor, AreValuesOf, IsMethod, IsTypeCorrect, IsValueOf}
 use Rattle.kb_terms.specs.declared.node.VarKind.{VarKind}
 use Rattle.kb_terms.specs.declared.node.VarKind.TheVariants.{Int as IntKind}
-use Rattle.kb_world.proofs.Declared.{same_class, same_method, same_target}
-use Rattle.kb_world.specs.declared.world.GivenClass.{GivenClass}
-use Rattle.kb_world.specs.declared.world.MethodId.{MethodId}
-use Rattle.kb_world.specs.World.{is_static}
+use Rattle.kb_semantics.proofs.Methods.{code_is, same_method}
+use Rattle.kb_world.specs.World.{World}
+use Rattle.kb_class.specs.declared.ids.MethodId.{MethodId}
+use Rattle.kb_class.specs.declared.members.MethodCode.{MethodCode}
+use Rattle.kb_class.specs.declared.members.MethodInfo.{MethodInfo}
+use Rattle.kb_names.specs.declared.types.MethodType.{MethodType}
+use Rattle.kb_world.specs.Slots.{is_static}
 use Rattle.kiasan.specs.declared.explore.Explored.{Explored}
 use Rattle.kiasan.specs.declared.path.Operand.{Operand}
 use Rattle.kiasan.specs.declared.path.Term.{Term}
 use Rattle.kiasan.specs.declared.path.Origin.{Origin}
 use Rattle.kiasan.specs.declared.path.Origin.TheVariants.{Arg}
-use Rattle.kiasan.specs.declared.path.Out.TheVariants.{Int as OutInt}
 use Rattle.kiasan.specs.declared.path.Path.{Path}
 use Rattle.kiasan.specs.declared.path.Seen.{Seen}
 use Rattle.kiasan.specs.declared.path.Seen.TheVariants.{Int as SeenInt}
-use Rattle.kiasan.specs.declared.path.SymEnding.TheVariants.{Returned}
 use Rattle.kiasan.specs.declared.report.Report.{Report}
 use Rattle.kiasan.specs.declared.words.Job.{Job}
-use Rattle.kiasan.specs.Covering.{Covers, HasHead, IsReportOf, tests_of}
+use Rattle.kiasan.specs.Covering.{Covers, IsReportOf, tests_of}
 use Rattle.std.specs.Int.RustNames.{FitsSigned}
 use mir.Syntax.{w32}
 use Rattle.kb_names.specs.Targets.{IsTarget}
@@ -43,12 +44,12 @@ use Rattle.kb_arith.specs.Word.{AreInts}
 use Rattle.kb_terms.proofs.Ranges.{value_of-fits}
 use Rattle.kiasan.specs.Tests.{no_literals}
 use Rattle.kiasan.specs.Explored.{IsExplored}
-use Rattle.kiasan.specs.Path.{path_value, operand_of}
-use Rattle.kiasan.specs.Paths.{HoldEach, slot_value, variable_value, variable_values, IsInstance, AreThere, AreInOrder, slots_of, argument_slots, IsPicture, kind_for, seen_kind, seen_kinds, AreNumbered, IsWellFormed}
+use Rattle.kiasan.specs.Path.{path_value}
+use Rattle.kiasan.specs.Paths.{HoldEach, slot_value, variable_value, variable_values, IsInstance, AreThere, AreInOrder, slots_of, argument_slots, IsPicture, kind_for, seen_kind, seen_kinds}
 use Rattle.kiasan.specs.Straight.{IsStraight, ints_input}
 use Rattle.kiasan.specs.StraightPath.{IsExplorable, arguments_seen, zero_input, straight_path, straight_report, StatesResult}
 use Rattle.kiasan.proofs.StraightLaws.{zeros_fit}
-use Rattle.kiasan.specs.Target.{is_int, takes_ints, params_of}
+use Rattle.kiasan.specs.Target.{is_int, params_of}
 
 -- ---- an input of ints
 
@@ -129,36 +130,40 @@ zeros_agree (type ∷ types) all =
     let parts = both (is_int type) (list_all is_int types) all in
     subst (λ t. AreValuesOf (t ∷ types) (IntValue (pos 0) ∷ replicate (length types) (IntValue (pos 0)))) (sym (is_int_type type parts.0)) (search rules, zeros_agree types parts.1)
 
-all_ints : (world : List GivenClass) (target : Target) (id : MethodId) (method : Method) → IsStraight world target id method → list_all is_int target.kind.params ≡ true
+all_ints : (world : World) (target : Target) (id : MethodId) (method : Method) → IsStraight world target id method → list_all is_int target.kind.params ≡ true
 all_ints world target id method s = (both (list_all is_int target.kind.params) _ s.ints).0
 
 agree_args : (b : Bool) (types : List JType) (args : List Value) → b ≡ true → AreArgumentsFor b types args → AreValuesOf types args
 agree_args true types args e h = h
 agree_args false types args e h = absurd h
 
-correct_ints : (world : List GivenClass) (target : Target) (id : MethodId) (method : Method) (input : Input) → IsStraight world target id method → IsTypeCorrect world id input →
+correct_ints : (world : World) (target : Target) (id : MethodId) (method : Method) (input : Input) → IsStraight world target id method → IsTypeCorrect world id input →
     AreIntArgs input.args (params_of target)
 correct_ints world target id method input s is =
-    let same : target ≡ is.target = same_target world id target is.target s.found.declared is.declared in
-    let static : is_static is.declared.names.method ≡ true =
-    ap is_static (same_method world id is.target method.target is.declared s.runs.declared) ∙ s.static in
-    let agree : AreValuesOf is.target.kind.params input.args = agree_args (is_static is.declared.names.method) is.target.kind.params input.args static is.arguments in
-    int_args target.kind.params input.args (all_ints world target id method s) (subst (λ (t : Target). AreValuesOf t.kind.params input.args) (sym same) agree)
+    let found : is.method ≡ s.found.declared.method = same_method world id is.method s.found.declared.method is.method_is s.found.declared.method_is in
+    let runs : is.method ≡ s.runs.declared.method = same_method world id is.method s.runs.declared.method is.method_is s.runs.declared.method_is in
+    let params : is.method.kind.params ≡ target.kind.params = ap (λ (i : MethodInfo). i.kind.params) found ∙ ap (λ (k : MethodType). k.params) s.found.declared.kind in
+    let static : is_static is.method.access ≡ true = ap (λ (i : MethodInfo). is_static i.access) runs ∙ s.static in
+    let agree : AreValuesOf is.method.kind.params input.args = agree_args (is_static is.method.access) is.method.kind.params input.args static is.arguments in
+    int_args target.kind.params input.args (all_ints world target id method s) (subst (λ (ts : List JType). AreValuesOf ts input.args) params agree)
 
 with_args : (b : Bool) (types : List JType) (args : List Value) → b ≡ true → AreValuesOf types args → AreArgumentsFor b types args
 with_args true types args e h = h
 with_args false types args e h = cc
 
-zeros_correct : (world : List GivenClass) (target : Target) (id : MethodId) (method : Method) → IsStraight world target id method → IsTypeCorrect world id (zero_input (params_of target))
+zeros_correct : (world : World) (target : Target) (id : MethodId) (method : Method) → IsStraight world target id method → IsTypeCorrect world id (zero_input (params_of target))
 zeros_correct world target id method s =
-    let static : is_static s.found.declared.names.method ≡ true =
-    ap is_static (same_method world id target method.target s.found.declared s.runs.declared) ∙ s.static in
+    let runs : s.found.declared.method ≡ s.runs.declared.method =
+    same_method world id s.found.declared.method s.runs.declared.method s.found.declared.method_is s.runs.declared.method_is in
+    let static : is_static s.found.declared.method.access ≡ true = ap (λ (i : MethodInfo). is_static i.access) runs ∙ s.static in
+    let params : s.found.declared.method.kind.params ≡ target.kind.params = ap (λ (k : MethodType). k.params) s.found.declared.kind in
+    let zeros : List Value = replicate (params_of target) (IntValue (pos 0)) in
     record {
-      target = target;
-      declared = s.found.declared;
+      method = s.found.declared.method;
+      method_is = s.found.declared.method_is;
       objects = refl;
-      arguments = with_args (is_static s.found.declared.names.method) target.kind.params (replicate (params_of target) (IntValue (pos 0))) static
-          (zeros_agree target.kind.params (all_ints world target id method s));
+      arguments = with_args (is_static s.found.declared.method.access) s.found.declared.method.kind.params zeros static
+          (subst (λ (ts : List JType). AreValuesOf ts zeros) (sym params) (zeros_agree target.kind.params (all_ints world target id method s)));
     }
 
 -- ---- what a straight path sees
@@ -277,7 +282,7 @@ values_are params input ints =
     ap (λ (i : Input). variable_values i (arguments_seen params)) same ∙ values_seen input.heap ints.ints params (omega (arith, ints.count))
     ∙ take_all params ints.ints (omega (arith, ints.count))
 
-pub covers_straight : (world : List GivenClass) (id : MethodId) (job : Job) (explored : Explored) (path : Path) (is : IsExplored world job.target id explored) →
+pub covers_straight : (world : World) (id : MethodId) (job : Job) (explored : Explored) (path : Path) (is : IsExplored world job.target id explored) →
     StatesResult explored (params_of job.target) path → explored.instructions ≤ job.bounds.run.steps → 1 ≤ job.paths → Covers world id is.method (straight_report job path)
 unfolding path_value
 covers_straight world id job explored path is states within listed =
@@ -320,7 +325,7 @@ covers_straight world id job explored path is states within listed =
       chosen = (tt, tt);
     })
 
-pub report_straight : (world : List GivenClass) (id : MethodId) (job : Job) (explored : Explored) (path : Path) (report : Report) → IsExplored world job.target id explored →
+pub report_straight : (world : World) (id : MethodId) (job : Job) (explored : Explored) (path : Path) (report : Report) → IsExplored world job.target id explored →
     StatesResult explored (params_of job.target) path → explored.instructions ≤ job.bounds.run.steps → 1 ≤ job.paths → report ≡ straight_report job path →
     IsReportOf world job report
 report_straight world id job explored path report is states within listed e =
@@ -363,15 +368,12 @@ straight_tests job explored path report states e target bounds =
 
 -- ---- methods that are too long for the bounds
 
-same_listing : (world : List GivenClass) (id : MethodId) (one other : Method) → IsMethod world id one → IsMethod world id other → one.listing ≡ other.listing
+same_listing : (world : World) (id : MethodId) (one other : Method) → IsMethod world id one → IsMethod world id other → one.listing ≡ other.listing
 same_listing world id one other m n =
-    let classes = same_class world id one.target other.target m.declared n.declared in
-    let first = m.has_listing in
-    let second = n.has_listing in
-    let listings : m.listing ≡ n.listing = cc in
-    m.items ∙ ap (λ l. l.items) listings ∙ sym n.items
+    let codes : n.code ≡ m.code = code_is world id m.declared.method m.code other m.declared.method_is m.has_code n in
+    m.items ∙ ap (λ (c : MethodCode). c.listing.items) (sym codes) ∙ sym n.items
 
-pub too_long : (world : List GivenClass) (id : MethodId) (job : Job) (explored : Explored) → IsExplored world job.target id explored → job.bounds.run.steps < explored.instructions →
+pub too_long : (world : World) (id : MethodId) (job : Job) (explored : Explored) → IsExplored world job.target id explored → job.bounds.run.steps < explored.instructions →
     (method : Method) → IsExplorable world job id method → ⊥
 too_long world id job explored is long method s =
     let same : length is.method.listing ≡ length method.listing = ap length (same_listing world id is.method method is.straight.runs s.straight.runs) in
@@ -379,7 +381,7 @@ too_long world id job explored is long method s =
     let within = s.within in
     absurd (omega (arith, same, count, within, long))
 
-pub explorable : (world : List GivenClass) (id : MethodId) (job : Job) (explored : Explored) → IsExplored world job.target id explored → explored.instructions ≤ job.bounds.run.steps → 1 ≤ job.paths →
+pub explorable : (world : World) (id : MethodId) (job : Job) (explored : Explored) → IsExplored world job.target id explored → explored.instructions ≤ job.bounds.run.steps → 1 ≤ job.paths →
     (method : Method) × IsExplorable world job id method
 explorable world id job explored is within listed =
     let few : length is.method.listing ≤ job.bounds.run.steps = omega (arith, is.count, within) in

@@ -10,7 +10,7 @@ use Rattle.kiasan.specs.declared.explore.Explored.{Explored}
 use Rattle.kiasan.specs.declared.state.State.{State}
 use Rattle.kb_arith.specs.Word.{AreInts}
 use Rattle.kb_code.specs.declared.instruction.Instr.{Instr}
-use Rattle.kb_code.specs.declared.instruction.Instr.TheVariants.{Nop, ReturnInt}
+use Rattle.kb_code.specs.declared.instruction.Instr.TheVariants.{ReturnInt}
 use Rattle.kiasan.specs.declared.explore.StraightCode.{StraightCode}
 use Rattle.kb_code.specs.Listing.{offset_of, IsLaidOut}
 use Rattle.kb_semantics.proofs.Runs.{StandsAt, step_at, run_on}

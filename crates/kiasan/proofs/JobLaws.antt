@@ -1,14 +1,14 @@
 -- How a job is answered.
-use Rattle.std.proofs.Common.{◌≡◌, List, [], ◌∷◌, ◌++◌, ℕ, Bool, true, Result, Err, refl, sym, subst, inl}
+use Rattle.std.proofs.Common.{◌≡◌, List, [], ◌∷◌, ◌++◌, ℕ, true, Err, refl, sym, subst, inl}
 use Rattle.std.specs.List.{AllByRecursion, list_all}
 use Rattle.kb_heap.specs.declared.heap.Input.{Input}
 use Rattle.kb_semantics.specs.Machine.{Method}
 use Rattle.kb_semantics.specs.Types.{IsTypeCorrect}
 use Rattle.kb_test.specs.Texts.{SpellsTests}
-use Rattle.kb_world.specs.declared.world.GivenClass.{GivenClass}
-use Rattle.kb_world.specs.declared.world.MethodId.{MethodId}
+use Rattle.kb_world.specs.World.{World}
+use Rattle.kb_class.specs.declared.ids.MethodId.{MethodId}
 use Rattle.kb_names.specs.declared.types.Target.{Target}
-use Rattle.kb_world.specs.World.{Refuses}
+use Rattle.kb_world.specs.Targets.{Refuses}
 use Rattle.kb_world.specs.declared.linking.LinkRefusal.{LinkRefusal}
 use Rattle.kb_world.specs.declared.linking.LinkRefusal.TheVariants as links
 use Rattle.kiasan.specs.declared.path.Leaf.{Leaf}
@@ -36,20 +36,28 @@ all_told (path ∷ leaves) = rw (told path.leaf, all_told leaves) refl
     told (EndedLeaf ended) = refl
 
 -- what the world says of a target that it does not reach
-pub reach_stops : {A : Type 0} (Built : MethodId → Type 0) (world : List GivenClass) (target : Target) (found : LinkRefusal) (Passes : A → Type 0) → Refuses world target found →
+pub reach_stops : {A : Type 0} (Built : MethodId → Type 0) (world : World) (target : Target) (found : LinkRefusal) (Passes : A → Type 0) → Refuses world target found →
     Gives {A = A} ⊥ (TargetRefuses Built world target) Passes (Err (link_refusal found))
 reach_stops Built world target (links.NoMethod of) Passes is = inl (links.NoMethod of, is, refl)
-reach_stops Built world target links.Unbuilt Passes is = absurd is
 reach_stops Built world target links.NoMemory Passes is = tt
+reach_stops Built world target links.TooMany Passes is = absurd is
+reach_stops Built world target (links.BadName file entry) Passes is = absurd is
+reach_stops Built world target (links.BadDescriptor file entry) Passes is = absurd is
+reach_stops Built world target (links.TwoMembers file entry) Passes is = absurd is
+reach_stops Built world target (links.Twice name) Passes is = absurd is
+reach_stops Built world target (links.Missing name) Passes is = absurd is
+reach_stops Built world target (links.Circle name) Passes is = absurd is
+reach_stops Built world target (links.BadSuper name) Passes is = absurd is
+reach_stops Built world target (links.SplitPackage name method) Passes is = absurd is
 
-pub job_stops : (IsTextOf : Method → Report → List ℕ → Type 0) (world : List GivenClass) (job : Job) (stop : Stop) →
+pub job_stops : (IsTextOf : Method → Report → List ℕ → Type 0) (world : World) (job : Job) (stop : Stop) →
     Gives {A = Report} ⊥ (TargetRefuses (IsBuiltFor world job) world job.target) (IsWrittenReport world job) (Err stop) → Carries ⊥ (RepliesJob IsTextOf world job) (Err stop)
 unfolding RepliesJob
 job_stops IsTextOf world job (Refused refusal) given = inl given
 job_stops IsTextOf world job ReadFault given = given
 job_stops IsTextOf world job NoMemory given = tt
 
-pub job_ends : (IsTextOf : Method → Report → List ℕ → Type 0) (world : List GivenClass) (job : Job) (report : Report) (text : List ℕ) (written : IsWrittenReport world job report) →
+pub job_ends : (IsTextOf : Method → Report → List ℕ → Type 0) (world : World) (job : Job) (report : Report) (text : List ℕ) (written : IsWrittenReport world job report) →
     IsTextOf written.reported.method report text → RepliesJob IsTextOf world job (ends Complete text)
 unfolding RepliesJob
 job_ends IsTextOf world job report text written is =
@@ -62,12 +70,12 @@ both_all P [] ys front back = back
 both_all P (x ∷ xs) ys front back = (front.0, both_all P xs ys front.1 back)
 
 -- the input that a path carries is an instance, so that what the path's leaf says holds of its run
-path_ends : (world : List GivenClass) (id : MethodId) (method : Method) (report : Report) (path : Path) (leaf : Leaf) → CarriesInstance world id path leaf →
+path_ends : (world : World) (id : MethodId) (method : Method) (report : Report) (path : Path) (leaf : Leaf) → CarriesInstance world id path leaf →
     ((input : Input) → IsTypeCorrect world id input → IsInstance path input → HoldsOf report.bounds.run method path leaf input) →
     AllByRecursion (EndsAsStated method) (path_tests report path leaf)
 path_ends world id method report path (EndedLeaf ended) carries holds = (holds ended.input carries.0 carries.1, tt)
 
-paths_end : (world : List GivenClass) (id : MethodId) (method : Method) (report : Report) (paths : List Path) → EachPath (λ path. CarriesInstance world id path path.leaf) paths →
+paths_end : (world : World) (id : MethodId) (method : Method) (report : Report) (paths : List Path) → EachPath (λ path. CarriesInstance world id path path.leaf) paths →
     ((input : Input) → IsTypeCorrect world id input → EachPath (λ path. IsInstance path input → HoldsOf report.bounds.run method path path.leaf input) paths) →
     AllByRecursion (EndsAsStated method) (tests_on report paths)
 paths_end world id method report [] carry hold = tt
@@ -76,7 +84,7 @@ paths_end world id method report (path ∷ paths) carry hold =
     (path_ends world id method report path path.leaf carry.0 (λ input correct. (hold input correct).0))
     (paths_end world id method report paths carry.1 (λ input correct. (hold input correct).1))
 
-pub tests_written : (world : List GivenClass) (job : Job) (report : Report) (text : List ℕ) (reported : IsReportOf world job report) → SpellsTests no_literals (tests_of report) text →
+pub tests_written : (world : World) (job : Job) (report : Report) (text : List ℕ) (reported : IsReportOf world job report) → SpellsTests no_literals (tests_of report) text →
     IsTestsTextOf reported.method report text
 tests_written world job report text reported spelled = record {
   spelled = spelled;

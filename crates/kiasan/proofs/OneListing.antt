@@ -8,7 +8,7 @@ use Rattle.kb_code.specs.declared.listing.Listing.{Listing}
 use Rattle.kb_code.specs.declared.refusal.CodeRefusal.{CodeRefusal}
 use Rattle.kb_code.specs.Listing.{Lists}
 use Rattle.kb_code.proofs.ListingLaws.{listed_decodes}
-use Rattle.kb_world.specs.World.{AreListings, handlers_of}
+use Rattle.kb_class.specs.Given.{AreListings, handlers_of}
 
 listing_one : (one other : Listing) (code : List ℕ) (handlers : List Handler) → Lists one code handlers → Lists other code handlers → one ≡ other
 listing_one one other code handlers a b =

@@ -1,40 +1,42 @@
 -- Words have one reply where the shelf tells each file that is read.
-use Rattle.std.proofs.Common.{◌≡◌, ◌⊎◌, ℕ, ◌+◌, ◌<◌, ◌≤◌, List, [], ◌∷◌, ◌++◌, length, map, take, Option, Some, None, IsSome, Result, Ok, Err, refl, sym, ◌∙◌, ap, subst, arith, inl, inr, append_assoc, append-nil, length-append, zero, suc, slice_get}
+use Rattle.std.proofs.Common.{◌≡◌, ℕ, ◌+◌, ◌<◌, List, [], ◌∷◌, ◌++◌, length, Option, Some, None, IsSome, Result, Ok, Err, refl, sym, ◌∙◌, ap, subst, arith, inl, inr, append_assoc, append-nil, zero, suc}
 use Rattle.std.specs.List.{AllByRecursion}
 use Rattle.std.proofs.lemmas.Option.{none-some, same_Some}
+use Rattle.kb_class.specs.declared.given.GivenClass.{GivenClass}
+use Rattle.kb_class.specs.declared.ids.MethodId.{MethodId}
+use Rattle.kb_class.specs.declared.members.MethodCode.{MethodCode}
+use Rattle.kb_class.specs.Given.{AreListings}
 use Rattle.kb_classfile.specs.declared.file.ClassFile.{ClassFile}
-use Rattle.kb_classfile.specs.declared.file.Code.{Code}
 use Rattle.kb_classfile.specs.declared.file.Method.{Method as ClassMethod}
 use Rattle.kb_classfile.specs.declared.refusal.ClassRefusal.{ClassRefusal}
-use Rattle.kb_classfile.specs.Reading.{fault_in, first_fault, reading}
+use Rattle.kb_classfile.specs.Reading.{fault_in, first_fault}
 use Rattle.kb_classfile.specs.Spelling.{IsClassFile}
 use Rattle.kb_classfile.proofs.ClassLaws.{spelled_is_read}
-use Rattle.kb_code.specs.declared.listing.Listing.{Listing}
 use Rattle.kb_code.specs.declared.refusal.CodeRefusal.{CodeRefusal}
 use Rattle.kb_grammar.specs.Lines.{Lacks, AreLines, IsFirstBadLine, lines_text}
 use Rattle.kb_grammar.proofs.LineLaws.{lines_beyond, no_lines}
 use Rattle.kb_grammar.proofs.WordLaws.{same_cut}
-use Rattle.kb_heap.specs.declared.ending.Ending.{Ending}
-use Rattle.kb_heap.specs.declared.heap.Heap.{Heap}
 use Rattle.kb_names.specs.declared.types.Target.{Target}
-use Rattle.kb_semantics.specs.Machine.{Method, Ended, run_of}
+use Rattle.kb_semantics.specs.Machine.{Method, Ended}
 use Rattle.kb_semantics.specs.Types.{IsMethod, IsTypeCorrect}
+use Rattle.kb_semantics.proofs.Methods.{code_is}
 use Rattle.kb_test.specs.declared.test_case.Test.{Test}
 use Rattle.kb_test.specs.Texts.{IsTestsText, SpellsTests, tests_lines}
 use Rattle.kb_test.proofs.SameTests.{same_tests}
 use Rattle.kb_test.proofs.TestLines.{tests_are_lines}
 use Rattle.kb_world.specs.declared.linking.LinkRefusal.{LinkRefusal}
 use Rattle.kb_world.specs.declared.linking.LinkRefusal.TheVariants as links
-use Rattle.kb_world.specs.declared.world.GivenClass.{GivenClass}
-use Rattle.kb_world.specs.declared.world.MethodId.{MethodId}
-use Rattle.kb_world.specs.World.{AreLinked, AreListings, Declares, IsTargetOf, file_of}
-use Rattle.kb_world.proofs.Declared.{same_class, same_method}
-use Rattle.kb_world.proofs.Worlds.{one_id}
+use Rattle.kb_world.specs.Links.{IsLinked, Links}
+use Rattle.kb_world.specs.Targets.{IsTargetOf}
+use Rattle.kb_world.specs.World.{World}
+use Rattle.kb_world.proofs.OneWorld.{one_refusal, refused_or_linked, worlds_chains, worlds_classes}
+use Rattle.kb_world.proofs.TargetLaws.{one_declared}
 use Rattle.kiasan.specs.declared.answer.Contents.{Contents}
 use Rattle.kiasan.specs.declared.refusals.Refusal.{Refusal}
 use Rattle.kiasan.specs.declared.refusals.Refusal.TheVariants as refusals
 use Rattle.kiasan.specs.declared.refusals.Stop.{Stop}
 use Rattle.kiasan.specs.declared.refusals.Stop.TheVariants.{Refused}
+use Rattle.kiasan.specs.declared.refusals.Stop.TheVariants as stops
 use Rattle.kiasan.specs.declared.replay.Replayed.{Replayed}
 use Rattle.kiasan.specs.declared.replay.Replayed.TheVariants.{Passes, Differs}
 use Rattle.kiasan.specs.declared.report.Report.{Report}
@@ -43,16 +45,17 @@ use Rattle.kiasan.specs.declared.words.Job.{Job}
 use Rattle.kiasan.specs.declared.words.Order.{Order}
 use Rattle.kiasan.specs.declared.words.Order.TheVariants.{Explore, Tests, Diagrams, Replay, Assemble, Sample}
 use Rattle.kiasan.specs.declared.words.WordFault.{WordFault}
-use Rattle.kiasan.specs.Answers.{Reply, refuses, ends, Stage, Last, RefusesNothing, Replies, RepliesTo, RepliesOn, RepliesIn, RepliesJob, RepliesReplay, WordsRefuse, IsRead, AreRead, IsContents, RefusesClasses, ClassRefuses, FileRefuses, AreClasses, IsClassOf, IsWorldOf, WorldRefuses, TextRefuses, AreTestsOf, EndsReplay, EndsJob, AreTold, IsReplay, IsSameReply, class_limit, text_limit}
+use Rattle.kiasan.specs.Answers.{Reply, refuses, ends, Last, RefusesNothing, Replies, RepliesTo, RepliesOn, RepliesIn, RepliesJob, RepliesReplay, WordsRefuse, IsRead, AreRead, IsContents, RefusesClasses, ClassRefuses, FileRefuses, AreClasses, IsClassOf, WorldRefuses, TextRefuses, AreTestsOf, EndsReplay, EndsJob, AreTold, IsReplay, IsSameReply, class_limit, text_limit}
 use Rattle.kiasan.specs.Orders.{Orders, files_of, texts_of, classes_of}
 use Rattle.kiasan.specs.Reach.{ReachRefuses, TargetRefuses}
 use Rattle.kiasan.specs.CodeFaults.{MethodsRefuse, methods_fault}
-use Rattle.kiasan.specs.Refusals.{class_refusal, code_refusal, word_refusal}
-use Rattle.kiasan.specs.Tests.{AreRunnable, AreVerdicts, IsRunnable, IsVerdict, EndsAsStated, RefusesTest, RefusesTests, no_literals, replay_status}
+use Rattle.kiasan.specs.Refusals.{class_refusal, code_refusal, link_refusal, word_refusal}
+use Rattle.kiasan.specs.Tests.{AreRunnable, AreVerdicts, IsRunnable, IsVerdict, RefusesTest, RefusesTests, no_literals, replay_status}
 use Rattle.kiasan.specs.Unbuilt.{IsBuiltFor, IsBuiltMethod}
-use Rattle.kiasan.proofs.ClassLaws.{are_given, linked_world, no_faults}
+use Rattle.kiasan.proofs.ClassLaws.{no_faults}
+use Rattle.kiasan.proofs.Moving.{AreLike, turned, all_runnable_moved, job_moved, target_moved, tests_moved, verdicts_moved}
 use Rattle.kiasan.proofs.OneListing.{listings_one}
-use Rattle.kiasan.proofs.StageLaws.{AreOne, HasOne, stage_one}
+use Rattle.kiasan.proofs.StageLaws.{Agree, HasOne, stage_one, stages_agree}
 use Rattle.kiasan.specs.Verdicts.{replay_text}
 use Rattle.kiasan.proofs.WordsLaws.{orders_one, one_order, fault_or_order}
 
@@ -192,48 +195,84 @@ one_classes (c ∷ classes) (x ∷ xs) (y ∷ ys) a b =
     let rest : xs ≡ ys = one_classes classes xs ys a.1 b.1 in
     rw (first, rest) refl
 
-worlds_one : (given a b : List GivenClass) → IsWorldOf given a → IsWorldOf given b → a ≡ b
-worlds_one given a b p q = p.classes_are ∙ sym q.classes_are
+-- ---- their world
+
+not_memory : (found : LinkRefusal) (refusal : Refusal) → link_refusal found ≡ Refused refusal → found ≡ links.NoMemory → ⊥
+not_memory found refusal told is =
+    let wrong : stops.NoMemory ≡ refused_by refusal = ap link_refusal (sym is) ∙ told in
+    cc
+
+world_refusal : (given : List GivenClass) (r s : Refusal) → WorldRefuses given r → WorldRefuses given s → r ≡ s
+world_refusal given r s (f, p, e) (g, q, h) =
+    let faults : f ≡ g = one_refusal given f g p q (not_memory f r e) (not_memory g s h) in
+    let stops : refused_by r ≡ refused_by s = sym e ∙ ap link_refusal faults ∙ h in
+    cc
+
+world_apart : (given : List GivenClass) (r : Refusal) (world : World) → WorldRefuses given r → Links given world → ⊥
+world_apart given r world (found, why, e) linked = refused_or_linked given world found why (not_memory found r e) linked
+
+worlds_like : (given : List GivenClass) (a b : World) → Links given a → Links given b → AreLike a b
+worlds_like given a b p q = record { classes = worlds_classes given a b p q; chains = worlds_chains given a b p q }
 
 -- ---- targets
 
 -- what is said of a target that reach refuses
-reach_none : (world : List GivenClass) (target : Target) (refusal : Refusal) → ReachRefuses world target refusal →
+reach_none : (world : World) (target : Target) (refusal : Refusal) → ReachRefuses world target refusal →
     (refusal ≡ refusals.NoMethod target) × ((id : MethodId) → IsTargetOf world target id → ⊥)
 reach_none world target refusal (links.NoMethod of, (is, none), e) =
     let same : refusals.NoMethod of ≡ refusal = cc in
     (sym same ∙ ap refusals.NoMethod is, none)
-reach_none world target refusal (links.Unbuilt, is, e) = absurd is
 reach_none world target refusal (links.NoMemory, is, e) = absurd cc
+reach_none world target refusal (links.TooMany, is, e) = absurd is
+reach_none world target refusal (links.BadName file entry, is, e) = absurd is
+reach_none world target refusal (links.BadDescriptor file entry, is, e) = absurd is
+reach_none world target refusal (links.TwoMembers file entry, is, e) = absurd is
+reach_none world target refusal (links.Twice name, is, e) = absurd is
+reach_none world target refusal (links.Missing name, is, e) = absurd is
+reach_none world target refusal (links.Circle name, is, e) = absurd is
+reach_none world target refusal (links.BadSuper name, is, e) = absurd is
+reach_none world target refusal (links.SplitPackage name method, is, e) = absurd is
 
-target_refusal : (Built : MethodId → Type 0) (world : List GivenClass) (target : Target) (r s : Refusal) → TargetRefuses Built world target r → TargetRefuses Built world target s → r ≡ s
+target_refusal : (Built : MethodId → Type 0) (world : World) (target : Target) (r s : Refusal) → TargetRefuses Built world target r → TargetRefuses Built world target s → r ≡ s
 target_refusal Built world target r s (inl a) (inl b) = (reach_none world target r a).0 ∙ sym (reach_none world target s b).0
 target_refusal Built world target r s (inr a) (inr b) = a.0 ∙ sym b.0
 target_refusal Built world target r s (inl a) (inr b) = absurd ((reach_none world target r a).1 b.1.id b.1.found)
 target_refusal Built world target r s (inr a) (inl b) = absurd ((reach_none world target s b).1 a.1.id a.1.found)
 
-ids_one : (world : List GivenClass) (target : Target) → AreLinked world → (a b : MethodId) → IsTargetOf world target a → IsTargetOf world target b → a ≡ b
-ids_one world target given a b p q = one_id world a b target given p.declared q.declared
+ids_one : (world : World) (target : Target) → IsLinked world → (a b : MethodId) → IsTargetOf world target a → IsTargetOf world target b → a ≡ b
+ids_one world target given a b p q = one_declared world given.names given.methods target a b p.declared q.declared
 
-target_apart : (Built : MethodId → Type 0) (world : List GivenClass) (target : Target) → AreLinked world → ((id : MethodId) → Built id → IsTargetOf world target id) →
+target_apart : (Built : MethodId → Type 0) (world : World) (target : Target) → IsLinked world → ((id : MethodId) → Built id → IsTargetOf world target id) →
     (r : Refusal) (id : MethodId) → TargetRefuses Built world target r → Built id → ⊥
 target_apart Built world target given found r id (inl a) built = (reach_none world target r a).1 id (found id built)
 target_apart Built world target given found r id (inr a) built =
     a.1.none (subst Built (ids_one world target given id a.1.id (found id built) a.1.found) built)
 
-job_one : (Same : Status → List ℕ → Status → List ℕ → Type 0) (IsTextOf : Method → Report → List ℕ → Type 0) (world : List GivenClass) (job : Job) → AreLinked world →
-    ((a b : Status) (t u : List ℕ) → Same a t b u) → HasOne Same (RepliesJob IsTextOf world job)
+module _ (a b : World) (like : AreLike a b) (job : Job) where
+  -- a target that both worlds refuse is refused by one refusal
+  job_refusal : (r s : Refusal) → TargetRefuses (IsBuiltFor a job) a job.target r → TargetRefuses (IsBuiltFor b job) b job.target s → r ≡ s
+  job_refusal r s (inl p) (inl q) = (reach_none a job.target r p).0 ∙ sym (reach_none b job.target s q).0
+  job_refusal r s (inr p) (inr q) = p.0 ∙ sym q.0
+  job_refusal r s (inl p) (inr q) = absurd ((reach_none a job.target r p).1 q.1.id (target_moved b a (turned a b like) job.target q.1.id q.1.found))
+  job_refusal r s (inr p) (inl q) = absurd ((reach_none b job.target s q).1 p.1.id (target_moved a b like job.target p.1.id p.1.found))
+
+  job_apart : IsLinked a → (r : Refusal) (id : MethodId) → TargetRefuses (IsBuiltFor a job) a job.target r → IsTargetOf b job.target id × IsBuiltFor b job id → ⊥
+  job_apart given r id refused reached =
+      target_apart (IsBuiltFor a job) a job.target given (λ i built. built.1.straight.found) r id refused (job_moved b a (turned a b like) job id reached.1)
+
+jobs_agree : (Same : Status → List ℕ → Status → List ℕ → Type 0) (IsTextOf : Method → Report → List ℕ → Type 0) (a b : World) (job : Job) → AreLike a b → IsLinked a → IsLinked b →
+    ((s u : Status) (t v : List ℕ) → Same s t u v) → Agree Same (RepliesJob IsTextOf a job) (RepliesJob IsTextOf b job)
 unfolding RepliesJob
-job_one Same IsTextOf world job given any =
-    stage_one Same (TargetRefuses (IsBuiltFor world job) world job.target) (λ id. IsTargetOf world job.target id × IsBuiltFor world job id) (λ id. Last (EndsJob IsTextOf world job))
-    (target_refusal (IsBuiltFor world job) world job.target)
-    (λ r id refused reached. target_apart (IsBuiltFor world job) world job.target given (λ id built. built.1.straight.found) r id refused reached.1)
-    (λ a b p q. ids_one world job.target given a b p.0 q.0) (λ id built. last)
+jobs_agree Same IsTextOf a b job like given also any =
+    stages_agree Same (TargetRefuses (IsBuiltFor a job) a job.target) (TargetRefuses (IsBuiltFor b job) b job.target)
+    (λ id. IsTargetOf a job.target id × IsBuiltFor a job id) (λ id. IsTargetOf b job.target id × IsBuiltFor b job id)
+    (λ id. Last (EndsJob IsTextOf a job)) (λ id. Last (EndsJob IsTextOf b job))
+    (job_refusal a b like job) (job_apart a b like job given) (job_apart b a (turned a b like) job also) (λ x y p q. last)
   where
-    last : HasOne Same (Last (EndsJob IsTextOf world job))
-    last (refuses r) other a b = absurd a
-    last (ends s t) (refuses r) a b = absurd b
-    last (ends s t) (ends u v) a b = any s u t v
+    last : Agree Same (Last (EndsJob IsTextOf a job)) (Last (EndsJob IsTextOf b job))
+    last (refuses r) other p q = absurd p
+    last (ends s t) (refuses r) p q = absurd q
+    last (ends s t) (ends u v) p q = any s u t v
 
 -- ---- texts
 
@@ -291,29 +330,29 @@ text_apart bytes r tests (inr a) are = a.3.no_text (tests, are.1)
 
 -- ---- tests
 
-abbrev IsFine : List GivenClass → Test → Type 0
+abbrev IsFine : World → Test → Type 0
 IsFine world test = (id : MethodId) × (method : Method) × IsRunnable world test id method
 
-abbrev IsBadTest : List GivenClass → Test → Type 0
+abbrev IsBadTest : World → Test → Type 0
 IsBadTest world test = (number : ℕ) × (refusal : Refusal) × RefusesTest world number test refusal
 
-built_found : (world : List GivenClass) (target : Target) (id : MethodId) → IsBuiltMethod world target id → IsTargetOf world target id
+built_found : (world : World) (target : Target) (id : MethodId) → IsBuiltMethod world target id → IsTargetOf world target id
 built_found world target id built = built.1.found
 
-test_apart : (world : List GivenClass) → AreLinked world → (test : Test) → IsFine world test → IsBadTest world test → ⊥
+test_apart : (world : World) → IsLinked world → (test : Test) → IsFine world test → IsBadTest world test → ⊥
 test_apart world given test (id, method, run) (number, refusal, inl bad) = bad.1 id run.straight.found
 test_apart world given test (id, method, run) (number, refusal, inr (inl bad)) =
     bad.3 (subst (λ (i : MethodId). IsTypeCorrect world i test.input) (ids_one world test.target given id bad.1 run.straight.found bad.2) run.correct)
 test_apart world given test (id, method, run) (number, refusal, inr (inr bad)) =
     target_apart (IsBuiltMethod world test.target) world test.target given (built_found world test.target) refusal id bad.2 (method, run.straight)
 
-each_fine : (world : List GivenClass) (tests : List Test) (ids : List MethodId) → AreRunnable world tests ids → AllByRecursion (IsFine world) tests
+each_fine : (world : World) (tests : List Test) (ids : List MethodId) → AreRunnable world tests ids → AllByRecursion (IsFine world) tests
 each_fine world [] [] are = tt
 each_fine world (t ∷ tests) (i ∷ ids) are = ((i, are.0.0, are.0.1), each_fine world tests ids are.1)
 each_fine world [] (i ∷ ids) are = absurd are
 each_fine world (t ∷ tests) [] are = absurd are
 
-one_test_refusal : (world : List GivenClass) → AreLinked world → (number : ℕ) (test : Test) (r s : Refusal) → RefusesTest world number test r → RefusesTest world number test s → r ≡ s
+one_test_refusal : (world : World) → IsLinked world → (number : ℕ) (test : Test) (r s : Refusal) → RefusesTest world number test r → RefusesTest world number test s → r ≡ s
 one_test_refusal world given number test r s (inl a) (inl b) = a.0 ∙ sym b.0
 one_test_refusal world given number test r s (inl a) (inr (inl b)) = absurd (a.1 b.1 b.2)
 one_test_refusal world given number test r s (inl a) (inr (inr b)) = absurd (a.1 b.0 b.1.found)
@@ -326,19 +365,19 @@ one_test_refusal world given number test r s (inr (inr a)) (inr (inl b)) =
     absurd (b.3 (subst (λ (i : MethodId). IsTypeCorrect world i test.input) (ids_one world test.target given a.0 b.1 a.1.found b.2) a.1.correct))
 one_test_refusal world given number test r s (inr (inr a)) (inr (inr b)) = target_refusal (IsBuiltMethod world test.target) world test.target r s a.2 b.2
 
-tests_refusal_one : (world : List GivenClass) → AreLinked world → (tests : List Test) (r s : Refusal) → RefusesTests world tests r → RefusesTests world tests s → r ≡ s
+tests_refusal_one : (world : World) → IsLinked world → (tests : List Test) (r s : Refusal) → RefusesTests world tests r → RefusesTests world tests s → r ≡ s
 tests_refusal_one world given tests r s a b =
     let same = same_first (IsFine world) (IsBadTest world) (test_apart world given) a.before b.before a.test b.test a.after b.after (each_fine world a.before a.ids a.good)
     (each_fine world b.before b.ids b.good) (length a.before, r, a.bad) (length b.before, s, b.bad) (sym a.tests_are ∙ b.tests_are) in
     one_test_refusal world given (length b.before) b.test r s
     (subst (λ (t : Test). RefusesTest world (length b.before) t r) same.1 (subst (λ (n : ℕ). RefusesTest world n a.test r) same.0 a.bad)) b.bad
 
-tests_apart : (world : List GivenClass) → AreLinked world → (tests : List Test) (r : Refusal) (ids : List MethodId) → RefusesTests world tests r → AreRunnable world tests ids → ⊥
+tests_apart : (world : World) → IsLinked world → (tests : List Test) (r : Refusal) (ids : List MethodId) → RefusesTests world tests r → AreRunnable world tests ids → ⊥
 tests_apart world given tests r ids a are =
     test_apart world given a.test (all_at (IsFine world) a.before a.test a.after (subst (AllByRecursion (IsFine world)) a.tests_are (each_fine world tests ids are)))
     (length a.before, r, a.bad)
 
-one_ids : (world : List GivenClass) → AreLinked world → (tests : List Test) (xs ys : List MethodId) → AreRunnable world tests xs → AreRunnable world tests ys → xs ≡ ys
+one_ids : (world : World) → IsLinked world → (tests : List Test) (xs ys : List MethodId) → AreRunnable world tests xs → AreRunnable world tests ys → xs ≡ ys
 one_ids world given [] [] [] a b = refl
 one_ids world given [] (x ∷ xs) ys a b = absurd a
 one_ids world given [] [] (y ∷ ys) a b = absurd b
@@ -351,23 +390,15 @@ one_ids world given (t ∷ tests) (x ∷ xs) (y ∷ ys) a b =
 
 -- ---- runs
 
-same_value : {A : Type 0} (o : Option A) (x y : A) → o ≡ Some x → o ≡ Some y → x ≡ y
-same_value o x y a b = cc
-
 same_machine : (m n : Method) → m.target ≡ n.target → m.max_stack ≡ n.max_stack → m.max_locals ≡ n.max_locals → m.listing ≡ n.listing → m.size ≡ n.size → m ≡ n
 same_machine m n t s l i z = λ k. record { target = t k; max_stack = s k; max_locals = l k; listing = i k; size = z k }
 
-one_machine : (world : List GivenClass) (id : MethodId) (m n : Method) → m.target ≡ n.target → IsMethod world id m → IsMethod world id n → m ≡ n
+one_machine : (world : World) (id : MethodId) (m n : Method) → m.target ≡ n.target → IsMethod world id m → IsMethod world id n → m ≡ n
 one_machine world id m n targets a b =
-    let class = same_class world id m.target n.target a.declared b.declared in
-    let method = same_method world id m.target n.target a.declared b.declared in
-    let code : a.code ≡ b.code = same_value a.declared.names.method.code a.code b.code a.has_code (ap (λ (x : ClassMethod). x.code) method ∙ b.has_code) in
-    let listed : slice_get a.declared.class.listings id.number ≡ Some (Some b.listing) = ap (λ (c : GivenClass). slice_get c.listings id.number) class ∙ b.has_listing in
-    let listing : Some a.listing ≡ Some b.listing = same_value (slice_get a.declared.class.listings id.number) (Some a.listing) (Some b.listing) a.has_listing listed in
-    let same : a.listing ≡ b.listing = cc in
+    let code : b.code ≡ a.code = code_is world id a.declared.method a.code n a.declared.method_is a.has_code b in
     same_machine m n targets
-    (a.max_stack ∙ ap (λ (c : Code). c.max_stack) code ∙ sym b.max_stack) (a.max_locals ∙ ap (λ (c : Code). c.max_locals) code ∙ sym b.max_locals)
-    (a.items ∙ ap (λ (l : Listing). l.items) same ∙ sym b.items) (a.size ∙ ap (λ (c : Code). length c.bytes) code ∙ sym b.size)
+    (a.max_stack ∙ ap (λ (c : MethodCode). c.max_stack) (sym code) ∙ sym b.max_stack) (a.max_locals ∙ ap (λ (c : MethodCode). c.max_locals) (sym code) ∙ sym b.max_locals)
+    (a.items ∙ ap (λ (c : MethodCode). c.listing.items) (sym code) ∙ sym b.items) (a.size ∙ ap (λ (c : MethodCode). c.size) (sym code) ∙ sym b.size)
 
 one_verdict : (method : Method) (test : Test) (x y : Replayed) → IsVerdict method test x → IsVerdict method test y → x ≡ y
 one_verdict method test Passes Passes a b = refl
@@ -379,7 +410,7 @@ one_verdict method test (Differs ending heap) (Differs other last) a b =
     let heaps : heap ≡ last = ap (λ (e : Ended). e.heap) same in
     rw (endings, heaps) refl
 
-one_verdicts : (world : List GivenClass) → AreLinked world → (tests : List Test) (xs ys : List Replayed) → AreVerdicts world tests xs → AreVerdicts world tests ys → xs ≡ ys
+one_verdicts : (world : World) → IsLinked world → (tests : List Test) (xs ys : List Replayed) → AreVerdicts world tests xs → AreVerdicts world tests ys → xs ≡ ys
 one_verdicts world given [] [] [] a b = refl
 one_verdicts world given [] (x ∷ xs) ys a b = absurd a
 one_verdicts world given [] [] (y ∷ ys) a b = absurd b
@@ -395,7 +426,7 @@ one_verdicts world given (t ∷ tests) (x ∷ xs) (y ∷ ys) a b =
     let rest : xs ≡ ys = one_verdicts world given tests xs ys a.1 b.1 in
     rw (first, rest) refl
 
-replay_one : (Same : Status → List ℕ → Status → List ℕ → Type 0) (bytes : List ℕ) (world : List GivenClass) → AreLinked world →
+replay_one : (Same : Status → List ℕ → Status → List ℕ → Type 0) (bytes : List ℕ) (world : World) → IsLinked world →
     ((a b : Status) (t u : List ℕ) → a ≡ b → t ≡ u → Same a t b u) → HasOne Same (RepliesReplay bytes world)
 unfolding RepliesReplay
 replay_one Same bytes world given same =
@@ -408,6 +439,27 @@ replay_one Same bytes world given same =
     last tests (ends s t) (ends u v) a b =
         let verdicts : a.verdicts ≡ b.verdicts = one_verdicts world given tests a.verdicts b.verdicts a.verdicts_are b.verdicts_are in
         same s u t v (a.status_is ∙ ap (λ vs. replay_status vs) verdicts ∙ sym b.status_is) (a.text_is ∙ ap (λ vs. replay_text tests vs) verdicts ∙ sym b.text_is)
+
+-- a reply in one world is one in a world like it
+replay_moved : (a b : World) → AreLike a b → (bytes : List ℕ) (reply : Reply) → RepliesReplay bytes a reply → RepliesReplay bytes b reply
+unfolding RepliesReplay
+replay_moved a b like bytes (refuses r) (inl refused) = inl refused
+replay_moved a b like bytes (refuses r) (inr (tests, are, inl refused)) = inr (tests, are, inl (tests_moved a b like tests r refused))
+replay_moved a b like bytes (refuses r) (inr (tests, are, inr (ids, fit, wrong))) = absurd wrong
+replay_moved a b like bytes (ends s t) (tests, are, (ids, fit, end)) = (
+  tests,
+  are,
+  (
+    ids,
+    all_runnable_moved a b like tests ids fit,
+    record {
+      verdicts = end.verdicts;
+      verdicts_are = verdicts_moved a b like tests end.verdicts end.verdicts_are;
+      status_is = end.status_is;
+      text_is = end.text_is;
+    },
+  ),
+)
 
 -- ---- words
 
@@ -423,26 +475,28 @@ not_both words order ordered other (tests, files, replay) =
     result_of : Order → Result Order WordFault
     result_of o = Ok o
 
-order_one : (words : List (List ℕ)) (order : Order) → Orders words (Ok order) → (texts : List (List ℕ)) (world : List GivenClass) → AreLinked world → HasOne (SameEnd words) (RepliesIn order texts world)
-order_one words (Explore job) ordered texts world given =
-    job_one (SameEnd words) _ world job given (λ a b t u replay. absurd (not_both words (Explore job) ordered (λ tests files e. cc) replay))
-order_one words (Tests job) ordered texts world given =
-    job_one (SameEnd words) _ world job given (λ a b t u replay. absurd (not_both words (Tests job) ordered (λ tests files e. cc) replay))
-order_one words (Replay name files) ordered (bytes ∷ []) world given = replay_one (SameEnd words) bytes world given (λ a b t u e f replay. (e, f))
-order_one words (Replay name files) ordered [] world given = λ one other a b. absurd a
-order_one words (Replay name files) ordered (bytes ∷ more ∷ texts) world given = λ one other a b. absurd a
-order_one words (Diagrams job) ordered texts world given = λ one other a b. absurd a
-order_one words (Assemble name) ordered texts world given = λ one other a b. absurd a
-order_one words (Sample blocks) ordered texts world given = λ one other a b. absurd a
+orders_agree : (words : List (List ℕ)) (order : Order) → Orders words (Ok order) → (texts : List (List ℕ)) (a b : World) → AreLike a b → IsLinked a → IsLinked b →
+    Agree (SameEnd words) (RepliesIn order texts a) (RepliesIn order texts b)
+orders_agree words (Explore job) ordered texts a b like given also =
+    jobs_agree (SameEnd words) _ a b job like given also (λ s u t v replay. absurd (not_both words (Explore job) ordered (λ tests files e. cc) replay))
+orders_agree words (Tests job) ordered texts a b like given also =
+    jobs_agree (SameEnd words) _ a b job like given also (λ s u t v replay. absurd (not_both words (Tests job) ordered (λ tests files e. cc) replay))
+orders_agree words (Replay name files) ordered (bytes ∷ []) a b like given also = λ one other p q.
+    replay_one (SameEnd words) bytes a given (λ s u t v e f replay. (e, f)) one other p (replay_moved b a (turned a b like) bytes other q)
+orders_agree words (Replay name files) ordered [] a b like given also = λ one other p q. absurd p
+orders_agree words (Replay name files) ordered (bytes ∷ more ∷ texts) a b like given also = λ one other p q. absurd p
+orders_agree words (Diagrams job) ordered texts a b like given also = λ one other p q. absurd p
+orders_agree words (Assemble name) ordered texts a b like given also = λ one other p q. absurd p
+orders_agree words (Sample blocks) ordered texts a b like given also = λ one other p q. absurd p
 
 contents_one : (words : List (List ℕ)) (order : Order) → Orders words (Ok order) → (contents : Contents) → HasOne (SameEnd words) (RepliesOn order contents)
 unfolding RepliesOn
 contents_one words order ordered contents =
     stage_one (SameEnd words) (RefusesClasses contents.classes) (AreClasses contents.classes) _ (classes_refusal contents.classes) (classes_apart contents.classes)
     (one_classes contents.classes) (λ given are.
-    stage_one (SameEnd words) (WorldRefuses given) (IsWorldOf given) (λ world. RepliesIn order contents.texts world) (λ r s one other. one.0 ∙ sym other.0)
-    (λ r world refused is. refused.1 is.linkable) (worlds_one given) (λ world is.
-    order_one words order ordered contents.texts world (linked_world given world (are_given contents.classes given are) is)))
+    stages_agree (SameEnd words) (WorldRefuses given) (WorldRefuses given) (Links given) (Links given) (λ world. RepliesIn order contents.texts world)
+    (λ world. RepliesIn order contents.texts world) (world_refusal given) (world_apart given) (world_apart given) (λ a b p q.
+    orders_agree words order ordered contents.texts a b (worlds_like given a b p q) p.linked q.linked))
 
 to_one : (words : List (List ℕ)) (holds : List ℕ → Option (List ℕ)) (order : Order) → Orders words (Ok order) → AreTold words holds → HasOne (SameEnd words) (RepliesTo order holds)
 unfolding RepliesTo

@@ -1,11 +1,10 @@
 -- How the files of an order are read one after another.
-use Rattle.std.proofs.Common.{◌≡◌, ◌⊎◌, ◌↔◌, ℕ, zero, suc, ◌+◌, ◌<◌, ◌≤◌, List, [], ◌∷◌, ◌++◌, length, take, get_or, Option, Result, Ok, Err, refl, sym, ◌∙◌, ap, subst, arith, inl, inr, min}
+use Rattle.std.proofs.Common.{◌≡◌, ◌↔◌, ℕ, zero, suc, ◌+◌, ◌<◌, ◌≤◌, List, [], ◌∷◌, ◌++◌, length, take, get_or, Option, Err, refl, sym, ◌∙◌, ap, subst, arith, inl, inr}
 use Rattle.std.proofs.Math.Seq.{take-suc}
 use Rattle.kb_outside.specs.Outside.{Rose}
 use Rattle.kiasan.specs.declared.refusals.Stop.{Stop}
 use Rattle.kiasan.specs.declared.refusals.Stop.TheVariants.{Refused, ReadFault, NoMemory}
 use Rattle.kiasan.specs.Answers.{AreRead, HasUnsound, IsContents, IsOf, IsReadFault, IsReadFaultOrNoMemory, RefusesNothing}
-use Rattle.kiasan.specs.Refusals.{Gives}
 use Rattle.kiasan.proofs.StageLaws.{gives_by}
 
 rose_later : (before mid now : ℕ) → before ≤ mid → Rose mid now → Rose before now

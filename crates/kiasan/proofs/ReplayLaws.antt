@@ -1,5 +1,5 @@
 -- How tests are run one after another.
-use Rattle.std.proofs.Common.{◌≡◌, ◌⊎◌, ◌↔◌, ℕ, ◌+◌, ◌<◌, ◌≤◌, List, [], ◌∷◌, ◌++◌, length, take, drop, get_or, Result, Ok, Err, refl, sym, ◌∙◌, ap, subst, arith, inl, inr, true, false, length-append, drop-cons, zero, suc}
+use Rattle.std.proofs.Common.{◌≡◌, ℕ, ◌+◌, ◌<◌, ◌≤◌, List, [], ◌∷◌, ◌++◌, length, take, drop, get_or, Err, refl, sym, ◌∙◌, ap, subst, arith, inl, inr, true, false, length-append, drop-cons, zero, suc}
 use Rattle.std.specs.Prelude.{slice_index_or}
 use Rattle.std.proofs.lemmas.List.{take_all, take-append-drop}
 use Rattle.std.proofs.Math.Seq.{take-suc}
@@ -7,15 +7,14 @@ use Rattle.kb_names.specs.declared.types.Target.{Target}
 use Rattle.kb_semantics.specs.Machine.{Method}
 use Rattle.kb_semantics.specs.Types.{IsTypeCorrect}
 use Rattle.kb_test.specs.declared.test_case.Test.{Test}
-use Rattle.kb_world.specs.declared.world.GivenClass.{GivenClass}
-use Rattle.kb_world.specs.declared.world.MethodId.{MethodId}
-use Rattle.kb_world.specs.World.{IsTargetOf}
-use Rattle.kb_world.proofs.Declared.{same_target}
+use Rattle.kb_world.specs.World.{World}
+use Rattle.kb_class.specs.declared.ids.MethodId.{MethodId}
+use Rattle.kb_world.specs.Targets.{IsTargetOf}
+use Rattle.kb_semantics.proofs.Methods.{same_target}
 use Rattle.kiasan.specs.declared.refusals.Refusal.{Refusal}
 use Rattle.kiasan.specs.declared.refusals.Stop.{Stop}
 use Rattle.kiasan.specs.declared.replay.Replayed.{Replayed}
 use Rattle.kiasan.specs.declared.replay.Replayed.TheVariants.{Passes, Differs as DiffersFrom}
-use Rattle.kiasan.specs.Reach.{TargetRefuses}
 use Rattle.kiasan.specs.Refusals.{Gives}
 use Rattle.kiasan.specs.Tests.{AreBuilt, AreRunnable, AreVerdicts, IsAmong, IsRunnable, IsVerdict, RefusesTest, RefusesTests, passes, count_passes, count_differs}
 use Rattle.kiasan.specs.Unbuilt.{IsBuiltMethod}
@@ -23,26 +22,26 @@ use Rattle.kiasan.proofs.StageLaws.{gives_by}
 
 -- ---- the tests are found fit
 
-pub runnable_more : (world : List GivenClass) (tests : List Test) (ids : List MethodId) (test : Test) (id : MethodId) → AreRunnable world tests ids →
+pub runnable_more : (world : World) (tests : List Test) (ids : List MethodId) (test : Test) (id : MethodId) → AreRunnable world tests ids →
     (method : Method) × IsRunnable world test id method → AreRunnable world (tests ++ test ∷ []) (ids ++ id ∷ [])
 runnable_more world [] [] test id are is = (is, tt)
 runnable_more world (x ∷ tests) (i ∷ ids) test id are is = (are.0, runnable_more world tests ids test id are.1 is)
 runnable_more world [] (i ∷ ids) test id are is = absurd are
 runnable_more world (x ∷ tests) [] test id are is = absurd are
 
-as_many : (world : List GivenClass) (tests : List Test) (ids : List MethodId) → AreRunnable world tests ids → length tests ≡ length ids
+as_many : (world : World) (tests : List Test) (ids : List MethodId) → AreRunnable world tests ids → length tests ≡ length ids
 as_many world [] [] are = refl
 as_many world (x ∷ tests) (i ∷ ids) are = ap suc (as_many world tests ids are.1)
 as_many world [] (i ∷ ids) are = absurd are
 as_many world (x ∷ tests) [] are = absurd are
 
-pub runnable_next : (world : List GivenClass) (tests : List Test) (ids : List MethodId) (i : ℕ) (test : Test) (id : MethodId) → i < length tests → test ≡ get_or tests i test →
+pub runnable_next : (world : World) (tests : List Test) (ids : List MethodId) (i : ℕ) (test : Test) (id : MethodId) → i < length tests → test ≡ get_or tests i test →
     AreRunnable world (take i tests) ids → (method : Method) × IsRunnable world test id method → AreRunnable world (take (i + 1) tests) (ids ++ id ∷ [])
 runnable_next world tests ids i test id inside at are is =
     let next : i + 1 ≡ suc i = omega arith in
     rw (next, take-suc tests i test inside, ← at) (runnable_more world (take i tests) ids test id are is)
 
-pub first_fault : (world : List GivenClass) (tests : List Test) (ids : List MethodId) (i : ℕ) (test : Test) (number : ℕ) (stop : Stop) → i < length tests → test ≡ get_or tests i test →
+pub first_fault : (world : World) (tests : List Test) (ids : List MethodId) (i : ℕ) (test : Test) (number : ℕ) (stop : Stop) → i < length tests → test ≡ get_or tests i test →
     AreRunnable world (take i tests) ids → number ≡ length ids → Gives {A = MethodId} ⊥ (RefusesTest world number test) (λ id. (method : Method) × IsRunnable world test id method) (Err stop) →
     {A : Type 0} (Fine : A → Type 0) → Gives {A = A} ⊥ (RefusesTests world tests) Fine (Err stop)
 first_fault world tests ids i test number stop inside at are n given Fine =
@@ -65,7 +64,7 @@ first_fault world tests ids i test number stop inside at are n given Fine =
         }
 
 -- a method that is built for some target is so for the target of the test
-pub built_among : (world : List GivenClass) (ids : List MethodId) (id : MethodId) (test : Test) → AreBuilt world ids → IsAmong id ids → IsTargetOf world test.target id →
+pub built_among : (world : World) (ids : List MethodId) (id : MethodId) (test : Test) → AreBuilt world ids → IsAmong id ids → IsTargetOf world test.target id →
     IsTypeCorrect world id test.input → (method : Method) × IsRunnable world test id method
 built_among world [] id test are among found correct = absurd among
 built_among world (other ∷ others) id test are (inl same) found correct =
@@ -76,7 +75,7 @@ built_among world (other ∷ others) id test are (inl same) found correct =
     (known.0, record { straight = known.1; correct = correct })
 built_among world (other ∷ others) id test are (inr among) found correct = built_among world others id test are.1 among found correct
 
-pub built_more : (world : List GivenClass) (ids now : List MethodId) (id : MethodId) (target : Target) → AreBuilt world ids → IsBuiltMethod world target id → now ≡ ids ++ id ∷ [] → AreBuilt world now
+pub built_more : (world : World) (ids now : List MethodId) (id : MethodId) (target : Target) → AreBuilt world ids → IsBuiltMethod world target id → now ≡ ids ++ id ∷ [] → AreBuilt world now
 built_more world ids now id target are built e = subst (AreBuilt world) (sym e) (go ids are)
   where
     go : (ids : List MethodId) → AreBuilt world ids → AreBuilt world (ids ++ id ∷ [])
@@ -86,21 +85,21 @@ built_more world ids now id target are built e = subst (AreBuilt world) (sym e) 
 -- ---- the tests are run
 
 -- the test of an index is run by the method of that index
-runnable_at : (world : List GivenClass) (tests : List Test) (ids : List MethodId) (i : ℕ) (test : Test) (d : MethodId) → AreRunnable world tests ids → i < length tests →
+runnable_at : (world : World) (tests : List Test) (ids : List MethodId) (i : ℕ) (test : Test) (d : MethodId) → AreRunnable world tests ids → i < length tests →
     test ≡ get_or tests i test → (method : Method) × IsRunnable world test (slice_index_or ids i d) method
 runnable_at world [] ids i test d are inside at = absurd (omega (arith, inside))
 runnable_at world (x ∷ tests) [] i test d are inside at = absurd are
 runnable_at world (x ∷ tests) (y ∷ ids) zero test d are inside at = subst (λ t. (method : Method) × IsRunnable world t y method) (sym at) are.0
 runnable_at world (x ∷ tests) (y ∷ ids) (suc i) test d are inside at = runnable_at world tests ids i test d are.1 (omega arith) at
 
-pub runnable_named : (world : List GivenClass) (tests : List Test) (ids : List MethodId) (i n : ℕ) (test : Test) (d : MethodId) → AreRunnable world tests ids → i < length tests →
+pub runnable_named : (world : World) (tests : List Test) (ids : List MethodId) (i n : ℕ) (test : Test) (d : MethodId) → AreRunnable world tests ids → i < length tests →
     test ≡ get_or tests i test → n ≡ i → (method : Method) × IsRunnable world test (slice_index_or ids n d) method
 runnable_named world tests ids i n test d are inside at e = rw e (runnable_at world tests ids i test d are inside at)
 
-pub method_there : (world : List GivenClass) (tests : List Test) (ids : List MethodId) (i : ℕ) → AreRunnable world tests ids → i < length tests → i < length ids
+pub method_there : (world : World) (tests : List Test) (ids : List MethodId) (i : ℕ) → AreRunnable world tests ids → i < length tests → i < length ids
 method_there world tests ids i are inside = omega (arith, as_many world tests ids are)
 
-verdicts_more : (world : List GivenClass) (tests : List Test) (verdicts : List Replayed) (test : Test) (verdict : Replayed) → AreVerdicts world tests verdicts →
+verdicts_more : (world : World) (tests : List Test) (verdicts : List Replayed) (test : Test) (verdict : Replayed) → AreVerdicts world tests verdicts →
     (id : MethodId) × (method : Method) × IsRunnable world test id method × IsVerdict method test verdict → AreVerdicts world (tests ++ test ∷ []) (verdicts ++ verdict ∷ [])
 verdicts_more world [] [] test verdict are is = (is, tt)
 verdicts_more world (x ∷ tests) (v ∷ verdicts) test verdict are is = (are.0, verdicts_more world tests verdicts test verdict are.1 is)
@@ -108,11 +107,11 @@ verdicts_more world [] (v ∷ verdicts) test verdict are is = absurd are
 verdicts_more world (x ∷ tests) [] test verdict are is = absurd are
 
 -- the tests up to an index were run
-pub record AreRun (world : List GivenClass) (tests : List Test) (i : ℕ) (verdicts : List Replayed) : Type 0 where
+pub record AreRun (world : World) (tests : List Test) (i : ℕ) (verdicts : List Replayed) : Type 0 where
   pub count : length verdicts ≡ i
   pub verdicts_are : AreVerdicts world (take i tests) verdicts
 
-pub one_run : (world : List GivenClass) (tests : List Test) (ids : List MethodId) (i : ℕ) (test : Test) (id : MethodId) (verdicts now : List Replayed) (verdict : Replayed) →
+pub one_run : (world : World) (tests : List Test) (ids : List MethodId) (i : ℕ) (test : Test) (id : MethodId) (verdicts now : List Replayed) (verdict : Replayed) →
     AreRun world tests i verdicts → i < length tests → test ≡ get_or tests i test → (method : Method) × IsRunnable world test id method →
     ((method : Method) → IsRunnable world test id method → IsVerdict method test verdict) → now ≡ verdicts ++ verdict ∷ [] → AreRun world tests (i + 1) now
 one_run world tests ids i test id verdicts now verdict run inside at runs is e =
@@ -125,7 +124,7 @@ one_run world tests ids i test id verdicts now verdict run inside at runs is e =
       verdicts_are = subst (λ vs. AreVerdicts world (take (i + 1) tests) vs) (sym e) more;
     }
 
-pub all_run : (world : List GivenClass) (tests : List Test) (i : ℕ) (verdicts : List Replayed) → AreRun world tests i verdicts → length tests ≤ i → AreVerdicts world tests verdicts
+pub all_run : (world : World) (tests : List Test) (i : ℕ) (verdicts : List Replayed) → AreRun world tests i verdicts → length tests ≤ i → AreVerdicts world tests verdicts
 all_run world tests i verdicts run end = subst (λ ts. AreVerdicts world ts verdicts) (take_all i tests end) run.verdicts_are
 
 -- ---- counting

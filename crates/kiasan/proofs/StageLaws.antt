@@ -1,11 +1,11 @@
 -- Stages: how their parts give a reply, and that a reply is one.
-use Rattle.std.proofs.Common.{◌≡◌, ◌⊎◌, ℕ, List, Result, Ok, Err, refl, sym, subst, inl, inr}
+use Rattle.std.proofs.Common.{◌≡◌, ℕ, List, Result, Ok, Err, subst, inl, inr}
 use Rattle.kiasan.specs.declared.refusals.Answer.{Answer}
 use Rattle.kiasan.specs.declared.refusals.Refusal.{Refusal}
 use Rattle.kiasan.specs.declared.refusals.Stop.{Stop}
 use Rattle.kiasan.specs.declared.refusals.Stop.TheVariants.{Refused, ReadFault, NoMemory}
 use Rattle.kiasan.specs.declared.status.Status.{Status}
-use Rattle.kiasan.specs.Answers.{Reply, refuses, ends, Stage, Carries, RefusesNothing}
+use Rattle.kiasan.specs.Answers.{Reply, refuses, ends, Stage, Carries}
 use Rattle.kiasan.specs.Refusals.{Gives}
 
 -- ---- how a stage is carried out
@@ -44,24 +44,32 @@ AreOne Same (ends one text) (ends other lines) = Same one text other lines
 AreOne Same (refuses one) (ends other lines) = ⊥
 AreOne Same (ends one text) (refuses other) = ⊥
 
+-- a reply of which the one holds and a reply of which the other holds are one
+abbrev pub Agree : (Status → List ℕ → Status → List ℕ → Type 0) → (Reply → Type 0) → (Reply → Type 0) → Type 0
+Agree Same Replied Also = (one other : Reply) → Replied one → Also other → AreOne Same one other
+
 -- any two replies of which that holds are one
 abbrev pub HasOne : (Status → List ℕ → Status → List ℕ → Type 0) → (Reply → Type 0) → Type 0
-HasOne Same Replied = (one other : Reply) → Replied one → Replied other → AreOne Same one other
+HasOne Same Replied = Agree Same Replied Replied
+
+-- Two stages agree where they refuse by one refusal, neither refuses what passes the other, and what is behind them agrees.
+pub stages_agree : {A : Type 0} (Same : Status → List ℕ → Status → List ℕ → Type 0) (Refuses More : Refusal → Type 0) (Passes Also : A → Type 0) (Next Then : A → Reply → Type 0) →
+    ((one other : Refusal) → Refuses one → More other → one ≡ other) → ((refusal : Refusal) (a : A) → Refuses refusal → Also a → ⊥) →
+    ((refusal : Refusal) (a : A) → More refusal → Passes a → ⊥) → ((a b : A) → Passes a → Also b → Agree Same (Next a) (Then b)) →
+    Agree Same (Stage Refuses Passes Next) (Stage More Also Then)
+stages_agree Same Refuses More Passes Also Next Then single either other next (refuses r) (refuses s) (inl x) (inl y) = single r s x y
+stages_agree Same Refuses More Passes Also Next Then single either other next (refuses r) (refuses s) (inl x) (inr (b, q, y)) = absurd (either r b x q)
+stages_agree Same Refuses More Passes Also Next Then single either other next (refuses r) (refuses s) (inr (a, p, x)) (inl y) = absurd (other s a y p)
+stages_agree Same Refuses More Passes Also Next Then single either other next (refuses r) (refuses s) (inr (a, p, x)) (inr (b, q, y)) = next a b p q (refuses r) (refuses s) x y
+stages_agree Same Refuses More Passes Also Next Then single either other next (refuses r) (ends t u) (inl x) (b, q, y) = either r b x q
+stages_agree Same Refuses More Passes Also Next Then single either other next (refuses r) (ends t u) (inr (a, p, x)) (b, q, y) = next a b p q (refuses r) (ends t u) x y
+stages_agree Same Refuses More Passes Also Next Then single either other next (ends t u) (refuses r) (a, p, x) (inl y) = other r a y p
+stages_agree Same Refuses More Passes Also Next Then single either other next (ends t u) (refuses r) (a, p, x) (inr (b, q, y)) = next a b p q (ends t u) (refuses r) x y
+stages_agree Same Refuses More Passes Also Next Then single either other next (ends t u) (ends v w) (a, p, x) (b, q, y) = next a b p q (ends t u) (ends v w) x y
 
 -- A stage has one reply where it refuses by one refusal, refuses nothing that passes, passes one thing, and the next has one.
 pub stage_one : {A : Type 0} (Same : Status → List ℕ → Status → List ℕ → Type 0) (Refuses : Refusal → Type 0) (Passes : A → Type 0) (Next : A → Reply → Type 0) →
     ((one other : Refusal) → Refuses one → Refuses other → one ≡ other) → ((refusal : Refusal) (a : A) → Refuses refusal → Passes a → ⊥) →
     ((a b : A) → Passes a → Passes b → a ≡ b) → ((a : A) → Passes a → HasOne Same (Next a)) → HasOne Same (Stage Refuses Passes Next)
-stage_one Same Refuses Passes Next single either same next (refuses r) (refuses s) (inl x) (inl y) = single r s x y
-stage_one Same Refuses Passes Next single either same next (refuses r) (refuses s) (inl x) (inr (b, q, y)) = absurd (either r b x q)
-stage_one Same Refuses Passes Next single either same next (refuses r) (refuses s) (inr (a, p, x)) (inl y) = absurd (either s a y p)
-stage_one Same Refuses Passes Next single either same next (refuses r) (refuses s) (inr (a, p, x)) (inr (b, q, y)) =
-    next a p (refuses r) (refuses s) x (subst (λ c. Next c (refuses s)) (same b a q p) y)
-stage_one Same Refuses Passes Next single either same next (refuses r) (ends t u) (inl x) (b, q, y) = either r b x q
-stage_one Same Refuses Passes Next single either same next (refuses r) (ends t u) (inr (a, p, x)) (b, q, y) =
-    next a p (refuses r) (ends t u) x (subst (λ c. Next c (ends t u)) (same b a q p) y)
-stage_one Same Refuses Passes Next single either same next (ends t u) (refuses r) (a, p, x) (inl y) = either r a y p
-stage_one Same Refuses Passes Next single either same next (ends t u) (refuses r) (a, p, x) (inr (b, q, y)) =
-    next a p (ends t u) (refuses r) x (subst (λ c. Next c (refuses r)) (same b a q p) y)
-stage_one Same Refuses Passes Next single either same next (ends t u) (ends v w) (a, p, x) (b, q, y) =
-    next a p (ends t u) (ends v w) x (subst (λ c. Next c (ends v w)) (same b a q p) y)
+stage_one Same Refuses Passes Next single either same next =
+    stages_agree Same Refuses Refuses Passes Passes Next Next single either either (λ a b p q. subst (λ c. Agree Same (Next a) (Next c)) (same a b p q) (next a p))

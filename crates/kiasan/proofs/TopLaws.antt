@@ -1,14 +1,12 @@
 -- What the top call owes.
-use Rattle.std.proofs.Common.{◌≡◌, ◌⊎◌, ℕ, List, [], ◌∷◌, Option, Result, Ok, Err, IfOk, refl, sym, ◌∙◌, ap, subst, inl, inr, nat_eq, Bool, true, false, cond}
+use Rattle.std.proofs.Common.{◌≡◌, ℕ, List, [], ◌∷◌, Option, Ok, refl, sym, ◌∙◌, ap, subst, inl, inr, nat_eq, Bool, true, false, cond}
 use Rattle.std.specs.List.{list_all}
 use Rattle.kb_outside.specs.Outside.{Rose, Grows, GrowsByPart}
 use Rattle.kb_semantics.specs.Machine.{Method}
-use Rattle.kb_world.specs.declared.world.GivenClass.{GivenClass}
+use Rattle.kb_world.specs.World.{World}
 use Rattle.kiasan.specs.declared.refusals.Answer.{Answer}
 use Rattle.kiasan.specs.declared.refusals.Refusal.{Refusal}
 use Rattle.kiasan.specs.declared.refusals.Refusal.TheVariants as refusals
-use Rattle.kiasan.specs.declared.refusals.Stop.{Stop}
-use Rattle.kiasan.specs.declared.refusals.Stop.TheVariants as stops
 use Rattle.kiasan.specs.declared.report.Report.{Report}
 use Rattle.kiasan.specs.declared.replay.Replayed.{Replayed}
 use Rattle.kiasan.specs.declared.words.Job.{Job}
@@ -16,7 +14,7 @@ use Rattle.kiasan.specs.declared.words.Order.{Order}
 use Rattle.kiasan.specs.declared.words.Order.TheVariants.{Explore, Tests, Diagrams, Replay, Assemble, Sample}
 use Rattle.kiasan.specs.declared.status.Status.{Status}
 use Rattle.kiasan.specs.declared.status.Status.TheVariants.{Complete, Words, Class, Link, Outside, ReadFault, WriteFault, Memory, Text, Differs}
-use Rattle.kiasan.specs.Answers.{Reply, refuses, ends, Carries, Replies, RepliesTo, RepliesOn, RepliesIn, RepliesJob, RepliesReplay, Answers, IsAnswer, IsDone, IsOfVerdicts, IsReplay, IsSameReply, EndsAs, Owes, SomeUnsound, WritesNothing, reply_status}
+use Rattle.kiasan.specs.Answers.{Reply, refuses, ends, Replies, RepliesTo, RepliesOn, RepliesIn, RepliesJob, RepliesReplay, Answers, IsAnswer, IsDone, IsOfVerdicts, IsReplay, IsSameReply, EndsAs, Owes, SomeUnsound, WritesNothing, reply_status}
 use Rattle.kiasan.specs.Covering.{IsStatusOf, is_told}
 use Rattle.kiasan.specs.Orders.{Orders}
 use Rattle.kiasan.specs.Refusals.{refusal_status, refusal_line}
@@ -41,7 +39,16 @@ refusal_answers (refusals.CutInstr file method at) = tt
 refusal_answers (refusals.JumpTarget file method at to) = tt
 refusal_answers (refusals.Switch file method at) = tt
 refusal_answers (refusals.HandlerRange file method handler) = tt
+refusal_answers (refusals.TwoMembers file entry) = tt
+refusal_answers (refusals.BadName file entry) = tt
+refusal_answers (refusals.BadDescriptor file entry) = tt
+refusal_answers (refusals.Twice name) = tt
+refusal_answers (refusals.Missing name) = tt
+refusal_answers (refusals.Circle name) = tt
+refusal_answers (refusals.BadSuper name) = tt
+refusal_answers (refusals.SplitPackage name method) = tt
 refusal_answers (refusals.NoMethod target) = tt
+refusal_answers refusals.TooMany = tt
 refusal_answers refusals.Unbuilt = tt
 refusal_answers (refusals.TestLine number) = tt
 refusal_answers (refusals.NoTestMethod number) = tt
@@ -62,15 +69,15 @@ told_status : (told : Bool) (status : Status) → IsStatusOf told status → sta
 told_status true status is = is
 told_status false status none = absurd none
 
-job_answers : (IsTextOf : Method → Report → List ℕ → Type 0) (world : List GivenClass) (job : Job) (status : Status) (text : List ℕ) → RepliesJob IsTextOf world job (ends status text) → IsAnswer status
+job_answers : (IsTextOf : Method → Report → List ℕ → Type 0) (world : World) (job : Job) (status : Status) (text : List ℕ) → RepliesJob IsTextOf world job (ends status text) → IsAnswer status
 unfolding RepliesJob
 job_answers IsTextOf world job status text (id, built, end) = rw (told_status (list_all (λ path. is_told path.leaf) end.report.leaves) status end.has_status) tt
 
-tests_answer : (bytes : List ℕ) (world : List GivenClass) (status : Status) (text : List ℕ) → RepliesReplay bytes world (ends status text) → IsAnswer status
+tests_answer : (bytes : List ℕ) (world : World) (status : Status) (text : List ℕ) → RepliesReplay bytes world (ends status text) → IsAnswer status
 unfolding RepliesReplay
 tests_answer bytes world status text (tests, are, (ids, fit, end)) = rw end.status_is (replay_answers end.verdicts)
 
-order_answers : (order : Order) (texts : List (List ℕ)) (world : List GivenClass) (status : Status) (text : List ℕ) → RepliesIn order texts world (ends status text) → IsAnswer status
+order_answers : (order : Order) (texts : List (List ℕ)) (world : World) (status : Status) (text : List ℕ) → RepliesIn order texts world (ends status text) → IsAnswer status
 order_answers (Explore job) texts world status text h = job_answers _ world job status text h
 order_answers (Tests job) texts world status text h = job_answers _ world job status text h
 order_answers (Replay name files) (bytes ∷ []) world status text h = tests_answer bytes world status text h
@@ -101,7 +108,7 @@ refused words holds refusal status text replied is line =
 abbrev IsStatusFor : List (List ℕ) → Status → Type 0
 IsStatusFor words status = (IsReplay words → IsOfVerdicts status) × ((IsReplay words → ⊥) → IsDone status)
 
-job_status : (IsTextOf : Method → Report → List ℕ → Type 0) (words : List (List ℕ)) (world : List GivenClass) (job : Job) (status : Status) (text : List ℕ) →
+job_status : (IsTextOf : Method → Report → List ℕ → Type 0) (words : List (List ℕ)) (world : World) (job : Job) (status : Status) (text : List ℕ) →
     RepliesJob IsTextOf world job (ends status text) → IsStatusFor words status
 unfolding RepliesJob
 job_status IsTextOf words world job status text (id, built, end) = rw (told_status (list_all (λ path. is_told path.leaf) end.report.leaves) status end.has_status) ((λ replay. tt), (λ none. tt))
@@ -113,11 +120,11 @@ verdicts_status verdicts = go (nat_eq (count_differs verdicts) 0)
     go true = tt
     go false = tt
 
-tests_status : (bytes : List ℕ) (world : List GivenClass) (status : Status) (text : List ℕ) → RepliesReplay bytes world (ends status text) → IsOfVerdicts status
+tests_status : (bytes : List ℕ) (world : World) (status : Status) (text : List ℕ) → RepliesReplay bytes world (ends status text) → IsOfVerdicts status
 unfolding RepliesReplay
 tests_status bytes world status text (tests, are, (ids, fit, end)) = rw end.status_is (verdicts_status end.verdicts)
 
-order_status : (words : List (List ℕ)) (order : Order) → Orders words (Ok order) → (texts : List (List ℕ)) (world : List GivenClass) (status : Status) (text : List ℕ) →
+order_status : (words : List (List ℕ)) (order : Order) → Orders words (Ok order) → (texts : List (List ℕ)) (world : World) (status : Status) (text : List ℕ) →
     RepliesIn order texts world (ends status text) → IsStatusFor words status
 order_status words (Explore job) ordered texts world status text h = job_status _ words world job status text h
 order_status words (Tests job) ordered texts world status text h = job_status _ words world job status text h

@@ -1,30 +1,19 @@
 -- Words have one order or one fault.
 use Rattle.std.specs.Prelude.{codes}
-use Rattle.std.proofs.Common.{◌≡◌, ◌⊎◌, ℕ, ◌<◌, ◌≤◌, List, [], ◌∷◌, length, get_or, refl, sym, ◌∙◌, ap, subst, arith, Option, Some, Result, Ok, Err, inl, inr}
+use Rattle.std.proofs.Common.{◌≡◌, ℕ, List, [], length, refl, sym, ◌∙◌, ap, subst, arith, Option, Some, Result, Ok, Err, inl, inr}
 use Rattle.kb_names.specs.declared.types.Target.{Target}
 use Rattle.kb_names.specs.Targets.{SpellsTarget, target_read}
 use Rattle.kb_names.proofs.TargetReader.{target_reader}
 use Rattle.kb_test.specs.Texts.{IsRunBounds}
 use Rattle.kiasan.specs.Answers.{IsBuiltOrder, IsWritable}
 use Rattle.kiasan.specs.Words.{IsJobCommand, AreJobWords, AreReplayWords, default_job, default_run_bounds}
-use Rattle.kiasan.specs.Orders.{Orders, OrdersJob, OrdersReplay, HasBadTarget, classes_of}
+use Rattle.kiasan.specs.Orders.{Orders, OrdersJob, HasBadTarget}
 use Rattle.kiasan.specs.Unbuilt.{AreUnbuiltWords}
 use Rattle.kiasan.specs.declared.words.Job.{Job}
 use Rattle.kiasan.specs.declared.words.Order.{Order}
 use Rattle.kiasan.specs.declared.words.Order.TheVariants.{Explore, Tests, Diagrams, Replay, Assemble, Sample}
 use Rattle.kiasan.specs.declared.words.WordFault.{WordFault}
 use Rattle.kiasan.specs.declared.words.WordFault.TheVariants.{NoCommand, BadTarget, Unbuilt, NoMemory}
-
--- the elements of a list of four
-pub four_items : {A : Type 0} (xs : List A) (a b c d : A) → 4 ≤ length xs → length xs < 5
-    → a ≡ get_or xs 0 a → b ≡ get_or xs 1 b → c ≡ get_or xs 2 c → d ≡ get_or xs 3 d
-    → xs ≡ a ∷ b ∷ c ∷ d ∷ []
-four_items [] a b c d low high ia ib ic id = absurd (omega arith)
-four_items (x ∷ []) a b c d low high ia ib ic id = absurd (omega arith)
-four_items (x ∷ y ∷ []) a b c d low high ia ib ic id = absurd (omega arith)
-four_items (x ∷ y ∷ z ∷ []) a b c d low high ia ib ic id = absurd (omega arith)
-four_items (x ∷ y ∷ z ∷ w ∷ []) a b c d low high ia ib ic id = rw (ia, ib, ic, id) refl
-four_items (x ∷ y ∷ z ∷ w ∷ v ∷ more) a b c d low high ia ib ic id = absurd (omega arith)
 
 -- a text spells one target
 spells_one : (text : List ℕ) (target other : Target) → SpellsTarget target text → SpellsTarget other text → target ≡ other
@@ -48,9 +37,9 @@ no_replay : (command : List ℕ) → IsJobCommand command → codes "replay" ≡
 no_replay command (inl explore) e = omega (arith, ap length e, ap length explore)
 no_replay command (inr tests) e = omega (arith, ap length e, ap length tests)
 
-job_or_replay : (words : List (List ℕ)) (command method file tests another : List ℕ) → IsJobCommand command → AreJobWords words command method file →
-    AreReplayWords words tests another → ⊥
-job_or_replay words command method file tests another is one two =
+job_or_replay : (words : List (List ℕ)) (command method tests : List ℕ) (files others : List (List ℕ)) → IsJobCommand command → AreJobWords words command method files →
+    AreReplayWords words tests others → ⊥
+job_or_replay words command method tests files others is one two =
     let words-one = one.words_are in
     let words-two = two.words_are in
     let commands : codes "replay" ≡ command = cc in
@@ -77,20 +66,20 @@ one_job words command job other one two =
     let words-one = one.form.words_are in
     let words-two = two.form.words_are in
     let methods : one.method ≡ two.method = cc in
-    let files : one.file ≡ two.file = cc in
+    let files : job.files ≡ other.files = cc in
     let targets : job.target ≡ other.target =
     spells_one two.method job.target other.target (subst (λ (text : List ℕ). SpellsTarget job.target text) methods one.spelled) two.spelled in
-    let jobs : default_job job.target (one.file ∷ []) ≡ default_job other.target (two.file ∷ []) = rw (targets, files) refl in
+    let jobs : default_job job.target job.files ≡ default_job other.target other.files = rw (targets, files) refl in
     one.job_is ∙ jobs ∙ sym two.job_is
 
-one_replay : (words : List (List ℕ)) (tests others : List ℕ) (files more : List (List ℕ)) → OrdersReplay words tests files → OrdersReplay words others more →
+one_replay : (words : List (List ℕ)) (tests others : List ℕ) (files more : List (List ℕ)) → AreReplayWords words tests files → AreReplayWords words others more →
     (tests ≡ others) × (files ≡ more)
 one_replay words tests others files more one two =
-    let words-one = one.form.words_are in
-    let words-two = two.form.words_are in
+    let words-one = one.words_are in
+    let words-two = two.words_are in
     let given : tests ≡ others = cc in
-    let last : one.file ≡ two.file = cc in
-    (given, one.files_are ∙ ap (λ (file : List ℕ). file ∷ []) last ∙ sym two.files_are)
+    let last : files ≡ more = cc in
+    (given, last)
 
 -- ---- a fault and another answer
 
@@ -98,7 +87,7 @@ none_or_job : (words : List (List ℕ)) (command : List ℕ) (job : Job) → wor
 none_or_job words command job a b = let words-are = b.form.words_are in cc
 
 unbuilt_or_job : (words : List (List ℕ)) (command : List ℕ) (job : Job) → IsJobCommand command → AreUnbuiltWords words → OrdersJob words command job → ⊥
-unbuilt_or_job words command job is a b = a.no_job command b.method b.file is b.form
+unbuilt_or_job words command job is a b = a.no_job command b.method job.files is b.form
 
 pub one_order : (words : List (List ℕ)) (one other : Order) → Orders words (Ok one) → Orders words (Ok other) → one ≡ other
 one_order words (Explore job) (Explore other) a b = ap Explore (one_job words (codes "explore") job other a b)
@@ -106,11 +95,11 @@ one_order words (Tests job) (Tests other) a b = ap Tests (one_job words (codes "
 one_order words (Explore job) (Tests other) a b = absurd (explore_or_tests words job other a b)
 one_order words (Tests job) (Explore other) a b = absurd (explore_or_tests words other job b a)
 one_order words (Explore job) (Replay tests files) a b =
-    absurd (job_or_replay words (codes "explore") a.method a.file tests b.file (inl refl) a.form b.form)
-one_order words (Tests job) (Replay tests files) a b = absurd (job_or_replay words (codes "tests") a.method a.file tests b.file (inr refl) a.form b.form)
+    absurd (job_or_replay words (codes "explore") a.method tests job.files files (inl refl) a.form b)
+one_order words (Tests job) (Replay tests files) a b = absurd (job_or_replay words (codes "tests") a.method tests job.files files (inr refl) a.form b)
 one_order words (Replay tests files) (Explore job) a b =
-    absurd (job_or_replay words (codes "explore") b.method b.file tests a.file (inl refl) b.form a.form)
-one_order words (Replay tests files) (Tests job) a b = absurd (job_or_replay words (codes "tests") b.method b.file tests a.file (inr refl) b.form a.form)
+    absurd (job_or_replay words (codes "explore") b.method tests job.files files (inl refl) b.form a)
+one_order words (Replay tests files) (Tests job) a b = absurd (job_or_replay words (codes "tests") b.method tests job.files files (inr refl) b.form a)
 one_order words (Replay tests files) (Replay others more) a b = let same = one_replay words tests others files more a b in rw (same.0, same.1) refl
 one_order words (Diagrams job) other a b = absurd a
 one_order words (Assemble text) other a b = absurd a
@@ -125,9 +114,9 @@ one_fault words NoCommand (BadTarget word) a b = let words-are = b.form.words_ar
 one_fault words NoCommand Unbuilt a b = absurd (b.some a)
 one_fault words (BadTarget word) NoCommand a b = let words-are = a.form.words_are in cc
 one_fault words (BadTarget word) (BadTarget other) a b = ap BadTarget (a.place ∙ sym b.place)
-one_fault words (BadTarget word) Unbuilt a b = absurd (b.no_job a.command a.method a.file a.takes_method a.form)
+one_fault words (BadTarget word) Unbuilt a b = absurd (b.no_job a.command a.method a.files a.takes_method a.form)
 one_fault words Unbuilt NoCommand a b = absurd (a.some b)
-one_fault words Unbuilt (BadTarget word) a b = absurd (a.no_job b.command b.method b.file b.takes_method b.form)
+one_fault words Unbuilt (BadTarget word) a b = absurd (a.no_job b.command b.method b.files b.takes_method b.form)
 one_fault words Unbuilt Unbuilt a b = refl
 one_fault words NoMemory other a b = absurd a
 one_fault words one NoMemory a b = absurd b
@@ -135,13 +124,13 @@ one_fault words one NoMemory a b = absurd b
 pub fault_or_order : (words : List (List ℕ)) (fault : WordFault) (order : Order) → Orders words (Err fault) → Orders words (Ok order) → ⊥
 fault_or_order words NoCommand (Explore job) a b = none_or_job words (codes "explore") job a b
 fault_or_order words NoCommand (Tests job) a b = none_or_job words (codes "tests") job a b
-fault_or_order words NoCommand (Replay tests files) a b = let words-are = b.form.words_are in cc
+fault_or_order words NoCommand (Replay tests files) a b = let words-are = b.words_are in cc
 fault_or_order words (BadTarget word) (Explore job) a b = job_or_fault words (codes "explore") job word b a
 fault_or_order words (BadTarget word) (Tests job) a b = job_or_fault words (codes "tests") job word b a
-fault_or_order words (BadTarget word) (Replay tests files) a b = job_or_replay words a.command a.method a.file tests b.file a.takes_method a.form b.form
+fault_or_order words (BadTarget word) (Replay tests files) a b = job_or_replay words a.command a.method tests a.files files a.takes_method a.form b
 fault_or_order words Unbuilt (Explore job) a b = unbuilt_or_job words (codes "explore") job (inl refl) a b
 fault_or_order words Unbuilt (Tests job) a b = unbuilt_or_job words (codes "tests") job (inr refl) a b
-fault_or_order words Unbuilt (Replay tests files) a b = a.no_replay tests b.file b.form
+fault_or_order words Unbuilt (Replay tests files) a b = a.no_replay tests files b
 fault_or_order words NoMemory order a b = a
 fault_or_order words fault (Diagrams job) a b = b
 fault_or_order words fault (Assemble text) a b = b
@@ -160,15 +149,15 @@ orders_one words (Err one) (Ok other) a b = absurd (fault_or_order words one oth
 default_runs : IsRunBounds default_run_bounds
 default_runs = record { alloc = omega arith; loops = omega arith; some_depth = omega arith; depth = omega arith; some_steps = omega arith; steps = omega arith }
 
-job_writable : (words : List (List ℕ)) (command : List ℕ) (job : Job) → OrdersJob words command job → IsWritable job × (length job.files ≡ 1)
+job_writable : (words : List (List ℕ)) (command : List ℕ) (job : Job) → OrdersJob words command job → IsWritable job
 job_writable words command job ordered =
     let runs : job.bounds.run ≡ default_run_bounds = ap (λ (j : Job). j.bounds.run) ordered.job_is in
-    (record { target = ordered.spelled.0; bounds = subst IsRunBounds (sym runs) default_runs }, ap (λ (j : Job). length j.files) ordered.job_is)
+    record { target = ordered.spelled.0; bounds = subst IsRunBounds (sym runs) default_runs }
 
 pub built_order : (words : List (List ℕ)) (order : Order) → Orders words (Ok order) → IsBuiltOrder order
 built_order words (Explore job) h = job_writable words (codes "explore") job h
 built_order words (Tests job) h = job_writable words (codes "tests") job h
-built_order words (Replay tests files) h = ap length h.files_are
+built_order words (Replay tests files) h = tt
 built_order words (Diagrams job) h = absurd h
 built_order words (Assemble text) h = absurd h
 built_order words (Sample blocks) h = absurd h

@@ -1,26 +1,28 @@
 -- What the program answers. It goes by stages: the words, the reading of their files, the classes, their world, the texts, the
 -- methods that are reached, and the exploration or the runs. The first stage that refuses gives the answer.
-use Rattle.std.specs.Prelude.{◌≡◌, ℕ, ◌+◌, ◌<◌, ◌≤◌, ◌⊎◌, List, [], ◌∷◌, ◌++◌, length, map, take, Option, Some, IfSome, IsSome, Result, Ok, Err}
+use Rattle.std.specs.Prelude.{◌≡◌, ℕ, ◌+◌, ◌<◌, ◌≤◌, ◌⊎◌, List, [], ◌∷◌, ◌++◌, length, take, Option, Some, IfSome, IsSome, Result, Ok, Err}
 use Rattle.std.specs.List.{AllByRecursion}
+use Rattle.kb_class.specs.declared.given.GivenClass.{GivenClass}
+use Rattle.kb_class.specs.declared.ids.MethodId.{MethodId}
+use Rattle.kb_class.specs.Given.{AreListings}
 use Rattle.kb_classfile.specs.declared.file.ClassFile.{ClassFile}
 use Rattle.kb_classfile.specs.declared.refusal.ClassRefusal.{ClassRefusal}
 use Rattle.kb_classfile.specs.Reading.{first_fault}
 use Rattle.kb_classfile.specs.Spelling.{IsClassFile}
-use Rattle.kb_names.specs.declared.types.Target.{Target}
 use Rattle.kb_outside.specs.Outside.{Rose, Grows, GrowsByPart}
 use Rattle.kb_semantics.specs.Machine.{Method}
 use Rattle.kb_test.specs.declared.test_case.Test.{Test}
 use Rattle.kb_grammar.specs.Lines.{IsFirstBadLine}
 use Rattle.kb_names.specs.Targets.{IsTarget}
 use Rattle.kb_test.specs.Texts.{SpellsTests, IsTestsText, AreTests, IsRunBounds}
-use Rattle.kb_world.specs.declared.world.GivenClass.{GivenClass}
-use Rattle.kb_world.specs.declared.world.MethodId.{MethodId}
-use Rattle.kb_world.specs.Linkable.{AreLinkable}
-use Rattle.kb_world.specs.World.{IsTargetOf, AreListings, file_of}
+use Rattle.kb_world.specs.declared.linking.LinkRefusal.{LinkRefusal}
+use Rattle.kb_world.specs.Links.{Links, RefusesLink}
+use Rattle.kb_world.specs.Targets.{IsTargetOf}
+use Rattle.kb_world.specs.World.{World}
 use Rattle.kiasan.specs.declared.answer.Contents.{Contents}
 use Rattle.kiasan.specs.declared.refusals.Answer.{Answer}
 use Rattle.kiasan.specs.declared.refusals.Refusal.{Refusal}
-use Rattle.kiasan.specs.declared.refusals.Refusal.TheVariants.{TestLine, LongText, Unbuilt}
+use Rattle.kiasan.specs.declared.refusals.Refusal.TheVariants.{TestLine, LongText}
 use Rattle.kiasan.specs.declared.refusals.Stop.{Stop}
 use Rattle.kiasan.specs.declared.refusals.Stop.TheVariants.{Refused}
 use Rattle.kiasan.specs.declared.refusals.Stop.TheVariants as stops
@@ -34,12 +36,12 @@ use Rattle.kiasan.specs.declared.status.Status.{Status}
 use Rattle.kiasan.specs.declared.status.Status.TheVariants.{Complete, Words, Class, Link, Outside, ReadFault, WriteFault, Memory, Text, Differs}
 use Rattle.kiasan.specs.CodeFaults.{MethodsRefuse}
 use Rattle.kiasan.specs.Orders.{Orders, texts_of, classes_of, files_of}
-use Rattle.kiasan.specs.Refusals.{Gives, class_refusal, refusal_status, refusal_line, word_refusal}
+use Rattle.kiasan.specs.Refusals.{Gives, class_refusal, link_refusal, refusal_status, refusal_line, word_refusal}
 use Rattle.kiasan.specs.Report.{report_text}
 use Rattle.kiasan.specs.Reach.{TargetRefuses}
 use Rattle.kiasan.specs.Covering.{IsReportOf, HasStatus, tests_of}
 use Rattle.kiasan.specs.Tests.{AreRunnable, AreVerdicts, EndsAsStated, RefusesTests, no_literals, replay_status}
-use Rattle.kiasan.specs.Unbuilt.{AreUnbuiltClasses, IsBuiltFor}
+use Rattle.kiasan.specs.Unbuilt.{IsBuiltFor}
 use Rattle.kiasan.specs.Verdicts.{replay_text}
 
 -- ---- replies and stages
@@ -83,14 +85,14 @@ pub record IsWritable (job : Job) : Type 0 where
   pub bounds : IsRunBounds job.bounds.run
 
 -- a report for the job, whose tests have a text where the job's target and bounds are those of a test
-pub record IsWrittenReport (world : List GivenClass) (job : Job) (report : Report) : Type 0 where
+pub record IsWrittenReport (world : World) (job : Job) (report : Report) : Type 0 where
   pub reported : IsReportOf world job report
   pub id : MethodId
   pub built : IsBuiltFor world job id
   pub tests : IsWritable job → AreTests no_literals (tests_of report)
 
 -- the end of a job: there is a report of the world for it, and the text is that of the task on it and on its method
-pub record EndsJob (IsTextOf : Method → Report → List ℕ → Type 0) (world : List GivenClass) (job : Job) (status : Status) (text : List ℕ) : Type 0 where
+pub record EndsJob (IsTextOf : Method → Report → List ℕ → Type 0) (world : World) (job : Job) (status : Status) (text : List ℕ) : Type 0 where
   pub report : Report
   pub reported : IsReportOf world job report
   pub has_status : HasStatus report status
@@ -106,14 +108,14 @@ pub record IsTestsTextOf (method : Method) (report : Report) (text : List ℕ) :
   pub end_as_stated : AllByRecursion (EndsAsStated method) (tests_of report)
 
 -- the end of a replay: the verdicts on the tests, in order
-pub record EndsReplay (world : List GivenClass) (tests : List Test) (status : Status) (text : List ℕ) : Type 0 where
+pub record EndsReplay (world : World) (tests : List Test) (status : Status) (text : List ℕ) : Type 0 where
   pub verdicts : List Replayed
   pub verdicts_are : AreVerdicts world tests verdicts
   pub status_is : status ≡ replay_status verdicts
   pub text_is : text ≡ replay_text tests verdicts
 
 -- a job, behind its classes' world: reach, and the exploration; what is reached is built by now
-unfoldable pub RepliesJob : (Method → Report → List ℕ → Type 0) → List GivenClass → Job → Reply → Type 0
+unfoldable pub RepliesJob : (Method → Report → List ℕ → Type 0) → World → Job → Reply → Type 0
 RepliesJob IsTextOf world job =
     Stage (TargetRefuses (IsBuiltFor world job) world job.target) (λ id. IsTargetOf world job.target id × IsBuiltFor world job id) (λ id.
     Last (EndsJob IsTextOf world job))
@@ -136,25 +138,25 @@ TextRefuses bytes refusal =
 abbrev pub AreTestsOf : List ℕ → List Test → Type 0
 AreTestsOf bytes tests = (length bytes ≤ text_limit) × SpellsTests no_literals tests bytes
 
-unfoldable pub RepliesReplay : List ℕ → List GivenClass → Reply → Type 0
+unfoldable pub RepliesReplay : List ℕ → World → Reply → Type 0
 RepliesReplay bytes world =
     Stage (TextRefuses bytes) (AreTestsOf bytes) (λ tests.
     Stage (RefusesTests world tests) (AreRunnable world tests) (λ ids.
     Last (EndsReplay world tests)))
 
 -- the commands, each on its texts and the world of its classes
-abbrev pub RepliesIn : Order → List (List ℕ) → List GivenClass → Reply → Type 0
+abbrev pub RepliesIn : Order → List (List ℕ) → World → Reply → Type 0
 RepliesIn (Explore job) texts world = RepliesJob IsReportText world job
 RepliesIn (Tests job) texts world = RepliesJob IsTestsTextOf world job
 RepliesIn (Replay name files) (bytes ∷ []) world = RepliesReplay bytes world
 RepliesIn _ texts world = λ reply. ⊥
 
--- the orders that come by now, each with one class file, and jobs with what a test may have
+-- the orders that come by now, jobs with what a test may have
 abbrev pub IsBuiltOrder : Order → Type 0
-IsBuiltOrder (Explore job) = IsWritable job × (length job.files ≡ 1)
-IsBuiltOrder (Tests job) = IsWritable job × (length job.files ≡ 1)
+IsBuiltOrder (Explore job) = IsWritable job
+IsBuiltOrder (Tests job) = IsWritable job
 IsBuiltOrder (Diagrams job) = ⊥
-IsBuiltOrder (Replay tests files) = length files ≡ 1
+IsBuiltOrder (Replay tests files) = Unit {0}
 IsBuiltOrder (Assemble text) = ⊥
 IsBuiltOrder (Sample blocks) = ⊥
 
@@ -194,14 +196,9 @@ pub record RefusesClasses (classes : List (List ℕ)) (refusal : Refusal) : Type
   pub good : AreClasses before given
   pub bad : ClassRefuses (length before) bytes refusal
 
--- what refuses the world of classes
+-- what refuses the world of classes: the first rule that they break
 abbrev pub WorldRefuses : List GivenClass → Refusal → Type 0
-WorldRefuses given refusal = (refusal ≡ Unbuilt) × AreUnbuiltClasses (map file_of given)
-
--- the world of classes that are linked
-pub record IsWorldOf (given world : List GivenClass) : Type 0 where
-  pub linkable : AreLinkable (map file_of given)
-  pub classes_are : world ≡ given
+WorldRefuses given refusal = (found : LinkRefusal) × RefusesLink given found × (link_refusal found ≡ Refused refusal)
 
 -- ---- reading
 
@@ -244,7 +241,7 @@ IsReadFaultOrNoMemory stops.NoMemory = Unit {0}
 unfoldable pub RepliesOn : Order → Contents → Reply → Type 0
 RepliesOn order contents =
     Stage (RefusesClasses contents.classes) (AreClasses contents.classes) (λ given.
-    Stage (WorldRefuses given) (IsWorldOf given) (λ world.
+    Stage (WorldRefuses given) (Links given) (λ world.
     RepliesIn order contents.texts world))
 
 unfoldable pub RepliesTo : Order → (List ℕ → Option (List ℕ)) → Reply → Type 0

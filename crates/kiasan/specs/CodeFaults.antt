@@ -1,9 +1,9 @@
 -- What is wrong with the code of a class file's methods: the first fault, method by method.
 use Rattle.std.specs.Prelude.{◌≡◌, ℕ, ◌+◌, List, [], ◌∷◌, Option, Some, None, option_and_then}
+use Rattle.kb_class.specs.Given.{handlers_of}
 use Rattle.kb_classfile.specs.declared.file.Method.{Method as ClassMethod}
 use Rattle.kb_code.specs.declared.refusal.CodeRefusal.{CodeRefusal}
 use Rattle.kb_code.specs.Answers.{first_fault}
-use Rattle.kb_world.specs.World.{handlers_of}
 use Rattle.kiasan.specs.declared.refusals.Refusal.{Refusal}
 use Rattle.kiasan.specs.declared.refusals.Stop.TheVariants.{Refused}
 use Rattle.kiasan.specs.Refusals.{code_refusal}

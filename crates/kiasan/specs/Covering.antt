@@ -1,21 +1,18 @@
 -- When a report is one of the world for what was asked, its status, and the tests of its paths.
-use Rattle.std.specs.Prelude.{◌≡◌, ℕ, ◌+◌, ◌<◌, ◌≤◌, ◌⊎◌, List, [], ◌∷◌, ◌++◌, length, Bool, true, false, cond}
+use Rattle.std.specs.Prelude.{◌≡◌, ℕ, ◌+◌, ◌<◌, ◌≤◌, ◌⊎◌, List, [], ◌∷◌, Bool, true, false, cond}
 use Rattle.std.specs.List.{flat_map, list_all}
-use Rattle.kb_heap.specs.declared.bounds.Bounds.{Bounds}
 use Rattle.kb_heap.specs.declared.bounds.RunBounds.{RunBounds}
 use Rattle.kb_heap.specs.declared.heap.Input.{Input}
-use Rattle.kb_names.specs.declared.types.Target.{Target}
 use Rattle.kb_semantics.specs.Machine.{Method, run_of}
 use Rattle.kb_semantics.specs.Types.{IsMethod, IsTypeCorrect}
 use Rattle.kb_test.specs.declared.test_case.Test.{Test}
-use Rattle.kb_world.specs.declared.world.GivenClass.{GivenClass}
-use Rattle.kb_world.specs.declared.world.MethodId.{MethodId}
-use Rattle.kb_world.specs.World.{IsTargetOf}
+use Rattle.kb_class.specs.declared.ids.MethodId.{MethodId}
+use Rattle.kb_world.specs.Targets.{IsTargetOf}
+use Rattle.kb_world.specs.World.{World}
 use Rattle.kiasan.specs.declared.path.Ended.{Ended}
 use Rattle.kiasan.specs.declared.path.Leaf.{Leaf}
 use Rattle.kiasan.specs.declared.path.Leaf.TheVariants.{Ended as EndedLeaf}
 use Rattle.kiasan.specs.declared.path.Path.{Path}
-use Rattle.kiasan.specs.declared.words.Init.{Init}
 use Rattle.kiasan.specs.declared.report.Report.{Report}
 use Rattle.kiasan.specs.declared.status.Status.{Status}
 use Rattle.kiasan.specs.declared.status.Status.TheVariants.{Complete}
@@ -44,7 +41,7 @@ HoldsOf bounds method path (EndedLeaf ended) input =
     run_of bounds method input ≡ record { ending = ending_of path ended input; heap = final_heap_of path ended input }
 
 -- The input that a path carries is type-correct, and an instance of it.
-abbrev pub CarriesInstance : List GivenClass → MethodId → Path → Leaf → Type 0
+abbrev pub CarriesInstance : World → MethodId → Path → Leaf → Type 0
 CarriesInstance world id path (EndedLeaf ended) = IsTypeCorrect world id ended.input × IsInstance path ended.input
 
 -- The first list of decisions is below the second one: at the first place where they differ, and there is one.
@@ -78,7 +75,7 @@ count_closed [] = 0
 count_closed (path ∷ paths) = cond (is_open path.leaf) 0 1 + count_closed paths
 
 -- The paths of a report cover the method's inputs.
-pub record Covers (world : List GivenClass) (id : MethodId) (method : Method) (report : Report) : Type 0 where
+pub record Covers (world : World) (id : MethodId) (method : Method) (report : Report) : Type 0 where
   -- each type-correct input is an instance of exactly one path
   pub exactly_one : (input : Input) → IsTypeCorrect world id input → OfExactlyOne input report.leaves
   -- what a path's leaf says holds of each of its instances
@@ -107,7 +104,7 @@ pub record HasHead (job : Job) (report : Report) : Type 0 where
   pub budget : report.budget ≡ job.budget
 
 -- A report of the world for what was asked: its head is that, and its paths cover the method that the target names.
-pub record IsReportOf (world : List GivenClass) (job : Job) (report : Report) : Type 0 where
+pub record IsReportOf (world : World) (job : Job) (report : Report) : Type 0 where
   pub head : HasHead job report
   pub id : MethodId
   pub found : IsTargetOf world job.target id

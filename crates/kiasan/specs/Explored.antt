@@ -1,9 +1,9 @@
 -- What the exploration of a straight method tells.
 use Rattle.std.specs.Prelude.{◌≡◌, ℕ, ◌≤◌, ◌⊎◌, ℤ, List, [], length, replicate, Some, None, true, false, bit_and, nat_eq}
-use Rattle.std.specs.Option.{option_copied}
 use Rattle.kb_arith.specs.Word.{AreInts}
-use Rattle.kb_classfile.specs.declared.file.Code.{Code}
-use Rattle.kb_code.specs.declared.listing.Listing.{Listing}
+use Rattle.kb_class.specs.declared.ids.MethodId.{MethodId}
+use Rattle.kb_class.specs.declared.members.MethodCode.{MethodCode}
+use Rattle.kb_class.specs.declared.members.MethodInfo.{MethodInfo}
 use Rattle.kb_heap.specs.declared.heap.Value.TheVariants.{Int}
 use Rattle.kb_heap.specs.declared.heap.Heap.{Heap}
 use Rattle.kb_heap.specs.declared.ending.Ending.TheVariants.{Returned}
@@ -12,9 +12,7 @@ use Rattle.kb_semantics.specs.Machine.{AreBuilt, Method}
 use Rattle.kb_terms.specs.Terms.{IsTerm, value_of}
 use Rattle.kb_terms.specs.declared.node.VarKind.TheVariants.{Int as IntKind}
 use Rattle.kiasan.specs.Paths.{variable_kinds}
-use Rattle.kb_world.specs.declared.world.GivenClass.{GivenClass}
-use Rattle.kb_world.specs.declared.world.MethodId.{MethodId}
-use Rattle.kb_world.specs.declared.world.MethodInfo.{MethodInfo}
+use Rattle.kb_world.specs.World.{World}
 use Rattle.kiasan.specs.declared.explore.Explored.{Explored}
 use Rattle.kiasan.specs.declared.explore.StraightCode.{StraightCode}
 use Rattle.kiasan.specs.Straight.{HasCode, IsIllTyped, IsStraight, ends_by_return, has_wide, most_instructions, run_over}
@@ -28,7 +26,7 @@ RunsReturn method params explored =
     run_over steps method heap inputs ≡ record { ending = Returned (Some (Int (value_of explored.pool explored.result inputs))); heap = heap }
 
 -- a straight method was explored
-pub record IsExplored (world : List GivenClass) (target : Target) (id : MethodId) (explored : Explored) : Type 0 where
+pub record IsExplored (world : World) (target : Target) (id : MethodId) (explored : Explored) : Type 0 where
   pub term : IsTerm explored.pool explored.result
   pub method : Method
   pub straight : IsStraight world target id method
@@ -52,32 +50,25 @@ pub record IsStraightRun (code : StraightCode) (params : ℕ) (method : Method) 
   pub ends : ends_by_return method.listing ≡ true
   pub typed : (heap : Heap) (inputs : List ℤ) → length inputs ≡ params → AreInts inputs → IsIllTyped (run_over most_instructions method heap inputs).ending → ⊥
 
--- The code of a static method, and its listing, are these. It has no handlers, and its instructions are built and in their
--- short forms.
+-- The code of a static method is this: it has no handlers, and its instructions are built and in their short forms.
 pub record IsCodeOf (info : MethodInfo) (straight : StraightCode) : Type 0 where
   pub static : nat_eq (bit_and info.access 8) 0 ≡ false
-  pub code : Code
-  pub has_code : option_copied info.code ≡ Some code
-  pub listing : Listing
-  pub has_listing : option_copied info.listing ≡ Some listing
+  pub code : MethodCode
+  pub has_code : info.code ≡ Some code
   pub stack : straight.limits.stack ≡ code.max_stack
   pub locals : straight.limits.locals ≡ code.max_locals
-  pub items : straight.listing.now ≡ listing.items
-  pub size : straight.size ≡ length code.bytes
+  pub items : straight.listing.now ≡ code.listing.items
+  pub size : straight.size ≡ code.size
   pub handlers : code.handlers ≡ []
   pub built : AreBuilt straight.listing.now
-  pub narrow : has_wide code.bytes straight.listing.now ≡ false
+  pub narrow : has_wide straight.listing.now straight.size ≡ false
 
--- the method has this code and this listing, and a handler, or an instruction that is not built or in its wide form
+-- the method has this code, with a handler, or an instruction that is not built or in its wide form
 pub record IsOtherCode (info : MethodInfo) : Type 0 where
-  pub code : Code
-  pub has_code : option_copied info.code ≡ Some code
-  pub listing : Listing
-  pub has_listing : option_copied info.listing ≡ Some listing
-  pub other : code.handlers ≡ [] → AreBuilt listing.items → has_wide code.bytes listing.items ≡ false → ⊥
+  pub code : MethodCode
+  pub has_code : info.code ≡ Some code
+  pub other : code.handlers ≡ [] → AreBuilt code.listing.items → has_wide code.listing.items code.size ≡ false → ⊥
 
--- the method is not static, has no code, or none that is listed, or other code than a straight method
+-- the method is not static, has no code, or other code than a straight method
 abbrev pub HasNoCode : MethodInfo → Type 0
-HasNoCode info =
-    (nat_eq (bit_and info.access 8) 0 ≡ true)
-    ⊎ ((option_copied info.code ≡ None) ⊎ (option_copied info.listing ≡ None) ⊎ IsOtherCode info)
+HasNoCode info = (nat_eq (bit_and info.access 8) 0 ≡ true) ⊎ (info.code ≡ None) ⊎ IsOtherCode info

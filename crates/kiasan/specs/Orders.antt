@@ -12,24 +12,17 @@ use Rattle.kiasan.specs.Unbuilt.{AreUnbuiltWords}
 -- the words are those of a command on a method, and all else is as where the words say nothing
 pub record OrdersJob (words : List (List ℕ)) (command : List ℕ) (job : Job) : Type 0 where
   pub method : List ℕ
-  pub file : List ℕ
-  pub form : AreJobWords words command method file
+  pub form : AreJobWords words command method job.files
   pub spelled : SpellsTarget job.target method
-  pub job_is : job ≡ default_job job.target (file ∷ [])
-
--- the words are those of a replay, of these files
-pub record OrdersReplay (words : List (List ℕ)) (tests : List ℕ) (files : List (List ℕ)) : Type 0 where
-  pub file : List ℕ
-  pub form : AreReplayWords words tests file
-  pub files_are : files ≡ file ∷ []
+  pub job_is : job ≡ default_job job.target job.files
 
 -- the words are those of a command on a method, and the word for the method is no target
 pub record HasBadTarget (words : List (List ℕ)) (word : ℕ) : Type 0 where
   pub command : List ℕ
   pub takes_method : IsJobCommand command
   pub method : List ℕ
-  pub file : List ℕ
-  pub form : AreJobWords words command method file
+  pub files : List (List ℕ)
+  pub form : AreJobWords words command method files
   pub place : word ≡ method_place
   pub no_target : IsTargetText method → ⊥
 
@@ -38,7 +31,7 @@ abbrev pub Orders : List (List ℕ) → Result Order WordFault → Type 0
 Orders words (Ok (Explore job)) = OrdersJob words (codes "explore") job
 Orders words (Ok (Tests job)) = OrdersJob words (codes "tests") job
 Orders words (Ok (Diagrams job)) = ⊥
-Orders words (Ok (Replay tests files)) = OrdersReplay words tests files
+Orders words (Ok (Replay tests files)) = AreReplayWords words tests files
 Orders words (Ok (Assemble text)) = ⊥
 Orders words (Ok (Sample blocks)) = ⊥
 Orders words (Err NoCommand) = words ≡ []

@@ -22,7 +22,7 @@ use Rattle.kb_terms.specs.declared.node.Node.TheVariants.{Const as Constant, Var
 use Rattle.kb_terms.specs.Terms.{AreTerms, IsPool, int_at}
 use Rattle.kb_terms.specs.Numbering.{numbering}
 use Rattle.kiasan.specs.declared.path.Operand.{Operand}
-use Rattle.kiasan.specs.declared.path.Operand.TheVariants.{Const, Var, Term as Earlier}
+use Rattle.kiasan.specs.declared.path.Operand.TheVariants.{Term as Earlier}
 use Rattle.kiasan.specs.declared.path.Term.{Term}
 use Rattle.kiasan.specs.declared.path.Origin.{Origin}
 use Rattle.kiasan.specs.declared.path.Origin.TheVariants.{Arg}

@@ -1,13 +1,14 @@
 -- The refusals: the status and the line of each, by rising number.
-use Rattle.std.specs.Prelude.{◌≡◌, ℕ, ◌/◌, ◌%◌, ℤ, false, List, [], ◌∷◌, ◌++◌, codes, Result, Ok, Err}
+use Rattle.std.specs.Prelude.{ℕ, ◌/◌, ◌%◌, ℤ, false, List, [], ◌∷◌, ◌++◌, codes, Result, Ok, Err}
 use Rattle.std.specs.Fmt.{decimal, signed_decimal, digit_glyph}
 use Rattle.kb_classfile.specs.declared.refusal.ClassRefusal.{ClassRefusal}
 use Rattle.kb_classfile.specs.declared.refusal.ClassRefusal.TheVariants as classes
 use Rattle.kb_code.specs.declared.refusal.CodeRefusal.{CodeRefusal}
 use Rattle.kb_code.specs.declared.refusal.CodeRefusal.TheVariants as codes_of
+use Rattle.kb_names.specs.Escapes.{name_text}
 use Rattle.kb_names.specs.Targets.{target_text}
 use Rattle.kiasan.specs.declared.refusals.Refusal.{Refusal}
-use Rattle.kiasan.specs.declared.refusals.Refusal.TheVariants.{Magic, Version, Short, Tag, PoolIndex, PoolKind, CodeLength, Extra, TwoCodes, LongClass, Opcode, CutInstr, JumpTarget, Switch, HandlerRange, NoMethod, Unbuilt, TestLine, NoTestMethod, IllTypedTest, LongText, NoCommand, BadTarget}
+use Rattle.kiasan.specs.declared.refusals.Refusal.TheVariants.{Magic, Version, Short, Tag, PoolIndex, PoolKind, CodeLength, Extra, TwoCodes, LongClass, Opcode, CutInstr, JumpTarget, Switch, HandlerRange, TwoMembers, BadName, BadDescriptor, Twice, Missing, Circle, BadSuper, SplitPackage, NoMethod, TooMany, Unbuilt, TestLine, NoTestMethod, IllTypedTest, LongText, NoCommand, BadTarget}
 use Rattle.kiasan.specs.declared.refusals.Stop.{Stop}
 use Rattle.kiasan.specs.declared.refusals.Stop.TheVariants.{Refused, ReadFault, NoMemory}
 use Rattle.kb_test.specs.declared.reading.TestRefusal.{TestRefusal}
@@ -55,6 +56,19 @@ unfoldable pub handler_line : ℕ → ℕ → ℕ → List ℕ
 handler_line file method handler =
     line (codes "refused 24 file " ∷ decimal file ∷ codes " method " ∷ decimal method ∷ codes " handler " ∷ decimal handler ∷ [])
 
+-- the line of a refusal at an entry of the constant pool of a class file, of one of a class, and of one of a class and a method
+unfoldable pub pool_line : ℕ → ℕ → ℕ → List ℕ
+pool_line number file entry = line (codes "refused " ∷ decimal number ∷ codes " file " ∷ decimal file ∷ codes " entry " ∷ decimal entry ∷ [])
+
+unfoldable pub class_front : ℕ → List ℕ → List ℕ
+class_front number name = codes "refused " ++ (decimal number ++ (codes " class " ++ name_text name))
+
+unfoldable pub class_line : ℕ → List ℕ → List ℕ
+class_line number name = class_front number name ++ codes "\n"
+
+unfoldable pub method_line : ℕ → List ℕ → List ℕ → List ℕ
+method_line number name method = class_front number name ++ (codes " method " ++ (name_text method ++ codes "\n"))
+
 -- the line of a refusal: its number, and its place
 unfoldable pub refusal_line : Refusal → List ℕ
 refusal_line (Magic file) = file_line 10 file
@@ -72,7 +86,16 @@ refusal_line (CutInstr file method at) = code_line 21 file method at
 refusal_line (JumpTarget file method at to) = target_line file method at to
 refusal_line (Switch file method at) = code_line 23 file method at
 refusal_line (HandlerRange file method handler) = handler_line file method handler
+refusal_line (TwoMembers file entry) = pool_line 37 file entry
+refusal_line (BadName file entry) = pool_line 38 file entry
+refusal_line (BadDescriptor file entry) = pool_line 39 file entry
+refusal_line (Twice name) = class_line 40 name
+refusal_line (Missing name) = class_line 41 name
+refusal_line (Circle name) = class_line 42 name
+refusal_line (BadSuper name) = class_line 43 name
+refusal_line (SplitPackage name method) = method_line 44 name method
 refusal_line (NoMethod target) = line (codes "refused 45 " ∷ target_text target ∷ [])
+refusal_line TooMany = line (codes "refused 49" ∷ [])
 refusal_line Unbuilt = unbuilt_line
 refusal_line (TestLine number) = line (codes "refused 60 line " ∷ decimal number ∷ [])
 refusal_line (NoTestMethod number) = line (codes "refused 61 test " ∷ decimal number ∷ [])
@@ -97,7 +120,16 @@ refusal_status (CutInstr file method at) = Class
 refusal_status (JumpTarget file method at to) = Class
 refusal_status (Switch file method at) = Class
 refusal_status (HandlerRange file method handler) = Class
+refusal_status (TwoMembers file entry) = Link
+refusal_status (BadName file entry) = Link
+refusal_status (BadDescriptor file entry) = Link
+refusal_status (Twice name) = Link
+refusal_status (Missing name) = Link
+refusal_status (Circle name) = Link
+refusal_status (BadSuper name) = Link
+refusal_status (SplitPackage name method) = Link
 refusal_status (NoMethod target) = Link
+refusal_status TooMany = Link
 refusal_status Unbuilt = unbuilt_status
 refusal_status (TestLine number) = Text
 refusal_status (NoTestMethod number) = Text
@@ -138,7 +170,15 @@ code_refusal file method codes_of.NoMemory = NoMemory
 
 -- the refusal of linking and reach, and of reading tests
 abbrev pub link_refusal : LinkRefusal → Stop
-link_refusal links.Unbuilt = Refused Unbuilt
+link_refusal links.TooMany = Refused TooMany
+link_refusal (links.BadName file entry) = Refused (BadName file entry)
+link_refusal (links.BadDescriptor file entry) = Refused (BadDescriptor file entry)
+link_refusal (links.TwoMembers file entry) = Refused (TwoMembers file entry)
+link_refusal (links.Twice name) = Refused (Twice name)
+link_refusal (links.Missing name) = Refused (Missing name)
+link_refusal (links.Circle name) = Refused (Circle name)
+link_refusal (links.BadSuper name) = Refused (BadSuper name)
+link_refusal (links.SplitPackage name method) = Refused (SplitPackage name method)
 link_refusal (links.NoMethod target) = Refused (NoMethod target)
 link_refusal links.NoMemory = NoMemory
 

@@ -1,6 +1,6 @@
 -- The text of a report: a head, a block for each path, and how many paths there are of each kind. Each line ends
 -- with a line feed, and its words stand with one space between them.
-use Rattle.std.specs.Prelude.{ℕ, ℤ, ◌+◌, Bool, true, false, cond, Option, None, Some, List, [], ◌∷◌, ◌++◌, length, codes, map}
+use Rattle.std.specs.Prelude.{ℕ, ◌+◌, Bool, true, false, cond, Option, None, Some, List, [], ◌∷◌, ◌++◌, length, codes, map}
 use Rattle.std.specs.Fmt.{decimal, signed_decimal}
 use Rattle.kb_heap.specs.declared.bounds.Bounds.{Bounds}
 use Rattle.kb_heap.specs.declared.bounds.RunBounds.{RunBounds}

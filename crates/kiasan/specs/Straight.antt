@@ -1,9 +1,10 @@
 -- Straight methods.
-use Rattle.std.specs.Prelude.{◌≡◌, ℕ, ◌≤◌, ℤ, List, [], ◌∷◌, length, map, slice_get, Bool, true, false, ◌==◌, if◌then◌else◌}
-use Rattle.std.specs.Option.{option_map_or}
+use Rattle.std.specs.Prelude.{◌≡◌, ℕ, ◌-◌, ◌≤◌, ℤ, List, [], ◌∷◌, length, map, Bool, true, false, ◌==◌, if◌then◌else◌}
 use Rattle.kb_arith.specs.Word.{AreInts}
+use Rattle.kb_class.specs.declared.ids.MethodId.{MethodId}
 use Rattle.kb_code.specs.declared.instruction.Instr.{Instr}
-use Rattle.kb_code.specs.declared.instruction.Instr.TheVariants.{ReturnInt}
+use Rattle.kb_code.specs.declared.instruction.Instr.TheVariants.{LoadInt, StoreInt, Inc, ReturnInt}
+use Rattle.kb_code.specs.Listing.{offset_of}
 use Rattle.kb_heap.specs.declared.heap.Value.TheVariants.{Int}
 use Rattle.kb_heap.specs.declared.heap.Heap.{Heap}
 use Rattle.kb_heap.specs.declared.heap.Input.{Input}
@@ -12,9 +13,10 @@ use Rattle.kb_heap.specs.declared.ending.Ending.TheVariants.{Returned, Threw, Il
 use Rattle.kb_names.specs.declared.types.Target.{Target}
 use Rattle.kb_semantics.specs.Machine.{AreBuilt, Method, Ended, run, start_of}
 use Rattle.kb_semantics.specs.Types.{IsMethod}
-use Rattle.kb_world.specs.declared.world.GivenClass.{GivenClass}
-use Rattle.kb_world.specs.declared.world.MethodId.{MethodId}
-use Rattle.kb_world.specs.World.{IsTargetOf, is_static}
+use Rattle.kb_world.specs.Initialisers.{is_initialised}
+use Rattle.kb_world.specs.Slots.{is_static}
+use Rattle.kb_world.specs.Targets.{IsTargetOf}
+use Rattle.kb_world.specs.World.{World}
 use Rattle.kiasan.specs.declared.explore.StraightCode.{StraightCode}
 use Rattle.kiasan.specs.Target.{takes_ints, params_of}
 
@@ -53,27 +55,32 @@ ends_by_return (item ∷ rest) = if is_return item.1 then length rest == 0 else 
 abbrev pub most_instructions : ℕ
 most_instructions = 2000
 
--- whether an instruction stands behind wide (JVMS 8 section 6.5, wide)
-abbrev pub is_wide : List ℕ → ℕ × Instr → Bool
-is_wide code item = option_map_or (λ op. op == 0xc4) (slice_get code item.0) false
+-- whether an instruction on a local, which has so many bytes, stands behind wide (JVMS 8 section 6.5, wide)
+abbrev pub is_wide : Instr → ℕ → Bool
+is_wide (LoadInt k) bytes = bytes == 4
+is_wide (StoreInt k) bytes = bytes == 4
+is_wide (Inc k z) bytes = bytes == 6
+is_wide _ bytes = false
 
-abbrev pub has_wide : List ℕ → List (ℕ × Instr) → Bool
-has_wide code [] = false
-has_wide code (item ∷ rest) = if is_wide code item then true else has_wide code rest
+-- whether one of a listing does, where the code has so many bytes: an instruction goes up to the next one, or to the end
+abbrev pub has_wide : List (ℕ × Instr) → ℕ → Bool
+has_wide [] size = false
+has_wide (item ∷ rest) size = if is_wide item.1 (offset_of rest size - item.0) then true else has_wide rest size
 
 -- The target names a straight method of the world, which the machine runs as this method: it takes ints alone and gives an
--- int, is static, has code without handlers, not too many instructions, all of them built and none in its wide form, a return
--- at the end alone, and no run over ints of 32 bits that is ill-typed. So its opcodes are among 00, 02 to 08, 10, 11, 15, 1a to
+-- int, is static, in a class that no code initialises, has code without handlers, not too many instructions, all of them built
+-- and none in its wide form, a return at the end alone, and no run over ints of 32 bits that is ill-typed. So its opcodes are among 00, 02 to 08, 10, 11, 15, 1a to
 -- 1d, 36, 3b to 3e, 57, 59, 60, 64, 68, 74, 78, 7a, 7c, 7e, 80, 82, 84, 91 to 93 and ac.
-pub record IsStraight (world : List GivenClass) (target : Target) (id : MethodId) (method : Method) : Type 0 where
+pub record IsStraight (world : World) (target : Target) (id : MethodId) (method : Method) : Type 0 where
   pub found : IsTargetOf world target id
   pub runs : IsMethod world id method
   pub named : method.target ≡ target
-  pub static : is_static runs.declared.names.method ≡ true
+  pub static : is_static runs.declared.method.access ≡ true
+  pub ready : is_initialised world runs.declared.method.class.0 ≡ false
   pub ints : takes_ints target.kind ≡ true
   pub handlers : runs.code.handlers ≡ []
   pub built : AreBuilt method.listing
-  pub narrow : has_wide runs.code.bytes method.listing ≡ false
+  pub narrow : has_wide method.listing method.size ≡ false
   pub few : length method.listing ≤ most_instructions
   pub ends : ends_by_return method.listing ≡ true
   pub typed : (heap : Heap) (inputs : List ℤ) → length inputs ≡ params_of target → AreInts inputs → IsIllTyped (run_over most_instructions method heap inputs).ending → ⊥

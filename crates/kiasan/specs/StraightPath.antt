@@ -3,8 +3,8 @@ use Rattle.std.specs.Prelude.{◌≡◌, ℕ, zero, suc, ◌≤◌, ℤ, pos, Li
 use Rattle.kb_heap.specs.declared.heap.Value.TheVariants.{Int as IntValue}
 use Rattle.kb_heap.specs.declared.heap.Input.{Input}
 use Rattle.kb_semantics.specs.Machine.{Method}
-use Rattle.kb_world.specs.declared.world.GivenClass.{GivenClass}
-use Rattle.kb_world.specs.declared.world.MethodId.{MethodId}
+use Rattle.kb_class.specs.declared.ids.MethodId.{MethodId}
+use Rattle.kb_world.specs.World.{World}
 use Rattle.kiasan.specs.declared.path.Operand.{Operand}
 use Rattle.kiasan.specs.declared.path.Term.{Term}
 use Rattle.kiasan.specs.declared.path.Origin.{Origin}
@@ -64,7 +64,7 @@ pub record StatesResult (explored : Explored) (params : ℕ) (path : Path) : Typ
   pub value : (inputs : List ℤ) → path_value terms operand inputs ≡ value_of explored.pool explored.result inputs
 
 -- The job is on a straight method, whose runs end within the job's bounds, and whose path may be listed.
-pub record IsExplorable (world : List GivenClass) (job : Job) (id : MethodId) (method : Method) : Type 0 where
+pub record IsExplorable (world : World) (job : Job) (id : MethodId) (method : Method) : Type 0 where
   pub straight : IsStraight world job.target id method
   pub within : length method.listing ≤ job.bounds.run.steps
   pub listed : 1 ≤ job.paths

@@ -1,12 +1,12 @@
 -- The tests of a replay: what refuses one, and what the machine's run says of it.
-use Rattle.std.specs.Prelude.{◌≡◌, ◌⊎◌, ℕ, ◌+◌, Bool, true, false, cond, nat_eq, List, [], ◌∷◌, ◌++◌, length, Result, Ok, Err}
+use Rattle.std.specs.Prelude.{◌≡◌, ◌⊎◌, ℕ, ◌+◌, Bool, true, false, cond, nat_eq, List, [], ◌∷◌, ◌++◌, length}
 use Rattle.kb_names.specs.declared.types.Target.{Target}
 use Rattle.kb_semantics.specs.Machine.{Method, run_of}
 use Rattle.kb_semantics.specs.Types.{IsTypeCorrect}
 use Rattle.kb_test.specs.declared.test_case.Test.{Test}
-use Rattle.kb_world.specs.declared.world.GivenClass.{GivenClass}
-use Rattle.kb_world.specs.declared.world.MethodId.{MethodId}
-use Rattle.kb_world.specs.World.{IsTargetOf}
+use Rattle.kb_class.specs.declared.ids.MethodId.{MethodId}
+use Rattle.kb_world.specs.Targets.{IsTargetOf}
+use Rattle.kb_world.specs.World.{World}
 use Rattle.kiasan.specs.declared.refusals.Refusal.{Refusal}
 use Rattle.kiasan.specs.declared.refusals.Refusal.TheVariants.{NoTestMethod, IllTypedTest}
 use Rattle.kiasan.specs.declared.replay.Replayed.{Replayed}
@@ -24,31 +24,31 @@ no_literals = 0
 -- ---- what refuses a test
 
 -- the method of a test is there, and its input is type-correct
-pub record IsFit (world : List GivenClass) (test : Test) (id : MethodId) : Type 0 where
+pub record IsFit (world : World) (test : Test) (id : MethodId) : Type 0 where
   pub found : IsTargetOf world test.target id
   pub correct : IsTypeCorrect world id test.input
 
 -- What refuses the test of that number, from 0: its method is not there, its input is not type-correct, or its method is
 -- refused as one that is to be run.
-abbrev pub RefusesTest : List GivenClass → ℕ → Test → Refusal → Type 0
+abbrev pub RefusesTest : World → ℕ → Test → Refusal → Type 0
 RefusesTest world number test refusal =
     ((refusal ≡ NoTestMethod number) × ((id : MethodId) → IsTargetOf world test.target id → ⊥))
     ⊎ ((refusal ≡ IllTypedTest number) × (id : MethodId) × IsTargetOf world test.target id × (IsTypeCorrect world id test.input → ⊥))
     ⊎ ((id : MethodId) × IsFit world test id × TargetRefuses (IsBuiltMethod world test.target) world test.target refusal)
 
 -- The test is run, by this method.
-pub record IsRunnable (world : List GivenClass) (test : Test) (id : MethodId) (method : Method) : Type 0 where
+pub record IsRunnable (world : World) (test : Test) (id : MethodId) (method : Method) : Type 0 where
   pub straight : IsStraight world test.target id method
   pub correct : IsTypeCorrect world id test.input
 
-abbrev pub AreRunnable : List GivenClass → List Test → List MethodId → Type 0
+abbrev pub AreRunnable : World → List Test → List MethodId → Type 0
 AreRunnable world [] [] = Unit {0}
 AreRunnable world (test ∷ tests) (id ∷ ids) = ((method : Method) × IsRunnable world test id method) × AreRunnable world tests ids
 AreRunnable world [] (id ∷ ids) = ⊥
 AreRunnable world (test ∷ tests) [] = ⊥
 
 -- The first test that is refused, and how many stand before it.
-pub record RefusesTests (world : List GivenClass) (tests : List Test) (refusal : Refusal) : Type 0 where
+pub record RefusesTests (world : World) (tests : List Test) (refusal : Refusal) : Type 0 where
   pub before : List Test
   pub test : Test
   pub after : List Test
@@ -63,7 +63,7 @@ IsAmong id [] = ⊥
 IsAmong id (other ∷ others) = (other ≡ id) ⊎ IsAmong id others
 
 -- each of these is the method of some target, and is built
-abbrev pub AreBuilt : List GivenClass → List MethodId → Type 0
+abbrev pub AreBuilt : World → List MethodId → Type 0
 AreBuilt world [] = Unit {0}
 AreBuilt world (id ∷ ids) = ((target : Target) × IsBuiltMethod world target id) × AreBuilt world ids
 
@@ -79,7 +79,7 @@ IsVerdict method test Passes = EndsAsStated method test
 IsVerdict method test (Differs ending heap) =
     (run_of test.bounds method test.input ≡ record { ending = ending; heap = heap }) × (EndsAsStated method test → ⊥)
 
-abbrev pub AreVerdicts : List GivenClass → List Test → List Replayed → Type 0
+abbrev pub AreVerdicts : World → List Test → List Replayed → Type 0
 AreVerdicts world [] [] = Unit {0}
 AreVerdicts world (test ∷ tests) (verdict ∷ verdicts) =
     ((id : MethodId) × (method : Method) × IsRunnable world test id method × IsVerdict method test verdict) × AreVerdicts world tests verdicts

@@ -1,12 +1,10 @@
 -- What is not built by now, and is refused by 50 until it is.
-use Rattle.std.specs.Prelude.{◌≡◌, ◌≢◌, List, [], ◌∷◌, ℕ, codes}
-use Rattle.kb_classfile.specs.declared.file.ClassFile.{ClassFile}
+use Rattle.std.specs.Prelude.{◌≢◌, List, [], ◌∷◌, ℕ, codes}
+use Rattle.kb_class.specs.declared.ids.MethodId.{MethodId}
 use Rattle.kb_names.specs.declared.types.Target.{Target}
 use Rattle.kb_semantics.specs.Machine.{Method}
-use Rattle.kb_world.specs.declared.world.GivenClass.{GivenClass}
-use Rattle.kb_world.specs.declared.world.MethodId.{MethodId}
-use Rattle.kb_world.specs.Linkable.{AreLinkable}
-use Rattle.kb_world.specs.World.{IsTargetOf}
+use Rattle.kb_world.specs.Targets.{IsTargetOf}
+use Rattle.kb_world.specs.World.{World}
 use Rattle.kiasan.specs.declared.status.Status.{Status}
 use Rattle.kiasan.specs.declared.status.Status.TheVariants.{Outside}
 use Rattle.kiasan.specs.Report.{line}
@@ -24,22 +22,18 @@ unbuilt_line = line (codes "refused 50" ∷ [])
 -- words of another form than those that are built
 pub record AreUnbuiltWords (words : List (List ℕ)) : Type 0 where
   pub some : words ≢ []
-  pub no_job : (command method file : List ℕ) → IsJobCommand command → AreJobWords words command method file → ⊥
-  pub no_replay : (tests file : List ℕ) → AreReplayWords words tests file → ⊥
-
--- class files that are not all linked by now
-abbrev pub AreUnbuiltClasses : List ClassFile → Type 0
-AreUnbuiltClasses files = AreLinkable files → ⊥
+  pub no_job : (command method : List ℕ) (files : List (List ℕ)) → IsJobCommand command → AreJobWords words command method files → ⊥
+  pub no_replay : (tests : List ℕ) (files : List (List ℕ)) → AreReplayWords words tests files → ⊥
 
 -- a method is built for tests where it is straight, and for a job where its runs also end within the job's bounds
-abbrev pub IsBuiltMethod : List GivenClass → Target → MethodId → Type 0
+abbrev pub IsBuiltMethod : World → Target → MethodId → Type 0
 IsBuiltMethod world target id = (method : Method) × IsStraight world target id method
 
-abbrev pub IsBuiltFor : List GivenClass → Job → MethodId → Type 0
+abbrev pub IsBuiltFor : World → Job → MethodId → Type 0
 IsBuiltFor world job id = (method : Method) × IsExplorable world job id method
 
 -- the target names a method that may be run, and it is not built
-pub record IsUnbuilt (Built : MethodId → Type 0) (world : List GivenClass) (target : Target) : Type 0 where
+pub record IsUnbuilt (Built : MethodId → Type 0) (world : World) (target : Target) : Type 0 where
   pub id : MethodId
   pub found : IsTargetOf world target id
   pub none : Built id → ⊥

@@ -14,15 +14,20 @@ IsOption word = (rest : List ℕ) × (word ≡ codes "--" ++ rest)
 abbrev pub IsJobCommand : List ℕ → Type 0
 IsJobCommand command = (command ≡ codes "explore") ⊎ (command ≡ codes "tests")
 
--- a command, a method and a class file: `explore --method METHOD FILE`
-pub record AreJobWords (words : List (List ℕ)) (command method file : List ℕ) : Type 0 where
-  pub words_are : words ≡ command ∷ codes "--method" ∷ method ∷ file ∷ []
-  pub is_file : IsOption file → ⊥
+-- Class files: at least one. The first names no option; behind it each word is a file, whatever it begins with.
+abbrev pub AreFiles : List (List ℕ) → Type 0
+AreFiles [] = ⊥
+AreFiles (file ∷ files) = IsOption file → ⊥
 
--- `replay --tests TESTS FILE`
-pub record AreReplayWords (words : List (List ℕ)) (tests file : List ℕ) : Type 0 where
-  pub words_are : words ≡ codes "replay" ∷ codes "--tests" ∷ tests ∷ file ∷ []
-  pub is_file : IsOption file → ⊥
+-- a command, a method and class files: `explore --method METHOD FILE..`
+pub record AreJobWords (words : List (List ℕ)) (command method : List ℕ) (files : List (List ℕ)) : Type 0 where
+  pub words_are : words ≡ command ∷ codes "--method" ∷ method ∷ files
+  pub are_files : AreFiles files
+
+-- `replay --tests TESTS FILE..`
+pub record AreReplayWords (words : List (List ℕ)) (tests : List ℕ) (files : List (List ℕ)) : Type 0 where
+  pub words_are : words ≡ codes "replay" ∷ codes "--tests" ∷ tests ∷ files
+  pub are_files : AreFiles files
 
 -- the place of the option's value in the words of a job
 abbrev pub method_place : ℕ

@@ -2,16 +2,18 @@
 
 ghost use Rattle.std.specs.Prelude.{[], ◌∷◌, IfOk};
 ghost use Rattle.kb_classfile.specs.Spelling.{IsClassFile};
-ghost use Rattle.kb_world.specs.World.{AreGiven, AreListings};
-ghost use Rattle.kiasan.specs.Answers.{AreClasses, ClassRefuses, FileRefuses, IsClassOf, IsWorldOf, RefusesClasses, WorldRefuses};
+ghost use Rattle.kb_class.specs.Given.{AreGiven, AreListings};
+ghost use Rattle.kb_world.specs.Links.{Links};
+ghost use Rattle.kiasan.specs.Answers.{AreClasses, ClassRefuses, FileRefuses, IsClassOf, RefusesClasses, WorldRefuses};
 ghost use Rattle.kiasan.specs.CodeFaults.{CodeRefuses, MethodsRefuse};
 ghost use Rattle.kiasan.specs.Refusals.{Gives};
 
 use crate::refusals::{Stop, class_refusal, code_refusal};
+use kb_class::{GivenClass, handlers_of};
 use kb_classfile::{ClassFile, Method, read_class};
 use kb_code::{Listing, decode};
 use kb_rows::Row;
-use kb_world::{GivenClass, World, handlers_of, link};
+use kb_world::{World, link};
 use std::alloc::Global;
 
 /// The classes that these bytes spell, in order, each with the listings of its methods.
@@ -89,10 +91,10 @@ fn listing_of(
 }
 
 /// The world of classes.
-#[tactic(auto, using(crate::proofs::ClassLaws::link_stops, crate::proofs::ClassLaws::world_of_classes))]
+#[tactic(auto, using(crate::proofs::ClassLaws::link_stops))]
 pub fn link_classes(alloc: Global, given: Vec<GivenClass>) -> Result<World, Stop>
     requires { AreGiven given.items }
-    ensures { Gives ⊥ (WorldRefuses given.items) (IsWorldOf given.items) result }
+    ensures { Gives ⊥ (WorldRefuses given.items) (Links given.items) result }
 {
     Ok(link(alloc, given)?)
 }

@@ -25,7 +25,7 @@ use std::alloc::Global;
 pub struct StraightCode<'a> {
     pub limits: Limits,
     pub listing: &'a [(u32, Instr)],
-    pub size: usize,
+    pub size: u32,
 }
 
 /// What a straight method returns: a term of a pool whose variables are the arguments.

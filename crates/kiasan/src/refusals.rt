@@ -1,9 +1,9 @@
 //! Refusals, and the answer that each makes: a status, and one line with its number and place.
 
-ghost use Rattle.std.specs.Prelude.{◌≡◌, ◌<◌, false, ◌++◌, [], ◌∷◌, codes, IfOk};
+ghost use Rattle.std.specs.Prelude.{◌≡◌, ◌≢◌, ◌<◌, false, ◌++◌, [], ◌∷◌, codes, IfOk};
 ghost use Rattle.std.specs.Fmt.{digit_glyph};
 ghost use Rattle.kb_names.specs.Targets.{target_text};
-ghost use Rattle.kiasan.specs.Refusals.{class_refusal, refusal_line, code_refusal, refusal_status, file_line, offset_line, entry_line, code_line, opcode_front, opcode_line, target_line, handler_line};
+ghost use Rattle.kiasan.specs.Refusals.{class_refusal, refusal_line, code_refusal, refusal_status, file_line, offset_line, entry_line, code_line, opcode_front, opcode_line, target_line, handler_line, pool_line, class_front, class_line, method_line};
 
 use crate::memory::NoMemory;
 use crate::status::Status;
@@ -11,7 +11,7 @@ use crate::unbuilt::{UNBUILT_LINE, UNBUILT_STATUS};
 use crate::words::WordFault;
 use kb_classfile::ClassRefusal;
 use kb_code::CodeRefusal;
-use kb_names::{Target, write_target};
+use kb_names::{Name, Target, write_name, write_target};
 use kb_test::TestRefusal;
 use kb_world::LinkRefusal;
 use std::alloc::{AllocError, AllocFailed, Global};
@@ -50,8 +50,26 @@ pub enum Refusal {
     Switch(usize, usize, u32),
     /// A handler is not of a range of instructions: the file, the method, the handler.
     HandlerRange(usize, usize, u32),
+    /// A class file has a field or method of the name and descriptor of an earlier one: the file, the name's entry.
+    TwoMembers(u32, u16),
+    /// A class file has a name that may not be one: the file, the name's entry.
+    BadName(u32, u16),
+    /// A class file has a descriptor that is none: the file, the descriptor's entry.
+    BadDescriptor(u32, u16),
+    /// Two classes have the name, or one has that of a platform class.
+    Twice(Name),
+    /// No class has the name of a superclass or interface.
+    Missing(Name),
+    /// The class is one of its own superclasses and interfaces.
+    Circle(Name),
+    /// A superclass that is final or an interface, or an interface that is none.
+    BadSuper(Name),
+    /// A class, and a method of it that a superclass in another package declares too, both inside their package.
+    SplitPackage(Name, Name),
     /// No method may be run that the target names.
     NoMethod(Target),
+    /// Too many class files are given.
+    TooMany,
     /// Something that is not built was met.
     Unbuilt,
     /// No list of tests goes on at that line.
@@ -139,7 +157,19 @@ impl From<LinkRefusal> for Stop {
 
     fn from(refusal: LinkRefusal) -> Stop {
         match refusal {
-            LinkRefusal::Unbuilt => Stop::Refused(Refusal::Unbuilt),
+            LinkRefusal::TooMany => Stop::Refused(Refusal::TooMany),
+            LinkRefusal::BadName(file, entry) => Stop::Refused(Refusal::BadName(file, entry)),
+            LinkRefusal::BadDescriptor(file, entry) => {
+                Stop::Refused(Refusal::BadDescriptor(file, entry))
+            }
+            LinkRefusal::TwoMembers(file, entry) => Stop::Refused(Refusal::TwoMembers(file, entry)),
+            LinkRefusal::Twice(name) => Stop::Refused(Refusal::Twice(name)),
+            LinkRefusal::Missing(name) => Stop::Refused(Refusal::Missing(name)),
+            LinkRefusal::Circle(name) => Stop::Refused(Refusal::Circle(name)),
+            LinkRefusal::BadSuper(name) => Stop::Refused(Refusal::BadSuper(name)),
+            LinkRefusal::SplitPackage(name, method) => {
+                Stop::Refused(Refusal::SplitPackage(name, method))
+            }
             LinkRefusal::NoMethod(target) => Stop::Refused(Refusal::NoMethod(target)),
             LinkRefusal::NoMemory => Stop::NoMemory,
         }
@@ -230,7 +260,16 @@ fn refusal_status(refusal: &Refusal) -> Status
         | Refusal::JumpTarget(..)
         | Refusal::Switch(..)
         | Refusal::HandlerRange(..) => Status::Class,
-        Refusal::NoMethod(_) => Status::Link,
+        Refusal::TwoMembers(..)
+        | Refusal::BadName(..)
+        | Refusal::BadDescriptor(..)
+        | Refusal::Twice(_)
+        | Refusal::Missing(_)
+        | Refusal::Circle(_)
+        | Refusal::BadSuper(_)
+        | Refusal::SplitPackage(..)
+        | Refusal::NoMethod(_)
+        | Refusal::TooMany => Status::Link,
         Refusal::Unbuilt => UNBUILT_STATUS,
         Refusal::TestLine(_)
         | Refusal::NoTestMethod(_)
@@ -240,8 +279,20 @@ fn refusal_status(refusal: &Refusal) -> Status
     }
 }
 
-#[tactic(auto, unfolding(crate::specs::Refusals::refusal_line, crate::specs::Unbuilt::unbuilt_line))]
 fn refusal_line(alloc: Global, refusal: &Refusal) -> Result<Vec<u8>, NoMemory>
+    ensures { IfOk result (λ text. text.items ≡ refusal_line refusal.now) }
+{
+    match refusal_status(refusal) {
+        Status::Class => class_refusal_line(alloc, refusal),
+        Status::Link => link_refusal_line(alloc, refusal),
+        _ => other_refusal_line(alloc, refusal),
+    }
+}
+
+/// The line of a refusal of a class file.
+#[tactic(auto, unfolding(crate::specs::Refusals::refusal_line))]
+fn class_refusal_line(alloc: Global, refusal: &Refusal) -> Result<Vec<u8>, NoMemory>
+    requires { refusal_status refusal.now ≡ Status.Class }
     ensures { IfOk result (λ text. text.items ≡ refusal_line refusal.now) }
 {
     match refusal {
@@ -268,7 +319,39 @@ fn refusal_line(alloc: Global, refusal: &Refusal) -> Result<Vec<u8>, NoMemory>
         Refusal::HandlerRange(file, method, handler) => {
             handler_line(alloc, *file, *method, *handler)
         }
-        Refusal::NoMethod(target) => method_line(alloc, "refused 45 ", target),
+        _ => unreachable!(),
+    }
+}
+
+/// The line of a refusal of linking, or of reach.
+#[tactic(auto, unfolding(crate::specs::Refusals::refusal_line))]
+fn link_refusal_line(alloc: Global, refusal: &Refusal) -> Result<Vec<u8>, NoMemory>
+    requires { refusal_status refusal.now ≡ Status.Link }
+    ensures { IfOk result (λ text. text.items ≡ refusal_line refusal.now) }
+{
+    match refusal {
+        Refusal::TwoMembers(file, entry) => pool_line(alloc, 37, *file, *entry),
+        Refusal::BadName(file, entry) => pool_line(alloc, 38, *file, *entry),
+        Refusal::BadDescriptor(file, entry) => pool_line(alloc, 39, *file, *entry),
+        Refusal::Twice(name) => class_line(alloc, 40, name),
+        Refusal::Missing(name) => class_line(alloc, 41, name),
+        Refusal::Circle(name) => class_line(alloc, 42, name),
+        Refusal::BadSuper(name) => class_line(alloc, 43, name),
+        Refusal::SplitPackage(name, method) => method_line(alloc, 44, name, method),
+        Refusal::NoMethod(target) => reach_line(alloc, target),
+        Refusal::TooMany => Ok(String::from_str(alloc, "refused 49\n")?.into_bytes()),
+        _ => unreachable!(),
+    }
+}
+
+/// The line of a refusal of what is not built, of tests or of words.
+#[tactic(auto, unfolding(crate::specs::Refusals::refusal_line, crate::specs::Unbuilt::unbuilt_line))]
+fn other_refusal_line(alloc: Global, refusal: &Refusal) -> Result<Vec<u8>, NoMemory>
+    requires class { refusal_status refusal.now ≢ Status.Class }
+    requires link { refusal_status refusal.now ≢ Status.Link }
+    ensures { IfOk result (λ text. text.items ≡ refusal_line refusal.now) }
+{
+    match refusal {
         Refusal::Unbuilt => Ok(String::from_str(alloc, UNBUILT_LINE)?.into_bytes()),
         Refusal::TestLine(number) => {
             Ok(format!(in alloc; "refused 60 line {number}\n")?.into_bytes())
@@ -284,6 +367,7 @@ fn refusal_line(alloc: Global, refusal: &Refusal) -> Result<Vec<u8>, NoMemory>
         Refusal::BadTarget(word) => {
             Ok(format!(in alloc; "refused 98 word {word}\n")?.into_bytes())
         }
+        _ => unreachable!(),
     }
 }
 
@@ -399,11 +483,51 @@ fn handler_line(
     Ok(text.into_bytes())
 }
 
-/// A line that ends with a method.
-fn method_line(alloc: Global, front: &str, target: &Target) -> Result<Vec<u8>, NoMemory>
-    ensures { IfOk result (λ text. text.items ≡ front.now ++ (target_text target.now ++ codes "\n")) }
+/// The line of a refusal at an entry of the constant pool of a class file.
+#[tactic(auto, unfolding(crate::specs::Refusals::pool_line))]
+fn pool_line(alloc: Global, number: u32, file: u32, entry: u16) -> Result<Vec<u8>, NoMemory>
+    ensures { IfOk result (λ text. text.items ≡ pool_line number file entry) }
 {
-    let mut text = String::from_str(alloc, front)?.into_bytes();
+    Ok(format!(in alloc; "refused {number} file {file} entry {entry}\n")?.into_bytes())
+}
+
+/// The line of a refusal of a class.
+#[tactic(auto, unfolding(crate::specs::Refusals::class_line))]
+fn class_line(alloc: Global, number: u32, class: &Name) -> Result<Vec<u8>, NoMemory>
+    ensures { IfOk result (λ text. text.items ≡ class_line number class.now) }
+{
+    let mut text = class_front(alloc, number, class)?;
+    text.push(b'\n')?;
+    Ok(text)
+}
+
+/// The line of a refusal of a method of a class, by its name.
+#[tactic(auto, unfolding(crate::specs::Refusals::method_line))]
+fn method_line(alloc: Global, number: u32, class: &Name, method: &Name) -> Result<Vec<u8>, NoMemory>
+    ensures { IfOk result (λ text. text.items ≡ method_line number class.now method.now) }
+{
+    let mut text = class_front(alloc, number, class)?;
+    text.extend_from_slice(b" method ".as_slice())?;
+    write_name(method, &mut text)?;
+    text.push(b'\n')?;
+    Ok(text)
+}
+
+/// The line of a refusal of a class, up to the class's name.
+#[tactic(auto, unfolding(crate::specs::Refusals::class_front))]
+fn class_front(alloc: Global, number: u32, class: &Name) -> Result<Vec<u8>, NoMemory>
+    ensures { IfOk result (λ text. text.items ≡ class_front number class.now) }
+{
+    let mut text = format!(in alloc; "refused {number} class ")?.into_bytes();
+    write_name(class, &mut text)?;
+    Ok(text)
+}
+
+/// The line of the refusal of a target that names no method.
+fn reach_line(alloc: Global, target: &Target) -> Result<Vec<u8>, NoMemory>
+    ensures { IfOk result (λ text. text.items ≡ codes "refused 45 " ++ (target_text target.now ++ codes "\n")) }
+{
+    let mut text = String::from_str(alloc, "refused 45 ")?.into_bytes();
     write_target(target, &mut text)?;
     text.push(b'\n')?;
     Ok(text)

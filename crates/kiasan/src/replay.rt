@@ -13,10 +13,11 @@ use crate::reports::NO_LITERALS;
 use crate::status::Status;
 use crate::unbuilt::check_built;
 use crate::verdicts::replay_text;
+use kb_class::MethodId;
 use kb_heap::{Ending, Heap, Row};
 use kb_machine::{fits_types, run};
 use kb_test::{Test, read_tests};
-use kb_world::{MethodId, World};
+use kb_world::World;
 use std::alloc::Global;
 
 /// What the machine's run says of a test.

@@ -5,9 +5,9 @@ ghost use Rattle.kb_names.specs.Targets.{IsTarget};
 ghost use Rattle.kb_semantics.specs.Machine.{Method};
 ghost use Rattle.kb_terms.specs.Terms.{IsTerm};
 ghost use Rattle.kb_test.specs.Texts.{AreTests, IsRunBounds, SpellsTests, tests_text};
-ghost use Rattle.kb_world.specs.World.{IsTargetOf};
-ghost use Rattle.kb_world.specs.declared.world.GivenClass.{GivenClass};
-ghost use Rattle.kb_world.specs.declared.world.MethodId.{MethodId};
+ghost use Rattle.kb_world.specs.Targets.{IsTargetOf};
+ghost use Rattle.kb_world.specs.World.{World};
+ghost use Rattle.kb_class.specs.declared.ids.MethodId.{MethodId};
 ghost use Rattle.kiasan.specs.Covering.{IsReportOf, path_tests, test_of, tests_of};
 ghost use Rattle.kiasan.specs.Explored.{IsExplored};
 ghost use Rattle.kiasan.specs.StraightPath.{IsExplorable, StatesResult, arguments_seen, zero_input};
@@ -21,13 +21,14 @@ use crate::path::{
 use crate::report::Report;
 use crate::straight::explore_method;
 use crate::words::Job;
+use kb_class::MethodId;
 use kb_heap::{Heap, Input, Value};
 use kb_rows::Row;
 use kb_test::{Test, write_test};
-use kb_world::{MethodId, World};
+use kb_world::World;
 use std::alloc::Global;
 
-/// How many literals the world of one class file of the form that is built has: such a file has no strings.
+/// How many literals stand in the heaps of tests: by now none, as no instruction is built that reads one.
 pub const NO_LITERALS: u32 = 0;
 
 /// The report of the job's method. There is none where the method is not straight, or may have more instructions than the
@@ -59,7 +60,7 @@ pub fn report_of(
 /// The report of a straight method that was explored.
 fn straight_report(alloc: Global, job: &Job, explored: &Explored) -> Result<Report, NoMemory>
     requires { IsTerm explored.now.pool explored.now.result }
-    ensures report { IfOk result (λ r. (world : List GivenClass) (id : MethodId) → IsExplored world job.now.target id explored.now → explored.now.instructions ≤ job.now.bounds.run.steps → 1 ≤ job.now.paths → IsReportOf world job.now r) }
+    ensures report { IfOk result (λ r. (world : World) (id : MethodId) → IsExplored world job.now.target id explored.now → explored.now.instructions ≤ job.now.bounds.run.steps → 1 ≤ job.now.paths → IsReportOf world job.now r) }
     ensures tests { IfOk result (λ r. IsTarget job.now.target → IsRunBounds job.now.bounds.run → AreTests no_literals (tests_of r)) }
 {
     let path = straight_path(alloc, job.target.kind.params.as_slice().len(), explored)?;

@@ -12,7 +12,7 @@ pub enum Status {
     Words,
     /// A class file was refused.
     Class,
-    /// A method is not there.
+    /// Class files are not linked, or a method is not there.
     Link,
     /// Something that is not built was met.
     Outside,

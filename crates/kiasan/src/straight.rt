@@ -1,31 +1,29 @@
 //! Straight methods of a world, and what one returns.
 
 ghost use Rattle.std.specs.Prelude.{◌≡◌, IfOk, IfSome, IfNone};
-ghost use Rattle.kb_code.specs.Listing.{IsLaidOut};
+ghost use Rattle.kb_code.specs.Listing.{IsLaidOut, offset_of};
 ghost use Rattle.kb_semantics.specs.Machine.{AreBuilt, Method};
-ghost use Rattle.kb_world.specs.World.{IsTargetOf};
-ghost use Rattle.kiasan.specs.Straight.{IsStraight, has_wide};
+ghost use Rattle.kb_world.specs.Targets.{IsTargetOf};
+ghost use Rattle.kiasan.specs.Straight.{IsStraight, has_wide, is_wide};
 ghost use Rattle.kiasan.specs.Explored.{IsExplored, IsCarriedOut, IsStraightRun, IsCodeOf, HasNoCode};
 
 use crate::explore::{Explored, StraightCode, ends_by_return, explore};
 use crate::memory::NoMemory;
 use crate::state::Limits;
 use crate::target::takes_ints;
+use kb_class::{MethodId, MethodInfo};
 use kb_classfile::STATIC;
 use kb_code::Instr;
 use kb_machine::are_built;
 use kb_names::Target;
-use kb_world::{MethodId, MethodInfo, World};
+use kb_world::World;
 use std::alloc::Global;
 
 /// The most instructions of a straight method.
 const MOST_INSTRUCTIONS: usize = 2_000;
 
-/// The opcode of wide (JVMS 8 section 6.5).
-const WIDE: u8 = 0xc4;
-
 /// What a straight method returns, for all ints at once. There is nothing where the method that the target names is not
-/// straight.
+/// straight, or its class is initialised by code.
 pub fn explore_method(
     alloc: Global,
     world: &World,
@@ -39,32 +37,33 @@ pub fn explore_method(
     if !takes_ints(&target.kind) {
         return Ok(None);
     }
-    let Some(info) = world.method_of(id) else {
+    let info = world.method_of(id);
+    if world.has_initialiser(info.class) {
         return Ok(None);
-    };
-    match straight_code(&info) {
+    }
+    match straight_code(info) {
         Some(code) => explore_straight(alloc, &code, target.kind.params.as_slice().len()),
         None => Ok(None),
     }
 }
 
 /// The code of a static method, where it has no handlers, and its instructions are all built and in their short forms.
-fn straight_code<'a>(info: &MethodInfo<'a>) -> Option<StraightCode<'a>>
+fn straight_code(info: &MethodInfo) -> Option<StraightCode<'_>>
     ensures some { IfSome result (IsCodeOf info.now) }
     ensures none { IfNone result (HasNoCode info.now) }
 {
     if info.access & STATIC == 0 {
         return None;
     }
-    let code = info.code?;
-    let listing = info.listing?;
+    let code = info.code.as_ref()?;
+    let listing = code.listing.items.as_slice();
     if !code.handlers.as_slice().is_empty() {
         return None;
     }
-    if !are_built(listing.items.as_slice()) {
+    if !are_built(listing) {
         return None;
     }
-    if has_wide(code.bytes.as_slice(), listing.items.as_slice()) {
+    if has_wide(listing, code.size) {
         return None;
     }
     Some(StraightCode {
@@ -72,23 +71,44 @@ fn straight_code<'a>(info: &MethodInfo<'a>) -> Option<StraightCode<'a>>
             stack: code.max_stack,
             locals: code.max_locals,
         },
-        listing: listing.items.as_slice(),
-        size: code.bytes.as_slice().len(),
+        listing,
+        size: code.size,
     })
 }
 
-/// Whether an instruction is in its wide form.
-fn has_wide(code: &[u8], listing: &[(u32, Instr)]) -> bool
-    ensures { result ≡ has_wide code.now listing.now }
+/// Whether an instruction is in its wide form, in code of so many bytes.
+fn has_wide(listing: &[(u32, Instr)], size: u32) -> bool
+    ensures { result ≡ has_wide listing.now size }
 {
     let mut rest = listing;
-    while let [(at, _), others @ ..] = rest {
-        if code.get(*at as usize) == Some(&WIDE) {
+    while let [(at, instr), others @ ..] = rest {
+        if is_wide(instr, offset_of(others, size).saturating_sub(*at)) {
             return true;
         }
         rest = others;
     }
     false
+}
+
+/// Where a listing begins in code of so many bytes: at its first instruction, or at the end.
+fn offset_of(listing: &[(u32, Instr)], size: u32) -> u32
+    ensures { result ≡ offset_of listing.now size }
+{
+    match listing {
+        [(at, _), ..] => *at,
+        [] => size,
+    }
+}
+
+/// Whether an instruction of so many bytes is in its wide form.
+fn is_wide(instr: &Instr, bytes: u32) -> bool
+    ensures { result ≡ is_wide instr.now bytes }
+{
+    match instr {
+        Instr::LoadInt(_) | Instr::StoreInt(_) => bytes == 4,
+        Instr::Inc(..) => bytes == 6,
+        _ => false,
+    }
 }
 
 /// What code returns that takes so many ints, where it has not too many instructions, ends by its one return, and is never

@@ -8,7 +8,7 @@ use std::process::Abort;
 use std::test::Fail;
 
 /// A class file with `static int f(int, int)`, which adds its arguments.
-const CLASS_A: [u8; 102] = [
+pub(crate) const CLASS_A: [u8; 102] = [
     0xca, 0xfe, 0xba, 0xbe, 0x00, 0x00, 0x00, 0x34, 0x00, 0x08, 0x01, 0x00, 0x01, 0x41, 0x07, 0x00,
     0x01, 0x01, 0x00, 0x10, 0x6a, 0x61, 0x76, 0x61, 0x2f, 0x6c, 0x61, 0x6e, 0x67, 0x2f, 0x4f, 0x62,
     0x6a, 0x65, 0x63, 0x74, 0x07, 0x00, 0x03, 0x01, 0x00, 0x01, 0x66, 0x01, 0x00, 0x05, 0x28, 0x49,
@@ -42,7 +42,7 @@ const CLASS_B: [u8; 261] = [
 /// Where the flags of the method of class A stand.
 const METHOD_FLAGS: usize = 71;
 
-const EXPLORE_A: &str = "explore --method A.f(II)I A.class";
+pub(crate) const EXPLORE_A: &str = "explore --method A.f(II)I A.class";
 
 /// The report on class A.
 const REPORT_A: &str = "kiasan report 1
@@ -99,7 +99,7 @@ const fn row<'a>(
 }
 
 /// A shelf with these files, whose calls of these numbers fail, from 0.
-fn shelf_of(
+pub(crate) fn shelf_of(
     alloc: Global,
     named: &[(&str, &[u8])],
     fails: Vec<u64>,
@@ -164,12 +164,12 @@ fn test_a(alloc: Global, steps: u32, lines: &str) -> Result<String, AllocError> 
 }
 
 /// A sink that takes 10 bytes in a call.
-fn sink_failing_at(alloc: Global, fails: Vec<u64>) -> Result<MemorySink, Fail> {
+pub(crate) fn sink_failing_at(alloc: Global, fails: Vec<u64>) -> Result<MemorySink, Fail> {
     Ok(MemorySink::new(alloc, 10, fails).with_room(4096)?)
 }
 
 /// The program's answer to these words.
-fn answer_to(
+pub(crate) fn answer_to(
     alloc: Global,
     line: &str,
     shelf: &mut MemoryShelf,
@@ -183,7 +183,7 @@ fn answer_to(
 }
 
 /// Asserts that the words have this status and this text where the file A.class has these bytes.
-fn assert_answer<A: Abort + AllocGlobal>(
+pub(crate) fn assert_answer<A: Abort + AllocGlobal>(
     rt: &A,
     line: &str,
     bytes: &[u8],
@@ -408,8 +408,8 @@ fn a_sink_that_fails_has_the_front_of_the_report(rt: HostRuntime) -> Result<(), 
 fn words_and_files_are_refused(rt: HostRuntime) -> Result<(), Fail> {
     let unbuilt = "refused 50\n";
     assert_answer(&rt, "", &CLASS_A, Status::Words, "refused 90\n")?;
-    let more = "explore --method A.f(II)I A.class B.class";
-    assert_answer(&rt, more, &CLASS_A, Status::Outside, unbuilt)?;
+    let option = "explore --method A.f(II)I --k A.class";
+    assert_answer(&rt, option, &CLASS_A, Status::Outside, unbuilt)?;
     let other_method = "explore --method A.g()I A.class";
     let missing = "refused 45 A.g()I\n";
     assert_answer(&rt, other_method, &CLASS_A, Status::Link, missing)?;
@@ -424,7 +424,7 @@ fn words_and_files_are_refused(rt: HostRuntime) -> Result<(), Fail> {
 }
 
 /// These bytes, one piece behind the other.
-fn joined(alloc: Global, pieces: &[&[u8]]) -> Result<Vec<u8>, AllocError> {
+pub(crate) fn joined(alloc: Global, pieces: &[&[u8]]) -> Result<Vec<u8>, AllocError> {
     let mut all = Vec::new(alloc);
     for piece in pieces {
         all.extend_from_slice(piece)?;
@@ -433,7 +433,7 @@ fn joined(alloc: Global, pieces: &[&[u8]]) -> Result<Vec<u8>, AllocError> {
 }
 
 /// Class A with other bytes from an offset on.
-fn changed(alloc: Global, at: usize, bytes: &[u8]) -> Result<Vec<u8>, AllocError> {
+pub(crate) fn changed(alloc: Global, at: usize, bytes: &[u8]) -> Result<Vec<u8>, AllocError> {
     let front = at.min(CLASS_A.len());
     let behind = at.saturating_add(bytes.len()).min(CLASS_A.len());
     joined(alloc, &[&CLASS_A[..front], bytes, &CLASS_A[behind..]])
@@ -523,26 +523,6 @@ fn class_b_is_read(rt: HostRuntime) -> Result<(), Fail> {
     let test = TEST_A.replace(rt.alloc(), "A.f(II)I", "B.g(II)I")?;
     let missing = "refused 61 test 0\n";
     assert_replay_on(&rt, &CLASS_B, test.as_str(), Status::Text, missing)
-}
-
-/// From 64 to 68 the counts of interfaces and of fields stand in class A, and at 61 the number of its own name.
-#[test]
-fn classes_that_are_linked_later_are_refused_before_texts(rt: HostRuntime) -> Result<(), Fail> {
-    let front = &CLASS_A[..64];
-    let behind = &CLASS_A[68..];
-    let interface = b"\x00\x01\x00\x04\x00\x00";
-    let field = b"\x00\x00\x00\x01\x00\x09\x00\x05\x00\x06\x00\x00";
-    let rows = [
-        joined(rt.alloc(), &[front, interface, behind])?,
-        joined(rt.alloc(), &[front, field, behind])?,
-        changed(rt.alloc(), 61, b"\x04")?,
-    ];
-    let unbuilt = "refused 50\n";
-    for class in &rows {
-        assert_answer(&rt, EXPLORE_A, class.as_slice(), Status::Outside, unbuilt)?;
-        assert_replay_on(&rt, class.as_slice(), "no tests", Status::Outside, unbuilt)?;
-    }
-    Ok(())
 }
 
 /// The handler covers the first instruction, and is reached at it.

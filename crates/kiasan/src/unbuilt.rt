@@ -3,7 +3,7 @@
 ghost use Rattle.std.specs.Prelude.{◌≡◌, ◌⊎◌};
 ghost use Rattle.kb_names.specs.Targets.{IsTarget};
 ghost use Rattle.kb_test.specs.Texts.{AreTests, IsRunBounds};
-ghost use Rattle.kb_world.specs.World.{IsTargetOf};
+ghost use Rattle.kb_world.specs.Targets.{IsTargetOf};
 ghost use Rattle.kiasan.specs.Answers.{IsWrittenReport};
 ghost use Rattle.kiasan.specs.Covering.{IsReportOf, tests_of};
 ghost use Rattle.kiasan.specs.Reach.{TargetRefuses};
@@ -17,8 +17,9 @@ use crate::reports::report_of;
 use crate::status::Status;
 use crate::straight::explore_method;
 use crate::words::Job;
+use kb_class::MethodId;
 use kb_names::Target;
-use kb_world::{MethodId, World};
+use kb_world::World;
 use std::alloc::Global;
 
 pub const UNBUILT_STATUS: Status = Status::Outside;

@@ -2,7 +2,7 @@
 
 ghost use Rattle.std.specs.Prelude.{◌≡◌, ◌⊎◌, ℕ, List, [], ◌∷◌, map, string_bytes, codes, IsTrue, IfOk, IfErr, IfSome, IfNone, Ok, Err, Result, ◌↔◌};
 ghost use Rattle.kb_names.specs.Targets.{SpellsTarget};
-ghost use Rattle.kiasan.specs.Words.{IsOption, IsJobCommand, default_job};
+ghost use Rattle.kiasan.specs.Words.{AreFiles, IsOption, IsJobCommand, default_job};
 ghost use Rattle.kiasan.specs.Orders.{Orders, OrdersJob, IsFaultOf};
 ghost use Rattle.kiasan.specs.declared.words.Order.{Order};
 ghost use Rattle.kiasan.specs.declared.words.WordFault.{WordFault};
@@ -152,12 +152,12 @@ pub fn read_words(alloc: Global, words: &[String]) -> Result<Order, WordFault>
 {
     match words {
         [] => Err(WordFault::NoCommand),
-        [command, option, value, file] => read_command(
+        [command, option, value, files @ ..] => read_command(
             alloc,
             command.as_str(),
             option.as_str(),
             value.as_str(),
-            file.as_str(),
+            files,
         ),
         _ => Err(WordFault::Unbuilt),
     }
@@ -168,18 +168,18 @@ fn read_command(
     command: &str,
     option: &str,
     value: &str,
-    file: &str,
+    files: &[String],
 ) -> Result<Order, WordFault>
-    ensures order { IfOk result (λ order. Orders (command.now ∷ option.now ∷ value.now ∷ file.now ∷ []) (Ok order)) }
-    ensures fault { IfErr result (IsFaultOf (command.now ∷ option.now ∷ value.now ∷ file.now ∷ [])) }
+    ensures order { IfOk result (λ order. Orders (command.now ∷ option.now ∷ value.now ∷ map string_bytes files.now) (Ok order)) }
+    ensures fault { IfErr result (IsFaultOf (command.now ∷ option.now ∷ value.now ∷ map string_bytes files.now)) }
 {
-    if is_option(file) {
+    if !are_files(files) {
         return Err(WordFault::Unbuilt);
     }
     match command {
-        "explore" => Ok(Order::Explore(read_job(alloc, command, option, value, file)?)),
-        "tests" => Ok(Order::Tests(read_job(alloc, command, option, value, file)?)),
-        "replay" => read_replay(alloc, option, value, file),
+        "explore" => Ok(Order::Explore(read_job(alloc, command, option, value, files)?)),
+        "tests" => Ok(Order::Tests(read_job(alloc, command, option, value, files)?)),
+        "replay" => read_replay(alloc, option, value, files),
         _ => Err(WordFault::Unbuilt),
     }
 }
@@ -190,25 +190,25 @@ fn read_job(
     command: &str,
     option: &str,
     method: &str,
-    file: &str,
+    files: &[String],
 ) -> Result<Job, WordFault>
     requires command { IsJobCommand command.now }
-    requires file { IsOption file.now → ⊥ }
-    ensures order { IfOk result (OrdersJob (command.now ∷ option.now ∷ method.now ∷ file.now ∷ []) command.now) }
-    ensures fault { IfErr result (IsFaultOf (command.now ∷ option.now ∷ method.now ∷ file.now ∷ [])) }
+    requires files { AreFiles (map string_bytes files.now) }
+    ensures order { IfOk result (OrdersJob (command.now ∷ option.now ∷ method.now ∷ map string_bytes files.now) command.now) }
+    ensures fault { IfErr result (IsFaultOf (command.now ∷ option.now ∷ method.now ∷ map string_bytes files.now)) }
 {
     if option != "--method" {
         return Err(WordFault::Unbuilt);
     }
     match read_target(alloc, method)? {
-        Some(target) => Ok(default_job(alloc, target, file)?),
+        Some(target) => Ok(default_job(alloc, target, files)?),
         None => Err(WordFault::BadTarget(METHOD_PLACE)),
     }
 }
 
 /// The job on a method where the words say nothing else.
-fn default_job(alloc: Global, target: Target, file: &str) -> Result<Job, NoMemory>
-    ensures { IfOk result (λ job. job ≡ default_job target (file.now ∷ [])) }
+fn default_job(alloc: Global, target: Target, files: &[String]) -> Result<Job, NoMemory>
+    ensures { IfOk result (λ job. job ≡ default_job target (map string_bytes files.now)) }
 {
     Ok(Job {
         target,
@@ -225,28 +225,46 @@ fn default_job(alloc: Global, target: Target, file: &str) -> Result<Job, NoMemor
         },
         paths: 1_000,
         budget: 2_000,
-        files: one_file(alloc, file)?,
+        files: file_names(alloc, files)?,
     })
 }
 
-fn read_replay(alloc: Global, option: &str, tests: &str, file: &str) -> Result<Order, WordFault>
-    requires { IsOption file.now → ⊥ }
-    ensures order { IfOk result (λ order. Orders (codes "replay" ∷ option.now ∷ tests.now ∷ file.now ∷ []) (Ok order)) }
-    ensures fault { IfErr result (IsFaultOf (codes "replay" ∷ option.now ∷ tests.now ∷ file.now ∷ [])) }
+fn read_replay(
+    alloc: Global,
+    option: &str,
+    tests: &str,
+    files: &[String],
+) -> Result<Order, WordFault>
+    requires { AreFiles (map string_bytes files.now) }
+    ensures order { IfOk result (λ order. Orders (codes "replay" ∷ option.now ∷ tests.now ∷ map string_bytes files.now) (Ok order)) }
+    ensures fault { IfErr result (IsFaultOf (codes "replay" ∷ option.now ∷ tests.now ∷ map string_bytes files.now)) }
 {
     if option != "--tests" {
         return Err(WordFault::Unbuilt);
     }
     let tests = FileName::from_word(alloc, tests)?;
-    Ok(Order::Replay(tests, one_file(alloc, file)?))
+    Ok(Order::Replay(tests, file_names(alloc, files)?))
 }
 
-fn one_file(alloc: Global, file: &str) -> Result<Row<FileName>, NoMemory>
-    ensures { IfOk result (λ files. files ≡ file.now ∷ []) }
+/// The names of files that these words are.
+fn file_names(alloc: Global, words: &[String]) -> Result<Row<FileName>, NoMemory>
+    ensures { IfOk result (λ files. files ≡ map string_bytes words.now) }
 {
     let mut files = Row::new(alloc);
-    files.push(FileName::from_word(alloc, file)?)?;
+    for word in words {
+        files.push(FileName::from_word(alloc, word.as_str())?)?;
+    }
     Ok(files)
+}
+
+/// Whether there is a word, and the first is no option.
+fn are_files(words: &[String]) -> bool
+    ensures { IsTrue result ↔ AreFiles (map string_bytes words.now) }
+{
+    match words {
+        [first, ..] => !is_option(first.as_str()),
+        [] => false,
+    }
 }
 
 fn is_option(word: &str) -> bool
@@ -304,6 +322,14 @@ mod tests {
         is_one(files.as_slice(), class)
     }
 
+    /// There are two files, and they have those names.
+    fn are_two(files: &[FileName], first: &str, second: &str) -> bool {
+        match files {
+            [one, other] => one.as_str() == first && other.as_str() == second,
+            _ => false,
+        }
+    }
+
     /// There is one file, and it has that name.
     fn is_one(files: &[FileName], name: &str) -> bool {
         match files {
@@ -336,6 +362,21 @@ mod tests {
     }
 
     #[test]
+    fn words_behind_the_first_file_are_files(rt: HostRuntime) -> Result<(), Fail> {
+        let words = words_of(rt.alloc(), "explore --method A.f(II)I A.class --k")?;
+        let Ok(Order::Explore(job)) = read_words(rt.alloc(), words.as_slice()) else {
+            return Err(Fail::new("no report is ordered"));
+        };
+        assert!(rt; are_two(job.files.as_slice(), "A.class", "--k"));
+        let words = words_of(rt.alloc(), "replay --tests A.tests A.class B.class")?;
+        let Ok(Order::Replay(_, files)) = read_words(rt.alloc(), words.as_slice()) else {
+            return Err(Fail::new("no replay is ordered"));
+        };
+        assert!(rt; are_two(files.as_slice(), "A.class", "B.class"));
+        Ok(())
+    }
+
+    #[test]
     fn words_have_a_fault(rt: HostRuntime) -> Result<(), Fail> {
         assert!(rt; matches!(read_words(rt.alloc(), &[]), Err(WordFault::NoCommand)));
         let words = words_of(rt.alloc(), "tests --method A.f(II A.class")?;
@@ -349,10 +390,11 @@ mod tests {
             "explore",
             "explore --method A.f(II)I",
             "explore --method A.f(II)I --k",
-            "explore --method A.f(II)I A.class B.class",
+            "explore --method A.f(II)I --k A.class",
             "explore --target A.f(II)I A.class",
             "tests --tests A.f(II)I A.class",
             "replay --method A.f(II)I A.class",
+            "replay --tests A.tests",
             "replay --tests A.tests --class",
         ] {
             let words = words_of(rt.alloc(), line)?;

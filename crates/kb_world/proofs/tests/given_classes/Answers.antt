@@ -1,4 +1,4 @@
-use Rattle.kb_world.specs.World.{IsGiven}
+use Rattle.kb_class.specs.Given.{IsGiven}
 use Rattle.kb_world.proofs.Walks.{pushed}
 use Rattle.kb_world.proofs.tests.given_classes.Goals as goal
 

@@ -1,4 +1,4 @@
-use Rattle.kb_world.specs.World.{AreGiven}
+use Rattle.kb_class.specs.Given.{AreGiven}
 use Rattle.kb_world.proofs.tests.given_classes.Given as goal
 
 abbrev pub invariant-loop-bytes : goal.invariant-loop-bytes

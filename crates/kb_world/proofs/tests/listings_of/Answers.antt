@@ -2,8 +2,8 @@ use Rattle.std.proofs.Common.{◌≡◌, ◌+◌, take, List, ◌∷◌, ◌++�
 use Rattle.std.proofs.lemmas.List.{take_all}
 use Rattle.std.proofs.lemmas.Grind.{take_at_read}
 use Rattle.kb_classfile.specs.declared.file.Method.{Method}
-use Rattle.kb_world.specs.World.{AreListings}
-use Rattle.kb_world.proofs.Listings.{listings_pushed}
+use Rattle.kb_class.specs.Given.{AreListings}
+use Rattle.kb_class.proofs.Listings.{listings_pushed}
 use Rattle.kb_world.proofs.tests.listings_of.Goals as goal
 
 pub loop-method-preserved : goal.loop-method-preserved

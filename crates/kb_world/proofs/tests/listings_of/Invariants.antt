@@ -1,5 +1,5 @@
 use Rattle.std.proofs.Common.{take}
-use Rattle.kb_world.specs.World.{AreListings}
+use Rattle.kb_class.specs.Given.{AreListings}
 use Rattle.kb_world.proofs.tests.listings_of.Given as goal
 
 abbrev pub invariant-loop-method : goal.invariant-loop-method

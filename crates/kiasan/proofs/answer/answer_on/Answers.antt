@@ -1,9 +1,10 @@
 use Rattle.std.proofs.Common.{List, ℕ, Vec, Global, Err, subst}
 use Rattle.std.proofs.lemmas.Result.{err_from_is_err_and}
-use Rattle.kb_world.specs.declared.world.GivenClass.{GivenClass}
-use Rattle.kiasan.specs.Answers.{AreClasses, IsWorldOf, RefusesClasses}
+use Rattle.kb_class.specs.declared.given.GivenClass.{GivenClass}
+use Rattle.kb_world.specs.Links.{Links}
+use Rattle.kiasan.specs.Answers.{AreClasses, Carries, RefusesClasses, RepliesIn}
 use Rattle.kiasan.specs.Refusals.{Gives}
-use Rattle.kiasan.proofs.AnswerLaws.{classes_stop, world_stops}
+use Rattle.kiasan.proofs.AnswerLaws.{classes_stop, world_stops, world_goes}
 use Rattle.kiasan.proofs.ClassLaws.{are_given}
 use Rattle.kiasan.proofs.answer.answer_on.Goals as goal
 
@@ -22,5 +23,14 @@ pub returns-in_err-world : goal.returns-in_err-world
 returns-in_err-world c =
     let p = err_from_is_err_and c.from_residual-in_err-world.result c.from_residual-in_err-world.ensures.1 in
     rw (p.1, p.2)
-    (world_stops c.args.order.now c.args.contents.now c.in_ok-given.given.items (IsWorldOf c.in_ok-given.given.items) c.in_err-world.field-0.0
+    (world_stops c.args.order.now c.args.contents.now c.in_ok-given.given.items (Links c.in_ok-given.given.items) c.in_err-world.field-0.0
     (subst (λ (classes : List (List ℕ)). AreClasses classes c.in_ok-given.given.items) c.as_slice.ensures c.in_ok-given.ensures) c.in_err-world.ensures)
+
+pub returns : goal.returns
+returns c =
+    let given = c.in_ok-given.given.items in
+    let world = c.in_ok-world.world in
+    world_goes c.args.order.now c.args.contents.now given world c.answer_in.result
+    (subst (λ (classes : List (List ℕ)). AreClasses classes given) c.as_slice.ensures c.in_ok-given.ensures)
+    c.in_ok-world.ensures
+    (subst (λ (texts : List (List ℕ)). Carries ⊥ (RepliesIn c.args.order.now texts world) c.answer_in.result) c.as_slice-2.ensures c.answer_in.ensures)

@@ -1,6 +1,5 @@
-use Rattle.std.proofs.Common.{List, ℕ, Err, subst}
+use Rattle.std.proofs.Common.{List, ℕ}
 use Rattle.std.proofs.lemmas.Result.{err_from_is_err_and}
-use Rattle.kb_rows.specs.declared.row.Row.{Row}
 use Rattle.kiasan.specs.declared.answer.Contents.{Contents}
 use Rattle.kiasan.specs.Answers.{AreRead, IsRead, class_limit}
 use Rattle.kiasan.specs.Orders.{texts_of, classes_of}

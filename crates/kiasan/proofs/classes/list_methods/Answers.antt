@@ -1,7 +1,7 @@
 use Rattle.std.proofs.Common.{[], ◌∷◌, rules, Vec, Global, Option}
 use Rattle.std.proofs.lemmas.Result.{err_from_is_err_and}
 use Rattle.kb_code.specs.declared.listing.Listing.{Listing}
-use Rattle.kb_world.specs.World.{AreListings}
+use Rattle.kb_class.specs.Given.{AreListings}
 use Rattle.kiasan.proofs.ClassLaws.{first_code, one_listed, all_listed}
 use Rattle.kiasan.proofs.classes.list_methods.Goals as goal
 

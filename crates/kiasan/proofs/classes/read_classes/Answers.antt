@@ -1,6 +1,6 @@
 use Rattle.std.proofs.Common.{rules, Vec, Global, List, ℕ, Err, subst}
 use Rattle.std.proofs.lemmas.Result.{err_from_is_err_and}
-use Rattle.kb_world.specs.declared.world.GivenClass.{GivenClass}
+use Rattle.kb_class.specs.declared.given.GivenClass.{GivenClass}
 use Rattle.kiasan.specs.Answers.{AreClasses, ClassRefuses, IsClassOf}
 use Rattle.kiasan.specs.Refusals.{Gives}
 use Rattle.kiasan.proofs.ClassLaws.{class_next, first_class}

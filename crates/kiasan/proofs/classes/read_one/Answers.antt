@@ -4,7 +4,7 @@ use Rattle.kb_classfile.specs.declared.file.ClassFile.{ClassFile}
 use Rattle.kb_classfile.specs.declared.file.Method.{Method}
 use Rattle.kb_classfile.specs.Spelling.{IsClassFile}
 use Rattle.kb_code.specs.declared.listing.Listing.{Listing}
-use Rattle.kb_world.specs.World.{AreListings}
+use Rattle.kb_class.specs.Given.{AreListings}
 use Rattle.kiasan.specs.Answers.{IsClassOf}
 use Rattle.kiasan.specs.CodeFaults.{MethodsRefuse}
 use Rattle.kiasan.specs.Refusals.{Gives}

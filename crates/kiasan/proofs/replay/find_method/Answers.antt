@@ -1,7 +1,11 @@
 use Rattle.std.proofs.Common.{rules}
+use Rattle.kb_semantics.proofs.Methods.{method_within}
 use Rattle.kiasan.specs.Unbuilt.{IsBuiltMethod}
 use Rattle.kiasan.proofs.ReplayLaws.{built_among, built_more}
 use Rattle.kiasan.proofs.replay.find_method.Goals as goal
+
+pub fits_types-requires : goal.fits_types-requires
+fits_types-requires c = method_within c.args.world.now c.in-Some.id c.args.test.now.target c.in-Some.ensures.found.declared
 
 pub returns-then-is_among-clause-method : goal.returns-then-is_among-clause-method
 returns-then-is_among-clause-method c =

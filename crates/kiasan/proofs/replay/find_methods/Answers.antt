@@ -1,5 +1,5 @@
 use Rattle.std.proofs.Common.{rules, Vec, Global}
-use Rattle.kb_world.specs.declared.world.MethodId.{MethodId}
+use Rattle.kb_class.specs.declared.ids.MethodId.{MethodId}
 use Rattle.kiasan.specs.Tests.{AreRunnable}
 use Rattle.std.proofs.lemmas.Result.{err_from_is_err_and}
 use Rattle.kiasan.proofs.ReplayLaws.{first_fault, runnable_next}

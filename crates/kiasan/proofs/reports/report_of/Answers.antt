@@ -1,4 +1,3 @@
-use Rattle.kiasan.proofs.CoveringLaws.{explorable, too_long}
 use Rattle.kiasan.proofs.reports.report_of.Goals as goal
 
 pub returns-in_default-clause-none : goal.returns-in_default-clause-none

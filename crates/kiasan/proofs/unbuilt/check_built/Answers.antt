@@ -1,4 +1,4 @@
-use Rattle.std.proofs.Common.{inr, refl, rules, IfNone}
+use Rattle.std.proofs.Common.{inr, refl, rules}
 use Rattle.kb_semantics.specs.Machine.{Method}
 use Rattle.kiasan.specs.Straight.{IsStraight}
 use Rattle.kiasan.proofs.unbuilt.check_built.Goals as goal

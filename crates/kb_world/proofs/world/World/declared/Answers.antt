@@ -1,38 +1,46 @@
-use Rattle.std.proofs.Common.{◌≡◌, ℕ, List, Some, None, slice_get, sym, subst, ap, ◌∙◌}
-use Rattle.std.proofs.lemmas.Option.{none-some}
-use Rattle.kb_world.specs.World.{AreLinked, Declares}
-use Rattle.kb_world.specs.Linked.{number_at}
-use Rattle.kb_world.specs.declared.world.GivenClass.{GivenClass}
-use Rattle.kb_world.proofs.Worlds.{none_named, none_declared, one_id}
+use Rattle.std.proofs.Common.{◌≡◌, ℕ, List, Some, None, sym, ap, subst, ◌∙◌}
+use Rattle.kb_class.specs.Class.{Class}
+use Rattle.kb_world.specs.World.{World, number_in}
+use Rattle.kb_world.specs.Links.{IsLinked}
+use Rattle.kb_world.specs.Tables.{IsNumberOf, AreIndexed}
+use Rattle.kb_world.proofs.Named.{number_inside}
+use Rattle.kb_world.proofs.TargetLaws.{declares, undeclared_class, undeclared_method, one_declared}
 use Rattle.kb_world.proofs.world.World.declared.Goals as goal
+
+pub number_of_method-requires : goal.number_of_method-requires
+number_of_method-requires c = (
+  subst (AreIndexed c.self.inside.classes) (sym c.as_slice-indexes.ensures.value) c.self.invariant.3,
+  number_inside c.self.inside.classes c.as_slice.result.now c.in_ok-class.class (sym c.in_ok-class.ensures),
+)
 
 pub returns-in_err-class-clause-none : goal.returns-in_err-class-clause-none
 returns-in_err-class-clause-none c =
-    let none : number_at c.self.inside.numbers c.args.target.now.class ≡ None = ap (λ (name : List ℕ). number_at c.self.inside.numbers name) (sym c.as_slice.ensures.same) ∙ sym c.in_err-class.ensures.value in
-    rw (c.from_residual.ensures, ← c.self.view_is)
-    (none_named (number_at c.self.inside.numbers) c.self.inside.classes.items c.args.target.now c.self.invariant.1 none)
-
-pub returns-in_err-entry-clause-none : goal.returns-in_err-entry-clause-none
-returns-in_err-entry-clause-none c =
-    let at : number_at c.self.inside.numbers c.args.target.now.class ≡ Some c.in_ok-class.field-0.now = ap (λ (name : List ℕ). number_at c.self.inside.numbers name) (sym c.as_slice.ensures.same) ∙ sym c.in_ok-class.ensures.value in
-    let class = c.self.invariant.1.right c.args.target.now.class c.in_ok-class.field-0.now at in
-    absurd (none-some class.0 (c.in_err-entry.ensures ∙ ap (λ (cs : List GivenClass). slice_get cs c.in_ok-class.field-0.now) c.as_slice-2.ensures.value ∙ class.1))
+    let linked : IsLinked c.args.self.now = subst IsLinked c.self.view_is c.self.invariant.0 in
+    let classes : c.self.inside.classes ≡ c.args.self.now.classes = ap (λ (w : World). w.classes) c.self.view_is in
+    let none : number_in c.args.self.now.classes c.args.target.now.class ≡ None =
+    ap (λ (cs : List Class). number_in cs c.args.target.now.class) (sym classes) ∙ ap (λ (n : List ℕ). number_in c.self.inside.classes n) (sym c.as_slice.ensures.same) ∙ sym c.in_err-class.ensures in
+    rw c.from_residual.ensures (undeclared_class c.args.self.now linked.names linked.methods c.args.target.now none)
 
 pub returns-in_err-number-clause-none : goal.returns-in_err-number-clause-none
 returns-in_err-number-clause-none c =
-    let at : number_at c.self.inside.numbers c.args.target.now.class ≡ Some c.in_ok-class.field-0.now = ap (λ (name : List ℕ). number_at c.self.inside.numbers name) (sym c.as_slice.ensures.same) ∙ sym c.in_ok-class.ensures.value in
-    let there = c.in_ok-entry.ensures ∙ ap (λ (cs : List GivenClass). slice_get cs c.in_ok-class.field-0.now) c.as_slice-2.ensures.value in
-    rw (c.from_residual-in_err-number.ensures, ← c.self.view_is)
-    (none_declared (number_at c.self.inside.numbers) c.self.inside.classes.items c.args.target.now c.in_ok-class.field-0.now c.in_ok-entry.field-0.now c.self.invariant.1 at (sym there) c.in_err-number.ensures.none)
+    let linked : IsLinked c.args.self.now = subst IsLinked c.self.view_is c.self.invariant.0 in
+    let classes : c.self.inside.classes ≡ c.args.self.now.classes = ap (λ (w : World). w.classes) c.self.view_is in
+    let at : number_in c.args.self.now.classes c.args.target.now.class ≡ Some c.in_ok-class.class =
+    ap (λ (cs : List Class). number_in cs c.args.target.now.class) (sym classes) ∙ ap (λ (n : List ℕ). number_in c.self.inside.classes n) (sym c.as_slice.ensures.same) ∙ sym c.in_ok-class.ensures in
+    rw c.from_residual-in_err-number.ensures
+    (undeclared_method c.args.self.now linked.names linked.methods c.args.target.now c.in_ok-class.class at
+    (λ id is. c.in_err-number.ensures.none id (subst (λ (cs : List Class). IsNumberOf cs c.in_ok-class.class c.args.target.now.name c.args.target.now.kind id) (sym classes) is)))
 
 pub returns-clause-found : goal.returns-clause-found
 returns-clause-found c =
-    let there = c.in_ok-entry.ensures ∙ ap (λ (cs : List GivenClass). slice_get cs c.in_ok-class.field-0.now) (c.as_slice-2.ensures.value ∙ c.self.view_is) in
-    record { class = c.in_ok-entry.field-0.now; class_is = sym there; names = c.in_ok-number.ensures.found }
+    let linked : IsLinked c.args.self.now = subst IsLinked c.self.view_is c.self.invariant.0 in
+    let classes : c.self.inside.classes ≡ c.args.self.now.classes = ap (λ (w : World). w.classes) c.self.view_is in
+    let at : number_in c.args.self.now.classes c.args.target.now.class ≡ Some c.in_ok-class.class =
+    ap (λ (cs : List Class). number_in cs c.args.target.now.class) (sym classes) ∙ ap (λ (n : List ℕ). number_in c.self.inside.classes n) (sym c.as_slice.ensures.same) ∙ sym c.in_ok-class.ensures in
+    declares c.args.self.now linked.names linked.methods c.args.target.now c.in_ok-class.class c.in_ok-number.number at
+    (subst (λ (cs : List Class). IsNumberOf cs c.in_ok-class.class c.args.target.now.name c.args.target.now.kind c.in_ok-number.number) classes c.in_ok-number.ensures.found)
 
 pub returns-clause-alone : goal.returns-clause-alone
 returns-clause-alone c = λ other declared.
-    let are : AreLinked c.args.self.now = subst (λ (cs : List GivenClass). AreLinked cs) c.self.view_is c.self.invariant.0 in
-    let there = c.in_ok-entry.ensures ∙ ap (λ (cs : List GivenClass). slice_get cs c.in_ok-class.field-0.now) (c.as_slice-2.ensures.value ∙ c.self.view_is) in
-    let found : Declares c.args.self.now (record { class = c.in_ok-class.field-0.now; number = c.in_ok-number.number }) c.args.target.now = record { class = c.in_ok-entry.field-0.now; class_is = sym there; names = c.in_ok-number.ensures.found } in
-    one_id c.args.self.now other (record { class = c.in_ok-class.field-0.now; number = c.in_ok-number.number }) c.args.target.now are declared found
+    let linked : IsLinked c.args.self.now = subst IsLinked c.self.view_is c.self.invariant.0 in
+    one_declared c.args.self.now linked.names linked.methods c.args.target.now other (record { 0 = c.in_ok-number.number }) declared (returns-clause-found c)

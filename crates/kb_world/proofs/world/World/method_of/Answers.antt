@@ -1,18 +1,29 @@
-use Rattle.std.proofs.Common.{List, slice_get, sym, ap, subst, ◌∙◌}
-use Rattle.std.proofs.lemmas.Option.{IfSome_then}
-use Rattle.kb_world.specs.World.{AreLinked}
-use Rattle.kb_world.specs.declared.world.GivenClass.{GivenClass}
-use Rattle.kb_world.proofs.Targets.{if_none}
-use Rattle.kb_world.proofs.Worlds.{describes, none_at}
+use Rattle.std.proofs.Common.{◌≡◌, ◌<◌, List, Some, length, slice_get, sym, ap, subst}
+use Rattle.std.proofs.lemmas.Option.{slice_get_within}
+use Rattle.kb_class.specs.Class.{Class}
+use Rattle.kb_world.specs.World.{World, methods_in}
+use Rattle.kb_world.proofs.MethodNumbers.{IsPlaceOf, place_of, within_methods, method_read}
 use Rattle.kb_world.proofs.world.World.method_of.Goals as goal
 
-pub returns-clause-some : goal.returns-clause-some
-returns-clause-some c =
-    let are : AreLinked c.args.self.now = subst (λ (cs : List GivenClass). AreLinked cs) c.self.view_is c.self.invariant.0 in
-    let there = c.in_ok-entry.ensures ∙ ap (λ (cs : List GivenClass). slice_get cs c.args.id.class) (c.as_slice.ensures.value ∙ c.self.view_is) in
-    IfSome_then c.method.result c.method.ensures.some (λ info tells. describes c.args.self.now c.args.id c.in_ok-entry.field-0.now info are (sym there) tells)
+pub bounds-as_slice-at : goal.bounds-as_slice-at
+bounds-as_slice-at c =
+    let classes : c.self.inside.classes ≡ c.args.self.now.classes = ap (λ (w : World). w.classes) c.self.view_is in
+    let within : c.args.method.0 < length (methods_in c.self.inside.classes) = subst (λ (cs : List Class). c.args.method.0 < length (methods_in cs)) (sym classes) c.requires in
+    let place : IsPlaceOf c.self.inside.classes c.args.method.0 c.index-at.result.now = place_of c.self.inside.classes c.self.inside.places.items c.args.method.0 c.index-at.result.now c.self.invariant.2 within c.index-at.ensures in
+    subst (λ (cs : List Class). c.index-at.result.now.class < length cs) (sym c.as_slice.ensures.same) (slice_get_within c.self.inside.classes c.index-at.result.now.class place.class place.class_is)
 
-pub returns-clause-none : goal.returns-clause-none
-returns-clause-none c =
-    let there = c.in_ok-entry.ensures ∙ ap (λ (cs : List GivenClass). slice_get cs c.args.id.class) (c.as_slice.ensures.value ∙ c.self.view_is) in
-    if_none c.method.result c.method.ensures.none (none_at c.args.self.now c.args.id c.in_ok-entry.field-0.now (sym there))
+pub bounds-methods-at : goal.bounds-methods-at
+bounds-methods-at c =
+    let classes : c.self.inside.classes ≡ c.args.self.now.classes = ap (λ (w : World). w.classes) c.self.view_is in
+    let within : c.args.method.0 < length (methods_in c.self.inside.classes) = subst (λ (cs : List Class). c.args.method.0 < length (methods_in cs)) (sym classes) c.requires in
+    let place : IsPlaceOf c.self.inside.classes c.args.method.0 c.index-at.result.now = place_of c.self.inside.classes c.self.inside.places.items c.args.method.0 c.index-at.result.now c.self.invariant.2 within c.index-at.ensures in
+    within_methods c.self.inside.classes c.args.method.0 c.index-at.result.now place c.as_slice.result.now c.as_slice.ensures.same c.index-as_slice-at.result c.index-as_slice-at.is c.methods.result.now c.methods.ensures
+
+pub returns-clause-there : goal.returns-clause-there
+returns-clause-there c =
+    let classes : c.self.inside.classes ≡ c.args.self.now.classes = ap (λ (w : World). w.classes) c.self.view_is in
+    let within : c.args.method.0 < length (methods_in c.self.inside.classes) = subst (λ (cs : List Class). c.args.method.0 < length (methods_in cs)) (sym classes) c.requires in
+    let place : IsPlaceOf c.self.inside.classes c.args.method.0 c.index-at.result.now = place_of c.self.inside.classes c.self.inside.places.items c.args.method.0 c.index-at.result.now c.self.invariant.2 within c.index-at.ensures in
+    subst (λ (cs : List Class). slice_get (methods_in cs) c.args.method.0 ≡ Some c.index-methods-at.result) classes
+    (method_read c.self.inside.classes c.args.method.0 c.index-at.result.now place c.as_slice.result.now c.as_slice.ensures.same c.index-as_slice-at.result c.index-as_slice-at.is c.methods.result.now c.methods.ensures
+    c.index-methods-at.result c.index-methods-at.is)

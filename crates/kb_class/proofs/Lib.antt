@@ -1,0 +1,12 @@
+pub mod Lists
+pub mod Listings
+pub mod Spellings
+pub mod TableLaws
+pub mod Sound
+pub mod PoolLaws
+pub mod IndexLaws
+pub mod OneClass
+pub mod MemberLaws
+pub mod EntryLooks
+pub mod LoadLaws
+pub mod PlatformLaws

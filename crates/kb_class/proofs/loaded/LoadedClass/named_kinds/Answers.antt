@@ -1,0 +1,4 @@
+use Rattle.kb_class.proofs.loaded.LoadedClass.named_kinds.Goals as goal
+
+pub returns : goal.returns
+returns c = rw (← c.self.view_is, c.as_slice.ensures) c.self.invariant.1.described

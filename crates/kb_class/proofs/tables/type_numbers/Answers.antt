@@ -1,0 +1,10 @@
+use Rattle.std.proofs.Common.{List, ℕ, ◌++◌, ap, ◌∙◌, sym, option_to_list}
+use Rattle.kb_classfile.specs.Pool.{name_index_of}
+use Rattle.kb_class.proofs.Lists.{filter_next}
+use Rattle.kb_class.proofs.tables.type_numbers.Goals as goal
+
+pub loop-entry-preserved : goal.loop-entry-preserved
+loop-entry-preserved c =
+    let one = option_to_list (name_index_of c.entry-item.result) in
+    c.in_ok-add_name.ensures ∙ ap (λ (ns : List ℕ). ns ++ one) c.loop-entry.invariant
+    ∙ sym (filter_next name_index_of c.args.pool.now c.loop-entry.entry-index c.entry-item.result c.loop-entry-test.true c.entry-item.is)

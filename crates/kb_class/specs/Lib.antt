@@ -1,0 +1,9 @@
+pub mod Class
+pub mod Given
+pub mod Loading
+pub mod Naming
+pub mod Loaded
+pub mod References
+pub mod Tables
+pub mod Platform
+pub mod PlatformRows

@@ -1,0 +1,9 @@
+pub mod Again
+pub mod Differing
+pub mod FaultLaws
+pub mod FirstUnmet
+pub mod Judged
+pub mod Lists
+pub mod RuleLaws
+pub mod TextNumbers
+pub mod Told

@@ -1,0 +1,27 @@
+use Rattle.std.proofs.Common.{List, map, ap, sym, ◌∙◌}
+use Rattle.std.specs.List.{filter_map}
+use Rattle.kb_format.specs.declared.place.Demand.TheVariants as demands
+use Rattle.kb_format.specs.declared.place.Member.{Member}
+use Rattle.kb_format.specs.Places.{type_in_entry}
+use Rattle.kb_format.specs.Verdicts.{first_unmet}
+use Rattle.kb_format.specs.Members.{type_of}
+use Rattle.kb_format.proofs.FirstUnmet.{in_first, in_second, in_third}
+use Rattle.kb_format.proofs.unmet.unmet_type.Goals as goal
+
+pub returns-in-Some : goal.returns-in-Some
+returns-in-Some c =
+    in_first c.args.verdicts.now (filter_map type_in_entry c.args.pool.now) (map (type_of demands.FieldType) c.args.members.now.fields.items) (map (type_of demands.MethodType) c.args.members.now.methods.items)
+    c.in-Some.number c.in-Some.ensures
+
+pub returns-in-Some-unmet_member_type : goal.returns-in-Some-unmet_member_type
+returns-in-Some-unmet_member_type c =
+    in_second c.args.verdicts.now (filter_map type_in_entry c.args.pool.now) (map (type_of demands.FieldType) c.args.members.now.fields.items) (map (type_of demands.MethodType) c.args.members.now.methods.items)
+    c.in-Some-unmet_member_type.number (sym c.in_default.ensures)
+    (c.in-Some-unmet_member_type.ensures ∙ ap (λ (ms : List Member). first_unmet c.args.verdicts.now (map (type_of demands.FieldType) ms)) c.as_slice.ensures.value)
+
+pub returns : goal.returns
+returns c =
+    c.unmet_member_type-2.ensures ∙ ap (λ (ms : List Member). first_unmet c.args.verdicts.now (map (type_of demands.MethodType) ms)) c.as_slice-2.ensures.value
+    ∙ in_third c.args.verdicts.now (filter_map type_in_entry c.args.pool.now) (map (type_of demands.FieldType) c.args.members.now.fields.items) (map (type_of demands.MethodType) c.args.members.now.methods.items)
+    (sym c.in_default.ensures)
+    (ap (λ (ms : List Member). first_unmet c.args.verdicts.now (map (type_of demands.FieldType) ms)) (sym c.as_slice.ensures.value) ∙ sym c.in_default-unmet_member_type.ensures)

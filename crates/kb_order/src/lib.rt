@@ -1,0 +1,16 @@
+//! What stands above what, and sets of texts in order. It knows nothing of Java.
+#![tactic(auto)]
+
+mod complete;
+mod memory;
+mod order;
+mod table;
+#[cfg(test)]
+mod tests;
+mod texts;
+
+pub use complete::is_complete;
+pub use kb_rows::Row;
+pub use memory::NoMemory;
+pub use order::{Order, order_of};
+pub use texts::{TextSet, ordered_set};

@@ -1,7 +1,0 @@
-use Rattle.std.proofs.Common.{take}
-use Rattle.std.specs.List.{AllByRecursion}
-use Rattle.kb_world.specs.Names.{HasEntryType}
-use Rattle.kb_world.proofs.rules.entries_have_types.Given as goal
-
-abbrev pub invariant-loop-entry : goal.invariant-loop-entry
-invariant-loop-entry l = AllByRecursion (HasEntryType l.file) (take l.entry-index l.entry-items)
