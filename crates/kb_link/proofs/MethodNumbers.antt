@@ -1,0 +1,272 @@
+-- The numbers of methods, by their classes and places.
+use Rattle.std.proofs.Common.{◌≡◌, ℕ, zero, suc, ◌+◌, ◌<◌, ◌^◌, ◌≤◌, ◌⊎◌, inl, inr, Bool, true, false, true≢false, List, [], ◌∷◌, ◌++◌, length, map, take, Option, Some, None, slice_get, get_or, refl, sym, ap, subst, ◌∙◌, arith, length-append}
+use Rattle.std.specs.Option.{option_map, option_and_then}
+use Rattle.std.proofs.lemmas.Grind.{flat_map-append, take_at_read}
+use Rattle.std.proofs.lemmas.List.{length-map, map-append, append-nil, append_assoc}
+use Rattle.std.proofs.lemmas.Option.{same_Some, none-some, option_and_then_some, slice_get_cases, slice_get_read, slice_get_within, slice_get-map, slice_get-get_or, get_or_from_slice_get}
+use Rattle.kb_class.specs.Class.{Class}
+use Rattle.kb_names.specs.declared.types.MethodType.{MethodType}
+use Rattle.kb_class.specs.Naming.{Has}
+use Rattle.kb_class.specs.declared.members.MethodInfo.{MethodInfo}
+use Rattle.kb_link.specs.World.{number_in, methods_in}
+use Rattle.kb_link.specs.Rules.{HaveDifferentNames, HaveOwnMethods, name_of}
+use Rattle.kb_link.specs.Tables.{places_at, Indexes, StandsAt, IsNumberOf, IsIndexed, AreIndexedFrom, AreIndexed, HasPlaces, method_in}
+use Rattle.kb_link.specs.declared.methods.MethodPlace.{MethodPlace}
+use Rattle.kb_link.specs.declared.by_name.MethodIndex.{MethodIndex}
+use Rattle.kb_link.proofs.Named.{number_right, number_there}
+
+-- ---- places in two lists one behind the other
+
+module _ {A : Type 0} where
+  pub get_behind : (xs ys : List A) (i : ℕ) → slice_get (xs ++ ys) (length xs + i) ≡ slice_get ys i
+  get_behind [] ys i = ap (λ (n : ℕ). slice_get ys n) (let e : 0 + i ≡ i = omega arith in e)
+  get_behind (x ∷ xs) ys i =
+      let sum : suc (length xs) + i ≡ suc (length xs + i) = omega arith in
+      ap (λ (n : ℕ). slice_get (x ∷ (xs ++ ys)) n) sum ∙ get_behind xs ys i
+
+  pub get_before : (xs ys : List A) (i : ℕ) (x : A) → slice_get xs i ≡ Some x → slice_get (xs ++ ys) i ≡ Some x
+  get_before [] ys i x at = absurd cc
+  get_before (w ∷ xs) ys zero x at = at
+  get_before (w ∷ xs) ys (suc i) x at = get_before xs ys i x at
+
+  -- an item stands in the first list or in the second one
+  pub get_either : (xs ys : List A) (i : ℕ) (x : A) → slice_get (xs ++ ys) i ≡ Some x
+      → (slice_get xs i ≡ Some x) ⊎ ((j : ℕ) × (length xs + j ≡ i) × (slice_get ys j ≡ Some x))
+  get_either [] ys i x at = inr (i, (let e : 0 + i ≡ i = omega arith in e), at)
+  get_either (w ∷ xs) ys zero x at = inl at
+  get_either (w ∷ xs) ys (suc i) x at =
+      elim (get_either xs ys i x at) [ inl h ↦ inl h | inr h ↦ inr (h.0, (let sum : suc (length xs) + h.0 ≡ suc i = omega (arith, h.1) in sum), h.2) ]
+
+-- ---- the tables of classes
+
+pub indexed_pushed : (first : ℕ) (classes : List Class) (indexes : List MethodIndex) (class : Class) (index : MethodIndex)
+    → AreIndexedFrom first classes indexes → IsIndexed (first + length (methods_in classes)) class index → AreIndexedFrom first (classes ++ class ∷ []) (indexes ++ index ∷ [])
+indexed_pushed first [] [] class index are one = (subst (λ (n : ℕ). IsIndexed n class index) (let e : first + 0 ≡ first = omega arith in e) one, tt)
+indexed_pushed first [] (i ∷ indexes) class index are one = absurd are
+indexed_pushed first (c ∷ classes) [] class index are one = absurd are
+indexed_pushed first (c ∷ classes) (i ∷ indexes) class index are one =
+    let sum : first + length (c.methods ++ methods_in classes) ≡ (first + length c.methods) + length (methods_in classes) = omega (arith, length-append c.methods (methods_in classes)) in
+    (are.0, indexed_pushed (first + length c.methods) classes indexes class index are.1 (subst (λ (n : ℕ). IsIndexed n class index) sum one))
+
+-- how many methods the classes before a number have
+abbrev pub methods_before : List Class → ℕ → ℕ
+methods_before classes number = length (methods_in (take number classes))
+
+-- The table of a class.
+pub record Located (first : ℕ) (classes : List Class) (indexes : List MethodIndex) (number : ℕ) (class : Class) : Type 0 where
+  pub index : MethodIndex
+  pub there : slice_get indexes number ≡ Some index
+  pub first_is : index.first ≡ first + methods_before classes number
+  pub indexes_is : Indexes (places_at index.places) class.methods
+
+pub located : (first : ℕ) (classes : List Class) (indexes : List MethodIndex) (number : ℕ) (class : Class)
+    → AreIndexedFrom first classes indexes → slice_get classes number ≡ Some class → Located first classes indexes number class
+located first [] indexes number class are at = absurd cc
+located first (c ∷ classes) [] number class are at = absurd are
+located first (c ∷ classes) (i ∷ indexes) zero class are at =
+    let same : c ≡ class = cc in
+    record {
+      index = i;
+      there = refl;
+      first_is = are.0.first_is ∙ (let e : first ≡ first + 0 = omega arith in e);
+      indexes_is = subst (λ (k : Class). Indexes (places_at i.places) k.methods) same are.0.indexes;
+    }
+located first (c ∷ classes) (i ∷ indexes) (suc number) class are at =
+    let rest = located (first + length c.methods) classes indexes number class are.1 at in
+    let sum : (first + length c.methods) + methods_before classes number ≡ first + length (c.methods ++ methods_in (take number classes)) =
+    omega (arith, length-append c.methods (methods_in (take number classes))) in
+    record { index = rest.index; there = rest.there; first_is = rest.first_is ∙ sum; indexes_is = rest.indexes_is }
+
+-- a method of a class stands behind those of the classes before
+pub number_of_place : (classes : List Class) (number place : ℕ) (class : Class) (method : MethodInfo)
+    → slice_get classes number ≡ Some class → slice_get class.methods place ≡ Some method → slice_get (methods_in classes) (methods_before classes number + place) ≡ Some method
+number_of_place [] number place class method at there = absurd cc
+number_of_place (c ∷ classes) zero place class method at there =
+    let same : c ≡ class = cc in
+    let sum : 0 + place ≡ place = omega arith in
+    subst (λ (n : ℕ). slice_get (c.methods ++ methods_in classes) n ≡ Some method) (sym sum)
+    (get_before c.methods (methods_in classes) place method (subst (λ (k : Class). slice_get k.methods place ≡ Some method) (sym same) there))
+number_of_place (c ∷ classes) (suc number) place class method at there =
+    let sum : length (c.methods ++ methods_in (take number classes)) + place ≡ length c.methods + (methods_before classes number + place) =
+    omega (arith, length-append c.methods (methods_in (take number classes))) in
+    subst (λ (n : ℕ). slice_get (c.methods ++ methods_in classes) n ≡ Some method) (sym sum)
+    (get_behind c.methods (methods_in classes) (methods_before classes number + place) ∙ number_of_place classes number place class method at there)
+
+-- Where a method stands: its class and its place there.
+pub record StandsIn (classes : List Class) (id : ℕ) (method : MethodInfo) : Type 0 where
+  pub number : ℕ
+  pub class : Class
+  pub place : ℕ
+  pub class_is : slice_get classes number ≡ Some class
+  pub there : slice_get class.methods place ≡ Some method
+  pub sum : methods_before classes number + place ≡ id
+
+pub stands_in : (classes : List Class) (id : ℕ) (method : MethodInfo) → slice_get (methods_in classes) id ≡ Some method → StandsIn classes id method
+stands_in [] id method at = absurd cc
+stands_in (c ∷ classes) id method at =
+    elim (get_either c.methods (methods_in classes) id method at) [
+      | inl here ↦ record { number = 0; class = c; place = id; class_is = refl; there = here; sum = (let e : 0 + id ≡ id = omega arith in e) }
+      | inr h ↦ (let rest = stands_in classes h.0 method h.2 in
+          let sum : length (c.methods ++ methods_in (take rest.number classes)) + rest.place ≡ id =
+          omega (arith, length-append c.methods (methods_in (take rest.number classes)), rest.sum, h.1) in
+          record { number = suc rest.number; class = rest.class; place = rest.place; class_is = rest.class_is; there = rest.there; sum = sum })
+    ]
+
+-- the name, the type and the class tell the number of a method
+pub one_id : (classes : List Class) (one other : ℕ) (method second : MethodInfo) → HaveOwnMethods classes → slice_get (methods_in classes) one ≡ Some method
+    → slice_get (methods_in classes) other ≡ Some second → method.class.0 ≡ second.class.0 → method.name ≡ second.name → method.kind ≡ second.kind → one ≡ other
+one_id classes one other method second own at again class name kind =
+    let first = stands_in classes one method at in
+    let next = stands_in classes other second again in
+    let numbers : first.number ≡ next.number =
+    sym (own.numbered first.number first.class method first.class_is (first.place, first.there)) ∙ class ∙ own.numbered next.number next.class second next.class_is (next.place, next.there) in
+    let same : first.class ≡ next.class = same_Some first.class next.class (sym first.class_is ∙ ap (λ (n : ℕ). slice_get classes n) numbers ∙ next.class_is) in
+    let there : slice_get next.class.methods first.place ≡ Some method = ap (λ (c : Class). slice_get c.methods first.place) (sym same) ∙ first.there in
+    let places : first.place ≡ next.place = own.differ next.class first.place next.place method second (next.number, next.class_is) there next.there name kind in
+    sym first.sum ∙ (λ i. methods_before classes (numbers i) + places i) ∙ next.sum
+
+-- ---- the class of a name
+
+-- a class of that number has the name
+pub named_at : (classes : List Class) (name : List ℕ) (number : ℕ) → number_in classes name ≡ Some number → (class : Class) × (slice_get classes number ≡ Some class) × (class.name ≡ name)
+named_at classes name number at = go (slice_get classes number) refl
+  where
+    told : option_map name_of (slice_get classes number) ≡ Some name
+    told = sym (slice_get-map name_of classes number) ∙ number_right classes name number at
+
+    go : (o : Option Class) → slice_get classes number ≡ o → (class : Class) × (slice_get classes number ≡ Some class) × (class.name ≡ name)
+    go None e = absurd (none-some name (ap (λ (o : Option Class). option_map name_of o) (sym e) ∙ told))
+    go (Some class) e = (class, e, same_Some class.name name (ap (λ (o : Option Class). option_map name_of o) (sym e) ∙ told))
+
+-- where there is no number no class has the name
+pub none_named : (classes : List Class) (name : List ℕ) → number_in classes name ≡ None → (number : ℕ) (class : Class) → slice_get classes number ≡ Some class → class.name ≡ name → ⊥
+none_named classes name none number class at named =
+    number_there classes name number (slice_get-map name_of classes number ∙ rw at (ap (λ (n : List ℕ). Some n) named)) none
+
+-- a class of the name has the number
+pub number_of_named : (classes : List Class) (name : List ℕ) (number other : ℕ) (class : Class) → HaveDifferentNames classes → number_in classes name ≡ Some number
+    → slice_get classes other ≡ Some class → class.name ≡ name → number ≡ other
+number_of_named classes name number other class differ at there named =
+    let found = named_at classes name number at in
+    differ number other name
+    (slice_get-map name_of classes number ∙ rw found.1 (ap (λ (n : List ℕ). Some n) found.2))
+    (slice_get-map name_of classes other ∙ rw there (ap (λ (n : List ℕ). Some n) named))
+
+-- ---- what the tables have at a number
+
+pub indexed_length : (first : ℕ) (classes : List Class) (indexes : List MethodIndex) → AreIndexedFrom first classes indexes → length indexes ≡ length classes
+indexed_length first [] [] are = refl
+indexed_length first [] (i ∷ indexes) are = absurd are
+indexed_length first (c ∷ classes) [] are = absurd are
+indexed_length first (c ∷ classes) (i ∷ indexes) are = ap suc (indexed_length (first + length c.methods) classes indexes are.1)
+
+module _ (classes : List Class) (indexes : List MethodIndex) (are : AreIndexed classes indexes) (number : ℕ) (within : number < length classes) where
+  pub within_indexes : number < length indexes
+  within_indexes = rw (indexed_length 0 classes indexes are.each) within
+
+  module _ (class : Class) (index : MethodIndex) (class_is : class ≡ get_or classes number class) (index_is : index ≡ get_or indexes number index) where
+    pub class_at : slice_get classes number ≡ Some class
+    class_at = slice_get_read classes (length classes) number class refl within class_is
+
+    found_at : Located 0 classes indexes number class
+    found_at = located 0 classes indexes number class are.each class_at
+
+    same_index : found_at.index ≡ index
+    same_index = same_Some found_at.index index (sym found_at.there ∙ slice_get_read indexes (length indexes) number index refl within_indexes index_is)
+
+    pub indexes_at : Indexes (places_at index.places) class.methods
+    indexes_at = subst (λ (i : MethodIndex). Indexes (places_at i.places) class.methods) same_index found_at.indexes_is
+
+    pub first_at : index.first ≡ methods_before classes number
+    first_at = ap (λ (i : MethodIndex). i.first) (sym same_index) ∙ found_at.first_is ∙ (let e : 0 + methods_before classes number ≡ methods_before classes number = omega arith in e)
+
+    pub is_number : (name : List ℕ) (kind : MethodType) (place : ℕ) → StandsAt class.methods name kind place → IsNumberOf classes number name kind (index.first + place)
+    is_number name kind place stands = record {
+      declaring = class;
+      class_is = class_at;
+      place = place;
+      stands = stands;
+      there = rw first_at (number_of_place classes number place class stands.method class_at stands.there);
+    }
+
+    pub number_fits : (name : List ℕ) (kind : MethodType) (place : ℕ) → StandsAt class.methods name kind place → index.first + place < 2 ^ 32
+    number_fits name kind place stands =
+        let is = is_number name kind place stands in
+        let inside : index.first + place < length (methods_in classes) = slice_get_within (methods_in classes) (index.first + place) is.stands.method is.there in
+        omega (arith, inside, are.few)
+
+    pub is_no_number : (name : List ℕ) (kind : MethodType) → ((place : ℕ) → StandsAt class.methods name kind place → ⊥) → (id : ℕ) → IsNumberOf classes number name kind id → ⊥
+    is_no_number name kind none id is =
+        let same : is.declaring ≡ class = same_Some is.declaring class (sym is.class_is ∙ class_at) in
+        none is.place (subst (λ (c : Class). StandsAt c.methods name kind is.place) same is.stands)
+
+-- ---- places by numbers
+
+-- the method at a place
+pub record IsPlaceOf (classes : List Class) (number : ℕ) (at : MethodPlace) : Type 0 where
+  pub class : Class
+  pub method : MethodInfo
+  pub class_is : slice_get classes at.class ≡ Some class
+  pub there : slice_get class.methods at.place ≡ Some method
+  pub number_is : slice_get (methods_in classes) number ≡ Some method
+
+pub place_of : (classes : List Class) (places : List MethodPlace) (number : ℕ) (at : MethodPlace) → HasPlaces classes places → number < length (methods_in classes) → at ≡ get_or places number at
+    → IsPlaceOf classes number at
+place_of classes places number at has within at_is = found (slice_get_cases (methods_in classes) number).1
+  where
+    same_lengths : length places ≡ length (methods_in classes)
+    same_lengths = sym (length-map places (method_in classes)) ∙ ap (λ (os : List (Option MethodInfo)). length os) has ∙ length-map (methods_in classes) (λ (m : MethodInfo). Some m)
+
+    at_number : slice_get places number ≡ Some at
+    at_number = slice_get_read places (length places) number at refl (rw same_lengths within) at_is
+
+    told : (method : MethodInfo) → slice_get (methods_in classes) number ≡ Some method → method_in classes at ≡ Some method
+    told method there =
+        same_Some (method_in classes at) (Some method)
+        (sym (slice_get-map (method_in classes) places number ∙ rw at_number refl) ∙ ap (λ (os : List (Option MethodInfo)). slice_get os number) has ∙ slice_get-map (λ (m : MethodInfo). Some m) (methods_in classes) number ∙ rw there refl)
+
+    found : ((method : MethodInfo) × (number < length (methods_in classes)) × (slice_get (methods_in classes) number ≡ Some method) × (get_or (methods_in classes) number method ≡ method)) ⊎ ((length (methods_in classes) ≤ number) × (slice_get (methods_in classes) number ≡ None))
+        → IsPlaceOf classes number at
+    found (inl h) =
+        option_and_then_some (λ (class : Class). slice_get class.methods at.place) (slice_get classes at.class) h.0 (told h.0 h.2)
+        (λ class class_is there. record { class = class; method = h.0; class_is = class_is; there = there; number_is = h.2 })
+    found (inr h) = absurd (let no : ⊥ = omega (arith, h.0, within) in no)
+
+-- the class and the method that are read at a place
+module _ (classes : List Class) (number : ℕ) (at : MethodPlace) (place : IsPlaceOf classes number at) (slice : List Class) (same : slice ≡ classes) (class : Class)
+    (class_is : class ≡ get_or slice at.class class) (methods : List MethodInfo) (methods_is : methods ≡ class.methods) where
+  methods_of_place : methods ≡ place.class.methods
+  methods_of_place =
+      methods_is ∙ ap (λ (c : Class). c.methods) (class_is ∙ ap (λ (cs : List Class). get_or cs at.class class) same ∙ get_or_from_slice_get classes at.class place.class class place.class_is)
+
+  pub within_methods : at.place < length methods
+  within_methods = rw methods_of_place (slice_get_within place.class.methods at.place place.method place.there)
+
+  pub method_read : (method : MethodInfo) → method ≡ get_or methods at.place method → slice_get (methods_in classes) number ≡ Some method
+  method_read method is =
+      let read : method ≡ place.method = is ∙ ap (λ (ms : List MethodInfo). get_or ms at.place method) methods_of_place ∙ get_or_from_slice_get place.class.methods at.place place.method method place.there in
+      place.number_is ∙ ap (λ (m : MethodInfo). Some m) (sym read)
+
+-- ---- one class more
+
+pub methods_behind : (classes : List Class) (class : Class) → methods_in (classes ++ class ∷ []) ≡ methods_in classes ++ class.methods
+methods_behind classes class = flat_map-append (λ (c : Class). c.methods) classes (class ∷ []) ∙ ap (λ (ms : List MethodInfo). methods_in classes ++ ms) (append-nil class.methods)
+
+pub methods_pushed : (classes : List Class) (class : Class) → length (methods_in (classes ++ class ∷ [])) ≡ length (methods_in classes) + length class.methods
+methods_pushed classes class = ap (λ (ms : List MethodInfo). length ms) (methods_behind classes class) ∙ length-append (methods_in classes) class.methods
+
+-- ---- one place more
+
+pub place_pushed : (classes : List Class) (declaring : Class) (methods : List MethodInfo) (known : List (Option MethodInfo)) (places : List MethodPlace) (at : MethodPlace)
+    → slice_get classes at.class ≡ Some declaring → declaring.methods ≡ methods → at.place < length methods → map (method_in classes) places ≡ known ++ map (λ (m : MethodInfo). Some m) (take at.place methods)
+    → map (method_in classes) (places ++ at ∷ []) ≡ known ++ map (λ (m : MethodInfo). Some m) (take (at.place + 1) methods)
+place_pushed classes declaring methods known places at class_is methods_is within has = found (slice_get_cases methods at.place).1
+  where
+    found : ((method : MethodInfo) × (at.place < length methods) × (slice_get methods at.place ≡ Some method) × (get_or methods at.place method ≡ method)) ⊎ ((length methods ≤ at.place) × (slice_get methods at.place ≡ None))
+        → map (method_in classes) (places ++ at ∷ []) ≡ known ++ map (λ (m : MethodInfo). Some m) (take (at.place + 1) methods)
+    found (inl h) =
+        let taken : take (at.place + 1) methods ≡ take at.place methods ++ h.0 ∷ [] = (take_at_read methods at.place h.0 h.1).1 ∙ ap (λ (m : MethodInfo). take at.place methods ++ m ∷ []) h.3 in
+        let told : method_in classes at ≡ Some h.0 = ap (λ (o : Option Class). option_and_then (λ (class : Class). slice_get class.methods at.place) o) class_is ∙ ap (λ (ms : List MethodInfo). slice_get ms at.place) methods_is ∙ h.2 in
+        map-append (method_in classes) places (at ∷ []) ∙ (λ i. has i ++ told i ∷ []) ∙ append_assoc known (map (λ (m : MethodInfo). Some m) (take at.place methods)) (Some h.0 ∷ [])
+        ∙ ap (λ (os : List (Option MethodInfo)). known ++ os) (sym (map-append (λ (m : MethodInfo). Some m) (take at.place methods) (h.0 ∷ [])) ∙ ap (λ (ms : List MethodInfo). map (λ (m : MethodInfo). Some m) ms) (sym taken))
+    found (inr h) = absurd (let no : ⊥ = omega (arith, h.0, within) in no)

@@ -1,0 +1,59 @@
+-- Methods of a package that a superclass in another package declares too, class by class.
+use Rattle.std.specs.Prelude.{◌≡◌, ℕ, Bool, true, false, not, List, drop, filter, Option, Some, None, slice_get}
+use Rattle.std.specs.List.{AllByRecursion}
+use Rattle.std.specs.Str.{bytes_eq}
+use Rattle.kb_class.specs.declared.members.MethodInfo.{MethodInfo}
+use Rattle.kb_class.specs.Class.{Class}
+use Rattle.kb_class.specs.Naming.{Has}
+use Rattle.kb_link.specs.declared.linking.LinkRefusal.{LinkRefusal}
+use Rattle.kb_link.specs.declared.linking.LinkRefusal.TheVariants as refusals
+use Rattle.kb_link.specs.Rules.{IsFirst}
+use Rattle.kb_link.specs.Split.{package_of, is_of_package}
+
+-- whether the class of that number stands in another package than the class of the name
+abbrev pub stands_elsewhere : List ℕ → Option Class → Bool
+stands_elsewhere name None = false
+stands_elsewhere name (Some class) = not (bytes_eq (package_of class.name) (package_of name))
+
+abbrev pub is_elsewhere : List Class → List ℕ → ℕ → Bool
+is_elsewhere classes name number = stands_elsewhere name (slice_get classes number)
+
+-- the superclasses on a chain that stand in another package than the class of the name
+abbrev pub elsewhere_above : List Class → List ℕ → List ℕ → List ℕ
+elsewhere_above classes name chain = filter (is_elsewhere classes name) (drop 1 chain)
+
+-- one of these methods is one of its package, and has the name and type of the method
+pub record SharesOwn (methods : List MethodInfo) (method : MethodInfo) : Type 0 where
+  pub other : MethodInfo
+  pub declared : Has methods other
+  pub of_package : is_of_package other ≡ true
+  pub name : other.name ≡ method.name
+  pub kind : other.kind ≡ method.kind
+
+-- the class of that number declares such a method
+pub record SharesMethod (classes : List Class) (method : MethodInfo) (number : ℕ) : Type 0 where
+  pub class : Class
+  pub class_is : slice_get classes number ≡ Some class
+  pub shares : SharesOwn class.methods method
+
+-- one of these classes declares such a method
+abbrev pub SharesAbove : List Class → List ℕ → MethodInfo → Type 0
+SharesAbove classes numbers method = (number : ℕ) × Has numbers number × SharesMethod classes method number
+
+-- the method is one of its package, and one of these classes declares such a method too
+pub record IsShared (classes : List Class) (numbers : List ℕ) (method : MethodInfo) : Type 0 where
+  pub of_package : is_of_package method ≡ true
+  pub above : SharesAbove classes numbers method
+
+-- no two of these methods have one name and type
+abbrev pub AreDifferent : List MethodInfo → Type 0
+AreDifferent methods =
+    (one other : ℕ) (method second : MethodInfo) → slice_get methods one ≡ Some method → slice_get methods other ≡ Some second
+    → method.name ≡ second.name → method.kind ≡ second.kind → one ≡ other
+
+-- The first method of the class that a class above it in another package shares, unless memory ran out.
+abbrev pub StopsAtShared : List Class → Class → List ℕ → LinkRefusal → Type 0
+StopsAtShared classes class chain (refusals.SplitPackage name method) =
+    (name ≡ class.name) × (first : MethodInfo) × (first.name ≡ method) × IsFirst (IsShared classes (elsewhere_above classes class.name chain)) class.methods first
+StopsAtShared classes class chain refusals.NoMemory = Unit {0}
+StopsAtShared classes class chain _ = ⊥

@@ -1,0 +1,33 @@
+//! The world of classes: the given classes and those of the platform, linked.
+//!
+//! `specs/Links.antt` says what the world of class files is, and why there is none; the files beside it say the rules of
+//! superclasses, slots, subtypes, the universe and literals over lists of classes.
+#![tactic(auto)]
+
+mod by_name;
+mod chains;
+mod circles;
+mod claims;
+mod classes;
+mod direct;
+mod initialisers;
+mod items;
+mod linking;
+mod literals;
+mod loading;
+mod memory;
+mod mentions;
+mod methods;
+mod packages;
+mod placing;
+mod slots;
+mod subtypes;
+mod supers;
+#[cfg(test)]
+mod tests;
+mod universe;
+mod linked;
+
+pub use linking::{LinkRefusal, What, link};
+pub use slots::FieldSlot;
+pub use linked::Linked;

@@ -1,0 +1,315 @@
+//! Classes that are linked, and what is known of them.
+ghost use Rattle.std.specs.Prelude.{◌≡◌, ◌<◌, ◌↔◌, length, map, Some, slice_get, slice_index_or, option_map, IsTrue, IfOk, IfErr, IfSome, IfNone};
+ghost use Rattle.std.specs.Option.{option_copied, option_and_then};
+ghost use Rattle.kb_class.specs.Class.{Class};
+ghost use Rattle.kb_link.specs.World.{chain_of, method_at, methods_in, number_in, type_entry_of, int_entry_of, literal_entry_of};
+ghost use Rattle.kb_link.specs.Subtypes.{direct_supers, AreChains, is_below, is_super};
+ghost use Rattle.kb_link.specs.Members.{declared_method};
+ghost use Rattle.kb_link.specs.Slots.{slots_of};
+ghost use Rattle.kb_link.specs.Rules.{HaveDifferentNames, HaveSupers, HaveNoCircle, HaveGoodSupers};
+ghost use Rattle.kb_link.specs.Split.{HaveNoSplit, is_special};
+ghost use Rattle.kb_link.specs.Links.{AreLoaded, IsLinked, RefusesClasses};
+ghost use Rattle.kb_link.specs.Tables.{AreIndexed};
+ghost use Rattle.kb_link.specs.Initialisers.{is_initialised};
+ghost use Rattle.kb_link.specs.Placing.{place_in};
+ghost use Rattle.kb_link.specs.Targets.{Declares, IsTargetOf};
+
+use crate::by_name::{MethodIndex, number_named, number_of_method};
+use crate::classes::Classes;
+use crate::initialisers::initialised_of;
+use crate::linking::LinkRefusal;
+use crate::literals::{literals_of, place_in};
+use crate::methods::{MethodPlace, places_of};
+use crate::placing::{placed_at, placings_of};
+use crate::slots::{FieldSlot, slots_of};
+use crate::supers::{is_super, supers_of};
+use crate::universe::universe_of;
+use kb_class::{ClassId, LoadedClass, MethodId, MethodInfo};
+use kb_classfile::ClassFile;
+use kb_names::{ExactType, MethodType, Name, NoMemory, Row, Target};
+use kb_order::{Order, TextSet};
+use std::alloc::Global;
+use std::marker::Model;
+
+/// The given classes in the order given, and then the platform classes, with tables over them: no question searches a list
+/// of classes, members or superclasses.
+#[derive(Drop)]
+pub struct Linked {
+    classes: Classes,
+    chains: Vec<Row<u32>>,
+    supers: Vec<Row<bool>>,
+    universe: Row<ExactType>,
+    literals: TextSet,
+    slots: Vec<Row<FieldSlot>>,
+    places: Vec<MethodPlace>,
+    // The methods of each class by their names.
+    indexes: Vec<MethodIndex>,
+    // Of each class whether it or a superclass of it declares an initialiser.
+    initialised: Vec<bool>,
+    // Of each method the place of the instruction at each offset of its code.
+    placings: Vec<Row<Option<u32>>>,
+}
+
+impl Model for Linked {
+    ghost use Rattle.std.specs.Prelude.{◌≡◌, map};
+    ghost use Rattle.kb_link.specs.World.{World as PlainWorld};
+
+    ghost Value = { PlainWorld };
+
+    ghost use Rattle.kb_link.specs.Links.{IsLinked};
+    ghost use Rattle.kb_link.specs.Slots.{slots_along};
+    ghost use Rattle.kb_link.specs.Initialisers.{has_initialiser};
+    ghost use Rattle.kb_link.specs.Tables.{HasPlaces, AreIndexed};
+    ghost use Rattle.kb_link.specs.World.{methods_in};
+    ghost use Rattle.kb_link.specs.Placing.{ArePlacings};
+
+    ghost view = { λ w. record { classes = w.classes; chains = w.chains.items; supers = w.supers.items; universe = w.universe; literals = w.literals } };
+
+    ghost invariant = { λ w. IsLinked (record { classes = w.classes; chains = w.chains.items; supers = w.supers.items; universe = w.universe; literals = w.literals }) × (w.slots.items ≡ map (slots_along w.classes) w.chains.items) × HasPlaces w.classes w.places.items × AreIndexed w.classes w.indexes.items × (w.initialised.items ≡ map (has_initialiser w.classes) w.chains.items) × ArePlacings (methods_in w.classes) w.placings.items };
+}
+
+/// The world of these classes, which keep the rules that classes keep together.
+pub(crate) fn linked_of(
+    alloc: Global,
+    classes: Classes,
+    order: Order,
+    chains: Vec<Row<u32>>,
+    indexes: Vec<MethodIndex>,
+) -> Result<Linked, LinkRefusal>
+    requires { (order ≡ direct_supers classes) × HaveDifferentNames classes × AreLoaded classes × HaveSupers classes × HaveNoCircle classes × HaveGoodSupers classes × AreChains classes chains.items × HaveNoSplit classes chains.items × AreIndexed classes indexes.items }
+    ensures classes { IfOk result (λ world. world.classes ≡ classes) }
+    ensures linked { IfOk result IsLinked }
+    ensures refused { IfErr result (RefusesClasses classes) }
+{
+    match tables_of(alloc, classes, &order, chains, indexes) {
+        Ok(world) => Ok(world),
+        Err(_) => Err(LinkRefusal::NoMemory),
+    }
+}
+
+fn tables_of(
+    alloc: Global,
+    classes: Classes,
+    order: &Order,
+    chains: Vec<Row<u32>>,
+    indexes: Vec<MethodIndex>,
+) -> Result<Linked, NoMemory>
+    requires { (order.now ≡ direct_supers classes) × HaveDifferentNames classes × AreLoaded classes × HaveSupers classes × HaveNoCircle classes × HaveGoodSupers classes × AreChains classes chains.items × HaveNoSplit classes chains.items × AreIndexed classes indexes.items }
+    ensures classes { IfOk result (λ world. world.classes ≡ classes) }
+    ensures linked { IfOk result IsLinked }
+{
+    let supers = supers_of(alloc, &classes, order)?;
+    let universe = universe_of(alloc, &classes)?;
+    let literals = literals_of(alloc, &classes)?;
+    let slots = slots_of(alloc, &classes, chains.as_slice())?;
+    let places = places_of(alloc, &classes)?;
+    let initialised = initialised_of(alloc, &classes, chains.as_slice())?;
+    let placings = placings_of(alloc, &classes, places.as_slice())?;
+    Ok(Linked {
+        classes,
+        chains,
+        supers,
+        universe,
+        literals,
+        slots,
+        places,
+        indexes,
+        initialised,
+        placings,
+    })
+}
+
+impl Linked {
+    /// The class of that name.
+    pub fn class_named(&self, name: &Name) -> Option<ClassId>
+        ensures { option_map (λ (id : ClassId). id.0) result ≡ number_in self.now.classes name.now }
+    {
+        let number = self.classes.number_of(name.as_slice())?;
+        Some(ClassId(number))
+    }
+
+    /// The name of a class.
+    pub fn name_of(&self, class: ClassId) -> &Name
+        requires { class.0 < length self.now.classes }
+        ensures name { option_map (λ (c : Class). c.name) (slice_get self.now.classes class.0) ≡ Some result.now }
+        ensures linked { IsLinked self.now }
+    {
+        self.classes.as_slice()[class.0 as usize].name()
+    }
+
+    /// The class file of a class: None exactly for a platform class.
+    pub fn file_of(&self, class: ClassId) -> Option<&ClassFile>
+        requires { class.0 < length self.now.classes }
+        ensures { option_copied result ≡ option_and_then (λ (c : Class). c.file) (slice_get self.now.classes class.0) }
+    {
+        self.classes.as_slice()[class.0 as usize].file()
+    }
+
+    /// A method.
+    pub fn method_of(&self, method: MethodId) -> &MethodInfo
+        requires { method.0 < length (methods_in self.now.classes) }
+        ensures there { method_at self.now method.0 ≡ Some result.now }
+        ensures linked { IsLinked self.now }
+    {
+        let at = self.places[method.0 as usize];
+        &self.classes.as_slice()[at.class as usize].methods()[at.place as usize]
+    }
+
+    /// The place, in the listing of a method's code, of the instruction at an offset. A look into a table, without a search.
+    pub fn place_at(&self, method: MethodId, at: u32) -> Option<u32>
+        requires { method.0 < length (methods_in self.now.classes) }
+        ensures { result ≡ place_in (method_at self.now method.0) at }
+    {
+        let table = self.placings.get(method.0 as usize)?;
+        placed_at(table.as_slice(), at)
+    }
+
+    /// The slots of the objects of a class, by their numbers.
+    pub fn fields_of(&self, class: ClassId) -> &[FieldSlot]
+        requires { class.0 < length self.now.classes }
+        ensures { result.now ≡ slots_of self.now class.0 }
+    {
+        self.slots[class.0 as usize].as_slice()
+    }
+
+    /// The exact types that an object of an input may have.
+    pub fn universe(&self) -> &[ExactType]
+        ensures { result.now ≡ self.now.universe }
+    {
+        self.universe.as_slice()
+    }
+
+    /// How many string literals there are. Those beyond the numbers of 32 bits cannot be there: their entries are fewer.
+    pub fn literals(&self) -> u32
+        ensures { result ≡ length self.now.literals }
+    {
+        self.literals.as_slice().len() as u32
+    }
+
+    /// The type of a Class entry of a class: None exactly where the entry is none.
+    pub fn type_entry(&self, class: ClassId, entry: u16) -> Option<&ExactType>
+        requires { class.0 < length self.now.classes }
+        ensures { option_copied result ≡ type_entry_of self.now class.0 entry }
+    {
+        self.classes.as_slice()[class.0 as usize].type_entry(entry)
+    }
+
+    /// The int of an Integer entry of a class: None exactly where the entry is none.
+    pub fn int_entry(&self, class: ClassId, entry: u16) -> Option<i32>
+        requires { class.0 < length self.now.classes }
+        ensures { result ≡ int_entry_of self.now class.0 entry }
+    {
+        self.classes.as_slice()[class.0 as usize].int_entry(entry)
+    }
+
+    /// Whether the class is initialised by code: it or a superclass of it declares a method named `<clinit>`.
+    pub fn has_initialiser(&self, class: ClassId) -> bool
+        requires { class.0 < length self.now.classes }
+        ensures { result ≡ is_initialised self.now class.0 }
+    {
+        self.initialised[class.0 as usize]
+    }
+
+    /// Whether the first class or interface is the second one, or below it.
+    pub(crate) fn is_below(&self, low: &Name, high: &Name) -> bool
+        ensures { result ≡ is_below self.now low.now high.now }
+    {
+        if low == high {
+            return true;
+        }
+        let Some(below) = self.classes.number_of(low.as_slice()) else {
+            return false;
+        };
+        let Some(above) = self.classes.number_of(high.as_slice()) else {
+            return false;
+        };
+        is_super(self.supers.as_slice(), below, above)
+    }
+
+    // The method that the target names.
+    fn declared(&self, target: &Target) -> Option<MethodId>
+        ensures found { IfSome result (λ id. Declares self.now id target.now) }
+        ensures none { IfNone result ((id : MethodId) → Declares self.now id target.now → ⊥) }
+        ensures alone { IfSome result (λ id. (other : MethodId) → Declares self.now other target.now → other ≡ id) }
+    {
+        let class = self.classes.number_of(target.class.as_slice())?;
+        let indexes = self.indexes.as_slice();
+        let number = number_of_method(&self.classes, indexes, class, &target.name, &target.kind)?;
+        Some(MethodId(number))
+    }
+
+    /// The method that the target names, where it has code and its name does not begin with `<`.
+    pub fn find_target(&self, target: &Target) -> Option<MethodId>
+        ensures found { IfSome result (λ id. IsTargetOf self.now target.now id) }
+        ensures none { IfNone result ((id : MethodId) → IsTargetOf self.now target.now id → ⊥) }
+        ensures alone { IfSome result (λ id. (other : MethodId) → IsTargetOf self.now target.now other → other ≡ id) }
+    {
+        if is_special(target.name.as_slice()) {
+            return None;
+        }
+        let id = self.declared(target)?;
+        if self.method_of(id).code.is_none() {
+            return None;
+        }
+        Some(id)
+    }
+
+    /// The method of that name and type that the class declares.
+    pub fn method_named(&self, class: ClassId, name: &Name, kind: &MethodType) -> Option<MethodId>
+        requires { class.0 < length self.now.classes }
+        ensures { option_map (λ (id : MethodId). id.0) result ≡ declared_method self.now.classes class.0 name.now kind.now }
+    {
+        let indexes = self.indexes.as_slice();
+        let number = number_named(&self.classes, indexes, class.0, name, kind)?;
+        Some(MethodId(number))
+    }
+
+    /// A class.
+    pub fn class_of(&self, class: ClassId) -> &LoadedClass
+        requires { class.0 < length self.now.classes }
+        ensures there { slice_get self.now.classes class.0 ≡ Some result.now }
+        ensures linked { IsLinked self.now }
+    {
+        &self.classes.as_slice()[class.0 as usize]
+    }
+
+    /// How many classes there are, those of the platform among them.
+    pub fn class_count(&self) -> u32
+        ensures { result ≡ length self.now.classes }
+    {
+        self.classes.as_slice().len() as u32
+    }
+
+    /// The numbers of a class and of its superclasses, up to that of java/lang/Object.
+    pub fn chain_of(&self, class: ClassId) -> &[u32]
+        requires { class.0 < length self.now.classes }
+        ensures { result.now ≡ chain_of self.now class.0 }
+    {
+        self.chains[class.0 as usize].as_slice()
+    }
+
+    /// Whether the first class is the second one, or a subtype of it: a look into a table.
+    pub fn is_above(&self, low: ClassId, high: ClassId) -> bool
+        ensures { result ≡ is_super self.now.supers low.0 high.0 }
+    {
+        is_super(self.supers.as_slice(), low.0, high.0)
+    }
+
+    /// The number of the literal of a String entry of a class: None exactly where the entry is none.
+    pub fn literal_entry(&self, class: ClassId, entry: u16) -> Option<u32>
+        ensures { result ≡ literal_entry_of self.now class.0 entry }
+    {
+        let class = self.classes.as_slice().get(class.0 as usize)?;
+        place_in(&self.literals, class.text_entry(entry)?)
+    }
+}
+
+// Whether it is the name of an initialiser or the like.
+pub(crate) fn is_special(name: &[u8]) -> bool
+    ensures { result ≡ is_special name.now }
+{
+    match name {
+        [first, ..] => *first == b'<',
+        [] => false,
+    }
+}

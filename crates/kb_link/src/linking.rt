@@ -1,0 +1,128 @@
+//! From class files to the world of them, and why there is none.
+ghost use Rattle.std.specs.Prelude.{◌≡◌, ◌≤◌, length, IfOk, IfErr, IfSome, IfNone};
+ghost use Rattle.std.specs.List.{AllByRecursion};
+ghost use Rattle.kb_class.specs.Given.{AreGiven};
+ghost use Rattle.kb_link.specs.Tables.{AreIndexed};
+ghost use Rattle.kb_link.specs.declared.linking.LinkRefusal.TheVariants as refusals;
+ghost use Rattle.kb_link.specs.Links.{AreLoaded, KeepsFormat, Loads, Links, IsLinked, RefusesClasses, RefusesLink, most_classes};
+
+use crate::by_name::{MethodIndex, indexes_of};
+use crate::chains::chains_of;
+use crate::circles::check_circles;
+use crate::claims::check_claims;
+use crate::classes::Classes;
+use crate::direct::direct_supers;
+use crate::loading::{check_formats, load_all};
+use crate::packages::check_packages;
+use crate::linked::{Linked, linked_of};
+use kb_class::{GivenClass, LoadedClass};
+use kb_names::{Name, Target};
+use std::alloc::Global;
+
+/// The most classes that are linked.
+const MOST_CLASSES: usize = 64;
+
+/// Why classes are not linked, or a method is not reached.
+#[derive(Debug, Drop)]
+pub enum LinkRefusal {
+    /// More than 64 classes are given.
+    TooMany,
+    /// A name that may not be one: the number of the file, and of the name's entry.
+    BadName(u32, u16),
+    /// A descriptor that is none: the number of the file, and of the descriptor's entry.
+    BadDescriptor(u32, u16),
+    /// A second field or method of one name and descriptor: the number of the file, and of the name's entry.
+    TwoMembers(u32, u16),
+    /// Two classes have the name, or one has that of a platform class.
+    Twice(Name),
+    /// No class has the name of a superclass or interface.
+    Missing(Name),
+    /// The class is one of its own superclasses and interfaces.
+    Circle(Name),
+    /// A superclass that is final or an interface, or an interface that is none.
+    BadSuper(Name),
+    /// A class, and a method of it that a superclass in another package declares too, both inside their package.
+    SplitPackage(Name, Name),
+    /// The target names no method that may be run.
+    NoMethod(Target),
+    /// The method, and the offset of its getfield or putfield that names a field that is not there.
+    NoField(Target, u32),
+    /// The method, and the offset of an instruction in it that cannot be carried out, with the cause.
+    Outside(Target, u32, What),
+    /// The class, which code initialises, of a method that is called or of an object that is made.
+    Initialiser(Name),
+    NoMemory,
+}
+
+/// What of an instruction cannot be carried out.
+#[derive(Clone, Copy, Debug, PartialEq, Eq)]
+pub enum What {
+    /// An opcode that is not built.
+    Opcode(u8),
+    /// A constant that is neither an int nor a string.
+    Constant,
+    /// An entry of the constant pool of another kind than the instruction takes.
+    Operand,
+    /// A type of which nothing can be made or held.
+    Kind,
+    /// A method that cannot be called.
+    Method,
+}
+
+/// The world of these classes, in the order given, and of the platform classes.
+///
+/// The first rule that is broken is told: too many classes; then class by class those of a class file, a name before a
+/// descriptor before a second member; then over all classes two of one name, a missing superclass or interface, a circle, a
+/// bad superclass or interface, and a package that is split. Of several at one rule the first class's is told, of one class
+/// the superclass's before the interfaces'.
+pub fn link(alloc: Global, given: Vec<GivenClass>) -> Result<Linked, LinkRefusal>
+    requires { AreGiven given.items }
+    ensures linked { IfOk result (Links given.items) }
+    ensures refused { IfErr result (RefusesLink given.items) }
+{
+    if given.len() > MOST_CLASSES {
+        return Err(LinkRefusal::TooMany);
+    }
+    check_formats(alloc, given.as_slice())?;
+    link_checked(alloc, given)
+}
+
+// The world of classes each of which keeps the rules of a class file.
+fn link_checked(alloc: Global, given: Vec<GivenClass>) -> Result<Linked, LinkRefusal>
+    requires { AreGiven given.items × AllByRecursion KeepsFormat given.items × (length given.items ≤ most_classes) }
+    ensures linked { IfOk result (Links given.items) }
+    ensures refused { IfErr result (RefusesLink given.items) }
+{
+    match load_all(alloc, given) {
+        Ok(classes) => link_classes(alloc, classes),
+        Err(_) => Err(LinkRefusal::NoMemory),
+    }
+}
+
+// The world of these classes, whose numbers are their places.
+fn link_classes(alloc: Global, classes: Vec<LoadedClass>) -> Result<Linked, LinkRefusal>
+    requires { AreLoaded classes.items }
+    ensures classes { IfOk result (λ world. world.classes ≡ classes.items) }
+    ensures linked { IfOk result IsLinked }
+    ensures refused { IfErr result (RefusesClasses classes.items) }
+{
+    let classes = Classes::new(alloc, classes)?;
+    let direct = direct_supers(alloc, &classes)?;
+    let order = check_circles(alloc, &classes, direct)?;
+    check_claims(alloc, &classes)?;
+    let chains = chains_of(alloc, &classes, &order)?;
+    let indexes = indexes_in(alloc, &classes)?;
+    check_packages(alloc, &classes, chains.as_slice(), indexes.as_slice())?;
+    linked_of(alloc, classes, order, chains, indexes)
+}
+
+// The tables of the methods of each class by their names.
+fn indexes_in(alloc: Global, classes: &Classes) -> Result<Vec<MethodIndex>, LinkRefusal>
+    ensures indexed { IfOk result (λ indexes. AreIndexed classes.now indexes.items) }
+    ensures refused { IfErr result (λ refusal. refusal ≡ refusals.NoMemory) }
+{
+    match indexes_of(alloc, classes) {
+        Ok(indexes) => Ok(indexes),
+        Err(_) => Err(LinkRefusal::NoMemory),
+    }
+}

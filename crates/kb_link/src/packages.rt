@@ -1,0 +1,218 @@
+//! Methods that can be selected inside their package alone.
+ghost use Rattle.std.specs.Prelude.{◌≡◌, ◌↔◌, ◌⊎◌, filter, IsTrue, IfOk, OnOk, IfErr, IfSome, IfNone};
+ghost use Rattle.kb_link.specs.Subtypes.{AreChains};
+ghost use Rattle.kb_link.specs.Rules.{IsFirst, IsNoneSuch, HaveOwnMethods, HaveSupers, HaveNoCircle, HaveGoodSupers};
+ghost use Rattle.kb_link.specs.Split.{package_of, is_of_package, HaveNoSplit};
+ghost use Rattle.kb_link.specs.Sharing.{is_elsewhere, elsewhere_above, SharesOwn, SharesMethod, SharesAbove, IsShared, AreDifferent, StopsAtShared};
+ghost use Rattle.kb_link.specs.Tables.{AreIndexed, Indexes, places_at};
+ghost use Rattle.kb_link.specs.declared.linking.LinkRefusal.TheVariants as refusals;
+ghost use Rattle.kb_link.specs.Links.{RefusesClasses};
+
+use crate::by_name::MethodIndex;
+use crate::classes::Classes;
+use crate::items::item_at;
+use crate::linking::LinkRefusal;
+use crate::linked::is_special;
+use kb_class::{LoadedClass, MethodInfo};
+use kb_names::{Name, NoMemory, Row};
+use std::alloc::Global;
+
+/// ACC_PUBLIC, ACC_PRIVATE, ACC_PROTECTED and ACC_STATIC (JVMS 8 table 4.6-A).
+const NOT_OF_PACKAGE: u16 = 0x000f;
+
+/// Refuses the first method of a package that a superclass in another package declares too, inside that package.
+pub(crate) fn check_packages(
+    alloc: Global,
+    classes: &Classes,
+    chains: &[Row<u32>],
+    indexes: &[MethodIndex],
+) -> Result<(), LinkRefusal>
+    requires { HaveOwnMethods classes.now × HaveSupers classes.now × HaveNoCircle classes.now × HaveGoodSupers classes.now × AreChains classes.now chains.now × AreIndexed classes.now indexes.now }
+    ensures whole { OnOk result (HaveNoSplit classes.now chains.now) }
+    ensures refused { IfErr result (RefusesClasses classes.now) }
+{
+    for (number, class) in classes.as_slice().iter().enumerate() {
+        let chain = chains[number].as_slice();
+        match check_class(alloc, classes, indexes, chain, class) {
+            Ok(()) => {}
+            Err(refusal) => return Err(refusal),
+        }
+    }
+    Ok(())
+}
+
+// Refuses the first such method of a class.
+fn check_class(
+    alloc: Global,
+    classes: &Classes,
+    indexes: &[MethodIndex],
+    chain: &[u32],
+    class: &LoadedClass,
+) -> Result<(), LinkRefusal>
+    requires { HaveOwnMethods classes.now × AreIndexed classes.now indexes.now }
+    ensures whole { OnOk result (IsNoneSuch (IsShared classes.now (elsewhere_above classes.now class.now.name chain.now)) class.now.methods) }
+    ensures refused { IfErr result (StopsAtShared classes.now class.now chain.now) }
+{
+    let Ok(numbers) = elsewhere_above(alloc, classes.as_slice(), class.name(), chain) else {
+        return Err(LinkRefusal::NoMemory);
+    };
+    match first_shared(classes, indexes, numbers.as_slice(), class.methods()) {
+        Some(method) => Err(split_refusal(alloc, class.name(), &method.name)),
+        None => Ok(()),
+    }
+}
+
+fn split_refusal(alloc: Global, class: &Name, method: &Name) -> LinkRefusal
+    ensures { (result ≡ refusals.NoMemory) ⊎ (result ≡ refusals.SplitPackage class.now method.now) }
+{
+    match (class.copied(alloc), method.copied(alloc)) {
+        (Ok(class), Ok(method)) => LinkRefusal::SplitPackage(class, method),
+        _ => LinkRefusal::NoMemory,
+    }
+}
+
+// The numbers of the superclasses on a chain that stand in another package than the class of that name.
+fn elsewhere_above(
+    alloc: Global,
+    classes: &[LoadedClass],
+    name: &Name,
+    chain: &[u32],
+) -> Result<Row<u32>, NoMemory>
+    ensures { IfOk result (λ numbers. numbers ≡ elsewhere_above classes.now name.now chain.now) }
+{
+    match chain {
+        [_, above @ ..] => elsewhere_among(alloc, classes, name, above),
+        [] => Ok(Row::new(alloc)),
+    }
+}
+
+fn elsewhere_among(
+    alloc: Global,
+    classes: &[LoadedClass],
+    name: &Name,
+    numbers: &[u32],
+) -> Result<Row<u32>, NoMemory>
+    ensures { IfOk result (λ row. row ≡ filter (is_elsewhere classes.now name.now) numbers.now) }
+{
+    let mut row = Row::new(alloc);
+    let mut rest = numbers;
+    while let [number, others @ ..] = rest {
+        if is_elsewhere(classes, name, *number) {
+            row.push(*number)?;
+        }
+        rest = others;
+    }
+    Ok(row)
+}
+
+// Whether the class of that number stands in another package than the class of that name.
+fn is_elsewhere(classes: &[LoadedClass], name: &Name, number: u32) -> bool
+    ensures { result ≡ is_elsewhere classes.now name.now number }
+{
+    match item_at(classes, number) {
+        Some(class) => package_of(class.name().as_slice()) != package_of(name.as_slice()),
+        None => false,
+    }
+}
+
+// The package of the class of that name: up to the last slash.
+fn package_of(name: &[u8]) -> &[u8]
+    ensures { result.now ≡ package_of name.now }
+{
+    for back in 0..name.len() {
+        let last = name.len() - 1 - back;
+        if name[last] == b'/' {
+            return &name[..last + 1];
+        }
+    }
+    &name[..0]
+}
+
+// The first of these methods that is one of its package, and that one of these classes declares too.
+fn first_shared<'a>(
+    classes: &Classes,
+    indexes: &[MethodIndex],
+    numbers: &[u32],
+    methods: &'a [MethodInfo],
+) -> Option<&'a MethodInfo>
+    requires { HaveOwnMethods classes.now × AreIndexed classes.now indexes.now }
+    ensures found { IfSome result (λ method. IsFirst (IsShared classes.now numbers.now) methods.now method.now) }
+    ensures none { IfNone result (IsNoneSuch (IsShared classes.now numbers.now) methods.now) }
+{
+    for method in methods {
+        if is_shared(classes, indexes, numbers, method) {
+            return Some(method);
+        }
+    }
+    None
+}
+
+fn is_shared(
+    classes: &Classes,
+    indexes: &[MethodIndex],
+    numbers: &[u32],
+    method: &MethodInfo,
+) -> bool
+    requires { HaveOwnMethods classes.now × AreIndexed classes.now indexes.now }
+    ensures { IsTrue result ↔ IsShared classes.now numbers.now method.now }
+{
+    if !is_of_package(method) {
+        return false;
+    }
+    shares_above(classes, indexes, numbers, method)
+}
+
+// Whether the method is one of its package.
+fn is_of_package(method: &MethodInfo) -> bool
+    ensures { result ≡ is_of_package method.now }
+{
+    if method.access & NOT_OF_PACKAGE != 0 {
+        return false;
+    }
+    !is_special(method.name.as_slice())
+}
+
+// Whether one of these classes declares such a method too, as one of its package.
+fn shares_above(
+    classes: &Classes,
+    indexes: &[MethodIndex],
+    numbers: &[u32],
+    method: &MethodInfo,
+) -> bool
+    requires { HaveOwnMethods classes.now × AreIndexed classes.now indexes.now }
+    ensures { IsTrue result ↔ SharesAbove classes.now numbers.now method.now }
+{
+    for number in numbers {
+        if shares_method(classes, indexes, *number, method) {
+            return true;
+        }
+    }
+    false
+}
+
+// Whether the class of that number declares such a method too, as one of its package.
+fn shares_method(
+    classes: &Classes,
+    indexes: &[MethodIndex],
+    number: u32,
+    method: &MethodInfo,
+) -> bool
+    requires { HaveOwnMethods classes.now × AreIndexed classes.now indexes.now }
+    ensures { IsTrue result ↔ SharesMethod classes.now method.now number }
+{
+    match item_at(classes.as_slice(), number) {
+        Some(class) => shares_own(&indexes[number as usize], class.methods(), method),
+        None => false,
+    }
+}
+
+// Whether one of these methods is such a method too, as one of its package.
+fn shares_own(index: &MethodIndex, methods: &[MethodInfo], method: &MethodInfo) -> bool
+    requires { Indexes (places_at index.now.places) methods.now × AreDifferent methods.now }
+    ensures { IsTrue result ↔ SharesOwn methods.now method.now }
+{
+    match index.find(methods, &method.name, &method.kind) {
+        Some(place) => is_of_package(&methods[place as usize]),
+        None => false,
+    }
+}

@@ -1,7 +1,0 @@
-use Rattle.std.proofs.Common.{take}
-use Rattle.kb_world.specs.Rules.{IsNoneSuch}
-use Rattle.kb_world.specs.Sharing.{IsShared}
-use Rattle.kb_world.proofs.packages.first_shared.Given as goal
-
-abbrev pub invariant-loop-method : goal.invariant-loop-method
-invariant-loop-method l = IsNoneSuch (IsShared l.classes l.numbers) (take l.method-index l.methods)
