@@ -1,0 +1,154 @@
+//! The world of classes, and what it knows of them.
+ghost use Rattle.std.specs.Prelude.{◌≡◌, ◌<◌, length, Some, slice_get, option_map, IfSome, IfNone, IfOk};
+ghost use Rattle.std.specs.Option.{option_copied, option_and_then};
+ghost use Rattle.kb_class.specs.Class.{Class};
+ghost use Rattle.kb_link.specs.World.{World as PlainWorld, method_at, methods_in, number_in, type_entry_of, int_entry_of, literal_entry_of};
+ghost use Rattle.kb_link.specs.Links.{IsLinked};
+ghost use Rattle.kb_link.specs.Placing.{place_in};
+ghost use Rattle.kb_link.specs.Slots.{slots_of};
+ghost use Rattle.kb_link.specs.Subtypes.{fits};
+ghost use Rattle.kb_link.specs.Targets.{IsTargetOf};
+
+use kb_class::{ClassId, MethodId, MethodInfo};
+use kb_classfile::ClassFile;
+use kb_link::{FieldSlot, Linked};
+use kb_names::{ExactType, JType, Name, NoMemory, Target};
+use std::alloc::Global;
+use std::marker::Model;
+
+/// The given classes in the order given, and then the platform classes, with tables over them: no question searches a list
+/// of members or entries.
+#[derive(Drop)]
+pub struct World {
+    linked: Linked,
+}
+
+impl Model for World {
+    ghost use Rattle.kb_link.specs.World.{World as PlainWorld};
+    ghost use Rattle.kb_link.specs.Links.{IsLinked};
+
+    ghost Value = { PlainWorld };
+
+    ghost view = { λ w. w.linked };
+
+    ghost invariant = { λ w. IsLinked w.linked };
+}
+
+impl World {
+    /// The world of linked classes.
+    pub(crate) fn of(alloc: Global, linked: Linked) -> Result<World, NoMemory>
+        ensures { IfOk result (λ world. world ≡ linked) }
+    {
+        Ok(World { linked })
+    }
+
+    /// The linked classes.
+    pub(crate) fn linked(&self) -> &Linked
+        ensures { result.now ≡ self.now }
+    {
+        &self.linked
+    }
+
+    /// The class of that name.
+    pub fn class_named(&self, name: &Name) -> Option<ClassId>
+        ensures { option_map (λ (id : ClassId). id.0) result ≡ number_in self.now.classes name.now }
+    {
+        self.linked.class_named(name)
+    }
+
+    /// The name of a class.
+    pub fn name_of(&self, class: ClassId) -> &Name
+        requires { class.0 < length self.now.classes }
+        ensures name { option_map (λ (c : Class). c.name) (slice_get self.now.classes class.0) ≡ Some result.now }
+        ensures linked { IsLinked self.now }
+    {
+        self.linked.name_of(class)
+    }
+
+    /// The class file of a class: None exactly for a platform class.
+    pub fn file_of(&self, class: ClassId) -> Option<&ClassFile>
+        requires { class.0 < length self.now.classes }
+        ensures { option_copied result ≡ option_and_then (λ (c : Class). c.file) (slice_get self.now.classes class.0) }
+    {
+        self.linked.file_of(class)
+    }
+
+    /// A method.
+    pub fn method_of(&self, method: MethodId) -> &MethodInfo
+        requires { method.0 < length (methods_in self.now.classes) }
+        ensures there { method_at self.now method.0 ≡ Some result.now }
+        ensures linked { IsLinked self.now }
+    {
+        self.linked.method_of(method)
+    }
+
+    /// The place, in the listing of a method's code, of the instruction at an offset. A look into a table, without a search.
+    pub fn place_at(&self, method: MethodId, at: u32) -> Option<u32>
+        requires { method.0 < length (methods_in self.now.classes) }
+        ensures { result ≡ place_in (method_at self.now method.0) at }
+    {
+        self.linked.place_at(method, at)
+    }
+
+    /// The slots of the objects of a class, by their numbers.
+    pub fn fields_of(&self, class: ClassId) -> &[FieldSlot]
+        requires { class.0 < length self.now.classes }
+        ensures { result.now ≡ slots_of self.now class.0 }
+    {
+        self.linked.fields_of(class)
+    }
+
+    /// The exact types that an object of an input may have.
+    pub fn universe(&self) -> &[ExactType]
+        ensures { result.now ≡ self.now.universe }
+    {
+        self.linked.universe()
+    }
+
+    /// How many string literals there are.
+    pub fn literals(&self) -> u32
+        ensures { result ≡ length self.now.literals }
+    {
+        self.linked.literals()
+    }
+
+    /// The type of a Class entry of a class: None exactly where the entry is none.
+    pub fn type_entry(&self, class: ClassId, entry: u16) -> Option<&ExactType>
+        requires { class.0 < length self.now.classes }
+        ensures { option_copied result ≡ type_entry_of self.now class.0 entry }
+    {
+        self.linked.type_entry(class, entry)
+    }
+
+    /// The int of an Integer entry of a class: None exactly where the entry is none.
+    pub fn int_entry(&self, class: ClassId, entry: u16) -> Option<i32>
+        requires { class.0 < length self.now.classes }
+        ensures { result ≡ int_entry_of self.now class.0 entry }
+    {
+        self.linked.int_entry(class, entry)
+    }
+
+    /// The number of the literal of a String entry of a class: None exactly where the entry is none.
+    pub fn literal_entry(&self, class: ClassId, entry: u16) -> Option<u32>
+        ensures { result ≡ literal_entry_of self.now class.0 entry }
+    {
+        self.linked.literal_entry(class, entry)
+    }
+
+    /// Whether an object of the exact type is of the other type (JVMS 8 section 6.5, checkcast). It takes no memory, and no
+    /// more time for a longer way from class to class.
+    pub fn subtype(&self, low: &ExactType, high: &JType) -> bool
+        ensures { result ≡ fits self.now low.now high.now }
+    {
+        self.linked.subtype(low, high)
+    }
+
+    /// The method that the target names, where it has code and its name does not begin with `<`.
+    pub fn find_target(&self, target: &Target) -> Option<MethodId>
+        ensures found { IfSome result (λ id. IsTargetOf self.now target.now id) }
+        ensures none { IfNone result ((id : MethodId) → IsTargetOf self.now target.now id → ⊥) }
+        ensures alone { IfSome result (λ id. (other : MethodId) → IsTargetOf self.now target.now other → other ≡ id) }
+    {
+        self.linked.find_target(target)
+    }
+}
