@@ -28,6 +28,7 @@ mod tests;
 mod universe;
 mod linked;
 
+pub use by_name::add_place;
 pub use linking::{LinkRefusal, What, link};
 pub use slots::FieldSlot;
 pub use linked::Linked;

@@ -4,9 +4,16 @@
 //! methods that a target reaches and the first thing there that cannot be carried out.
 #![tactic(auto)]
 
+mod by_name;
+mod chains;
+mod fields;
 mod linking;
 mod lookup;
+mod methods;
 mod reach;
+mod resolving;
+mod special;
+mod tables;
 mod world;
 
 pub use kb_link::{FieldSlot, LinkRefusal, What};

@@ -1,0 +1,59 @@
+-- Rows of what entries stand for.
+use Rattle.std.proofs.Common.{◌≡◌, ◌<◌, ◌≤◌, ◌+◌, ◌^◌, ℕ, zero, suc, List, [], ◌∷◌, ◌++◌, length, get_or, Option, Some, None, slice_get, min, ◌⊎◌, inl, inr, below_more, refl, sym, ap, subst, ◌∙◌, arith}
+use Rattle.std.proofs.lemmas.List.{get_or_append_left, get_or_push, get_or_past}
+use Rattle.std.proofs.lemmas.Option.{slice_get_past, slice_get_cases}
+use Rattle.std.specs.Option.{option_map, option_and_then}
+use Rattle.kb_class.specs.Class.{Class, Sought, reference_of_entry}
+use Rattle.kb_link.specs.World.{World}
+use Rattle.kb_world.specs.Lookup.{sought_at, class_of_sought, slot_of_sought, method_of_sought, special_of_sought}
+use Rattle.kb_world.specs.Tables.{slot_told, StandsFor, IsResolved, IsRow, nothing}
+use Rattle.kb_world.specs.declared.resolving.Resolved.{Resolved}
+
+-- ---- what an entry stands for
+
+pub sought_told : (world : World) (class entry : ℕ) (of : Class) (sought : Option Sought) → slice_get world.classes class ≡ Some of
+    → sought ≡ reference_of_entry (slice_get of.entries entry) → sought_at world class entry ≡ sought
+sought_told world class entry of sought there is =
+    ap (λ (o : Option Class). option_and_then (λ (c : Class). reference_of_entry (slice_get c.entries entry)) o) there ∙ sym is
+
+module _ (world : World) (class entry : ℕ) where
+  pub stands : (sought : Sought) (told : Resolved) → sought_at world class entry ≡ Some sought → StandsFor world class sought told → IsResolved world class entry told
+  stands sought told at is = record {
+    is_declaring = is.is_declaring ∙ sym (ap (λ (o : Option Sought). option_and_then (class_of_sought world) o) at);
+    is_slot = is.is_slot ∙ sym (ap (λ (o : Option Sought). option_and_then (slot_of_sought world) o) at);
+    is_method = is.is_method ∙ sym (ap (λ (o : Option Sought). option_and_then (method_of_sought world) o) at);
+    is_special = is.is_special ∙ sym (ap (λ (o : Option Sought). option_and_then (special_of_sought world class) o) at);
+  }
+
+  pub stands_for_nothing : sought_at world class entry ≡ None → IsResolved world class entry nothing
+  stands_for_nothing at = record {
+    is_declaring = sym (ap (λ (o : Option Sought). option_and_then (class_of_sought world) o) at);
+    is_slot = sym (ap (λ (o : Option Sought). option_and_then (slot_of_sought world) o) at);
+    is_method = sym (ap (λ (o : Option Sought). option_and_then (method_of_sought world) o) at);
+    is_special = sym (ap (λ (o : Option Sought). option_and_then (special_of_sought world class) o) at);
+  }
+
+  -- the class has no entry of that number
+  pub past_entries : (of : Class) → slice_get world.classes class ≡ Some of → length of.entries ≤ entry → IsResolved world class entry nothing
+  past_entries of there past =
+      stands_for_nothing (sought_told world class entry of None there (sym (ap reference_of_entry (slice_get_past of.entries entry past))))
+
+-- ---- rows
+
+module _ {A : Type 0} (P : ℕ → A → Type 0) where
+  -- one item more
+  pub each_pushed : (xs : List A) (x d : A) (n : ℕ) → length xs ≡ n → ((k : ℕ) → k < n → P k (get_or xs k d)) → P n x → (k : ℕ) → k < n + 1 → P k (get_or (xs ++ x ∷ []) k d)
+  each_pushed xs x d n count each one =
+      below_more (λ k. P k (get_or (xs ++ x ∷ []) k d)) n
+      (λ k below. subst (P k) (sym (get_or_append_left xs (x ∷ []) d k (omega (arith, below, count)))) (each k below))
+      (subst (P n) (sym (get_or_push xs x d n count)) one)
+
+-- a row that has each entry of the class with a number of 16 bits
+pub is_row : (world : World) (class : ℕ) (of : Class) (row : List Resolved) (count : ℕ) → slice_get world.classes class ≡ Some of → count ≡ min (length of.entries) 65536 → length row ≡ count
+    → ((k : ℕ) → k < count → IsResolved world class k (get_or row k nothing)) → IsRow world class row
+is_row world class of row count there most len each entry few =
+    elim (slice_get_cases row entry).1 [
+      | inl h ↦ each entry (omega (arith, h.1, len))
+      | inr h ↦ (let past : length of.entries ≤ entry = omega (arith, h.0, len, most, few) in
+          subst (IsResolved world class entry) (sym (get_or_past row entry nothing h.0)) (past_entries world class entry of there past))
+    ]
