@@ -24,7 +24,7 @@ module _ (world : World) (name : List ℕ) (type : JType) (number : ℕ) where
   declared_at class fields found there are is =
       ap (λ (o : Option Class). option_and_then (λ (c : Class). only_where (list_any (is_field name type) c.fields) number) o) there
       ∙ ap (λ (b : Bool). only_where b number)
-        (ap (λ (fs : List FieldInfo). list_any (is_field name type) fs) (sym are) ∙ any_place (is_field name type) fields ∙ ap (λ (o : Option ℕ). is_some o) (sym is))
+      (ap (λ (fs : List FieldInfo). list_any (is_field name type) fs) (sym are) ∙ any_place (is_field name type) fields ∙ ap (λ (o : Option ℕ). is_some o) (sym is))
 
   -- no class has the number
   pub declared_nowhere : (tables : List MemberTables) → HaveTables world tables → length tables ≤ number → declaring world name type number ≡ None

@@ -64,7 +64,7 @@ module _ (world : World) (low : ℕ) (name : List ℕ) (kind : MethodType) where
       filter_step (declares_open world name kind) (λ above. not (above == low) && is_super world.supers low above) number (interfaces_from (suc number) classes) (is_interface class)
       (not (number == low) && is_super world.supers low number) refl
       ∙ ap (λ (o : Option Class). or_else (if option_map_or is_interface o false && (not (number == low) && is_super world.supers low number) then declares_open world name kind number else None)
-          (found_from (suc number) classes)) (sym there)
+      (found_from (suc number) classes)) (sym there)
 
   at_place : (classes : List Class) (number : ℕ) (class : Class) → slice_get classes number ≡ Some class → drop number classes ≡ class ∷ drop (suc number) classes
   at_place [] number class there = absurd cc
