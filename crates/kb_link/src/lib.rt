@@ -12,6 +12,7 @@ mod classes;
 mod direct;
 mod initialisers;
 mod items;
+mod laws;
 mod linking;
 mod literals;
 mod loading;
@@ -28,6 +29,7 @@ mod tests;
 mod universe;
 mod linked;
 
+pub use laws::{linked_or_refused, one_reason, one_world};
+pub use linked::Linked;
 pub use linking::{LinkRefusal, What, link};
 pub use slots::FieldSlot;
-pub use linked::Linked;
