@@ -1,4 +1,4 @@
-//! Worlds of classes that are spelled byte by byte. What is expected follows from the class files as `javap -v` shows them, by
+//! Linkeds of classes that are spelled byte by byte. What is expected follows from the class files as `javap -v` shows them, by
 //! JVMS 8 chapters 4 and 5.
 
 ghost use Rattle.std.specs.Prelude.{[], ◌∷◌, ◌<◌, length, IfOk, IfSome};
@@ -219,12 +219,12 @@ fn given_classes(alloc: Global, files: &[&[u8]]) -> Option<Vec<GivenClass>>
 }
 
 /// What linking the class files answers, or None where one is none.
-fn linked(alloc: Global, files: &[&[u8]]) -> Option<Result<World, LinkRefusal>> {
+fn linked(alloc: Global, files: &[&[u8]]) -> Option<Result<Linked, LinkRefusal>> {
     let classes = given_classes(alloc, files)?;
     Some(link(alloc, classes))
 }
 
-fn world(alloc: Global, files: &[&[u8]]) -> Option<World> {
+fn world(alloc: Global, files: &[&[u8]]) -> Option<Linked> {
     linked(alloc, files)?.ok()
 }
 
@@ -297,7 +297,7 @@ fn is_of_no_method(refusal: &LinkRefusal, target: &Target) -> bool {
 
 /// The number of the class of that name.
 #[tactic(auto, using(crate::proofs::Named::number_inside))]
-fn class_of(alloc: Global, world: &World, text: &[u8]) -> Option<ClassId>
+fn class_of(alloc: Global, world: &Linked, text: &[u8]) -> Option<ClassId>
     ensures { IfSome result (λ id. id.0 < length world.now.classes) }
 {
     let Ok(name) = Name::from_slice(alloc, text) else {
@@ -316,7 +316,7 @@ fn interface(name: [u8; 3]) -> Bytes {
 }
 
 /// The method that the target names.
-fn method_of(world: &World, target: &Target) -> Option<MethodId>
+fn method_of(world: &Linked, target: &Target) -> Option<MethodId>
     ensures { IfSome result (λ id. id.0 < length (methods_in world.now.classes)) }
 {
     world.find_target(target)
@@ -490,7 +490,7 @@ fn a_class_is_initialised_with_its_superclass(rt: HostRuntime) -> Result<(), Fai
 }
 
 /// The world of the classes by javac.
-fn world_of_javac(alloc: Global) -> Option<World> {
+fn world_of_javac(alloc: Global) -> Option<Linked> {
     world(alloc, &[&HOLDER, &SHAPE, &AREA, &BLANK])
 }
 
