@@ -83,9 +83,14 @@ def by_hand():
         "space.class": class_like_a(b" ", b" "),
         "a_below_b.class": class_like_a(b"A", b"B"),
         "b_below_a.class": class_like_a(b"B", b"A"),
-        # f(II)I of two packages, without access flags
+        "below_a.class": class_like_a(b"C", b"A"),
+        # f(II)I of two packages, without access flags; private, public and static; and of one package
         "low.class": class_like_a(b"q/B", b"p/A", 0),
         "high.class": class_like_a(b"p/A", b"java/lang/Object", 0),
+        "private.class": class_like_a(b"p/A", b"java/lang/Object", 2),
+        "public.class": class_like_a(b"q/B", b"p/A", 1),
+        "static.class": class_like_a(b"q/B", b"p/A", 8),
+        "same_package.class": class_like_a(b"p/B", b"p/A", 0),
     }
 
 
@@ -94,6 +99,8 @@ def main():
     files = compiled("Shapes.java", shapes)
     files |= compiled("Reached.java", same_names("Reached", "Ready", "Heir", "Gone", "Pair", "Sized"))
     files |= compiled("WithoutMembers.java", {"Gone": "without.class"})
+    files |= compiled("First.java", {"P": "p.class"})
+    files |= compiled("Second.java", {"Q": "q.class"})
     files |= by_hand()
     for name, content in files.items():
         (DATA / name).write_bytes(content)
