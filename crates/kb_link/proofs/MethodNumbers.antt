@@ -210,15 +210,17 @@ pub record IsPlaceOf (classes : List Class) (number : ℕ) (at : MethodPlace) : 
   pub there : slice_get class.methods at.place ≡ Some method
   pub number_is : slice_get (methods_in classes) number ≡ Some method
 
+-- there are as many places as methods
+pub same_lengths : (classes : List Class) (places : List MethodPlace) → HasPlaces classes places → length places ≡ length (methods_in classes)
+same_lengths classes places has =
+    sym (length-map places (method_in classes)) ∙ ap (λ (os : List (Option MethodInfo)). length os) has ∙ length-map (methods_in classes) (λ (m : MethodInfo). Some m)
+
 pub place_of : (classes : List Class) (places : List MethodPlace) (number : ℕ) (at : MethodPlace) → HasPlaces classes places → number < length (methods_in classes) → at ≡ get_or places number at
     → IsPlaceOf classes number at
 place_of classes places number at has within at_is = found (slice_get_cases (methods_in classes) number).1
   where
-    same_lengths : length places ≡ length (methods_in classes)
-    same_lengths = sym (length-map places (method_in classes)) ∙ ap (λ (os : List (Option MethodInfo)). length os) has ∙ length-map (methods_in classes) (λ (m : MethodInfo). Some m)
-
     at_number : slice_get places number ≡ Some at
-    at_number = slice_get_read places (length places) number at refl (rw same_lengths within) at_is
+    at_number = slice_get_read places (length places) number at refl (rw (same_lengths classes places has) within) at_is
 
     told : (method : MethodInfo) → slice_get (methods_in classes) number ≡ Some method → method_in classes at ≡ Some method
     told method there =

@@ -6,6 +6,7 @@ use Rattle.kb_names.specs.Types.{shape_of}
 use Rattle.kb_names.specs.declared.types.ExactType.{ExactType}
 use Rattle.kb_names.specs.declared.types.ExactType.TheVariants as exact
 use Rattle.kb_names.specs.declared.types.JType.{JType}
+use Rattle.kb_names.specs.declared.types.JType.TheVariants as types
 use Rattle.kb_order.specs.Order.{IsAbove}
 use Rattle.kb_class.specs.Class.{Class}
 use Rattle.kb_class.specs.Platform.{object_name, serializable}
@@ -126,6 +127,11 @@ type_fits world low high = fits_shapes world (shape_of low) (shape_of high)
 abbrev pub shape_of_exact : ExactType → Shape
 shape_of_exact (exact.Class name) = record { dims = 0; base = class_base name }
 shape_of_exact (exact.Array component) = record { dims = suc (shape_of component).dims; base = (shape_of component).base }
+
+-- the type of exactly those objects that are of the exact type or of a subtype of it
+abbrev pub type_of_exact : ExactType → JType
+type_of_exact (exact.Class name) = types.Class name
+type_of_exact (exact.Array component) = types.Array (shape_of component)
 
 -- whether an object of the exact type is of the type
 abbrev pub fits : World → ExactType → JType → Bool

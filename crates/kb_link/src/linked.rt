@@ -124,7 +124,14 @@ impl Linked {
     pub fn class_named(&self, name: &Name) -> Option<ClassId>
         ensures { option_map (λ (id : ClassId). id.0) result ≡ number_in self.now.classes name.now }
     {
-        let number = self.classes.number_of(name.as_slice())?;
+        self.class_of_text(name.as_slice())
+    }
+
+    /// The class whose name has these bytes.
+    pub fn class_of_text(&self, name: &[u8]) -> Option<ClassId>
+        ensures { option_map (λ (id : ClassId). id.0) result ≡ number_in self.now.classes name.now }
+    {
+        let number = self.classes.number_of(name)?;
         Some(ClassId(number))
     }
 
@@ -278,6 +285,13 @@ impl Linked {
         ensures { result ≡ length self.now.classes }
     {
         self.classes.as_slice().len() as u32
+    }
+
+    /// How many methods the classes have.
+    pub fn method_count(&self) -> usize
+        ensures { result ≡ length (methods_in self.now.classes) }
+    {
+        self.places.len()
     }
 
     /// The numbers of a class and of its superclasses, up to that of java/lang/Object.

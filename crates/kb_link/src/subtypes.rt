@@ -2,7 +2,7 @@
 ghost use Rattle.std.specs.Prelude.{◌≡◌, ◌⊎◌};
 ghost use Rattle.kb_names.specs.Types.{shape_of};
 ghost use Rattle.kb_names.specs.declared.types.ExactType.TheVariants as exact;
-ghost use Rattle.kb_link.specs.Subtypes.{is_above_arrays, type_fits, fits};
+ghost use Rattle.kb_link.specs.Subtypes.{is_above_arrays, type_fits, fits, type_of_exact};
 
 use crate::linked::Linked;
 use kb_names::{ExactType, JType, Name};
@@ -16,6 +16,18 @@ impl Linked {
         match low {
             ExactType::Class(name) => self.class_fits(name, high),
             ExactType::Array(component) => self.array_fits(component, high),
+        }
+    }
+
+    /// Whether an object of the exact type is of the other exact type too, as [`Linked::subtype`] says it.
+    pub fn exact_subtype(&self, low: &ExactType, high: &ExactType) -> bool
+        ensures { result ≡ fits self.now low.now (type_of_exact high.now) }
+    {
+        match (low, high) {
+            (ExactType::Class(below), ExactType::Class(above)) => self.is_below(below, above),
+            (ExactType::Class(_), ExactType::Array(_)) => false,
+            (ExactType::Array(_), ExactType::Class(above)) => is_above_arrays(above.as_slice()),
+            (ExactType::Array(below), ExactType::Array(above)) => self.type_fits(below, above),
         }
     }
 

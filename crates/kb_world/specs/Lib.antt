@@ -1,2 +1,6 @@
+pub mod Calls
+pub mod Faults
+pub mod Found
 pub mod Lookup
 pub mod Reach
+pub mod Walks
