@@ -1,5 +1,6 @@
 -- The walk over the methods that are reached, and what it tells.
 use Rattle.std.specs.Prelude.{◌≡◌, ◌⊎◌, ℕ, List, fold, Option, Some}
+use Rattle.kb_names.specs.declared.types.Target.{Target}
 use Rattle.kb_class.specs.declared.ids.MethodId.{MethodId}
 use Rattle.kb_link.specs.declared.linking.LinkRefusal.{LinkRefusal}
 use Rattle.kb_link.specs.declared.linking.LinkRefusal.TheVariants as refusals
@@ -20,11 +21,10 @@ told_at found = (found.0, told found.1)
 
 -- The refusal tells the fault of the method at the offset.
 abbrev pub Tells : World → ℕ → ℕ → Fault → LinkRefusal → Type 0
-Tells world method at fault (refusals.NoField of place) = (fault ≡ NoField) × (place ≡ at) × Declares world (record { 0 = method }) of
-Tells world method at fault (refusals.Missing name) = fault ≡ Missing name
-Tells world method at fault (refusals.Outside of place what) = (fault ≡ Outside what) × (place ≡ at) × Declares world (record { 0 = method }) of
-Tells world method at fault (refusals.Initialiser name) = fault ≡ Initialiser name
-Tells world method at fault _ = ⊥
+Tells world method at NoField refusal = (of : Target) × (refusal ≡ refusals.NoField of at) × Declares world (record { 0 = method }) of
+Tells world method at (Missing name) refusal = refusal ≡ refusals.Missing name
+Tells world method at (Outside what) refusal = (of : Target) × (refusal ≡ refusals.Outside of at what) × Declares world (record { 0 = method }) of
+Tells world method at (Initialiser name) refusal = refusal ≡ refusals.Initialiser name
 
 -- The refusal tells a fault, of which it holds that it is the first one.
 pub record TellsFirst (world : World) (IsFirst : ℕ → ℕ → Fault → Type 0) (refusal : LinkRefusal) : Type 0 where

@@ -9,6 +9,7 @@ mod calls;
 mod checks;
 mod faults;
 mod found;
+mod laws;
 mod linking;
 mod lookup;
 mod mentions;
@@ -16,5 +17,6 @@ mod reach;
 mod world;
 
 pub use kb_link::{FieldSlot, LinkRefusal, What};
+pub use laws::{one_answer, one_reached};
 pub use linking::link;
 pub use world::World;

@@ -1,0 +1,4 @@
+mod Inside
+mod Marking
+mod Reaching
+pub mod ReachLaws
