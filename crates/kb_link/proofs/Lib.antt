@@ -15,6 +15,7 @@ pub mod SharingLaws
 pub mod WholeMethods
 pub mod OwnMethods
 pub mod OneWorld
+pub mod OneUniverse
 pub mod LiteralLaws
 pub mod UniverseTexts
 pub mod UniverseLaws

@@ -413,3 +413,20 @@ module _ (given : List GivenClass) where
   pub worlds_chains : (a b : World) → Links given a → Links given b → a.chains ≡ b.chains
   worlds_chains a b p q =
       one_chains b.classes a.chains b.chains (subst (λ (cs : List Class). AreChains cs a.chains) (worlds_classes a b p q) p.linked.chains) q.linked.chains
+
+-- a reason against class files that have a world is want of memory
+pub no_reason : (given : List GivenClass) (world : World) (r : LinkRefusal) → Links given world → RefusesLink given r → r ≡ refusals.NoMemory
+no_reason given world refusals.NoMemory l a = refl
+no_reason given world refusals.TooMany l a = absurd (refused_or_linked given world refusals.TooMany a (λ e. let wrong : refusals.TooMany ≡ refusals.NoMemory = e in cc) l)
+no_reason given world (refusals.BadName file entry) l a = absurd (refused_or_linked given world (refusals.BadName file entry) a (λ e. let wrong : (refusals.BadName file entry) ≡ refusals.NoMemory = e in cc) l)
+no_reason given world (refusals.BadDescriptor file entry) l a = absurd (refused_or_linked given world (refusals.BadDescriptor file entry) a (λ e. let wrong : (refusals.BadDescriptor file entry) ≡ refusals.NoMemory = e in cc) l)
+no_reason given world (refusals.TwoMembers file entry) l a = absurd (refused_or_linked given world (refusals.TwoMembers file entry) a (λ e. let wrong : (refusals.TwoMembers file entry) ≡ refusals.NoMemory = e in cc) l)
+no_reason given world (refusals.Twice name) l a = absurd (refused_or_linked given world (refusals.Twice name) a (λ e. let wrong : (refusals.Twice name) ≡ refusals.NoMemory = e in cc) l)
+no_reason given world (refusals.Missing name) l a = absurd (refused_or_linked given world (refusals.Missing name) a (λ e. let wrong : (refusals.Missing name) ≡ refusals.NoMemory = e in cc) l)
+no_reason given world (refusals.Circle name) l a = absurd (refused_or_linked given world (refusals.Circle name) a (λ e. let wrong : (refusals.Circle name) ≡ refusals.NoMemory = e in cc) l)
+no_reason given world (refusals.BadSuper name) l a = absurd (refused_or_linked given world (refusals.BadSuper name) a (λ e. let wrong : (refusals.BadSuper name) ≡ refusals.NoMemory = e in cc) l)
+no_reason given world (refusals.SplitPackage name method) l a = absurd (refused_or_linked given world (refusals.SplitPackage name method) a (λ e. let wrong : (refusals.SplitPackage name method) ≡ refusals.NoMemory = e in cc) l)
+no_reason given world (refusals.NoMethod target) l a = absurd (refused_or_linked given world (refusals.NoMethod target) a (λ e. let wrong : (refusals.NoMethod target) ≡ refusals.NoMemory = e in cc) l)
+no_reason given world (refusals.NoField method at) l a = absurd (refused_or_linked given world (refusals.NoField method at) a (λ e. let wrong : (refusals.NoField method at) ≡ refusals.NoMemory = e in cc) l)
+no_reason given world (refusals.Outside method at what) l a = absurd (refused_or_linked given world (refusals.Outside method at what) a (λ e. let wrong : (refusals.Outside method at what) ≡ refusals.NoMemory = e in cc) l)
+no_reason given world (refusals.Initialiser name) l a = absurd (refused_or_linked given world (refusals.Initialiser name) a (λ e. let wrong : (refusals.Initialiser name) ≡ refusals.NoMemory = e in cc) l)

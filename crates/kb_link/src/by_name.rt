@@ -69,8 +69,8 @@ fn places_by_name(
     Ok(table)
 }
 
-// Puts the place behind those of the name.
-fn add_place(
+/// Puts the place behind those of the name.
+pub fn add_place(
     alloc: Global,
     table: &mut HashMap<Vec<u8>, Row<u32>>,
     name: &Name,

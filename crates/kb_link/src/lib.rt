@@ -12,6 +12,8 @@ mod classes;
 mod direct;
 mod initialisers;
 mod items;
+mod laws;
+mod linked;
 mod linking;
 mod literals;
 mod loading;
@@ -26,8 +28,9 @@ mod supers;
 #[cfg(test)]
 mod tests;
 mod universe;
-mod linked;
 
+pub use by_name::add_place;
+pub use laws::{linked_or_refused, one_reason, one_world};
+pub use linked::Linked;
 pub use linking::{LinkRefusal, What, link};
 pub use slots::FieldSlot;
-pub use linked::Linked;

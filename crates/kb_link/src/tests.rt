@@ -9,8 +9,7 @@ use super::*;
 use kb_class::{ClassId, GivenClass, MethodId, handlers_of};
 use kb_classfile::{ClassFile, Method, read_class};
 use kb_code::{CodeRefusal, Listing, decode};
-use kb_names::{ExactType, JType, Name, Row, Target, read_target, read_type};
-use kb_samples::{CLASS_A, CLASS_B};
+use kb_names::{ExactType, JType, Name, Row, read_target, read_type};
 use std::alloc::Global;
 use std::test::Fail;
 
@@ -112,29 +111,16 @@ const BLANK: [u8; 201] = [
     0x12, 0x07, 0xb0, 0x00, 0x00, 0x00, 0x00, 0x00, 0x00,
 ];
 
-/// Where the descriptor of the field stands in the pattern.
-const TYPE: usize = 109;
-
-/// Where the numbers of entries stand in the pattern, by their second bytes: those of the class, its superclass and its
-/// interface, and of the names of its methods.
-const CLASS: usize = 153;
-
+/// Where the numbers of entries stand in the pattern, by their second bytes: those of the superclass, of the interface, and of
+/// the name of the first method.
 const PARENT: usize = 155;
 
 const INTERFACE: usize = 159;
 
 const FIRST_METHOD: usize = 175;
 
-const SECOND_METHOD: usize = 202;
-
-/// Where access flags stand: both bytes of those of the class, and the second ones of those of its methods.
+/// Where the first byte of the class's access flags stands.
 const ACCESS: usize = 150;
-
-const LOW_ACCESS: usize = 151;
-
-const FIRST_ACCESS: usize = 173;
-
-const SECOND_ACCESS: usize = 200;
 
 type Bytes = [u8; 228];
 
@@ -219,85 +205,18 @@ fn given_classes(alloc: Global, files: &[&[u8]]) -> Option<Vec<GivenClass>>
 }
 
 /// What linking the class files answers, or None where one is none.
-fn linked(alloc: Global, files: &[&[u8]]) -> Option<Result<World, LinkRefusal>> {
+fn linked(alloc: Global, files: &[&[u8]]) -> Option<Result<Linked, LinkRefusal>> {
     let classes = given_classes(alloc, files)?;
     Some(link(alloc, classes))
 }
 
-fn world(alloc: Global, files: &[&[u8]]) -> Option<World> {
+fn world(alloc: Global, files: &[&[u8]]) -> Option<Linked> {
     linked(alloc, files)?.ok()
-}
-
-/// A rule that a class file keeps, or that classes keep together.
-#[derive(Clone, Copy, Debug, PartialEq, Eq)]
-enum Rule {
-    BadName,
-    BadDescriptor,
-    TwoMembers,
-    Twice,
-    Missing,
-    Circle,
-    BadSuper,
-    SplitPackage,
-}
-
-/// The rule that is broken, and the name that is told last.
-fn rule_of(refusal: &LinkRefusal) -> Option<(Rule, &Name)> {
-    match refusal {
-        LinkRefusal::Twice(name) => Some((Rule::Twice, name)),
-        LinkRefusal::Missing(name) => Some((Rule::Missing, name)),
-        LinkRefusal::Circle(name) => Some((Rule::Circle, name)),
-        LinkRefusal::BadSuper(name) => Some((Rule::BadSuper, name)),
-        LinkRefusal::SplitPackage(_, method) => Some((Rule::SplitPackage, method)),
-        _ => None,
-    }
-}
-
-/// Whether the class files are refused by that rule, with that name.
-fn is_refused(alloc: Global, files: &[&[u8]], rule: Rule, name: &[u8]) -> bool {
-    let Some(Err(refusal)) = linked(alloc, files) else {
-        return false;
-    };
-    match rule_of(&refusal) {
-        Some((told, of)) => told == rule && of.as_slice() == name,
-        None => false,
-    }
-}
-
-/// The rule that a class file breaks, the number of the file and that of the entry.
-fn place_of(refusal: &LinkRefusal) -> Option<(Rule, u32, u16)> {
-    match refusal {
-        LinkRefusal::BadName(file, entry) => Some((Rule::BadName, *file, *entry)),
-        LinkRefusal::BadDescriptor(file, entry) => Some((Rule::BadDescriptor, *file, *entry)),
-        LinkRefusal::TwoMembers(file, entry) => Some((Rule::TwoMembers, *file, *entry)),
-        _ => None,
-    }
-}
-
-/// Whether the class files are refused by that rule, with these numbers.
-fn is_refused_at(alloc: Global, files: &[&[u8]], rule: Rule, file: u32, entry: u16) -> bool {
-    let Some(Err(refusal)) = linked(alloc, files) else {
-        return false;
-    };
-    place_of(&refusal) == Some((rule, file, entry))
-}
-
-/// Whether the class files are refused as too many.
-fn is_too_many(alloc: Global, files: &[&[u8]]) -> bool {
-    matches!(linked(alloc, files), Some(Err(LinkRefusal::TooMany)))
-}
-
-/// Whether the refusal is that the target names no method.
-fn is_of_no_method(refusal: &LinkRefusal, target: &Target) -> bool {
-    match refusal {
-        LinkRefusal::NoMethod(of) => of.is_same(target),
-        _ => false,
-    }
 }
 
 /// The number of the class of that name.
 #[tactic(auto, using(crate::proofs::Named::number_inside))]
-fn class_of(alloc: Global, world: &World, text: &[u8]) -> Option<ClassId>
+fn class_of(alloc: Global, world: &Linked, text: &[u8]) -> Option<ClassId>
     ensures { IfSome result (λ id. id.0 < length world.now.classes) }
 {
     let Ok(name) = Name::from_slice(alloc, text) else {
@@ -306,20 +225,19 @@ fn class_of(alloc: Global, world: &World, text: &[u8]) -> Option<ClassId>
     world.class_named(&name)
 }
 
-fn target(rt: &(impl std::process::Abort + AllocGlobal), text: &[u8]) -> Target {
-    read_target(rt.alloc(), text).expect(rt, "a target")
+/// The method that the target names.
+fn method_of(alloc: Global, world: &Linked, text: &[u8]) -> Option<MethodId>
+    ensures { IfSome result (λ id. id.0 < length (methods_in world.now.classes)) }
+{
+    let Ok(target) = read_target(alloc, text) else {
+        return None;
+    };
+    world.find_target(&target)
 }
 
 /// An interface of that name, which extends java/lang/Cloneable.
 fn interface(name: [u8; 3]) -> Bytes {
     with(class_alone(name), ACCESS, 6)
-}
-
-/// The method that the target names.
-fn method_of(world: &World, target: &Target) -> Option<MethodId>
-    ensures { IfSome result (λ id. id.0 < length (methods_in world.now.classes)) }
-{
-    world.find_target(target)
 }
 
 /// The class of that name, or the array type of that descriptor.
@@ -330,117 +248,18 @@ fn exact_type(alloc: Global, text: &[u8]) -> Option<ExactType> {
     }
 }
 
-#[test]
-fn methods_are_found_by_class_and_name_and_descriptor(rt: HostRuntime) -> Result<(), Fail> {
-    let world = world(rt.alloc(), &[&CLASS_A, &CLASS_B]).ok_or("a world")?;
-    let cases = [
-        (b"A.f(II)I".as_slice(), Some(MethodId(0))),
-        (b"B.abs(I)I", Some(MethodId(2))),
-        (b"A.f(II)V", None),
-        (b"A.abs(I)I", None),
-        (b"C.f(II)I", None),
-        (b"B.<init>()V", None),
-        (b"java/lang/Object.equals(Ljava/lang/Object;)Z", None),
-    ];
-    for (text, want) in cases {
-        assert_eq!(rt; world.find_target(&target(&rt, text)), want, "at {text:?}");
+/// Whether the universe has these types, in this order.
+fn has_universe(alloc: Global, world: &Linked, texts: &[&[u8]]) -> bool {
+    if world.universe().len() != texts.len() {
+        return false;
     }
-    let found = world.reach(rt.alloc(), &target(&rt, b"B.abs(I)I"));
-    assert_eq!(rt; found.ok(), Some(MethodId(2)));
-    let id = method_of(&world, &target(&rt, b"B.abs(I)I")).ok_or("B.abs(I)I")?;
-    let method = world.method_of(id);
-    assert!(rt; method.name.as_slice() == b"abs".as_slice());
-    assert_eq!(rt; (method.class, method.access), (ClassId(1), 0x0009));
-    assert_eq!(rt; world.place_at(id, 4), Some(2));
-    assert_eq!(rt; world.place_at(id, 2), None);
-    let missing = target(&rt, b"A.g(II)I");
-    let refusal = world.reach(rt.alloc(), &missing).err().ok_or("a refusal")?;
-    assert!(rt; is_of_no_method(&refusal, &missing));
-    Ok(())
-}
-
-#[test]
-fn a_circle_is_told_by_its_first_class(rt: HostRuntime) -> Result<(), Fail> {
-    let one = class_below(*b"one", *b"two");
-    let two = class_below(*b"two", *b"one");
-    let below = class_below(*b"low", *b"two");
-    let itself = class_below(*b"own", *b"own");
-    let last = with(one, LOW_ACCESS, 0x31);
-    let first_interface = with(with(with(one, PARENT, 6), INTERFACE, 4), ACCESS, 6);
-    let second_interface = with(with(with(two, PARENT, 6), INTERFACE, 4), ACCESS, 6);
-    let interfaces: [&[u8]; 2] = [&first_interface, &second_interface];
-    assert!(rt; is_refused(rt.alloc(), &[&one, &two], Rule::Circle, b"one"));
-    assert!(rt; is_refused(rt.alloc(), &[&two, &one], Rule::Circle, b"two"));
-    assert!(rt; is_refused(rt.alloc(), &[&below, &one, &two], Rule::Circle, b"one"));
-    assert!(rt; is_refused(rt.alloc(), &[&itself], Rule::Circle, b"own"));
-    assert!(rt; is_refused(rt.alloc(), &[&last, &two], Rule::Circle, b"one"));
-    assert!(rt; is_refused(rt.alloc(), &interfaces, Rule::Circle, b"one"));
-    Ok(())
-}
-
-#[test]
-fn superclasses_and_interfaces_keep_their_rules(rt: HostRuntime) -> Result<(), Fail> {
-    let one = class_below(*b"one", *b"two");
-    let alone = class_alone(*b"one");
-    let cases = [
-        (with(one, INTERFACE, 12), Rule::Missing, b"two".as_slice()),
-        (with(alone, INTERFACE, 4), Rule::Missing, b"two"),
-        (with(one, CLASS, 6), Rule::Twice, b"java/lang/Object"),
-        (with(one, PARENT, 8), Rule::BadSuper, b"java/lang/String"),
-        (
-            with(one, PARENT, 10),
-            Rule::BadSuper,
-            b"java/lang/Cloneable",
-        ),
-        (
-            with(alone, INTERFACE, 6),
-            Rule::BadSuper,
-            b"java/lang/Object",
-        ),
-    ];
-    for (file, rule, name) in cases {
-        assert!(rt; is_refused(rt.alloc(), &[&file], rule, name), "{rule:?}");
+    for (found, text) in world.universe().iter().zip(texts.iter()) {
+        match exact_type(alloc, text) {
+            Some(want) if found.is_same(&want) => {}
+            _ => return false,
+        }
     }
-    let twice: [&[u8]; 4] = [&CLASS_A, &CLASS_B, &CLASS_B, &CLASS_A];
-    assert!(rt; is_refused(rt.alloc(), &twice, Rule::Twice, b"B"));
-    Ok(())
-}
-
-#[test]
-fn a_package_is_not_split(rt: HostRuntime) -> Result<(), Fail> {
-    let below = class_below(*b"p/b", *b"q/a");
-    let above = class_alone(*b"q/a");
-    assert!(rt; is_refused(rt.alloc(), &[&below, &above], Rule::SplitPackage, b"m"));
-    let private = with(above, FIRST_ACCESS, 2);
-    assert!(rt; is_refused(rt.alloc(), &[&below, &private], Rule::SplitPackage, b"n"));
-    let apart = with(private, SECOND_ACCESS, 8);
-    assert!(rt; world(rt.alloc(), &[&below, &apart]).is_some());
-    let beside = class_below(*b"q/b", *b"q/a");
-    assert!(rt; world(rt.alloc(), &[&beside, &above]).is_some());
-    Ok(())
-}
-
-#[test]
-fn each_class_file_keeps_its_rules(rt: HostRuntime) -> Result<(), Fail> {
-    let name = class_alone(*b"a.b");
-    let descriptor = with(class_alone(*b"one"), TYPE, b'Q');
-    let member = with(class_alone(*b"one"), SECOND_METHOD, 15);
-    assert!(rt; is_refused_at(rt.alloc(), &[&CLASS_A, &name], Rule::BadName, 1, 1));
-    assert!(rt;
-        is_refused_at(
-            rt.alloc(),
-            &[&CLASS_A, &descriptor],
-            Rule::BadDescriptor,
-            1,
-            13
-        )
-    );
-    assert!(rt; is_refused_at(rt.alloc(), &[&member, &CLASS_A], Rule::TwoMembers, 0, 15));
-    let many: [&[u8]; 65] = [&CLASS_A; 65];
-    assert!(rt; is_too_many(rt.alloc(), &many));
-    let most: [&[u8]; 64] = [&CLASS_A; 64];
-    assert!(rt; is_refused(rt.alloc(), &most, Rule::Twice, b"A"));
-    Ok(())
+    true
 }
 
 #[test]
@@ -470,6 +289,16 @@ fn objects_are_of_the_types_above_theirs(rt: HostRuntime) -> Result<(), Fail> {
         };
         assert_eq!(rt; world.subtype(&exact, &wider), want, "{below:?} {above:?}");
     }
+    let universe: [&[u8]; 7] = [
+        b"one",
+        b"two",
+        b"low",
+        b"java/lang/Object",
+        b"java/lang/String",
+        b"[I",
+        b"[[I",
+    ];
+    assert!(rt; has_universe(rt.alloc(), &world, &universe));
     Ok(())
 }
 
@@ -490,7 +319,7 @@ fn a_class_is_initialised_with_its_superclass(rt: HostRuntime) -> Result<(), Fai
 }
 
 /// The world of the classes by javac.
-fn world_of_javac(alloc: Global) -> Option<World> {
+fn world_of_javac(alloc: Global) -> Option<Linked> {
     world(alloc, &[&HOLDER, &SHAPE, &AREA, &BLANK])
 }
 
@@ -526,13 +355,24 @@ fn an_abstract_class_is_in_no_universe(rt: HostRuntime) -> Result<(), Fail> {
         b"java/lang/Object",
         b"[Ljava/lang/String;",
     ];
-    assert_eq!(rt; world.universe().len(), 5);
-    for (found, name) in world.universe().iter().zip(names.iter()) {
-        let want = exact_type(rt.alloc(), name).ok_or("a type")?;
-        assert!(rt; found.is_same(&want), "{name:?}");
-    }
+    assert!(rt; has_universe(rt.alloc(), &world, &names));
     assert_eq!(rt; world.literals(), 2);
     assert_eq!(rt; world.literal_entry(ClassId(0), 7), Some(1));
     assert_eq!(rt; world.literal_entry(ClassId(0), 9), Some(0));
+    Ok(())
+}
+
+/// A.area()I is aload_0, getfield, ireturn.
+#[test]
+fn instructions_are_found_by_their_offsets(rt: HostRuntime) -> Result<(), Fail> {
+    let world = world_of_javac(rt.alloc()).ok_or("a world")?;
+    let id = method_of(rt.alloc(), &world, b"A.area()I").ok_or("A.area()I")?;
+    let method = world.method_of(id);
+    assert!(rt; method.name.as_slice() == b"area".as_slice());
+    assert_eq!(rt; (method.class, method.access), (ClassId(2), 0));
+    assert_eq!(rt; world.place_at(id, 4), Some(2));
+    assert_eq!(rt; world.place_at(id, 2), None);
+    assert_eq!(rt; world.place_at(id, 5), None);
+    assert!(rt; method_of(rt.alloc(), &world, b"S.area()I").is_none());
     Ok(())
 }
