@@ -18,7 +18,7 @@ kept them.
 import argparse
 import sys
 
-from built import Program
+from built import Program, with_main
 
 SIZES = [10, 100, 1000, 10000]
 POOLS = [("no other terms", 0), ("100,000 other terms", 100000)]
@@ -32,7 +32,7 @@ kb_blast: kb_arith kb_chain kb_circuit kb_terms
 blasting: kb_blast kb_terms
 """
 
-SOURCE = """\
+SOURCE = with_main("""\
 //! Builds a pool with a chain of sums and with other terms, blasts the condition that the last sum is below 0 so many
 //! times, and prints how many variables and clauses its formula has.
 #![tactic(auto)]
@@ -45,35 +45,9 @@ ghost use Rattle.kb_blast.specs.Query.{AreConditions};
 use kb_blast::{NoMemory, blast, can_blast};
 use kb_terms::{Op, Pool, TermId, VarKind};
 use std::alloc::Global;
-use std::env::{self, Env};
-use std::io;
-use std::process::ExitCode;
+@USES@
 
-fn main(rt: HostRuntime) -> ExitCode {
-    let Ok(words) = command_words(&rt) else {
-        return ExitCode::from(2);
-    };
-    let Ok(answer) = answer(rt.alloc(), words.as_slice()) else {
-        return ExitCode::from(3);
-    };
-    let printed = match answer {
-        None => println!(rt; "unblasted"),
-        Some((variables, clauses)) => println!(rt; "{variables} {clauses}"),
-    };
-    match printed {
-        Ok(()) => ExitCode::from(0),
-        Err(_) => ExitCode::from(4),
-    }
-}
-
-/// The words after the program's name.
-fn command_words<R: Env + AllocGlobal>(rt: &R) -> io::Result<Vec<String>> {
-    let mut words = Vec::new(rt.alloc());
-    for word in env::args(rt)?.skip(1) {
-        words.push(word)?;
-    }
-    Ok(words)
-}
+@MAIN@
 
 /// The size of the last formula, if there is one.
 fn answer(alloc: Global, words: &[String]) -> Result<Option<(u32, usize)>, NoMemory> {
@@ -95,7 +69,7 @@ fn answer(alloc: Global, words: &[String]) -> Result<Option<(u32, usize)>, NoMem
     let below = pool.make(Op::Lt, last, Some(zero))?;
     chain(&mut pool, Op::Xor, others)?;
     let when = [(below, true)];
-    if !can_blast(alloc, &pool, &when)? {
+    if !can_blast(&pool, &when) {
         return Ok(None);
     }
     last_size(alloc, &pool, &when, times)
@@ -130,7 +104,10 @@ fn chain(pool: &mut Pool, op: Op, length: u32) -> Result<TermId, NoMemory>
     }
     Ok(term)
 }
-"""
+""", """\
+        None => println!(rt; "unblasted"),
+        Some((variables, clauses)) => println!(rt; "{variables} {clauses}"),
+""")
 
 INVARIANT = """\
 use Rattle.kb_terms.specs.Terms.{IsTerm}

@@ -16,6 +16,44 @@ from pathlib import Path
 
 ROOT = Path(__file__).resolve().parent.parent
 
+USES = """\
+use std::env::{self, Env};
+use std::io;
+use std::process::ExitCode;
+"""
+
+# A program that prints what `answer` gives to its words.
+MAIN = """\
+fn main(rt: HostRuntime) -> ExitCode {
+    let Ok(words) = command_words(&rt) else {
+        return ExitCode::from(2);
+    };
+    let Ok(answer) = answer(rt.alloc(), words.as_slice()) else {
+        return ExitCode::from(3);
+    };
+    let printed = match answer {
+@ARMS@    };
+    match printed {
+        Ok(()) => ExitCode::from(0),
+        Err(_) => ExitCode::from(4),
+    }
+}
+
+/// The words after the program's name.
+fn command_words<R: Env + AllocGlobal>(rt: &R) -> io::Result<Vec<String>> {
+    let mut words = Vec::new(rt.alloc());
+    for word in env::args(rt)?.skip(1) {
+        words.push(word)?;
+    }
+    Ok(words)
+}
+"""
+
+
+def with_main(source, arms):
+    """The source with the `main` that prints the Option which its `answer` gives, and what `main` uses. The arms print it."""
+    return source.replace("@USES@\n", USES).replace("@MAIN@\n", MAIN.replace("@ARMS@", arms))
+
 
 @dataclass(frozen=True)
 class Program:

@@ -17,6 +17,7 @@ import subprocess
 import sys
 import tempfile
 import time
+from dataclasses import dataclass
 from pathlib import Path
 
 from straight import class_entry, read_options, utf8
@@ -24,8 +25,9 @@ from straight import class_entry, read_options, utf8
 MOST_BYTES = 1 << 20
 MOST_NUMBERS = 65_535
 TARGET = "Bench.none()I"
-# none of these answers tells of a fault of the file: the method is not found, or linking the class is not built
-NOT_FOUND = {"refused 45", "refused 50"}
+# none of these answers tells of a fault that is found before all is read and decoded: the method is not found, or two methods
+# have one name and descriptor
+ALL_READ = {"refused 45", "refused 37"}
 
 
 def name_and_type(name, kind):
@@ -111,49 +113,67 @@ def timed(words):
 
 
 def timed_read(program, file):
-    """The seconds of one run of the program, which must read the file and then not find the method."""
+    """The seconds of one run of the program, which must read the whole file and then refuse the words."""
     took, status, text = timed([program, "explore", "--method", TARGET, file])
-    if " ".join(text.decode(errors="replace").split()[:2]) not in NOT_FOUND:
+    if " ".join(text.decode(errors="replace").split()[:2]) not in ALL_READ:
         sys.exit(f"{file.name}: status {status}, and the file was not read: {text[:80]!r}")
     return took
 
 
-def least_seconds(program, files, runs):
-    """The least seconds of the program and of cat, file by file; the files take turns."""
+@dataclass(frozen=True)
+class Times:
+    """The seconds of the runs on a file: the least of the program and of cat, and the program's median."""
+
+    least: float
+    copied: float
+    median: float
+
+
+def times_of(program, files, runs):
+    """The times of each file; the files take turns."""
     reads = {file: [] for file in files}
     copies = {file: [] for file in files}
     for _ in range(runs):
         for file in files:
             reads[file].append(timed_read(program, file))
             copies[file].append(timed(["cat", file])[0])
-    return {file: (min(reads[file]), min(copies[file]), statistics.median(reads[file])) for file in files}
+    return {file: Times(min(reads[file]), min(copies[file]), statistics.median(reads[file])) for file in files}
 
 
-def print_line(shape, file, seconds, base):
-    least, copied, median = seconds
-    length = file.stat().st_size
-    reading = max(least - base, 1e-9)
-    print(
-        f"{shape:<14} {length:>10} {least * 1e3:>10.2f} {median * 1e3:>10.2f} {copied * 1e3:>10.2f}"
-        f" {reading * 1e3:>10.2f} {length / reading / 1e6:>8.0f}"
+def print_table(options, contents, header, line):
+    """Times the program on class files with these contents by their labels, and prints a line for each, under the header.
+    What starting the program takes is that of a small class file."""
+    with tempfile.TemporaryDirectory() as folder:
+        small = Path(folder) / "small.class"
+        small.write_bytes(class_file([], [], []))
+        labels = {}
+        for number, (label, content) in enumerate(contents.items()):
+            file = Path(folder) / f"{number}.class"
+            file.write_bytes(content)
+            labels[file] = label
+        times = times_of(options.program, [small, *labels], options.runs)
+        start = times[small].least
+        print(f"starting the program: {start * 1e3:.2f} ms")
+        print(header)
+        for file, label in labels.items():
+            own = max(times[file].least - start, 1e-9)
+            print(line(label, file.stat().st_size, times[file], own))
+
+
+HEADER = f"{'file':<14} {'bytes':>10} {'least ms':>10} {'median ms':>10} {'cat ms':>10} {'reading ms':>10} {'MB/s':>8}"
+
+
+def line(label, length, times, own):
+    return (
+        f"{label[0]:<14} {length:>10} {times.least * 1e3:>10.2f} {times.median * 1e3:>10.2f} {times.copied * 1e3:>10.2f}"
+        f" {own * 1e3:>10.2f} {length / own / 1e6:>8.0f}"
     )
 
 
 def main():
     options = read_options("Times the built program on large class files.", "file", 20)
-    with tempfile.TemporaryDirectory() as folder:
-        small = Path(folder) / "small.class"
-        small.write_bytes(class_file([], [], []))
-        files = {}
-        for shape, made in SHAPES.items():
-            for size in [MOST_BYTES // 2, MOST_BYTES]:
-                file = Path(folder) / f"{shape.replace(' ', '_')}_{size}.class"
-                file.write_bytes(made(size))
-                files[file] = shape
-        seconds = least_seconds(options.program, [small, *files], options.runs)
-        print(f"{'file':<14} {'bytes':>10} {'least ms':>10} {'median ms':>10} {'cat ms':>10} {'reading ms':>10} {'MB/s':>8}")
-        for file, shape in {small: "small", **files}.items():
-            print_line(shape, file, seconds[file], 0 if file == small else seconds[small][0])
+    contents = {(shape, size): made(size) for shape, made in SHAPES.items() for size in [MOST_BYTES // 2, MOST_BYTES]}
+    print_table(options, contents, HEADER, line)
 
 
 if __name__ == "__main__":

@@ -11,13 +11,10 @@ Usage: bench/instructions.py [--runs N] [--program FILE]
 Build the program first, by running ./kiasan once.
 """
 
-import statistics
 import struct
 import sys
-import tempfile
-from pathlib import Path
 
-from class_files import attribute, class_file, timed_read
+from class_files import attribute, class_file, print_table
 from straight import read_options
 
 MOST_CODE = 65_535
@@ -68,36 +65,24 @@ def with_methods(code, count):
     return class_file([], [method] * count, [])
 
 
-def print_line(kind, count, length, seconds, base):
-    least = min(seconds)
-    decoding = max(least - base, 1e-9)
-    print(
-        f"{kind:<14} {count:>8} {length:>10} {least * 1e3:>10.2f} {statistics.median(seconds) * 1e3:>10.2f}"
-        f" {decoding * 1e3:>12.2f} {decoding / length * 1e9:>10.2f}"
+HEADER = f"{'code':<14} {'methods':>8} {'bytes':>10} {'least ms':>10} {'median ms':>10} {'decoding ms':>12} {'ns/byte':>10}"
+
+
+def line(label, length, times, own):
+    kind, count = label
+    return (
+        f"{kind:<14} {count:>8} {length:>10} {times.least * 1e3:>10.2f} {times.median * 1e3:>10.2f}"
+        f" {own * 1e3:>12.2f} {own / length * 1e9:>10.2f}"
     )
 
 
 def main():
     options = read_options("Times the built program on methods of 65,535 bytes.", "file", 20)
-    with tempfile.TemporaryDirectory() as folder:
-        small = Path(folder) / "small.class"
-        small.write_bytes(class_file([], [], []))
-        files = {}
-        for kind, code in KINDS.items():
-            if len(code) != MOST_CODE:
-                sys.exit(f"{kind}: {len(code)} bytes of code")
-            for count in COUNTS:
-                file = Path(folder) / f"{kind.replace(' ', '_')}_{count}.class"
-                file.write_bytes(with_methods(code, count))
-                files[file] = (kind, count)
-        seconds = {file: [] for file in [small, *files]}
-        for _ in range(options.runs):
-            for file in seconds:
-                seconds[file].append(timed_read(options.program, file))
-        base = min(seconds[small])
-        print(f"{'code':<14} {'methods':>8} {'bytes':>10} {'least ms':>10} {'median ms':>10} {'decoding ms':>12} {'ns/byte':>10}")
-        for file, (kind, count) in files.items():
-            print_line(kind, count, file.stat().st_size, seconds[file], base)
+    for kind, code in KINDS.items():
+        if len(code) != MOST_CODE:
+            sys.exit(f"{kind}: {len(code)} bytes of code")
+    contents = {(kind, count): with_methods(code, count) for kind, code in KINDS.items() for count in COUNTS}
+    print_table(options, contents, HEADER, line)
 
 
 if __name__ == "__main__":

@@ -16,7 +16,7 @@ import argparse
 import sys
 from dataclasses import dataclass
 
-from built import Program
+from built import Program, with_main
 
 SIZES = [1000, 2000, 4000, 8000]
 CRATES = "kb_rows:\nkb_chain: kb_rows smallvec\nlogs: kb_chain\n"
@@ -39,7 +39,7 @@ SHAPES = [
     Shape("fresh-units", "check_fresh: each entry is a unit clause", "entry", 40),
 ]
 
-SOURCE = """\
+SOURCE = with_main("""\
 //! Builds a formula and a log of the shape and the size that the words name, checks the log so many times, and prints
 //! the last verdict.
 #![tactic(auto)]
@@ -48,9 +48,7 @@ use kb_chain::{
     Chain, Clause, Formula, Lit, Log, NoMemory, Row, Verdict, check_fresh, check_refutation,
 };
 use std::alloc::Global;
-use std::env::{self, Env};
-use std::io;
-use std::process::ExitCode;
+@USES@
 
 #[derive(Clone, Copy)]
 enum Check {
@@ -66,32 +64,7 @@ struct Case {
     check: Check,
 }
 
-fn main(rt: HostRuntime) -> ExitCode {
-    let Ok(words) = command_words(&rt) else {
-        return ExitCode::from(2);
-    };
-    let Ok(answer) = answer(rt.alloc(), words.as_slice()) else {
-        return ExitCode::from(3);
-    };
-    let printed = match answer {
-        None => println!(rt; "unchecked"),
-        Some(Verdict::Good) => println!(rt; "good"),
-        Some(Verdict::Bad(number)) => println!(rt; "bad {number}"),
-    };
-    match printed {
-        Ok(()) => ExitCode::from(0),
-        Err(_) => ExitCode::from(4),
-    }
-}
-
-/// The words after the program's name.
-fn command_words<R: Env + AllocGlobal>(rt: &R) -> io::Result<Vec<String>> {
-    let mut words = Vec::new(rt.alloc());
-    for word in env::args(rt)?.skip(1) {
-        words.push(word)?;
-    }
-    Ok(words)
-}
+@MAIN@
 
 /// The last verdict, if there is one.
 fn answer(alloc: Global, words: &[String]) -> Result<Option<Verdict>, NoMemory> {
@@ -221,7 +194,11 @@ fn one_step(alloc: Global, start: u32, pivot: u32, side: u32) -> Result<Chain, N
     steps.push((pivot, side))?;
     Ok(Chain { start, steps })
 }
-"""
+""", """\
+        None => println!(rt; "unchecked"),
+        Some(Verdict::Good) => println!(rt; "good"),
+        Some(Verdict::Bad(number)) => println!(rt; "bad {number}"),
+""")
 
 
 PROGRAM = Program(name="logs", crates=CRATES, source=SOURCE, trial=[SHAPES[0].word, "10", "1"])

@@ -11,9 +11,9 @@ use Rattle.kb_names.specs.declared.types.Target.{Target}
 use Rattle.kb_semantics.specs.Machine.{Method}
 use Rattle.kb_semantics.specs.Types.{IsMethod, IsTypeCorrect, AreValuesOf, AreArgumentsFor}
 use Rattle.kb_semantics.proofs.Methods.{same_method, declared_is, code_is}
-use Rattle.kb_world.specs.Slots.{is_static}
-use Rattle.kb_world.specs.Targets.{Declares, method_at}
-use Rattle.kb_world.specs.World.{World}
+use Rattle.kb_link.specs.Slots.{is_static}
+use Rattle.kb_link.specs.Targets.{Declares}
+use Rattle.kb_link.specs.World.{World, method_at}
 use Rattle.kb_machine.specs.declared.machine.MethodCode.{MethodCode}
 use Rattle.kb_machine.specs.Frames.{HasMethodCode}
 

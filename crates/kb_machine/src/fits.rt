@@ -2,7 +2,7 @@
 
 ghost use Rattle.std.specs.Prelude.{◌≡◌, ◌↔◌, ◌<◌, length, IsTrue};
 ghost use Rattle.kb_semantics.specs.Types.{IsValueOf, AreValuesOf, IsTypeCorrect};
-ghost use Rattle.kb_world.specs.World.{methods_in};
+ghost use Rattle.kb_link.specs.World.{methods_in};
 
 use kb_class::MethodId;
 use kb_classfile::STATIC;

@@ -5,6 +5,7 @@ ghost use Rattle.kb_code.specs.Listing.{IsLaidOut};
 ghost use Rattle.kb_heap.specs.declared.heap.Heap.{Heap};
 ghost use Rattle.kb_semantics.specs.Machine.{AreBuilt, Method, run, run_of, start_of};
 ghost use Rattle.kb_semantics.specs.Types.{IsMethod};
+ghost use Rattle.kb_world.specs.Reach.{IsAccepted};
 ghost use Rattle.kb_machine.specs.Frames.{HasMethodCode, ended_of};
 
 use crate::NoMemory;
@@ -35,8 +36,9 @@ pub(crate) enum RunEnd {
 
 /// The run of the method over the input within the bounds: how it ends, and the heap then.
 ///
-/// By now only methods are run whose instructions are all built, and `steps` is the one bound that a run meets. An operand of another kind than the instruction takes, an operand
-/// stack or a local beyond its limit, and code that runs off its end are ill-typed.
+/// By now only methods are run whose instructions are all built, and `steps` is the one bound that a run meets. An operand of
+/// another kind than the instruction takes, an operand stack or a local beyond its limit, and code that runs off its end are
+/// ill-typed.
 ///
 /// Source: JVMS 8 sections 2.6, 2.11 and 6.5.
 pub fn run(
@@ -47,6 +49,7 @@ pub fn run(
     bounds: &RunBounds,
 ) -> Result<(Ending, Heap), NoMemory>
     requires runs { (method : Method) × IsMethod world.now target method × AreBuilt method.listing }
+    requires accepted { IsAccepted world.now target }
     ensures { IfOk result (λ ended. (method : Method) → IsMethod world.now target method → run_of bounds.now method input.now ≡ record { ending = ended.0; heap = ended.1 }) }
 {
     let info = world.method_of(target);

@@ -11,10 +11,10 @@ use Rattle.kb_code.specs.Listing.{IsLaidOut}
 use Rattle.kb_names.specs.declared.types.Target.{Target}
 use Rattle.kb_semantics.specs.Machine.{Method}
 use Rattle.kb_semantics.specs.Types.{IsMethod}
-use Rattle.kb_world.specs.Links.{IsLinked}
-use Rattle.kb_world.specs.Rules.{HasWholeCode}
-use Rattle.kb_world.specs.Targets.{Declares, method_at}
-use Rattle.kb_world.specs.World.{World, methods_in}
+use Rattle.kb_link.specs.Links.{IsLinked}
+use Rattle.kb_link.specs.Rules.{HasWholeCode}
+use Rattle.kb_link.specs.Targets.{Declares}
+use Rattle.kb_link.specs.World.{World, methods_in, method_at}
 
 -- ---- one method
 
@@ -59,6 +59,6 @@ all_there P (y ∷ xs) (suc i) x all at = all_there P xs i x all.1 at
 -- the code of a method of a world is laid out
 pub laid_out : (world : World) (number : ℕ) (info : MethodInfo) (code : MethodCode) → IsLinked world → method_at world number ≡ Some info → info.code ≡ Some code → IsLaidOut code.listing.items code.size
 laid_out world number info code linked at told =
-    let whole : HasWholeCode info = all_there HasWholeCode (methods_in world.classes) number info linked.methods.whole at in
+    let whole : HasWholeCode info = all_there HasWholeCode (methods_in world.classes) number info linked.loaded.methods.whole at in
     let of_code : IsWhole code = subst (λ (c : Option MethodCode). IfSome c IsWhole) told whole in
     of_code.laid_out

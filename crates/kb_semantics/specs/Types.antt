@@ -11,9 +11,9 @@ use Rattle.kb_heap.specs.declared.heap.Value.TheVariants.{Int as IntValue, Null}
 use Rattle.kb_heap.specs.declared.heap.Input.{Input}
 use Rattle.kb_names.specs.declared.types.JType.{JType}
 use Rattle.kb_names.specs.declared.types.JType.TheVariants.{Bool as BoolType, Int as IntType, Class as ClassType, Array as ArrayType}
-use Rattle.kb_world.specs.World.{World}
-use Rattle.kb_world.specs.Slots.{is_static}
-use Rattle.kb_world.specs.Targets.{Declares, method_at}
+use Rattle.kb_link.specs.World.{World, method_at}
+use Rattle.kb_link.specs.Slots.{is_static}
+use Rattle.kb_link.specs.Targets.{Declares}
 use Rattle.kb_semantics.specs.Machine.{Method}
 
 -- The method of that number, as the machine runs it: its code and the listing of it.

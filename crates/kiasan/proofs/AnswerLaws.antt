@@ -2,8 +2,8 @@
 use Rattle.std.proofs.Common.{List, ℕ, Option, Result, Ok, Err, inl, inr}
 use Rattle.kb_outside.specs.Outside.{Rose}
 use Rattle.kb_class.specs.declared.given.GivenClass.{GivenClass}
-use Rattle.kb_world.specs.Links.{Links}
-use Rattle.kb_world.specs.World.{World}
+use Rattle.kb_link.specs.Links.{Links}
+use Rattle.kb_link.specs.World.{World}
 use Rattle.kiasan.specs.declared.answer.Contents.{Contents}
 use Rattle.kiasan.specs.declared.refusals.Answer.{Answer}
 use Rattle.kiasan.specs.declared.refusals.Stop.{Stop}

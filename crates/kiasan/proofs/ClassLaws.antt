@@ -17,9 +17,9 @@ use Rattle.kb_code.proofs.ListingLaws.{listed_decodes}
 use Rattle.kb_class.specs.declared.given.GivenClass.{GivenClass}
 use Rattle.kb_class.specs.Given.{AreGiven, AreListings, handlers_of}
 use Rattle.kb_class.proofs.Listings.{listings_pushed}
-use Rattle.kb_world.specs.declared.linking.LinkRefusal.{LinkRefusal}
-use Rattle.kb_world.specs.declared.linking.LinkRefusal.TheVariants as links
-use Rattle.kb_world.specs.Links.{RefusesLink}
+use Rattle.kb_link.specs.declared.linking.LinkRefusal.{LinkRefusal}
+use Rattle.kb_link.specs.declared.linking.LinkRefusal.TheVariants as links
+use Rattle.kb_link.specs.Links.{RefusesLink}
 use Rattle.kiasan.specs.declared.refusals.Refusal.{Refusal}
 use Rattle.kiasan.specs.declared.refusals.Stop.{Stop}
 use Rattle.kiasan.specs.Answers.{AreClasses, ClassRefuses, FileRefuses, IsClassOf, RefusesClasses, WorldRefuses}
@@ -198,4 +198,7 @@ link_stops given (links.Circle name) Passes refuses = (links.Circle name, refuse
 link_stops given (links.BadSuper name) Passes refuses = (links.BadSuper name, refuses, refl)
 link_stops given (links.SplitPackage name method) Passes refuses = (links.SplitPackage name method, refuses, refl)
 link_stops given (links.NoMethod target) Passes refuses = absurd refuses
+link_stops given (links.NoField method at) Passes refuses = absurd refuses
+link_stops given (links.Outside method at what) Passes refuses = absurd refuses
+link_stops given (links.Initialiser name) Passes refuses = absurd refuses
 link_stops given links.NoMemory Passes refuses = tt

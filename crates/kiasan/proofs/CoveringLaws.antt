@@ -18,12 +18,12 @@ use Rattle.kb_semantics.specs.Types.{AreArgumentsFor, AreValuesOf, IsMethod, IsT
 use Rattle.kb_terms.specs.declared.node.VarKind.{VarKind}
 use Rattle.kb_terms.specs.declared.node.VarKind.TheVariants.{Int as IntKind}
 use Rattle.kb_semantics.proofs.Methods.{code_is, same_method}
-use Rattle.kb_world.specs.World.{World}
+use Rattle.kb_link.specs.World.{World}
 use Rattle.kb_class.specs.declared.ids.MethodId.{MethodId}
 use Rattle.kb_class.specs.declared.members.MethodCode.{MethodCode}
 use Rattle.kb_class.specs.declared.members.MethodInfo.{MethodInfo}
 use Rattle.kb_names.specs.declared.types.MethodType.{MethodType}
-use Rattle.kb_world.specs.Slots.{is_static}
+use Rattle.kb_link.specs.Slots.{is_static}
 use Rattle.kiasan.specs.declared.explore.Explored.{Explored}
 use Rattle.kiasan.specs.declared.path.Operand.{Operand}
 use Rattle.kiasan.specs.declared.path.Term.{Term}

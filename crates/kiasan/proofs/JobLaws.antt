@@ -5,12 +5,12 @@ use Rattle.kb_heap.specs.declared.heap.Input.{Input}
 use Rattle.kb_semantics.specs.Machine.{Method}
 use Rattle.kb_semantics.specs.Types.{IsTypeCorrect}
 use Rattle.kb_test.specs.Texts.{SpellsTests}
-use Rattle.kb_world.specs.World.{World}
+use Rattle.kb_link.specs.World.{World}
 use Rattle.kb_class.specs.declared.ids.MethodId.{MethodId}
 use Rattle.kb_names.specs.declared.types.Target.{Target}
-use Rattle.kb_world.specs.Targets.{Refuses}
-use Rattle.kb_world.specs.declared.linking.LinkRefusal.{LinkRefusal}
-use Rattle.kb_world.specs.declared.linking.LinkRefusal.TheVariants as links
+use Rattle.kb_world.specs.Reach.{Refuses}
+use Rattle.kb_link.specs.declared.linking.LinkRefusal.{LinkRefusal}
+use Rattle.kb_link.specs.declared.linking.LinkRefusal.TheVariants as links
 use Rattle.kiasan.specs.declared.path.Leaf.{Leaf}
 use Rattle.kiasan.specs.declared.path.Leaf.TheVariants.{Ended as EndedLeaf}
 use Rattle.kiasan.specs.declared.path.Path.{Path}
@@ -39,13 +39,16 @@ all_told (path ∷ leaves) = rw (told path.leaf, all_told leaves) refl
 pub reach_stops : {A : Type 0} (Built : MethodId → Type 0) (world : World) (target : Target) (found : LinkRefusal) (Passes : A → Type 0) → Refuses world target found →
     Gives {A = A} ⊥ (TargetRefuses Built world target) Passes (Err (link_refusal found))
 reach_stops Built world target (links.NoMethod of) Passes is = inl (links.NoMethod of, is, refl)
+reach_stops Built world target (links.NoField of at) Passes is = inl (links.NoField of at, is, refl)
+reach_stops Built world target (links.Missing name) Passes is = inl (links.Missing name, is, refl)
+reach_stops Built world target (links.Outside of at what) Passes is = inl (links.Outside of at what, is, refl)
+reach_stops Built world target (links.Initialiser name) Passes is = inl (links.Initialiser name, is, refl)
 reach_stops Built world target links.NoMemory Passes is = tt
 reach_stops Built world target links.TooMany Passes is = absurd is
 reach_stops Built world target (links.BadName file entry) Passes is = absurd is
 reach_stops Built world target (links.BadDescriptor file entry) Passes is = absurd is
 reach_stops Built world target (links.TwoMembers file entry) Passes is = absurd is
 reach_stops Built world target (links.Twice name) Passes is = absurd is
-reach_stops Built world target (links.Missing name) Passes is = absurd is
 reach_stops Built world target (links.Circle name) Passes is = absurd is
 reach_stops Built world target (links.BadSuper name) Passes is = absurd is
 reach_stops Built world target (links.SplitPackage name method) Passes is = absurd is

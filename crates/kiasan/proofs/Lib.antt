@@ -5,7 +5,6 @@ pub mod CoveringLaws
 pub mod Exploring
 pub mod JobLaws
 pub mod OneListing
-pub mod Moving
 pub mod OneReply
 pub mod PathLaws
 pub mod ReadLaws

@@ -24,13 +24,16 @@ use Rattle.kb_test.specs.declared.test_case.Test.{Test}
 use Rattle.kb_test.specs.Texts.{IsTestsText, SpellsTests, tests_lines}
 use Rattle.kb_test.proofs.SameTests.{same_tests}
 use Rattle.kb_test.proofs.TestLines.{tests_are_lines}
-use Rattle.kb_world.specs.declared.linking.LinkRefusal.{LinkRefusal}
-use Rattle.kb_world.specs.declared.linking.LinkRefusal.TheVariants as links
-use Rattle.kb_world.specs.Links.{IsLinked, Links}
-use Rattle.kb_world.specs.Targets.{IsTargetOf}
-use Rattle.kb_world.specs.World.{World}
-use Rattle.kb_world.proofs.OneWorld.{one_refusal, refused_or_linked, worlds_chains, worlds_classes}
-use Rattle.kb_world.proofs.TargetLaws.{one_declared}
+use Rattle.kb_link.specs.declared.linking.LinkRefusal.{LinkRefusal}
+use Rattle.kb_link.specs.declared.linking.LinkRefusal.TheVariants as links
+use Rattle.kb_link.specs.Links.{IsLinked, Links}
+use Rattle.kb_link.specs.Targets.{IsTargetOf}
+use Rattle.kb_link.specs.World.{World}
+use Rattle.kb_link.proofs.OneUniverse.{one_world_is}
+use Rattle.kb_link.proofs.OneWorld.{one_refusal, refused_or_linked}
+use Rattle.kb_link.proofs.TargetLaws.{one_declared}
+use Rattle.kb_world.specs.Reach.{IsAccepted}
+use Rattle.kb_world.proofs.ReachLaws.{one_reach_refusal, reached_or_refused}
 use Rattle.kiasan.specs.declared.answer.Contents.{Contents}
 use Rattle.kiasan.specs.declared.refusals.Refusal.{Refusal}
 use Rattle.kiasan.specs.declared.refusals.Refusal.TheVariants as refusals
@@ -53,9 +56,8 @@ use Rattle.kiasan.specs.Refusals.{class_refusal, code_refusal, link_refusal, wor
 use Rattle.kiasan.specs.Tests.{AreRunnable, AreVerdicts, IsRunnable, IsVerdict, RefusesTest, RefusesTests, no_literals, replay_status}
 use Rattle.kiasan.specs.Unbuilt.{IsBuiltFor, IsBuiltMethod}
 use Rattle.kiasan.proofs.ClassLaws.{no_faults}
-use Rattle.kiasan.proofs.Moving.{AreLike, turned, all_runnable_moved, job_moved, target_moved, tests_moved, verdicts_moved}
 use Rattle.kiasan.proofs.OneListing.{listings_one}
-use Rattle.kiasan.proofs.StageLaws.{Agree, HasOne, stage_one, stages_agree}
+use Rattle.kiasan.proofs.StageLaws.{HasOne, stage_one}
 use Rattle.kiasan.specs.Verdicts.{replay_text}
 use Rattle.kiasan.proofs.WordsLaws.{orders_one, one_order, fault_or_order}
 
@@ -211,65 +213,38 @@ world_refusal given r s (f, p, e) (g, q, h) =
 world_apart : (given : List GivenClass) (r : Refusal) (world : World) → WorldRefuses given r → Links given world → ⊥
 world_apart given r world (found, why, e) linked = refused_or_linked given world found why (not_memory found r e) linked
 
-worlds_like : (given : List GivenClass) (a b : World) → Links given a → Links given b → AreLike a b
-worlds_like given a b p q = record { classes = worlds_classes given a b p q; chains = worlds_chains given a b p q }
-
 -- ---- targets
 
--- what is said of a target that reach refuses
-reach_none : (world : World) (target : Target) (refusal : Refusal) → ReachRefuses world target refusal →
-    (refusal ≡ refusals.NoMethod target) × ((id : MethodId) → IsTargetOf world target id → ⊥)
-reach_none world target refusal (links.NoMethod of, (is, none), e) =
-    let same : refusals.NoMethod of ≡ refusal = cc in
-    (sym same ∙ ap refusals.NoMethod is, none)
-reach_none world target refusal (links.NoMemory, is, e) = absurd cc
-reach_none world target refusal (links.TooMany, is, e) = absurd is
-reach_none world target refusal (links.BadName file entry, is, e) = absurd is
-reach_none world target refusal (links.BadDescriptor file entry, is, e) = absurd is
-reach_none world target refusal (links.TwoMembers file entry, is, e) = absurd is
-reach_none world target refusal (links.Twice name, is, e) = absurd is
-reach_none world target refusal (links.Missing name, is, e) = absurd is
-reach_none world target refusal (links.Circle name, is, e) = absurd is
-reach_none world target refusal (links.BadSuper name, is, e) = absurd is
-reach_none world target refusal (links.SplitPackage name method, is, e) = absurd is
-
-target_refusal : (Built : MethodId → Type 0) (world : World) (target : Target) (r s : Refusal) → TargetRefuses Built world target r → TargetRefuses Built world target s → r ≡ s
-target_refusal Built world target r s (inl a) (inl b) = (reach_none world target r a).0 ∙ sym (reach_none world target s b).0
-target_refusal Built world target r s (inr a) (inr b) = a.0 ∙ sym b.0
-target_refusal Built world target r s (inl a) (inr b) = absurd ((reach_none world target r a).1 b.1.id b.1.found)
-target_refusal Built world target r s (inr a) (inl b) = absurd ((reach_none world target s b).1 a.1.id a.1.found)
-
 ids_one : (world : World) (target : Target) → IsLinked world → (a b : MethodId) → IsTargetOf world target a → IsTargetOf world target b → a ≡ b
-ids_one world target given a b p q = one_declared world given.names given.methods target a b p.declared q.declared
+ids_one world target given a b p q = one_declared world given.names given.loaded.methods target a b p.declared q.declared
 
-target_apart : (Built : MethodId → Type 0) (world : World) (target : Target) → IsLinked world → ((id : MethodId) → Built id → IsTargetOf world target id) →
+target_refusal : (Built : MethodId → Type 0) (world : World) (target : Target) → IsLinked world → (r s : Refusal) → TargetRefuses Built world target r → TargetRefuses Built world target s → r ≡ s
+target_refusal Built world target given r s (inl (f, p, e)) (inl (g, q, h)) =
+    let faults : f ≡ g = one_reach_refusal world given target f g p q (not_memory f r e) (not_memory g s h) in
+    let stops : refused_by r ≡ refused_by s = sym e ∙ ap link_refusal faults ∙ h in
+    cc
+target_refusal Built world target given r s (inr a) (inr b) = a.0 ∙ sym b.0
+target_refusal Built world target given r s (inl (f, p, e)) (inr b) = absurd (reached_or_refused world given target f b.1.id p (not_memory f r e) b.1.found b.1.accepted)
+target_refusal Built world target given r s (inr a) (inl (g, q, h)) = absurd (reached_or_refused world given target g a.1.id q (not_memory g s h) a.1.found a.1.accepted)
+
+target_apart : (Built : MethodId → Type 0) (world : World) (target : Target) → IsLinked world → ((id : MethodId) → Built id → IsTargetOf world target id × IsAccepted world id) →
     (r : Refusal) (id : MethodId) → TargetRefuses Built world target r → Built id → ⊥
-target_apart Built world target given found r id (inl a) built = (reach_none world target r a).1 id (found id built)
+target_apart Built world target given found r id (inl (f, p, e)) built =
+    let is = found id built in
+    reached_or_refused world given target f id p (not_memory f r e) is.0 is.1
 target_apart Built world target given found r id (inr a) built =
-    a.1.none (subst Built (ids_one world target given id a.1.id (found id built) a.1.found) built)
+    a.1.none (subst Built (ids_one world target given id a.1.id (found id built).0 a.1.found) built)
 
-module _ (a b : World) (like : AreLike a b) (job : Job) where
-  -- a target that both worlds refuse is refused by one refusal
-  job_refusal : (r s : Refusal) → TargetRefuses (IsBuiltFor a job) a job.target r → TargetRefuses (IsBuiltFor b job) b job.target s → r ≡ s
-  job_refusal r s (inl p) (inl q) = (reach_none a job.target r p).0 ∙ sym (reach_none b job.target s q).0
-  job_refusal r s (inr p) (inr q) = p.0 ∙ sym q.0
-  job_refusal r s (inl p) (inr q) = absurd ((reach_none a job.target r p).1 q.1.id (target_moved b a (turned a b like) job.target q.1.id q.1.found))
-  job_refusal r s (inr p) (inl q) = absurd ((reach_none b job.target s q).1 p.1.id (target_moved a b like job.target p.1.id p.1.found))
-
-  job_apart : IsLinked a → (r : Refusal) (id : MethodId) → TargetRefuses (IsBuiltFor a job) a job.target r → IsTargetOf b job.target id × IsBuiltFor b job id → ⊥
-  job_apart given r id refused reached =
-      target_apart (IsBuiltFor a job) a job.target given (λ i built. built.1.straight.found) r id refused (job_moved b a (turned a b like) job id reached.1)
-
-jobs_agree : (Same : Status → List ℕ → Status → List ℕ → Type 0) (IsTextOf : Method → Report → List ℕ → Type 0) (a b : World) (job : Job) → AreLike a b → IsLinked a → IsLinked b →
-    ((s u : Status) (t v : List ℕ) → Same s t u v) → Agree Same (RepliesJob IsTextOf a job) (RepliesJob IsTextOf b job)
+job_one : (Same : Status → List ℕ → Status → List ℕ → Type 0) (IsTextOf : Method → Report → List ℕ → Type 0) (world : World) (job : Job) → IsLinked world →
+    ((s u : Status) (t v : List ℕ) → Same s t u v) → HasOne Same (RepliesJob IsTextOf world job)
 unfolding RepliesJob
-jobs_agree Same IsTextOf a b job like given also any =
-    stages_agree Same (TargetRefuses (IsBuiltFor a job) a job.target) (TargetRefuses (IsBuiltFor b job) b job.target)
-    (λ id. IsTargetOf a job.target id × IsBuiltFor a job id) (λ id. IsTargetOf b job.target id × IsBuiltFor b job id)
-    (λ id. Last (EndsJob IsTextOf a job)) (λ id. Last (EndsJob IsTextOf b job))
-    (job_refusal a b like job) (job_apart a b like job given) (job_apart b a (turned a b like) job also) (λ x y p q. last)
+job_one Same IsTextOf world job given any =
+    stage_one Same (TargetRefuses (IsBuiltFor world job) world job.target) (λ id. IsTargetOf world job.target id × IsBuiltFor world job id) (λ id. Last (EndsJob IsTextOf world job))
+    (target_refusal (IsBuiltFor world job) world job.target given)
+    (λ r id refused reached. target_apart (IsBuiltFor world job) world job.target given (λ i built. (built.1.straight.found, built.1.straight.accepted)) r id refused reached.1)
+    (λ a b p q. ids_one world job.target given a b p.0 q.0) (λ id is. last)
   where
-    last : Agree Same (Last (EndsJob IsTextOf a job)) (Last (EndsJob IsTextOf b job))
+    last : HasOne Same (Last (EndsJob IsTextOf world job))
     last (refuses r) other p q = absurd p
     last (ends s t) (refuses r) p q = absurd q
     last (ends s t) (ends u v) p q = any s u t v
@@ -336,8 +311,8 @@ IsFine world test = (id : MethodId) × (method : Method) × IsRunnable world tes
 abbrev IsBadTest : World → Test → Type 0
 IsBadTest world test = (number : ℕ) × (refusal : Refusal) × RefusesTest world number test refusal
 
-built_found : (world : World) (target : Target) (id : MethodId) → IsBuiltMethod world target id → IsTargetOf world target id
-built_found world target id built = built.1.found
+built_found : (world : World) (target : Target) (id : MethodId) → IsBuiltMethod world target id → IsTargetOf world target id × IsAccepted world id
+built_found world target id built = (built.1.found, built.1.accepted)
 
 test_apart : (world : World) → IsLinked world → (test : Test) → IsFine world test → IsBadTest world test → ⊥
 test_apart world given test (id, method, run) (number, refusal, inl bad) = bad.1 id run.straight.found
@@ -363,7 +338,7 @@ one_test_refusal world given number test r s (inr (inl a)) (inr (inr b)) =
 one_test_refusal world given number test r s (inr (inr a)) (inl b) = absurd (b.1 a.0 a.1.found)
 one_test_refusal world given number test r s (inr (inr a)) (inr (inl b)) =
     absurd (b.3 (subst (λ (i : MethodId). IsTypeCorrect world i test.input) (ids_one world test.target given a.0 b.1 a.1.found b.2) a.1.correct))
-one_test_refusal world given number test r s (inr (inr a)) (inr (inr b)) = target_refusal (IsBuiltMethod world test.target) world test.target r s a.2 b.2
+one_test_refusal world given number test r s (inr (inr a)) (inr (inr b)) = target_refusal (IsBuiltMethod world test.target) world test.target given r s a.2 b.2
 
 tests_refusal_one : (world : World) → IsLinked world → (tests : List Test) (r s : Refusal) → RefusesTests world tests r → RefusesTests world tests s → r ≡ s
 tests_refusal_one world given tests r s a b =
@@ -440,27 +415,6 @@ replay_one Same bytes world given same =
         let verdicts : a.verdicts ≡ b.verdicts = one_verdicts world given tests a.verdicts b.verdicts a.verdicts_are b.verdicts_are in
         same s u t v (a.status_is ∙ ap (λ vs. replay_status vs) verdicts ∙ sym b.status_is) (a.text_is ∙ ap (λ vs. replay_text tests vs) verdicts ∙ sym b.text_is)
 
--- a reply in one world is one in a world like it
-replay_moved : (a b : World) → AreLike a b → (bytes : List ℕ) (reply : Reply) → RepliesReplay bytes a reply → RepliesReplay bytes b reply
-unfolding RepliesReplay
-replay_moved a b like bytes (refuses r) (inl refused) = inl refused
-replay_moved a b like bytes (refuses r) (inr (tests, are, inl refused)) = inr (tests, are, inl (tests_moved a b like tests r refused))
-replay_moved a b like bytes (refuses r) (inr (tests, are, inr (ids, fit, wrong))) = absurd wrong
-replay_moved a b like bytes (ends s t) (tests, are, (ids, fit, end)) = (
-  tests,
-  are,
-  (
-    ids,
-    all_runnable_moved a b like tests ids fit,
-    record {
-      verdicts = end.verdicts;
-      verdicts_are = verdicts_moved a b like tests end.verdicts end.verdicts_are;
-      status_is = end.status_is;
-      text_is = end.text_is;
-    },
-  ),
-)
-
 -- ---- words
 
 abbrev SameEnd : List (List ℕ) → Status → List ℕ → Status → List ℕ → Type 0
@@ -475,28 +429,25 @@ not_both words order ordered other (tests, files, replay) =
     result_of : Order → Result Order WordFault
     result_of o = Ok o
 
-orders_agree : (words : List (List ℕ)) (order : Order) → Orders words (Ok order) → (texts : List (List ℕ)) (a b : World) → AreLike a b → IsLinked a → IsLinked b →
-    Agree (SameEnd words) (RepliesIn order texts a) (RepliesIn order texts b)
-orders_agree words (Explore job) ordered texts a b like given also =
-    jobs_agree (SameEnd words) _ a b job like given also (λ s u t v replay. absurd (not_both words (Explore job) ordered (λ tests files e. cc) replay))
-orders_agree words (Tests job) ordered texts a b like given also =
-    jobs_agree (SameEnd words) _ a b job like given also (λ s u t v replay. absurd (not_both words (Tests job) ordered (λ tests files e. cc) replay))
-orders_agree words (Replay name files) ordered (bytes ∷ []) a b like given also = λ one other p q.
-    replay_one (SameEnd words) bytes a given (λ s u t v e f replay. (e, f)) one other p (replay_moved b a (turned a b like) bytes other q)
-orders_agree words (Replay name files) ordered [] a b like given also = λ one other p q. absurd p
-orders_agree words (Replay name files) ordered (bytes ∷ more ∷ texts) a b like given also = λ one other p q. absurd p
-orders_agree words (Diagrams job) ordered texts a b like given also = λ one other p q. absurd p
-orders_agree words (Assemble name) ordered texts a b like given also = λ one other p q. absurd p
-orders_agree words (Sample blocks) ordered texts a b like given also = λ one other p q. absurd p
+order_one : (words : List (List ℕ)) (order : Order) → Orders words (Ok order) → (texts : List (List ℕ)) (world : World) → IsLinked world → HasOne (SameEnd words) (RepliesIn order texts world)
+order_one words (Explore job) ordered texts world given =
+    job_one (SameEnd words) _ world job given (λ s u t v replay. absurd (not_both words (Explore job) ordered (λ tests files e. cc) replay))
+order_one words (Tests job) ordered texts world given =
+    job_one (SameEnd words) _ world job given (λ s u t v replay. absurd (not_both words (Tests job) ordered (λ tests files e. cc) replay))
+order_one words (Replay name files) ordered (bytes ∷ []) world given = replay_one (SameEnd words) bytes world given (λ s u t v e f replay. (e, f))
+order_one words (Replay name files) ordered [] world given = λ one other p q. absurd p
+order_one words (Replay name files) ordered (bytes ∷ more ∷ texts) world given = λ one other p q. absurd p
+order_one words (Diagrams job) ordered texts world given = λ one other p q. absurd p
+order_one words (Assemble name) ordered texts world given = λ one other p q. absurd p
+order_one words (Sample blocks) ordered texts world given = λ one other p q. absurd p
 
 contents_one : (words : List (List ℕ)) (order : Order) → Orders words (Ok order) → (contents : Contents) → HasOne (SameEnd words) (RepliesOn order contents)
 unfolding RepliesOn
 contents_one words order ordered contents =
     stage_one (SameEnd words) (RefusesClasses contents.classes) (AreClasses contents.classes) _ (classes_refusal contents.classes) (classes_apart contents.classes)
     (one_classes contents.classes) (λ given are.
-    stages_agree (SameEnd words) (WorldRefuses given) (WorldRefuses given) (Links given) (Links given) (λ world. RepliesIn order contents.texts world)
-    (λ world. RepliesIn order contents.texts world) (world_refusal given) (world_apart given) (world_apart given) (λ a b p q.
-    orders_agree words order ordered contents.texts a b (worlds_like given a b p q) p.linked q.linked))
+    stage_one (SameEnd words) (WorldRefuses given) (Links given) (λ world. RepliesIn order contents.texts world) (world_refusal given) (world_apart given)
+    (λ a b p q. one_world_is given a b p q) (λ world links. order_one words order ordered contents.texts world links.linked))
 
 to_one : (words : List (List ℕ)) (holds : List ℕ → Option (List ℕ)) (order : Order) → Orders words (Ok order) → AreTold words holds → HasOne (SameEnd words) (RepliesTo order holds)
 unfolding RepliesTo

@@ -7,9 +7,9 @@ use Rattle.kb_names.specs.declared.types.Target.{Target}
 use Rattle.kb_semantics.specs.Machine.{Method}
 use Rattle.kb_semantics.specs.Types.{IsTypeCorrect}
 use Rattle.kb_test.specs.declared.test_case.Test.{Test}
-use Rattle.kb_world.specs.World.{World}
+use Rattle.kb_link.specs.World.{World}
 use Rattle.kb_class.specs.declared.ids.MethodId.{MethodId}
-use Rattle.kb_world.specs.Targets.{IsTargetOf}
+use Rattle.kb_link.specs.Targets.{IsTargetOf}
 use Rattle.kb_semantics.proofs.Methods.{same_target}
 use Rattle.kiasan.specs.declared.refusals.Refusal.{Refusal}
 use Rattle.kiasan.specs.declared.refusals.Stop.{Stop}

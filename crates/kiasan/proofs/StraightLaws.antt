@@ -11,10 +11,10 @@ use Rattle.kb_names.specs.declared.types.Target.{Target}
 use Rattle.kb_semantics.specs.Machine.{AreBuilt, Method}
 use Rattle.kb_semantics.specs.Types.{IsMethod}
 use Rattle.kb_semantics.proofs.Methods.{code_is, declared_is, laid_out}
-use Rattle.kb_world.specs.Initialisers.{is_initialised}
-use Rattle.kb_world.specs.Links.{IsLinked}
-use Rattle.kb_world.specs.Targets.{IsTargetOf, method_at}
-use Rattle.kb_world.specs.World.{World}
+use Rattle.kb_link.specs.Links.{IsLinked}
+use Rattle.kb_world.specs.Reach.{IsAccepted}
+use Rattle.kb_link.specs.Targets.{IsTargetOf}
+use Rattle.kb_link.specs.World.{World, method_at}
 use Rattle.kiasan.specs.declared.explore.Explored.{Explored}
 use Rattle.kiasan.specs.declared.explore.StraightCode.{StraightCode}
 use Rattle.kiasan.specs.declared.memory.NoMemory.{NoMemory}
@@ -56,13 +56,6 @@ module _ (world : World) (target : Target) (id : MethodId) (info : MethodInfo) (
         size = m.size ∙ ap (λ (c : MethodCode). c.size) codes ∙ sym is.size;
       }
 
-  -- a method of a class that code initialises is none
-  pub none_in_initialised : is_initialised world info.class.0 ≡ true → (method : Method) → IsStraight world target id method → ⊥
-  none_in_initialised by_code method s =
-      let methods : s.runs.declared.method ≡ info = declared_is world id info method.target at s.runs.declared in
-      let wrong : true ≡ false = sym by_code ∙ ap (λ (i : MethodInfo). is_initialised world i.class.0) (sym methods) ∙ s.ready in
-      cc
-
   -- a method without the code of a straight one is none
   pub none_without_code : HasNoCode info → (method : Method) → IsStraight world target id method → ⊥
   none_without_code (inl flag) method s =
@@ -86,9 +79,9 @@ module _ (world : World) (target : Target) (id : MethodId) (info : MethodInfo) (
   not_straight straight None is none = λ method s. none method (record { has = has_code_told straight method is s.runs; few = s.few; ends = s.ends; typed = s.typed })
   not_straight straight (Some e) is none = tt
 
-  pub explored_is : (straight : StraightCode) (explored : Explored) → IsTargetOf world target id → takes_ints target.kind ≡ true → is_initialised world info.class.0 ≡ false →
+  pub explored_is : (straight : StraightCode) (explored : Explored) → IsTargetOf world target id → takes_ints target.kind ≡ true → IsAccepted world id →
       IsCodeOf info straight → IsCarriedOut straight (params_of target) explored → IsExplored world target id explored
-  explored_is straight explored f ints ready is c =
+  explored_is straight explored f ints accepted is c =
       let methods : f.declared.method ≡ info = declared_is world id info target at f.declared in
       let method : Method = record { target = target; max_stack = is.code.max_stack; max_locals = is.code.max_locals; listing = is.code.listing.items; size = is.code.size } in
       let has : HasCode method straight = record { max_stack = sym is.stack; max_locals = sym is.locals; listing = sym is.items; size = sym is.size } in
@@ -112,7 +105,7 @@ module _ (world : World) (target : Target) (id : MethodId) (info : MethodInfo) (
           runs = runs;
           named = refl;
           static = ap not (ap (λ a. nat_eq (bit_and a 8) 0) (sym flags) ∙ is.static);
-          ready = ap (λ (i : MethodInfo). is_initialised world i.class.0) methods ∙ ready;
+          accepted = accepted;
           ints = ints;
           handlers = is.handlers;
           built = subst AreBuilt is.items is.built;
@@ -127,11 +120,11 @@ module _ (world : World) (target : Target) (id : MethodId) (info : MethodInfo) (
       }
 
   pub explored_ok : (straight : StraightCode) (params : ℕ) (r : Result (Option Explored) NoMemory) → IsTargetOf world target id → takes_ints target.kind ≡ true →
-      is_initialised world info.class.0 ≡ false → IsCodeOf info straight → params ≡ params_of target →
+      IsAccepted world id → IsCodeOf info straight → params ≡ params_of target →
       IfOk r (λ o. IfSome o (IsCarriedOut straight params)) → IfOk r (λ o. IfSome o (IsExplored world target id))
-  explored_ok straight params (Ok (Some e)) f ints ready is count c = explored_is straight e f ints ready is (rw (← count) c)
-  explored_ok straight params (Ok None) f ints ready is count c = tt
-  explored_ok straight params (Err e) f ints ready is count c = tt
+  explored_ok straight params (Ok (Some e)) f ints accepted is count c = explored_is straight e f ints accepted is (rw (← count) c)
+  explored_ok straight params (Ok None) f ints accepted is count c = tt
+  explored_ok straight params (Err e) f ints accepted is count c = tt
 
   pub not_straight_ok : (straight : StraightCode) (params : ℕ) (r : Result (Option Explored) NoMemory) → IsCodeOf info straight → params ≡ params_of target →
       IfOk r (λ o. IfNone o ((method : Method) → IsStraightRun straight params method → ⊥)) → IfOk r (λ o. IfNone o ((method : Method) → IsStraight world target id method → ⊥))

@@ -3,7 +3,7 @@ use Rattle.std.proofs.Common.{◌≡◌, ℕ, List, [], ◌∷◌, Option, Ok, r
 use Rattle.std.specs.List.{list_all}
 use Rattle.kb_outside.specs.Outside.{Rose, Grows, GrowsByPart}
 use Rattle.kb_semantics.specs.Machine.{Method}
-use Rattle.kb_world.specs.World.{World}
+use Rattle.kb_link.specs.World.{World}
 use Rattle.kiasan.specs.declared.refusals.Answer.{Answer}
 use Rattle.kiasan.specs.declared.refusals.Refusal.{Refusal}
 use Rattle.kiasan.specs.declared.refusals.Refusal.TheVariants as refusals

@@ -15,10 +15,10 @@ use Rattle.kb_test.specs.declared.test_case.Test.{Test}
 use Rattle.kb_grammar.specs.Lines.{IsFirstBadLine}
 use Rattle.kb_names.specs.Targets.{IsTarget}
 use Rattle.kb_test.specs.Texts.{SpellsTests, IsTestsText, AreTests, IsRunBounds}
-use Rattle.kb_world.specs.declared.linking.LinkRefusal.{LinkRefusal}
-use Rattle.kb_world.specs.Links.{Links, RefusesLink}
-use Rattle.kb_world.specs.Targets.{IsTargetOf}
-use Rattle.kb_world.specs.World.{World}
+use Rattle.kb_link.specs.declared.linking.LinkRefusal.{LinkRefusal}
+use Rattle.kb_link.specs.Links.{Links, RefusesLink}
+use Rattle.kb_link.specs.Targets.{IsTargetOf}
+use Rattle.kb_link.specs.World.{World}
 use Rattle.kiasan.specs.declared.answer.Contents.{Contents}
 use Rattle.kiasan.specs.declared.refusals.Answer.{Answer}
 use Rattle.kiasan.specs.declared.refusals.Refusal.{Refusal}

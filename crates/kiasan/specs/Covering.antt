@@ -7,8 +7,8 @@ use Rattle.kb_semantics.specs.Machine.{Method, run_of}
 use Rattle.kb_semantics.specs.Types.{IsMethod, IsTypeCorrect}
 use Rattle.kb_test.specs.declared.test_case.Test.{Test}
 use Rattle.kb_class.specs.declared.ids.MethodId.{MethodId}
-use Rattle.kb_world.specs.Targets.{IsTargetOf}
-use Rattle.kb_world.specs.World.{World}
+use Rattle.kb_link.specs.Targets.{IsTargetOf}
+use Rattle.kb_link.specs.World.{World}
 use Rattle.kiasan.specs.declared.path.Ended.{Ended}
 use Rattle.kiasan.specs.declared.path.Leaf.{Leaf}
 use Rattle.kiasan.specs.declared.path.Leaf.TheVariants.{Ended as EndedLeaf}

@@ -12,7 +12,7 @@ use Rattle.kb_semantics.specs.Machine.{AreBuilt, Method}
 use Rattle.kb_terms.specs.Terms.{IsTerm, value_of}
 use Rattle.kb_terms.specs.declared.node.VarKind.TheVariants.{Int as IntKind}
 use Rattle.kiasan.specs.Paths.{variable_kinds}
-use Rattle.kb_world.specs.World.{World}
+use Rattle.kb_link.specs.World.{World}
 use Rattle.kiasan.specs.declared.explore.Explored.{Explored}
 use Rattle.kiasan.specs.declared.explore.StraightCode.{StraightCode}
 use Rattle.kiasan.specs.Straight.{HasCode, IsIllTyped, IsStraight, ends_by_return, has_wide, most_instructions, run_over}

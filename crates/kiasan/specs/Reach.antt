@@ -2,9 +2,9 @@
 use Rattle.std.specs.Prelude.{◌≡◌, ◌⊎◌}
 use Rattle.kb_class.specs.declared.ids.MethodId.{MethodId}
 use Rattle.kb_names.specs.declared.types.Target.{Target}
-use Rattle.kb_world.specs.declared.linking.LinkRefusal.{LinkRefusal}
-use Rattle.kb_world.specs.Targets.{Refuses}
-use Rattle.kb_world.specs.World.{World}
+use Rattle.kb_link.specs.declared.linking.LinkRefusal.{LinkRefusal}
+use Rattle.kb_link.specs.World.{World}
+use Rattle.kb_world.specs.Reach.{Refuses}
 use Rattle.kiasan.specs.declared.refusals.Refusal.{Refusal}
 use Rattle.kiasan.specs.declared.refusals.Refusal.TheVariants.{Unbuilt}
 use Rattle.kiasan.specs.declared.refusals.Stop.TheVariants.{Refused}

@@ -8,17 +8,20 @@ use Rattle.kb_code.specs.declared.refusal.CodeRefusal.TheVariants as codes_of
 use Rattle.kb_names.specs.Escapes.{name_text}
 use Rattle.kb_names.specs.Targets.{target_text}
 use Rattle.kiasan.specs.declared.refusals.Refusal.{Refusal}
-use Rattle.kiasan.specs.declared.refusals.Refusal.TheVariants.{Magic, Version, Short, Tag, PoolIndex, PoolKind, CodeLength, Extra, TwoCodes, LongClass, Opcode, CutInstr, JumpTarget, Switch, HandlerRange, TwoMembers, BadName, BadDescriptor, Twice, Missing, Circle, BadSuper, SplitPackage, NoMethod, TooMany, Unbuilt, TestLine, NoTestMethod, IllTypedTest, LongText, NoCommand, BadTarget}
+use Rattle.kiasan.specs.declared.refusals.Refusal.TheVariants.{Magic, Version, Short, Tag, PoolIndex, PoolKind, CodeLength, Extra, TwoCodes, LongClass, Opcode, CutInstr, JumpTarget, Switch, HandlerRange, TwoMembers, BadName, BadDescriptor, Twice, Missing, Circle, BadSuper, SplitPackage, NoMethod, NoField, OutsideOf, Initialiser, TooMany, Unbuilt, TestLine, NoTestMethod, IllTypedTest, LongText, NoCommand, BadTarget}
 use Rattle.kiasan.specs.declared.refusals.Stop.{Stop}
 use Rattle.kiasan.specs.declared.refusals.Stop.TheVariants.{Refused, ReadFault, NoMemory}
 use Rattle.kb_test.specs.declared.reading.TestRefusal.{TestRefusal}
 use Rattle.kb_test.specs.declared.reading.TestRefusal.TheVariants as texts
-use Rattle.kb_world.specs.declared.linking.LinkRefusal.{LinkRefusal}
-use Rattle.kb_world.specs.declared.linking.LinkRefusal.TheVariants as links
+use Rattle.kb_names.specs.declared.types.Target.{Target}
+use Rattle.kb_link.specs.declared.linking.What.{What}
+use Rattle.kb_link.specs.declared.linking.What.TheVariants as whats
+use Rattle.kb_link.specs.declared.linking.LinkRefusal.{LinkRefusal}
+use Rattle.kb_link.specs.declared.linking.LinkRefusal.TheVariants as links
 use Rattle.kiasan.specs.declared.words.WordFault.{WordFault}
 use Rattle.kiasan.specs.declared.words.WordFault.TheVariants as faults
 use Rattle.kiasan.specs.declared.status.Status.{Status}
-use Rattle.kiasan.specs.declared.status.Status.TheVariants.{Words, Class, Link, Text}
+use Rattle.kiasan.specs.declared.status.Status.TheVariants.{Words, Class, Link, Text, Outside}
 use Rattle.kiasan.specs.Report.{line}
 use Rattle.kiasan.specs.Unbuilt.{unbuilt_status, unbuilt_line}
 
@@ -69,6 +72,18 @@ class_line number name = class_front number name ++ codes "\n"
 unfoldable pub method_line : ℕ → List ℕ → List ℕ → List ℕ
 method_line number name method = class_front number name ++ (codes " method " ++ (name_text method ++ codes "\n"))
 
+-- the line of a refusal at an instruction of a method that a target names, up to its end
+unfoldable pub instruction_front : ℕ → Target → ℕ → List ℕ
+instruction_front number target at = codes "refused " ++ (decimal number ++ (codes " " ++ (target_text target ++ (codes " at " ++ decimal at))))
+
+-- what is told of an instruction that cannot be carried out
+abbrev pub what_text : What → List ℕ
+what_text (whats.Opcode op) = codes " opcode " ++ hexadecimal op
+what_text whats.Constant = codes " constant"
+what_text whats.Operand = codes " operand"
+what_text whats.Kind = codes " kind"
+what_text whats.Method = codes " method"
+
 -- the line of a refusal: its number, and its place
 unfoldable pub refusal_line : Refusal → List ℕ
 refusal_line (Magic file) = file_line 10 file
@@ -95,6 +110,9 @@ refusal_line (Circle name) = class_line 42 name
 refusal_line (BadSuper name) = class_line 43 name
 refusal_line (SplitPackage name method) = method_line 44 name method
 refusal_line (NoMethod target) = line (codes "refused 45 " ∷ target_text target ∷ [])
+refusal_line (NoField target at) = instruction_front 46 target at ++ codes "\n"
+refusal_line (OutsideOf target at what) = instruction_front 47 target at ++ (what_text what ++ codes "\n")
+refusal_line (Initialiser name) = class_line 48 name
 refusal_line TooMany = line (codes "refused 49" ∷ [])
 refusal_line Unbuilt = unbuilt_line
 refusal_line (TestLine number) = line (codes "refused 60 line " ∷ decimal number ∷ [])
@@ -129,6 +147,9 @@ refusal_status (Circle name) = Link
 refusal_status (BadSuper name) = Link
 refusal_status (SplitPackage name method) = Link
 refusal_status (NoMethod target) = Link
+refusal_status (NoField target at) = Link
+refusal_status (OutsideOf target at what) = Outside
+refusal_status (Initialiser name) = Outside
 refusal_status TooMany = Link
 refusal_status Unbuilt = unbuilt_status
 refusal_status (TestLine number) = Text
@@ -180,6 +201,9 @@ link_refusal (links.Circle name) = Refused (Circle name)
 link_refusal (links.BadSuper name) = Refused (BadSuper name)
 link_refusal (links.SplitPackage name method) = Refused (SplitPackage name method)
 link_refusal (links.NoMethod target) = Refused (NoMethod target)
+link_refusal (links.NoField target at) = Refused (NoField target at)
+link_refusal (links.Outside target at what) = Refused (OutsideOf target at what)
+link_refusal (links.Initialiser name) = Refused (Initialiser name)
 link_refusal links.NoMemory = NoMemory
 
 abbrev pub tests_refusal : TestRefusal → Stop

@@ -13,10 +13,10 @@ use Rattle.kb_heap.specs.declared.ending.Ending.TheVariants.{Returned, Threw, Il
 use Rattle.kb_names.specs.declared.types.Target.{Target}
 use Rattle.kb_semantics.specs.Machine.{AreBuilt, Method, Ended, run, start_of}
 use Rattle.kb_semantics.specs.Types.{IsMethod}
-use Rattle.kb_world.specs.Initialisers.{is_initialised}
-use Rattle.kb_world.specs.Slots.{is_static}
-use Rattle.kb_world.specs.Targets.{IsTargetOf}
-use Rattle.kb_world.specs.World.{World}
+use Rattle.kb_link.specs.Slots.{is_static}
+use Rattle.kb_link.specs.Targets.{IsTargetOf}
+use Rattle.kb_link.specs.World.{World}
+use Rattle.kb_world.specs.Reach.{IsAccepted}
 use Rattle.kiasan.specs.declared.explore.StraightCode.{StraightCode}
 use Rattle.kiasan.specs.Target.{takes_ints, params_of}
 
@@ -68,7 +68,7 @@ has_wide [] size = false
 has_wide (item ∷ rest) size = if is_wide item.1 (offset_of rest size - item.0) then true else has_wide rest size
 
 -- The target names a straight method of the world, which the machine runs as this method: it takes ints alone and gives an
--- int, is static, in a class that no code initialises, has code without handlers, not too many instructions, all of them built
+-- int, is static, can be carried out with all that it reaches, has code without handlers, not too many instructions, all of them built
 -- and none in its wide form, a return at the end alone, and no run over ints of 32 bits that is ill-typed. So its opcodes are among 00, 02 to 08, 10, 11, 15, 1a to
 -- 1d, 36, 3b to 3e, 57, 59, 60, 64, 68, 74, 78, 7a, 7c, 7e, 80, 82, 84, 91 to 93 and ac.
 pub record IsStraight (world : World) (target : Target) (id : MethodId) (method : Method) : Type 0 where
@@ -76,7 +76,7 @@ pub record IsStraight (world : World) (target : Target) (id : MethodId) (method 
   pub runs : IsMethod world id method
   pub named : method.target ≡ target
   pub static : is_static runs.declared.method.access ≡ true
-  pub ready : is_initialised world runs.declared.method.class.0 ≡ false
+  pub accepted : IsAccepted world id
   pub ints : takes_ints target.kind ≡ true
   pub handlers : runs.code.handlers ≡ []
   pub built : AreBuilt method.listing

@@ -4,7 +4,7 @@ use Rattle.kb_heap.specs.declared.heap.Value.TheVariants.{Int as IntValue}
 use Rattle.kb_heap.specs.declared.heap.Input.{Input}
 use Rattle.kb_semantics.specs.Machine.{Method}
 use Rattle.kb_class.specs.declared.ids.MethodId.{MethodId}
-use Rattle.kb_world.specs.World.{World}
+use Rattle.kb_link.specs.World.{World}
 use Rattle.kiasan.specs.declared.path.Operand.{Operand}
 use Rattle.kiasan.specs.declared.path.Term.{Term}
 use Rattle.kiasan.specs.declared.path.Origin.{Origin}

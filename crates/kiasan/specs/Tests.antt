@@ -5,8 +5,8 @@ use Rattle.kb_semantics.specs.Machine.{Method, run_of}
 use Rattle.kb_semantics.specs.Types.{IsTypeCorrect}
 use Rattle.kb_test.specs.declared.test_case.Test.{Test}
 use Rattle.kb_class.specs.declared.ids.MethodId.{MethodId}
-use Rattle.kb_world.specs.Targets.{IsTargetOf}
-use Rattle.kb_world.specs.World.{World}
+use Rattle.kb_link.specs.Targets.{IsTargetOf}
+use Rattle.kb_link.specs.World.{World}
 use Rattle.kiasan.specs.declared.refusals.Refusal.{Refusal}
 use Rattle.kiasan.specs.declared.refusals.Refusal.TheVariants.{NoTestMethod, IllTypedTest}
 use Rattle.kiasan.specs.declared.replay.Replayed.{Replayed}

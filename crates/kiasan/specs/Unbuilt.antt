@@ -3,8 +3,9 @@ use Rattle.std.specs.Prelude.{◌≢◌, List, [], ◌∷◌, ℕ, codes}
 use Rattle.kb_class.specs.declared.ids.MethodId.{MethodId}
 use Rattle.kb_names.specs.declared.types.Target.{Target}
 use Rattle.kb_semantics.specs.Machine.{Method}
-use Rattle.kb_world.specs.Targets.{IsTargetOf}
-use Rattle.kb_world.specs.World.{World}
+use Rattle.kb_link.specs.Targets.{IsTargetOf}
+use Rattle.kb_link.specs.World.{World}
+use Rattle.kb_world.specs.Reach.{IsAccepted}
 use Rattle.kiasan.specs.declared.status.Status.{Status}
 use Rattle.kiasan.specs.declared.status.Status.TheVariants.{Outside}
 use Rattle.kiasan.specs.Report.{line}
@@ -32,8 +33,9 @@ IsBuiltMethod world target id = (method : Method) × IsStraight world target id 
 abbrev pub IsBuiltFor : World → Job → MethodId → Type 0
 IsBuiltFor world job id = (method : Method) × IsExplorable world job id method
 
--- the target names a method that may be run, and it is not built
+-- the target names a method that can be carried out with all that it reaches, and it is not built
 pub record IsUnbuilt (Built : MethodId → Type 0) (world : World) (target : Target) : Type 0 where
   pub id : MethodId
   pub found : IsTargetOf world target id
+  pub accepted : IsAccepted world id
   pub none : Built id → ⊥

@@ -3,7 +3,7 @@
 ghost use Rattle.std.specs.Prelude.{[], ◌∷◌, IfOk};
 ghost use Rattle.kb_classfile.specs.Spelling.{IsClassFile};
 ghost use Rattle.kb_class.specs.Given.{AreGiven, AreListings};
-ghost use Rattle.kb_world.specs.Links.{Links};
+ghost use Rattle.kb_link.specs.Links.{Links};
 ghost use Rattle.kiasan.specs.Answers.{AreClasses, ClassRefuses, FileRefuses, IsClassOf, RefusesClasses, WorldRefuses};
 ghost use Rattle.kiasan.specs.CodeFaults.{CodeRefuses, MethodsRefuse};
 ghost use Rattle.kiasan.specs.Refusals.{Gives};

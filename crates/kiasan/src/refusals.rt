@@ -1,9 +1,9 @@
 //! Refusals, and the answer that each makes: a status, and one line with its number and place.
 
-ghost use Rattle.std.specs.Prelude.{◌≡◌, ◌≢◌, ◌<◌, false, ◌++◌, [], ◌∷◌, codes, IfOk};
+ghost use Rattle.std.specs.Prelude.{◌≡◌, ◌≢◌, ◌<◌, false, ◌++◌, [], ◌∷◌, codes, IfOk, OnOk};
 ghost use Rattle.std.specs.Fmt.{digit_glyph};
 ghost use Rattle.kb_names.specs.Targets.{target_text};
-ghost use Rattle.kiasan.specs.Refusals.{class_refusal, refusal_line, code_refusal, refusal_status, file_line, offset_line, entry_line, code_line, opcode_front, opcode_line, target_line, handler_line, pool_line, class_front, class_line, method_line};
+ghost use Rattle.kiasan.specs.Refusals.{class_refusal, refusal_line, code_refusal, refusal_status, file_line, offset_line, entry_line, code_line, opcode_front, opcode_line, target_line, handler_line, pool_line, class_front, class_line, method_line, instruction_front, what_text, hexadecimal};
 
 use crate::memory::NoMemory;
 use crate::status::Status;
@@ -13,7 +13,7 @@ use kb_classfile::ClassRefusal;
 use kb_code::CodeRefusal;
 use kb_names::{Name, Target, write_name, write_target};
 use kb_test::TestRefusal;
-use kb_world::LinkRefusal;
+use kb_world::{LinkRefusal, What};
 use std::alloc::{AllocError, AllocFailed, Global};
 
 /// Why what the words order is not done. Files, methods, handlers, tests and words are numbered from 0, lines from 1. Offsets
@@ -68,6 +68,12 @@ pub enum Refusal {
     SplitPackage(Name, Name),
     /// No method may be run that the target names.
     NoMethod(Target),
+    /// A getfield or putfield names a field that is not there: the method, the instruction's offset.
+    NoField(Target, u32),
+    /// An instruction cannot be carried out: the method, the instruction's offset, the cause.
+    OutsideOf(Target, u32, What),
+    /// The class is initialised by code, and a method of it is called or an object of it made.
+    Initialiser(Name),
     /// Too many class files are given.
     TooMany,
     /// Something that is not built was met.
@@ -171,6 +177,11 @@ impl From<LinkRefusal> for Stop {
                 Stop::Refused(Refusal::SplitPackage(name, method))
             }
             LinkRefusal::NoMethod(target) => Stop::Refused(Refusal::NoMethod(target)),
+            LinkRefusal::NoField(target, at) => Stop::Refused(Refusal::NoField(target, at)),
+            LinkRefusal::Outside(target, at, what) => {
+                Stop::Refused(Refusal::OutsideOf(target, at, what))
+            }
+            LinkRefusal::Initialiser(name) => Stop::Refused(Refusal::Initialiser(name)),
             LinkRefusal::NoMemory => Stop::NoMemory,
         }
     }
@@ -269,7 +280,9 @@ fn refusal_status(refusal: &Refusal) -> Status
         | Refusal::BadSuper(_)
         | Refusal::SplitPackage(..)
         | Refusal::NoMethod(_)
+        | Refusal::NoField(..)
         | Refusal::TooMany => Status::Link,
+        Refusal::OutsideOf(..) | Refusal::Initialiser(_) => Status::Outside,
         Refusal::Unbuilt => UNBUILT_STATUS,
         Refusal::TestLine(_)
         | Refusal::NoTestMethod(_)
@@ -339,12 +352,13 @@ fn link_refusal_line(alloc: Global, refusal: &Refusal) -> Result<Vec<u8>, NoMemo
         Refusal::BadSuper(name) => class_line(alloc, 43, name),
         Refusal::SplitPackage(name, method) => method_line(alloc, 44, name, method),
         Refusal::NoMethod(target) => reach_line(alloc, target),
+        Refusal::NoField(target, at) => field_line(alloc, target, *at),
         Refusal::TooMany => Ok(String::from_str(alloc, "refused 49\n")?.into_bytes()),
         _ => unreachable!(),
     }
 }
 
-/// The line of a refusal of what is not built, of tests or of words.
+/// The line of a refusal of an instruction that is reached, of what is not built, of tests or of words.
 #[tactic(auto, unfolding(crate::specs::Refusals::refusal_line, crate::specs::Unbuilt::unbuilt_line))]
 fn other_refusal_line(alloc: Global, refusal: &Refusal) -> Result<Vec<u8>, NoMemory>
     requires class { refusal_status refusal.now ≢ Status.Class }
@@ -352,6 +366,8 @@ fn other_refusal_line(alloc: Global, refusal: &Refusal) -> Result<Vec<u8>, NoMem
     ensures { IfOk result (λ text. text.items ≡ refusal_line refusal.now) }
 {
     match refusal {
+        Refusal::OutsideOf(target, at, what) => outside_line(alloc, target, *at, *what),
+        Refusal::Initialiser(name) => class_line(alloc, 48, name),
         Refusal::Unbuilt => Ok(String::from_str(alloc, UNBUILT_LINE)?.into_bytes()),
         Refusal::TestLine(number) => {
             Ok(format!(in alloc; "refused 60 line {number}\n")?.into_bytes())
@@ -427,10 +443,18 @@ fn opcode_line(
     ensures { IfOk result (λ text. text.items ≡ opcode_line file method at op) }
 {
     let mut text = opcode_front(alloc, file, method, at)?;
-    text.push(digit(op / 16))?;
-    text.push(digit(op % 16))?;
+    write_hexadecimal(op, &mut text)?;
     text.push(b'\n')?;
     Ok(text)
+}
+
+/// Writes an opcode as two hexadecimal digits in lower case.
+fn write_hexadecimal(op: u8, into: &mut Vec<u8>) -> Result<(), NoMemory>
+    ensures { OnOk result (into.new.items ≡ into.old.items ++ hexadecimal op) }
+{
+    into.push(digit(op / 16))?;
+    into.push(digit(op % 16))?;
+    Ok(())
 }
 
 /// The line of a refusal of an opcode, up to the opcode.
@@ -530,5 +554,59 @@ fn reach_line(alloc: Global, target: &Target) -> Result<Vec<u8>, NoMemory>
     let mut text = String::from_str(alloc, "refused 45 ")?.into_bytes();
     write_target(target, &mut text)?;
     text.push(b'\n')?;
+    Ok(text)
+}
+
+/// The line of the refusal of a field that is not there.
+fn field_line(alloc: Global, target: &Target, at: u32) -> Result<Vec<u8>, NoMemory>
+    ensures { IfOk result (λ text. text.items ≡ instruction_front 46 target.now at ++ codes "\n") }
+{
+    let mut text = instruction_front(alloc, 46, target, at)?;
+    text.push(b'\n')?;
+    Ok(text)
+}
+
+/// The line of the refusal of an instruction that cannot be carried out.
+fn outside_line(alloc: Global, target: &Target, at: u32, what: What) -> Result<Vec<u8>, NoMemory>
+    ensures { IfOk result (λ text. text.items ≡ instruction_front 47 target.now at ++ (what_text what ++ codes "\n")) }
+{
+    let mut text = instruction_front(alloc, 47, target, at)?;
+    write_what(what, &mut text)?;
+    text.push(b'\n')?;
+    Ok(text)
+}
+
+/// Writes what of an instruction cannot be carried out.
+fn write_what(what: What, into: &mut Vec<u8>) -> Result<(), NoMemory>
+    ensures { OnOk result (into.new.items ≡ into.old.items ++ what_text what) }
+{
+    match what {
+        What::Opcode(op) => {
+            into.extend_from_slice(b" opcode ".as_slice())?;
+            write_hexadecimal(op, into)?;
+            return Ok(());
+        }
+        What::Constant => into.extend_from_slice(b" constant".as_slice())?,
+        What::Operand => into.extend_from_slice(b" operand".as_slice())?,
+        What::Kind => into.extend_from_slice(b" kind".as_slice())?,
+        What::Method => into.extend_from_slice(b" method".as_slice())?,
+    }
+    Ok(())
+}
+
+/// The line of a refusal at an instruction of the method that the target names, up to the offset.
+#[tactic(auto, unfolding(crate::specs::Refusals::instruction_front))]
+fn instruction_front(
+    alloc: Global,
+    number: u32,
+    target: &Target,
+    at: u32,
+) -> Result<Vec<u8>, NoMemory>
+    ensures { IfOk result (λ text. text.items ≡ instruction_front number target.now at) }
+{
+    let mut text = format!(in alloc; "refused {number} ")?.into_bytes();
+    write_target(target, &mut text)?;
+    let place = format!(in alloc; " at {at}")?;
+    text.extend_from_slice(place.as_bytes())?;
     Ok(text)
 }

@@ -3,8 +3,10 @@
 ghost use Rattle.std.specs.Prelude.{◌≡◌, ◌+◌, length, IfOk, IsTrue};
 ghost use Rattle.kb_semantics.specs.Machine.{Method};
 ghost use Rattle.kiasan.specs.Answers.{AreTestsOf, Carries, RepliesReplay, TextRefuses};
+ghost use Rattle.kiasan.specs.Reach.{TargetRefuses};
 ghost use Rattle.kiasan.specs.Refusals.{Gives};
 ghost use Rattle.kiasan.specs.Tests.{AreBuilt, AreRunnable, AreVerdicts, IsAmong, IsRunnable, IsVerdict, RefusesTest, RefusesTests, passes, count_passes, count_differs, replay_status};
+ghost use Rattle.kiasan.specs.Unbuilt.{IsBuiltMethod};
 
 use crate::answer::TEXT_LIMIT;
 use crate::memory::NoMemory;
@@ -16,6 +18,7 @@ use crate::verdicts::replay_text;
 use kb_class::MethodId;
 use kb_heap::{Ending, Heap, Row};
 use kb_machine::{fits_types, run};
+use kb_names::Target;
 use kb_test::{Test, read_tests};
 use kb_world::World;
 use std::alloc::Global;
@@ -86,8 +89,18 @@ fn find_method(
     if is_among(built.as_slice(), id) {
         return Ok(id);
     }
-    check_built(alloc, world, &test.target, id)?;
+    let id = reach_built(alloc, world, &test.target)?;
     built.push(id)?;
+    Ok(id)
+}
+
+/// The method of a target, where it can be carried out with all that it reaches, and is built.
+#[tactic(auto, using(crate::proofs::JobLaws::reach_stops))]
+fn reach_built(alloc: Global, world: &World, target: &Target) -> Result<MethodId, Stop>
+    ensures { Gives ⊥ (TargetRefuses (IsBuiltMethod world.now target.now) world.now target.now) (λ id. IsBuiltMethod world.now target.now id) result }
+{
+    let id = world.reach(alloc, target)?;
+    check_built(alloc, world, target, id)?;
     Ok(id)
 }
 

@@ -5,8 +5,9 @@ ghost use Rattle.kb_names.specs.Targets.{IsTarget};
 ghost use Rattle.kb_semantics.specs.Machine.{Method};
 ghost use Rattle.kb_terms.specs.Terms.{IsTerm};
 ghost use Rattle.kb_test.specs.Texts.{AreTests, IsRunBounds, SpellsTests, tests_text};
-ghost use Rattle.kb_world.specs.Targets.{IsTargetOf};
-ghost use Rattle.kb_world.specs.World.{World};
+ghost use Rattle.kb_link.specs.Targets.{IsTargetOf};
+ghost use Rattle.kb_world.specs.Reach.{IsAccepted};
+ghost use Rattle.kb_link.specs.World.{World};
 ghost use Rattle.kb_class.specs.declared.ids.MethodId.{MethodId};
 ghost use Rattle.kiasan.specs.Covering.{IsReportOf, path_tests, test_of, tests_of};
 ghost use Rattle.kiasan.specs.Explored.{IsExplored};
@@ -39,7 +40,8 @@ pub fn report_of(
     job: &Job,
     id: MethodId,
 ) -> Result<Option<Report>, NoMemory>
-    requires { IsTargetOf world.now job.now.target id }
+    requires found { IsTargetOf world.now job.now.target id }
+    requires accepted { IsAccepted world.now id }
     ensures report { IfOk result (λ r. IfSome r (IsReportOf world.now job.now)) }
     ensures explorable { IfOk result (λ r. IfSome r (λ _. (method : Method) × IsExplorable world.now job.now id method)) }
     ensures none { IfOk result (λ r. IfNone r ((method : Method) → IsExplorable world.now job.now id method → ⊥)) }

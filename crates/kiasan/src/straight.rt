@@ -3,7 +3,8 @@
 ghost use Rattle.std.specs.Prelude.{◌≡◌, IfOk, IfSome, IfNone};
 ghost use Rattle.kb_code.specs.Listing.{IsLaidOut, offset_of};
 ghost use Rattle.kb_semantics.specs.Machine.{AreBuilt, Method};
-ghost use Rattle.kb_world.specs.Targets.{IsTargetOf};
+ghost use Rattle.kb_link.specs.Targets.{IsTargetOf};
+ghost use Rattle.kb_world.specs.Reach.{IsAccepted};
 ghost use Rattle.kiasan.specs.Straight.{IsStraight, has_wide, is_wide};
 ghost use Rattle.kiasan.specs.Explored.{IsExplored, IsCarriedOut, IsStraightRun, IsCodeOf, HasNoCode};
 
@@ -23,14 +24,15 @@ use std::alloc::Global;
 const MOST_INSTRUCTIONS: usize = 2_000;
 
 /// What a straight method returns, for all ints at once. There is nothing where the method that the target names is not
-/// straight, or its class is initialised by code.
+/// straight.
 pub fn explore_method(
     alloc: Global,
     world: &World,
     target: &Target,
     id: MethodId,
 ) -> Result<Option<Explored>, NoMemory>
-    requires { IsTargetOf world.now target.now id }
+    requires found { IsTargetOf world.now target.now id }
+    requires accepted { IsAccepted world.now id }
     ensures straight { IfOk result (λ r. IfSome r (IsExplored world.now target.now id)) }
     ensures none { IfOk result (λ r. IfNone r ((method : Method) → IsStraight world.now target.now id method → ⊥)) }
 {
@@ -38,9 +40,6 @@ pub fn explore_method(
         return Ok(None);
     }
     let info = world.method_of(id);
-    if world.has_initialiser(info.class) {
-        return Ok(None);
-    }
     match straight_code(info) {
         Some(code) => explore_straight(alloc, &code, target.kind.params.as_slice().len()),
         None => Ok(None),

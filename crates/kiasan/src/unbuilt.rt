@@ -3,7 +3,8 @@
 ghost use Rattle.std.specs.Prelude.{◌≡◌, ◌⊎◌};
 ghost use Rattle.kb_names.specs.Targets.{IsTarget};
 ghost use Rattle.kb_test.specs.Texts.{AreTests, IsRunBounds};
-ghost use Rattle.kb_world.specs.Targets.{IsTargetOf};
+ghost use Rattle.kb_link.specs.Targets.{IsTargetOf};
+ghost use Rattle.kb_world.specs.Reach.{IsAccepted};
 ghost use Rattle.kiasan.specs.Answers.{IsWrittenReport};
 ghost use Rattle.kiasan.specs.Covering.{IsReportOf, tests_of};
 ghost use Rattle.kiasan.specs.Reach.{TargetRefuses};
@@ -29,6 +30,7 @@ pub const UNBUILT_LINE: &str = "refused 50\n";
 /// The report of a job's method, where it is built.
 pub fn built_report(alloc: Global, world: &World, job: &Job, id: MethodId) -> Result<Report, Stop>
     requires found { IsTargetOf world.now job.now.target id }
+    requires accepted { IsAccepted world.now id }
     ensures { Gives ⊥ (TargetRefuses (IsBuiltFor world.now job.now) world.now job.now.target) (IsWrittenReport world.now job.now) result }
 {
     let Some(report) = report_of(alloc, world, job, id)? else {
@@ -39,7 +41,8 @@ pub fn built_report(alloc: Global, world: &World, job: &Job, id: MethodId) -> Re
 
 /// Refuses a test's method that is not built.
 pub fn check_built(alloc: Global, world: &World, target: &Target, id: MethodId) -> Result<(), Stop>
-    requires { IsTargetOf world.now target.now id }
+    requires found { IsTargetOf world.now target.now id }
+    requires accepted { IsAccepted world.now id }
     ensures { Gives ⊥ (TargetRefuses (IsBuiltMethod world.now target.now) world.now target.now) (λ _. IsBuiltMethod world.now target.now id) result }
 {
     let Some(_explored) = explore_method(alloc, world, target, id)? else {

@@ -1,7 +1,7 @@
 use Rattle.std.proofs.Common.{List, ℕ, Vec, Global, Err, subst}
 use Rattle.std.proofs.lemmas.Result.{err_from_is_err_and}
 use Rattle.kb_class.specs.declared.given.GivenClass.{GivenClass}
-use Rattle.kb_world.specs.Links.{Links}
+use Rattle.kb_link.specs.Links.{Links}
 use Rattle.kiasan.specs.Answers.{AreClasses, Carries, RefusesClasses, RepliesIn}
 use Rattle.kiasan.specs.Refusals.{Gives}
 use Rattle.kiasan.proofs.AnswerLaws.{classes_stop, world_stops, world_goes}

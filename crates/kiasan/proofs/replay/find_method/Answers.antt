@@ -13,5 +13,5 @@ returns-then-is_among-clause-method c =
 
 pub returns-clause-built : goal.returns-clause-built
 returns-clause-built c =
-    let built : IsBuiltMethod c.args.world.now c.args.test.now.target c.in-Some.id = c.in_ok-check_built.ensures in
-    built_more c.args.world.now c.args.built.now.items c.push.new.self.items c.in-Some.id c.args.test.now.target c.requires built (search rules)
+    let built : IsBuiltMethod c.args.world.now c.args.test.now.target c.in_ok-id.id = c.in_ok-id.ensures in
+    built_more c.args.world.now c.args.built.now.items c.push.new.self.items c.in_ok-id.id c.args.test.now.target c.requires built (search rules)
