@@ -2,7 +2,7 @@
 use Rattle.std.proofs.Common.{◌≡◌, ℕ, zero, suc, ◌+◌, ◌<◌, ◌≤◌, ◌⊎◌, inl, inr, List, [], ◌∷◌, ◌++◌, length, take, Option, Some, None, slice_get, refl, sym, ap, subst, ◌∙◌, arith}
 use Rattle.std.specs.List.{AllByRecursion}
 use Rattle.std.proofs.lemmas.List.{take_all, take-append-le, length-append}
-use Rattle.std.proofs.lemmas.Option.{same_Some, none-some, slice_get_within, slice_get_past}
+use Rattle.std.proofs.lemmas.Option.{same_Some, none-some, some_pair_parts, slice_get_within, slice_get_past}
 use Rattle.kb_names.specs.declared.types.Target.{Target}
 use Rattle.kb_class.specs.declared.ids.MethodId.{MethodId}
 use Rattle.kb_class.specs.declared.members.MethodInfo.{MethodInfo}
@@ -43,10 +43,10 @@ agree_take (suc n) (x ∷ xs) (y ∷ ys) same =
     let tail : take n xs ≡ take n ys = agree_take n xs ys (λ i inside. same (suc i) (let next : suc i < suc n = omega (arith, inside) in next)) in
     λ i. head i ∷ tail i
 
-all_at : {P : ℕ → Type 0} (xs : List ℕ) (i x : ℕ) → AllByRecursion P xs → slice_get xs i ≡ Some x → P x
-all_at [] i x all at = absurd (none-some x at)
-all_at {P = P} (y ∷ xs) zero x all at = subst P (same_Some y x at) all.0
-all_at {P = P} (y ∷ xs) (suc i) x all at = all_at {P = P} xs i x all.1 at
+all_at : (P : ℕ → Type 0) (xs : List ℕ) (i x : ℕ) → AllByRecursion P xs → slice_get xs i ≡ Some x → P x
+all_at P [] i x all at = absurd (none-some x at)
+all_at P (y ∷ xs) zero x all at = subst P (same_Some y x at) all.0
+all_at P (y ∷ xs) (suc i) x all at = all_at P xs i x all.1 at
 
 order : (a b : ℕ) → (a < b) ⊎ ((a ≡ b) ⊎ (b < a))
 order zero zero = inr (inl refl)
@@ -115,8 +115,8 @@ module _ (world : World) (target : ℕ) where
       let x = some_at others (length before) less in
       let there : Some method ≡ Some x.0 = sym (get_last before method) ∙ same (length before) (omega arith) ∙ get_before others (later ∷ []) (length before) x.0 x.1 in
       let is : method ≡ x.0 = same_Some method x.0 there in
-      let fine : method_fault world x.0 ≡ None = all_at {P = HasNoFault world} others (length before) x.0 other.1 x.1 in
-      none-some (at, fault) (sym fine ∙ ap (λ (m : ℕ). method_fault world m) (sym is) ∙ broken)
+      let fine : method_fault world x.0 ≡ None = all_at (HasNoFault world) others (length before) x.0 other.1 x.1 in
+      none-some {A = ℕ × Fault} (at, fault) (sym fine ∙ ap (λ (m : ℕ). method_fault world m) (sym is) ∙ broken)
 
   same_stop : (before : List ℕ) (method : ℕ) (others : List ℕ) (other : ℕ) → IsStop before method → IsStop others other → length before ≡ length others → method ≡ other
   same_stop before method others other a b same =
@@ -142,8 +142,8 @@ module _ (world : World) (target : ℕ) where
     go (inr (inr more)) = absurd (no_earlier others second before method place other (ahead, also) (front, none) b more)
     go (inr (inl same)) =
         let is : method ≡ second = same_stop before method others second (front, none) (ahead, also) same in
-        let both : (at, fault) ≡ (place, other) = same_Some (at, fault) (place, other) (sym a ∙ ap (λ (m : ℕ). method_fault world m) is ∙ b) in
-        record { methods = is; places = ap (λ (p : ℕ × Fault). p.0) both; faults = ap (λ (p : ℕ × Fault). p.1) both }
+        let both = some_pair_parts at place fault other (sym a ∙ ap (λ (m : ℕ). method_fault world m) is ∙ b) in
+        record { methods = is; places = both.0; faults = both.1 }
 
   -- where there is one, there are not none
   pub fault_or_none : (method at : ℕ) (fault : Fault) → IsFirstFault world target method at fault → HasNoFaults world target → ⊥
@@ -154,7 +154,7 @@ module _ (world : World) (target : ℕ) where
         let same : AgreeBelow (suc (length before)) (before ++ method ∷ []) none.reached =
         agree (suc (length before)) (before ++ method ∷ []) none.reached front none.are_reached.front (omega (arith, grown before method)) (omega (arith, less)) in
         let there : slice_get none.reached (length before) ≡ Some method = sym (same (length before) (omega arith)) ∙ get_last before method in
-        none-some (at, fault) (sym (all_at {P = HasNoFault world} none.reached (length before) method none.no_faults there) ∙ a)
+        none-some {A = ℕ × Fault} (at, fault) (sym (all_at (HasNoFault world) none.reached (length before) method none.no_faults there) ∙ a)
     go (inr h) = longest none.reached (before ++ method ∷ []) none.are_reached front (beyond h)
       where
         beyond : (length before ≡ length none.reached) ⊎ (length none.reached < length before) → length none.reached < length (before ++ method ∷ [])
