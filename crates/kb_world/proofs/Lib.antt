@@ -1,5 +1,9 @@
 pub mod ByName
 pub mod Chains
 pub mod Fields
+pub mod Inside
+pub mod Marking
 pub mod Methods
+pub mod Reaching
+pub mod ReachLaws
 pub mod Rows

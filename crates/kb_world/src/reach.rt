@@ -1,8 +1,12 @@
 //! What a target reaches, and the first thing there that cannot be carried out.
-ghost use Rattle.std.specs.Prelude.{IfOk, IfErr};
+ghost use Rattle.std.specs.Prelude.{◌≡◌, ◌⊎◌, ◌<◌, length, None, OnOk, IfOk, IfErr};
+ghost use Rattle.kb_link.specs.World.{methods_in};
 ghost use Rattle.kb_link.specs.Targets.{IsTargetOf};
-ghost use Rattle.kb_world.specs.Reach.{IsAccepted, Refuses};
+ghost use Rattle.kb_link.specs.declared.linking.LinkRefusal.TheVariants as refusals;
+ghost use Rattle.kb_world.specs.Reach.{HasNoFault, HasNoFaults, IsFirstFault, IsAccepted, Refuses, fault_of_target, method_mentions};
+ghost use Rattle.kb_world.specs.Walks.{with_all, StopsAt, IsFaultOfMethod};
 
+use crate::found::Found;
 use crate::world::World;
 use kb_class::MethodId;
 use kb_link::LinkRefusal;
@@ -19,6 +23,76 @@ impl World {
         ensures accepted { IfOk result (IsAccepted self.now) }
         ensures refused { IfErr result (Refuses self.now target.now) }
     {
-        Err(LinkRefusal::NoMemory)
+        let Some(id) = self.find_target(target) else {
+            return Err(no_method(alloc, target));
+        };
+        match self.check_reached(alloc, id) {
+            Ok(()) => Ok(id),
+            Err(refusal) => Err(refusal),
+        }
+    }
+
+    // Refuses the first fault of what the method reaches.
+    fn check_reached(&self, alloc: Global, id: MethodId) -> Result<(), LinkRefusal>
+        requires { id.0 < length (methods_in self.now.classes) }
+        ensures none { OnOk result (HasNoFaults self.now id.0) }
+        ensures refused { IfErr result (StopsAt self.now (IsFirstFault self.now id.0)) }
+    {
+        match self.target_fault(id) {
+            Some(fault) => Err(self.refusal(alloc, id, 0, fault)),
+            None => self.check_methods(alloc, id),
+        }
+    }
+
+    // Refuses the first fault of the methods that are reached.
+    fn check_methods(&self, alloc: Global, id: MethodId) -> Result<(), LinkRefusal>
+        requires there { id.0 < length (methods_in self.now.classes) }
+        requires itself { fault_of_target self.now id.0 ≡ None }
+        ensures none { OnOk result (HasNoFaults self.now id.0) }
+        ensures refused { IfErr result (StopsAt self.now (IsFirstFault self.now id.0)) }
+    {
+        let Ok(mut found) = Found::new(alloc, self.linked().method_count(), id.0) else {
+            return Err(LinkRefusal::NoMemory);
+        };
+        let mut place = 0;
+        while let Some(number) = found.at(place) {
+            match self.check_method(alloc, MethodId(number), &mut found) {
+                Ok(()) => place += 1,
+                Err(refusal) => return Err(refusal),
+            }
+        }
+        Ok(())
+    }
+
+    // Refuses the first fault of a method, and adds the methods that it mentions.
+    fn check_method(
+        &self,
+        alloc: Global,
+        method: MethodId,
+        found: &mut Found,
+    ) -> Result<(), LinkRefusal>
+        requires there { method.0 < length (methods_in self.now.classes) }
+        requires all { found.old.all ≡ length (methods_in self.now.classes) }
+        ensures none { OnOk result (HasNoFault self.now method.0) }
+        ensures added { OnOk result (found.new ≡ with_all found.old (method_mentions self.now method.0)) }
+        ensures refused { IfErr result (StopsAt self.now (IsFaultOfMethod self.now method.0)) }
+    {
+        if let Some((at, fault)) = self.first_fault(method) {
+            return Err(self.refusal(alloc, method, at, fault));
+        }
+        match self.add_mentions(method, found) {
+            Ok(()) => Ok(()),
+            Err(_) => Err(LinkRefusal::NoMemory),
+        }
+    }
+}
+
+// The refusal of a target that names no method.
+fn no_method(alloc: Global, target: &Target) -> LinkRefusal
+    ensures { (result ≡ refusals.NoMemory) ⊎ (result ≡ refusals.NoMethod target.now) }
+{
+    match target.copied(alloc) {
+        Ok(target) => LinkRefusal::NoMethod(target),
+        Err(_) => LinkRefusal::NoMemory,
     }
 }

@@ -1,0 +1,10 @@
+use Rattle.std.proofs.Common.{◌≡◌, ◌-◌, length}
+use Rattle.kb_link.specs.World.{methods_in}
+use Rattle.kb_world.proofs.Reaching.{IsWalked}
+use Rattle.kb_world.proofs.world.World.check_methods.Given as goal
+
+abbrev pub invariant-loop-place : goal.invariant-loop-place
+invariant-loop-place l = (l.found.all ≡ length (methods_in l.self.classes)) × IsWalked l.self l.id.0 l.place l.found.numbers
+
+abbrev pub decreases-loop-place : goal.decreases-loop-place
+decreases-loop-place l = length (methods_in l.self.classes) - l.place

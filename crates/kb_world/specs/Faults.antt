@@ -1,0 +1,148 @@
+-- What is wrong with an instruction that is no call (own rules over JVMS 8 sections 5.4.3, 5.5 and 6.5).
+use Rattle.std.specs.Prelude.{ℕ, Bool, true, false, ◌==◌, ◌||◌, not, nat_le, is_some, List, Option, Some, None, slice_get, if◌then◌else◌}
+use Rattle.std.specs.List.{list_any}
+use Rattle.std.specs.Option.{option_and_then, option_map_or}
+use Rattle.kb_names.specs.Shape.{Base, class_base}
+use Rattle.kb_names.specs.declared.types.ExactType.{ExactType}
+use Rattle.kb_names.specs.declared.types.ExactType.TheVariants as exact
+use Rattle.kb_names.specs.declared.types.JType.{JType}
+use Rattle.kb_names.specs.declared.types.JType.TheVariants as types
+use Rattle.kb_names.specs.declared.types.MethodType.{MethodType}
+use Rattle.kb_class.specs.declared.entries.ReferenceKind.{ReferenceKind}
+use Rattle.kb_class.specs.declared.entries.ReferenceKind.TheVariants as references
+use Rattle.kb_class.specs.Class.{Class, Entry, Sought, int_of_entry, text_of_entry}
+use Rattle.kb_link.specs.declared.linking.What.{What}
+use Rattle.kb_link.specs.declared.linking.What.TheVariants as whats
+use Rattle.kb_link.specs.World.{World, number_in, type_entry_of}
+use Rattle.kb_link.specs.Subtypes.{shape_of_exact}
+use Rattle.kb_link.specs.Universe.{is_concrete}
+use Rattle.kb_link.specs.Initialisers.{is_initialised}
+use Rattle.kb_link.specs.declared.slots.FieldSlot.{FieldSlot}
+use Rattle.kb_world.specs.Lookup.{or_else, only_where, sought_at, resolved_field_class, resolved_field}
+use Rattle.kb_world.specs.declared.faults.Fault.{Fault as FaultOfCode}
+use Rattle.kb_world.specs.declared.faults.Fault.TheVariants as faults
+
+-- What is wrong with an instruction.
+pub data Fault : Type 0 where
+  NoField : Fault
+  -- a class that the world does not have, by its name
+  Missing : List ℕ → Fault
+  Outside : What → Fault
+  -- a class that code initialises, by its name
+  Initialiser : List ℕ → Fault
+
+-- what the code's fault says
+abbrev pub told : FaultOfCode → Fault
+told faults.NoField = NoField
+told (faults.Missing name) = Missing name.now
+told (faults.Outside what) = Outside what
+told (faults.Initialiser name) = Initialiser name.now
+
+-- ---- types
+
+-- whether no parameter or result may be of the type
+abbrev pub is_left_out : JType → Bool
+is_left_out types.Byte = true
+is_left_out types.Char = true
+is_left_out types.Short = true
+is_left_out types.Long = true
+is_left_out types.Float = true
+is_left_out types.Double = true
+is_left_out _ = false
+
+abbrev pub has_left_out : MethodType → Bool
+has_left_out kind = list_any is_left_out kind.params || option_map_or is_left_out kind.result false
+
+-- the name of a class
+abbrev pub name_of_base : Base → Option (List ℕ)
+name_of_base (class_base name) = Some name
+name_of_base _ = None
+
+-- the class that a type names, by itself or as an array's element
+abbrev pub class_in_type : ExactType → Option (List ℕ)
+class_in_type type = name_of_base (shape_of_exact type).base
+
+-- it, where the world does not have it
+abbrev pub missing_class : World → ExactType → Option Fault
+missing_class world type = option_and_then (λ name. only_where (not (is_some (number_in world.classes name))) (Missing name)) (class_in_type type)
+
+-- ---- entries
+
+-- what stands at a number of the constant pool of a class
+abbrev pub entry_at : World → ℕ → ℕ → Option Entry
+entry_at world class entry = option_and_then (λ (c : Class). slice_get c.entries entry) (slice_get world.classes class)
+
+-- ldc takes ints and strings
+abbrev pub constant_fault : Option Entry → Option Fault
+constant_fault entry = only_where (not (is_some (int_of_entry entry) || is_some (text_of_entry entry))) (Outside whats.Constant)
+
+-- ---- fields
+
+-- the field must be there, and have a slot
+abbrev pub fault_of_slot : Option ℕ → Option FieldSlot → Option Fault
+fault_of_slot None slot = Some NoField
+fault_of_slot (Some class) None = Some (Outside whats.Kind)
+fault_of_slot (Some class) (Some slot) = None
+
+abbrev pub fault_of_field : World → ℕ → ℕ → ReferenceKind → Option Fault
+fault_of_field world class entry references.Field = fault_of_slot (resolved_field_class world class entry) (resolved_field world class entry)
+fault_of_field world class entry _ = Some (Outside whats.Operand)
+
+abbrev pub fault_of_field_sought : World → ℕ → ℕ → Option Sought → Option Fault
+fault_of_field_sought world class entry None = Some (Outside whats.Operand)
+fault_of_field_sought world class entry (Some sought) = fault_of_field world class entry sought.what
+
+-- getfield and putfield take a Fieldref entry
+abbrev pub field_fault : World → ℕ → ℕ → Option Fault
+field_fault world class entry = fault_of_field_sought world class entry (sought_at world class entry)
+
+-- ---- types of objects
+
+-- checkcast and instanceof take a type of the world
+abbrev pub fault_of_cast : World → Option ExactType → Option Fault
+fault_of_cast world None = Some (Outside whats.Operand)
+fault_of_cast world (Some type) = missing_class world type
+
+abbrev pub cast_fault : World → ℕ → ℕ → Option Fault
+cast_fault world class entry = fault_of_cast world (type_entry_of world class entry)
+
+-- code initialises the class of that number
+abbrev pub fault_of_initialiser : World → ℕ → Option Fault
+fault_of_initialiser world number =
+    option_and_then (λ (c : Class). only_where (is_initialised world number) (Initialiser c.name)) (slice_get world.classes number)
+
+-- the class of that number is abstract or an interface, or code initialises it
+abbrev pub fault_of_object : World → ℕ → Option Fault
+fault_of_object world number =
+    option_and_then (λ (c : Class). or_else (only_where (not (is_concrete c)) (Outside whats.Kind)) (fault_of_initialiser world number)) (slice_get world.classes number)
+
+abbrev pub fault_of_new_type : World → ExactType → Option Fault
+fault_of_new_type world (exact.Array component) = Some (Outside whats.Kind)
+fault_of_new_type world (exact.Class name) = option_and_then (fault_of_object world) (number_in world.classes name)
+
+abbrev pub fault_of_new : World → Option ExactType → Option Fault
+fault_of_new world None = Some (Outside whats.Operand)
+fault_of_new world (Some type) = or_else (missing_class world type) (fault_of_new_type world type)
+
+-- new takes a class of the world, neither abstract nor an interface, that no code initialises
+abbrev pub new_fault : World → ℕ → ℕ → Option Fault
+new_fault world class entry = fault_of_new world (type_entry_of world class entry)
+
+-- the most dimensions of an array type (section 4.4.1)
+abbrev pub most_dimensions : ℕ
+most_dimensions = 255
+
+abbrev pub is_deepest : ExactType → Bool
+is_deepest type = nat_le most_dimensions (shape_of_exact type).dims
+
+abbrev pub fault_of_array : World → Option ExactType → Option Fault
+fault_of_array world None = Some (Outside whats.Operand)
+fault_of_array world (Some type) = or_else (missing_class world type) (only_where (is_deepest type) (Outside whats.Kind))
+
+-- anewarray takes a type of the world; the array has one dimension more
+abbrev pub array_fault : World → ℕ → ℕ → Option Fault
+array_fault world class entry = fault_of_array world (type_entry_of world class entry)
+
+-- newarray: T_BOOLEAN and T_INT (table 6.5.newarray-A) are built
+abbrev pub primitive_fault : ℕ → Option Fault
+primitive_fault code = only_where (not (code == 4 || code == 10)) (Outside whats.Kind)

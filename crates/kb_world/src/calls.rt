@@ -1,0 +1,242 @@
+//! What a call may call, and what is wrong with it.
+ghost use Rattle.std.specs.Prelude.{◌≡◌, ◌<◌, length, not, option_map, IfSome};
+ghost use Rattle.std.specs.List.{list_any};
+ghost use Rattle.kb_link.specs.World.{methods_in};
+ghost use Rattle.kb_link.specs.Slots.{is_static};
+ghost use Rattle.kb_world.specs.Lookup.{class_of, is_open, resolved_method};
+ghost use Rattle.kb_world.specs.declared.calls.Call.TheVariants as calls;
+ghost use Rattle.kb_world.specs.Faults.{told};
+ghost use Rattle.kb_world.specs.Calls.{takes, selected_on, called_on, called, is_callable_method, is_callable, is_for, fault_of_kind, fault_of_number, call_fault};
+
+use crate::faults::{Fault, has_left_out};
+use crate::world::World;
+use kb_class::{ClassId, MemberKind, MethodId, MethodInfo, ReferenceKind};
+use kb_link::What;
+use kb_names::ExactType;
+
+/// How a method is called: by invokevirtual, invokeinterface, invokespecial or invokestatic.
+#[derive(Clone, Copy)]
+pub(crate) enum Call {
+    Virtual,
+    Interface,
+    Special,
+    Static,
+}
+
+/// ACC_STATIC (JVMS 8 table 4.6-A).
+const STATIC: u16 = 0x0008;
+
+/// ACC_PRIVATE and ACC_STATIC.
+const NOT_OPEN: u16 = 0x000a;
+
+impl World {
+    /// What is wrong with a call of the entry, in code of the class.
+    pub(crate) fn call_fault(&self, class: ClassId, call: Call, entry: u16) -> Option<Fault<'_>>
+        requires { class.0 < length self.now.classes }
+        ensures { option_map told result ≡ call_fault self.now class.0 call entry }
+    {
+        let Some(sought) = self.linked().class_of(class).reference_entry(entry) else {
+            return Some(Fault::Outside(What::Operand));
+        };
+        if !takes(call, sought.what) {
+            return Some(Fault::Outside(What::Operand));
+        }
+        self.kind_fault(class, call, entry, sought.class, sought.kind)
+    }
+
+    // What is wrong with a call of the entry, which names a member of that kind.
+    fn kind_fault(
+        &self,
+        class: ClassId,
+        call: Call,
+        entry: u16,
+        of: &ExactType,
+        kind: &MemberKind,
+    ) -> Option<Fault<'_>>
+        requires { class.0 < length self.now.classes }
+        ensures { option_map told result ≡ fault_of_kind self.now class.0 call entry of.now kind.now }
+    {
+        let MemberKind::Method(kind) = kind else {
+            return Some(Fault::Outside(What::Method));
+        };
+        if has_left_out(kind) {
+            return Some(Fault::Outside(What::Kind));
+        }
+        self.resolved_fault(class, call, entry, of)
+    }
+
+    // What is wrong with a call of the method that the entry names.
+    fn resolved_fault(
+        &self,
+        class: ClassId,
+        call: Call,
+        entry: u16,
+        of: &ExactType,
+    ) -> Option<Fault<'_>>
+        requires { class.0 < length self.now.classes }
+        ensures { option_map told result ≡ fault_of_number self.now class.0 call entry of.now (resolved_method self.now class.0 entry) }
+    {
+        match self.resolve_method(class, entry) {
+            Some(method) => self.method_fault(class, call, entry, of, method),
+            None => Some(Fault::Outside(What::Method)),
+        }
+    }
+
+    // What is wrong with a call of the method.
+    fn method_fault(
+        &self,
+        class: ClassId,
+        call: Call,
+        entry: u16,
+        of: &ExactType,
+        method: MethodId,
+    ) -> Option<Fault<'_>>
+        requires class { class.0 < length self.now.classes }
+        requires method { method.0 < length (methods_in self.now.classes) }
+        ensures { option_map told result ≡ fault_of_number self.now class.0 call entry of.now (Some method.0) }
+    {
+        let info = self.method_of(method);
+        if !self.is_for(class, call, entry, info) {
+            return Some(Fault::Outside(What::Method));
+        }
+        if self.is_any_uncallable(class, call, entry, of, method) {
+            return Some(Fault::Outside(What::Method));
+        }
+        match call {
+            Call::Static => self.initialiser_fault(info.class),
+            _ => None,
+        }
+    }
+
+    // Whether the method that is named is one for the call.
+    fn is_for(&self, class: ClassId, call: Call, entry: u16, method: &MethodInfo) -> bool
+        requires { class.0 < length self.now.classes }
+        ensures { result ≡ is_for self.now class.0 call entry method.now }
+    {
+        match call {
+            Call::Virtual | Call::Interface => is_open(method),
+            Call::Special => self.is_for_special(class, entry, method),
+            Call::Static => is_static(method),
+        }
+    }
+
+    // Whether neither the method that is named nor the one that invokespecial selects is static.
+    fn is_for_special(&self, class: ClassId, entry: u16, method: &MethodInfo) -> bool
+        requires { class.0 < length self.now.classes }
+        ensures { result ≡ is_for self.now class.0 calls.Special entry method.now }
+    {
+        if is_static(method) {
+            return false;
+        }
+        match self.select_special(class, entry) {
+            Some(selected) => !is_static(self.method_of(selected)),
+            None => true,
+        }
+    }
+
+    // Whether the call may call what is no callable method.
+    fn is_any_uncallable(
+        &self,
+        class: ClassId,
+        call: Call,
+        entry: u16,
+        of: &ExactType,
+        method: MethodId,
+    ) -> bool
+        requires class { class.0 < length self.now.classes }
+        requires method { method.0 < length (methods_in self.now.classes) }
+        ensures { result ≡ list_any (λ found. not (is_callable self.now found)) (called self.now class.0 call entry of.now method.0) }
+    {
+        match call {
+            Call::Virtual | Call::Interface => self.is_any_receiver_uncallable(of, method),
+            Call::Special => !self.is_callable(self.select_special(class, entry)),
+            Call::Static => !self.is_callable(Some(method)),
+        }
+    }
+
+    // Whether for some receiver what is called in place of the method is no callable method.
+    fn is_any_receiver_uncallable(&self, of: &ExactType, method: MethodId) -> bool
+        requires { method.0 < length (methods_in self.now.classes) }
+        ensures { result ≡ list_any (λ found. not (is_callable self.now found)) (called_on self.now of.now method.0) }
+    {
+        let mut rest = self.universe();
+        while let [receiver, others @ ..] = rest {
+            if self.linked().exact_subtype(receiver, of) {
+                if !self.is_callable(self.select_on(method, receiver)) {
+                    return true;
+                }
+            }
+            rest = others;
+        }
+        false
+    }
+
+    /// The method that is called in place of another one where the receiver is of the exact type.
+    pub(crate) fn select_on(&self, method: MethodId, receiver: &ExactType) -> Option<MethodId>
+        requires { method.0 < length (methods_in self.now.classes) }
+        ensures { option_map (λ (id : MethodId). id.0) result ≡ selected_on self.now method.0 receiver.now }
+    {
+        let class = self.class_sought(receiver)?;
+        self.select(class, method)
+    }
+
+    // The class in which the members of a type are sought: those of an array in java/lang/Object.
+    fn class_sought(&self, of: &ExactType) -> Option<ClassId>
+        ensures number { option_map (λ (id : ClassId). id.0) result ≡ class_of self.now of.now }
+        ensures inside { IfSome result (λ id. id.0 < length self.now.classes) }
+    {
+        match of {
+            ExactType::Class(name) => self.linked().class_of_text(name.as_slice()),
+            ExactType::Array(_) => self.linked().class_of_text(b"java/lang/Object"),
+        }
+    }
+
+    // Whether it is a method that has code, or is one of a platform class.
+    fn is_callable(&self, found: Option<MethodId>) -> bool
+        requires { IfSome found (λ id. id.0 < length (methods_in self.now.classes)) }
+        ensures { result ≡ is_callable self.now (option_map (λ (id : MethodId). id.0) found) }
+    {
+        match found {
+            Some(method) => self.is_callable_method(self.method_of(method)),
+            None => false,
+        }
+    }
+
+    // Whether the method has code, or is one of a platform class.
+    fn is_callable_method(&self, method: &MethodInfo) -> bool
+        requires { method.now.class.0 < length self.now.classes }
+        ensures { result ≡ is_callable_method self.now method.now }
+    {
+        if method.code.is_some() {
+            return true;
+        }
+        self.file_of(method.class).is_none()
+    }
+}
+
+/// Whether the entry is one that the call takes.
+pub(crate) fn takes(call: Call, what: ReferenceKind) -> bool
+    ensures { result ≡ takes call what }
+{
+    match (call, what) {
+        (Call::Virtual, ReferenceKind::Method) => true,
+        (Call::Interface, ReferenceKind::InterfaceMethod) => true,
+        (Call::Special | Call::Static, ReferenceKind::Method) => true,
+        (Call::Special | Call::Static, ReferenceKind::InterfaceMethod) => true,
+        _ => false,
+    }
+}
+
+/// Whether the method is static.
+pub(crate) fn is_static(method: &MethodInfo) -> bool
+    ensures { result ≡ is_static method.now.access }
+{
+    method.access & STATIC != 0
+}
+
+// Whether the method is neither private nor static.
+fn is_open(method: &MethodInfo) -> bool
+    ensures { result ≡ is_open method.now }
+{
+    method.access & NOT_OPEN == 0
+}

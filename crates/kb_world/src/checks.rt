@@ -1,0 +1,151 @@
+//! The first fault of a method's code, and its refusal.
+ghost use Rattle.std.specs.Prelude.{◌≡◌, ◌⊎◌, ◌<◌, length, option_map, IfOk};
+ghost use Rattle.kb_link.specs.World.{methods_in};
+ghost use Rattle.kb_link.specs.Targets.{Declares};
+ghost use Rattle.kb_link.specs.declared.linking.LinkRefusal.TheVariants as refusals;
+ghost use Rattle.kb_world.specs.Faults.{told};
+ghost use Rattle.kb_world.specs.Calls.{fault_of};
+ghost use Rattle.kb_world.specs.Reach.{fault_in, method_fault, static_fault, fault_of_target};
+ghost use Rattle.kb_world.specs.Walks.{told_at, Tells};
+
+use crate::calls::{Call, is_static};
+use crate::faults::{Fault, has_left_out, primitive_fault};
+use crate::world::World;
+use kb_class::{ClassId, MethodId, MethodInfo};
+use kb_code::Instr;
+use kb_link::{LinkRefusal, What};
+use kb_names::{Name, NoMemory, Target};
+use std::alloc::Global;
+
+impl World {
+    /// What is wrong with a target itself: a class that code initialises, where it is static, and then its type.
+    pub(crate) fn target_fault(&self, id: MethodId) -> Option<Fault<'_>>
+        requires { id.0 < length (methods_in self.now.classes) }
+        ensures { option_map told result ≡ fault_of_target self.now id.0 }
+    {
+        let method = self.method_of(id);
+        if let Some(fault) = self.static_fault(method) {
+            return Some(fault);
+        }
+        if has_left_out(&method.kind) {
+            return Some(Fault::Outside(What::Kind));
+        }
+        None
+    }
+
+    // The class of a static method, where code initialises it.
+    fn static_fault(&self, method: &MethodInfo) -> Option<Fault<'_>>
+        requires { method.now.class.0 < length self.now.classes }
+        ensures { option_map told result ≡ static_fault self.now method.now }
+    {
+        if !is_static(method) {
+            return None;
+        }
+        self.initialiser_fault(method.class)
+    }
+
+    /// The first fault of the code of a method, with its offset.
+    pub(crate) fn first_fault(&self, method: MethodId) -> Option<(u32, Fault<'_>)>
+        requires { method.0 < length (methods_in self.now.classes) }
+        ensures { option_map told_at result ≡ method_fault self.now method.0 }
+    {
+        let info = self.method_of(method);
+        match &info.code {
+            Some(code) => self.fault_in(info.class, code.listing.items.as_slice()),
+            None => None,
+        }
+    }
+
+    // The first fault of instructions of a class, with its offset.
+    fn fault_in(&self, class: ClassId, items: &[(u32, Instr)]) -> Option<(u32, Fault<'_>)>
+        requires { class.0 < length self.now.classes }
+        ensures { option_map told_at result ≡ fault_in self.now class.0 items.now }
+    {
+        let mut rest = items;
+        while let [item, others @ ..] = rest {
+            if let Some(fault) = self.fault_of(class, &item.1) {
+                return Some((item.0, fault));
+            }
+            rest = others;
+        }
+        None
+    }
+
+    // What is wrong with an instruction of a class.
+    fn fault_of(&self, class: ClassId, instr: &Instr) -> Option<Fault<'_>>
+        requires { class.0 < length self.now.classes }
+        ensures { option_map told result ≡ fault_of self.now class.0 instr.now }
+    {
+        match instr {
+            Instr::Other(op) => Some(Fault::Outside(What::Opcode(*op))),
+            Instr::Ldc(entry) => self.constant_fault(class, *entry),
+            Instr::GetField(entry) | Instr::PutField(entry) => self.field_fault(class, *entry),
+            Instr::Virtual(entry) => self.call_fault(class, Call::Virtual, *entry),
+            Instr::Special(entry) => self.call_fault(class, Call::Special, *entry),
+            Instr::Static(entry) => self.call_fault(class, Call::Static, *entry),
+            Instr::Interface(entry) => self.call_fault(class, Call::Interface, *entry),
+            Instr::New(entry) => self.new_fault(class, *entry),
+            Instr::NewPrim(code) => primitive_fault(*code),
+            Instr::NewRefs(entry) => self.array_fault(class, *entry),
+            Instr::Cast(entry) | Instr::InstanceOf(entry) => self.cast_fault(class, *entry),
+            _ => None,
+        }
+    }
+
+    /// The refusal of a fault of a method at an offset.
+    pub(crate) fn refusal(
+        &self,
+        alloc: Global,
+        method: MethodId,
+        at: u32,
+        fault: Fault<'_>,
+    ) -> LinkRefusal
+        requires { method.0 < length (methods_in self.now.classes) }
+        ensures { (result ≡ refusals.NoMemory) ⊎ Tells self.now method.0 at (told fault) result }
+    {
+        match fault {
+            Fault::NoField => match self.target_of(alloc, method) {
+                Ok(target) => LinkRefusal::NoField(target, at),
+                Err(_) => LinkRefusal::NoMemory,
+            },
+            Fault::Outside(what) => match self.target_of(alloc, method) {
+                Ok(target) => LinkRefusal::Outside(target, at, what),
+                Err(_) => LinkRefusal::NoMemory,
+            },
+            Fault::Missing(name) => missing(alloc, name),
+            Fault::Initialiser(name) => initialised(alloc, name),
+        }
+    }
+
+    // The target that names the method.
+    fn target_of(&self, alloc: Global, method: MethodId) -> Result<Target, NoMemory>
+        requires { method.0 < length (methods_in self.now.classes) }
+        ensures { IfOk result (Declares self.now method) }
+    {
+        let info = self.method_of(method);
+        let class = self.name_of(info.class).copied(alloc)?;
+        let name = info.name.copied(alloc)?;
+        let kind = info.kind.copied(alloc)?;
+        Ok(Target { class, name, kind })
+    }
+}
+
+// The refusal of a class that is not there.
+fn missing(alloc: Global, name: &Name) -> LinkRefusal
+    ensures { (result ≡ refusals.NoMemory) ⊎ (result ≡ refusals.Missing name.now) }
+{
+    match name.copied(alloc) {
+        Ok(name) => LinkRefusal::Missing(name),
+        Err(_) => LinkRefusal::NoMemory,
+    }
+}
+
+// The refusal of a class that code initialises.
+fn initialised(alloc: Global, name: &Name) -> LinkRefusal
+    ensures { (result ≡ refusals.NoMemory) ⊎ (result ≡ refusals.Initialiser name.now) }
+{
+    match name.copied(alloc) {
+        Ok(name) => LinkRefusal::Initialiser(name),
+        Err(_) => LinkRefusal::NoMemory,
+    }
+}

@@ -1,0 +1,271 @@
+//! What is wrong with an instruction that is no call.
+ghost use Rattle.std.specs.Prelude.{◌≡◌, ◌<◌, length, nat_le, option_map};
+ghost use Rattle.std.specs.List.{list_any};
+ghost use Rattle.std.specs.Option.{option_copied};
+ghost use Rattle.kb_names.specs.Types.{shape_of};
+ghost use Rattle.kb_link.specs.Universe.{is_concrete};
+ghost use Rattle.kb_world.specs.Lookup.{resolved_field_class, resolved_field};
+ghost use Rattle.kb_world.specs.Faults.{told, is_left_out, has_left_out, name_of_base, class_in_type, missing_class, entry_at, constant_fault, fault_of_slot, field_fault, cast_fault, fault_of_initialiser, fault_of_object, fault_of_new_type, new_fault, is_deepest, array_fault, primitive_fault};
+
+use crate::world::World;
+use kb_class::{ClassId, LoadedClass, ReferenceKind};
+use kb_link::What;
+use kb_names::{ExactType, JType, MethodType, Name};
+
+/// What is wrong with an instruction.
+#[derive(Clone, Copy)]
+pub(crate) enum Fault<'a> {
+    /// A field that is not there.
+    NoField,
+    /// A class that is not there.
+    Missing(&'a Name),
+    /// What cannot be carried out.
+    Outside(What),
+    /// A class that code initialises.
+    Initialiser(&'a Name),
+}
+
+/// ACC_INTERFACE and ACC_ABSTRACT (JVMS 8 table 4.1-A).
+const NOT_CONCRETE: u16 = 0x0600;
+
+/// T_BOOLEAN (JVMS 8 table 6.5.newarray-A).
+const BOOLEANS: u8 = 4;
+
+/// T_INT.
+const INTS: u8 = 10;
+
+impl World {
+    /// What is wrong with an ldc of the entry, in code of the class.
+    pub(crate) fn constant_fault(&self, class: ClassId, entry: u16) -> Option<Fault<'_>>
+        requires { class.0 < length self.now.classes }
+        ensures { option_map told result ≡ constant_fault (entry_at self.now class.0 entry) }
+    {
+        let loaded = self.linked().class_of(class);
+        if loaded.int_entry(entry).is_some() {
+            return None;
+        }
+        if loaded.text_entry(entry).is_some() {
+            return None;
+        }
+        Some(Fault::Outside(What::Constant))
+    }
+
+    /// What is wrong with a getfield or putfield of the entry, in code of the class.
+    pub(crate) fn field_fault(&self, class: ClassId, entry: u16) -> Option<Fault<'_>>
+        requires { class.0 < length self.now.classes }
+        ensures { option_map told result ≡ field_fault self.now class.0 entry }
+    {
+        let Some(sought) = self.linked().class_of(class).reference_entry(entry) else {
+            return Some(Fault::Outside(What::Operand));
+        };
+        match sought.what {
+            ReferenceKind::Field => self.slot_fault(class, entry),
+            _ => Some(Fault::Outside(What::Operand)),
+        }
+    }
+
+    // What is wrong with the field that the entry names.
+    fn slot_fault(&self, class: ClassId, entry: u16) -> Option<Fault<'_>>
+        requires { class.0 < length self.now.classes }
+        ensures { option_map told result ≡ fault_of_slot (resolved_field_class self.now class.0 entry) (resolved_field self.now class.0 entry) }
+    {
+        if self.field_class(class, entry).is_none() {
+            return Some(Fault::NoField);
+        }
+        match self.resolve_field(class, entry) {
+            Some(_) => None,
+            None => Some(Fault::Outside(What::Kind)),
+        }
+    }
+
+    /// What is wrong with a checkcast or instanceof of the entry, in code of the class.
+    pub(crate) fn cast_fault(&self, class: ClassId, entry: u16) -> Option<Fault<'_>>
+        requires { class.0 < length self.now.classes }
+        ensures { option_map told result ≡ cast_fault self.now class.0 entry }
+    {
+        match self.type_entry(class, entry) {
+            Some(of) => self.missing_class(of),
+            None => Some(Fault::Outside(What::Operand)),
+        }
+    }
+
+    // The class that the type names, where it is not there.
+    fn missing_class<'a>(&self, of: &'a ExactType) -> Option<Fault<'a>>
+        ensures { option_map told result ≡ missing_class self.now of.now }
+    {
+        let name = class_in_type(of)?;
+        match self.class_named(name) {
+            Some(_) => None,
+            None => Some(Fault::Missing(name)),
+        }
+    }
+
+    /// What is wrong with a new of the entry, in code of the class.
+    pub(crate) fn new_fault(&self, class: ClassId, entry: u16) -> Option<Fault<'_>>
+        requires { class.0 < length self.now.classes }
+        ensures { option_map told result ≡ new_fault self.now class.0 entry }
+    {
+        let Some(of) = self.type_entry(class, entry) else {
+            return Some(Fault::Outside(What::Operand));
+        };
+        match self.missing_class(of) {
+            Some(fault) => Some(fault),
+            None => self.new_type_fault(of),
+        }
+    }
+
+    // What is wrong with making an object of the type.
+    fn new_type_fault(&self, of: &ExactType) -> Option<Fault<'_>>
+        ensures { option_map told result ≡ fault_of_new_type self.now of.now }
+    {
+        match of {
+            ExactType::Class(name) => self.object_fault(self.class_named(name)?),
+            ExactType::Array(_) => Some(Fault::Outside(What::Kind)),
+        }
+    }
+
+    // What is wrong with making an object of the class.
+    fn object_fault(&self, class: ClassId) -> Option<Fault<'_>>
+        requires { class.0 < length self.now.classes }
+        ensures { option_map told result ≡ fault_of_object self.now class.0 }
+    {
+        if !is_concrete(self.linked().class_of(class)) {
+            return Some(Fault::Outside(What::Kind));
+        }
+        self.initialiser_fault(class)
+    }
+
+    /// The class, where code initialises it.
+    pub(crate) fn initialiser_fault(&self, class: ClassId) -> Option<Fault<'_>>
+        requires { class.0 < length self.now.classes }
+        ensures { option_map told result ≡ fault_of_initialiser self.now class.0 }
+    {
+        if self.linked().has_initialiser(class) {
+            return Some(Fault::Initialiser(self.name_of(class)));
+        }
+        None
+    }
+
+    /// What is wrong with an anewarray of the entry, in code of the class.
+    pub(crate) fn array_fault(&self, class: ClassId, entry: u16) -> Option<Fault<'_>>
+        requires { class.0 < length self.now.classes }
+        ensures { option_map told result ≡ array_fault self.now class.0 entry }
+    {
+        let Some(of) = self.type_entry(class, entry) else {
+            return Some(Fault::Outside(What::Operand));
+        };
+        if let Some(fault) = self.missing_class(of) {
+            return Some(fault);
+        }
+        if is_deepest(of) {
+            return Some(Fault::Outside(What::Kind));
+        }
+        None
+    }
+}
+
+/// What is wrong with a newarray of that code.
+pub(crate) fn primitive_fault(code: u8) -> Option<Fault<'static>>
+    ensures { option_map told result ≡ primitive_fault code }
+{
+    if code == BOOLEANS {
+        return None;
+    }
+    if code == INTS {
+        return None;
+    }
+    Some(Fault::Outside(What::Kind))
+}
+
+/// Whether a parameter or the result is of a type that is left out: byte, char, short, long, float or double.
+pub(crate) fn has_left_out(kind: &MethodType) -> bool
+    ensures { result ≡ has_left_out kind.now }
+{
+    if is_any_left_out(kind.params.as_slice()) {
+        return true;
+    }
+    match &kind.result {
+        Some(of) => is_left_out(of),
+        None => false,
+    }
+}
+
+fn is_any_left_out(types: &[JType]) -> bool
+    ensures { result ≡ list_any is_left_out types.now }
+{
+    let mut rest = types;
+    while let [of, others @ ..] = rest {
+        if is_left_out(of) {
+            return true;
+        }
+        rest = others;
+    }
+    false
+}
+
+fn is_left_out(of: &JType) -> bool
+    ensures { result ≡ is_left_out of.now }
+{
+    match of {
+        JType::Byte | JType::Char | JType::Short => true,
+        JType::Long | JType::Float | JType::Double => true,
+        _ => false,
+    }
+}
+
+// The class that the type names, by itself or as an array's element.
+fn class_in_type(of: &ExactType) -> Option<&Name>
+    ensures { option_copied result ≡ class_in_type of.now }
+{
+    match of {
+        ExactType::Class(name) => Some(name),
+        ExactType::Array(component) => element_class(component),
+    }
+}
+
+// The class that the type is, or that its elements are.
+fn element_class(of: &JType) -> Option<&Name>
+    ensures { option_copied result ≡ name_of_base (shape_of of.now).base }
+{
+    let mut element = of;
+    while let JType::Array(component) = element {
+        element = component.get();
+    }
+    match element {
+        JType::Class(name) => Some(name),
+        _ => None,
+    }
+}
+
+// Whether the class is neither an interface nor abstract.
+fn is_concrete(class: &LoadedClass) -> bool
+    ensures { result ≡ is_concrete class.now }
+{
+    class.access() & NOT_CONCRETE == 0
+}
+
+// Whether no type has more dimensions.
+fn is_deepest(of: &ExactType) -> bool
+    ensures { result ≡ is_deepest of.now }
+{
+    match of {
+        ExactType::Class(_) => false,
+        ExactType::Array(component) => has_dimensions(component, 254),
+    }
+}
+
+// Whether the type has so many dimensions, or more.
+fn has_dimensions(of: &JType, count: u32) -> bool
+    ensures { result ≡ nat_le count (shape_of of.now).dims }
+{
+    let mut inner = of;
+    let mut left = count;
+    while left > 0 {
+        let JType::Array(component) = inner else {
+            return false;
+        };
+        inner = component.get();
+        left -= 1;
+    }
+    true
+}
