@@ -33,7 +33,7 @@ use Rattle.kb_link.proofs.OneUniverse.{one_world_is}
 use Rattle.kb_link.proofs.OneWorld.{one_refusal, refused_or_linked}
 use Rattle.kb_link.proofs.TargetLaws.{one_declared}
 use Rattle.kb_world.specs.Reach.{IsAccepted}
-use Rattle.kb_world.proofs.ReachLaws.{one_reach_refusal, reached_or_refused}
+use Rattle.kb_world.proofs.ReachLaws.{one_refusal as one_reach_refusal, refused_or_accepted}
 use Rattle.kiasan.specs.declared.answer.Contents.{Contents}
 use Rattle.kiasan.specs.declared.refusals.Refusal.{Refusal}
 use Rattle.kiasan.specs.declared.refusals.Refusal.TheVariants as refusals
@@ -224,14 +224,14 @@ target_refusal Built world target given r s (inl (f, p, e)) (inl (g, q, h)) =
     let stops : refused_by r ≡ refused_by s = sym e ∙ ap link_refusal faults ∙ h in
     cc
 target_refusal Built world target given r s (inr a) (inr b) = a.0 ∙ sym b.0
-target_refusal Built world target given r s (inl (f, p, e)) (inr b) = absurd (reached_or_refused world given target f b.1.id p (not_memory f r e) b.1.found b.1.accepted)
-target_refusal Built world target given r s (inr a) (inl (g, q, h)) = absurd (reached_or_refused world given target g a.1.id q (not_memory g s h) a.1.found a.1.accepted)
+target_refusal Built world target given r s (inl (f, p, e)) (inr b) = absurd (refused_or_accepted world given target f b.1.id p (not_memory f r e) b.1.found b.1.accepted)
+target_refusal Built world target given r s (inr a) (inl (g, q, h)) = absurd (refused_or_accepted world given target g a.1.id q (not_memory g s h) a.1.found a.1.accepted)
 
 target_apart : (Built : MethodId → Type 0) (world : World) (target : Target) → IsLinked world → ((id : MethodId) → Built id → IsTargetOf world target id × IsAccepted world id) →
     (r : Refusal) (id : MethodId) → TargetRefuses Built world target r → Built id → ⊥
 target_apart Built world target given found r id (inl (f, p, e)) built =
     let is = found id built in
-    reached_or_refused world given target f id p (not_memory f r e) is.0 is.1
+    refused_or_accepted world given target f id p (not_memory f r e) is.0 is.1
 target_apart Built world target given found r id (inr a) built =
     a.1.none (subst Built (ids_one world target given id a.1.id (found id built).0 a.1.found) built)
 
