@@ -6,8 +6,12 @@
 #![tactic(auto)]
 
 mod class_writer;
+mod code_writer;
 mod instr_writer;
 mod memory;
+mod numbers;
+mod pool_writer;
+mod switch_writer;
 mod written;
 
 pub use class_writer::write_class;
