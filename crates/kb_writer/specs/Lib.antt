@@ -2,3 +2,4 @@ pub mod Numbers
 pub mod Pieces
 pub mod Instructions
 pub mod Files
+pub mod Sample

@@ -12,6 +12,8 @@ mod memory;
 mod numbers;
 mod pool_writer;
 mod switch_writer;
+#[cfg(test)]
+mod tests;
 mod written;
 
 pub use class_writer::write_class;
