@@ -1,10 +1,10 @@
 -- The bytes of an instruction spell it, and are as many as is said.
-use Rattle.std.proofs.Common.{◌≡◌, ℕ, ◌+◌, ◌*◌, ◌-◌, ◌%◌, ◌<◌, ◌≤◌, ◌^◌, ℤ, pos, ◌+ℤ◌, ◌-ℤ◌, ◌&&◌, Bool, true, false, cond, IsTrue, nat_le, nat_lt, List, [], ◌∷◌, ◌++◌, length, map, Some, refl, sym, subst, ap, ◌∙◌, arith, append_assoc, length-append}
+use Rattle.std.proofs.Common.{◌≡◌, ℕ, zero, suc, ◌+◌, ◌*◌, ◌-◌, ◌%◌, ◌<◌, ◌≤◌, ◌^◌, ℤ, pos, ◌+ℤ◌, ◌-ℤ◌, ◌&&◌, Bool, true, false, cond, IsTrue, nat_le, nat_lt, List, [], ◌∷◌, ◌++◌, length, map, take, Some, Result, Ok, Err, OnOk, refl, sym, subst, ap, ◌∙◌, arith, append_assoc, length-append}
 use Rattle.std.specs.Prelude.{int_lt}
 use Rattle.std.specs.Int.{w8, w16, w32, cast_unsigned, cast_signed}
 use Rattle.std.specs.Int.RustNames.{FitsSigned}
 use Rattle.std.specs.List.{flat_map, list_all, repeat}
-use Rattle.std.proofs.lemmas.Bool.{and_parts}
+use Rattle.std.proofs.lemmas.Bool.{and_parts, leb-true, ltb-true}
 use Rattle.std.proofs.lemmas.Int.{ints}
 use Rattle.std.proofs.lemmas.List.{length-map}
 use Rattle.kb_grammar.specs.Grammar.{Piece, ◌⊳◌, Each}
@@ -21,7 +21,7 @@ use Rattle.kb_code.specs.Reading.{padding_at}
 use Rattle.kb_writer.specs.declared.written.Written.{Written}
 use Rattle.kb_writer.specs.declared.written.Written.TheVariants as ways
 use Rattle.kb_writer.specs.Numbers.{u2, byte, short, int}
-use Rattle.kb_writer.specs.Instructions.{Writes, is_sound, is_table, is_near, is_far, reaches, are_above, are_rising, near, far, padding, pair_bytes, table_bytes, lookup_bytes, bytes_of, size_of, HaveInts, HasNumbers}
+use Rattle.kb_writer.specs.Instructions.{Writes, is_sound, is_table, is_near, is_far, reaches, are_above, are_rising, near, far, padding, pair_bytes, bounds, table_bytes, lookup_bytes, bytes_of, size_of, HaveInts, HasNumbers}
 use Rattle.kb_writer.proofs.Bytes.{u1_spells, u2_spells, byte_spells, short_spells, int_spells, joined}
 
 -- ---- how many bytes
@@ -29,6 +29,14 @@ use Rattle.kb_writer.proofs.Bytes.{u1_spells, u2_spells, byte_spells, short_spel
 repeated_length : (n : ℕ) → length (repeat n (0 ∷ [])) ≡ n
 repeated_length zero = refl
 repeated_length (suc n) = omega (arith, repeated_length n)
+
+-- zeros, cut from three of them
+pub zeros_are : (n : ℕ) → n < 4 → take n (0 ∷ 0 ∷ 0 ∷ []) ≡ repeat n (0 ∷ [])
+zeros_are zero few = refl
+zeros_are (suc zero) few = refl
+zeros_are (suc (suc zero)) few = refl
+zeros_are (suc (suc (suc zero))) few = refl
+zeros_are (suc (suc (suc (suc n)))) few = absurd (omega (arith, few))
 
 targets_length : (from : ℕ) (targets : List ℕ) → length (flat_map (far from) targets) ≡ 4 * length targets
 targets_length from [] = refl
@@ -60,7 +68,7 @@ size_is (ways.Table low default targets) at =
     let l = int low in
     let h = int (low +ℤ pos (length targets) -ℤ pos 1) in
     let t = flat_map (far at) targets in
-    omega (arith, length-append (p ++ d ++ l ++ h) t, length-append (p ++ d ++ l) h, length-append (p ++ d) l, length-append p d, repeated_length (padding_at (at + 1)), targets_length at targets)
+    omega (arith, length-append (p ++ d ++ (l ++ h)) t, length-append (p ++ d) (l ++ h), length-append l h, length-append p d, repeated_length (padding_at (at + 1)), targets_length at targets)
 size_is (ways.Lookup default pairs) at =
     let p = padding at in
     let d = far at default in
@@ -82,16 +90,20 @@ straight op form instr at rest is s = record { loose = looses.Straight instr; st
 near_spells : (from to at : ℕ) → is_near from to ≡ true → IsNear from (pos to) at (near from to)
 near_spells from to at reached =
     let b = and_parts (nat_le from (to + 2 ^ 15)) (nat_lt to (from + 2 ^ 15)) reached in
+    let low : from ≤ to + 2 ^ 15 = leb-true from (to + 2 ^ 15) b.0 in
+    let high : to < from + 2 ^ 15 = ltb-true to (from + 2 ^ 15) b.1 in
     let distance = pos to -ℤ pos from in
-    let fits : FitsSigned w16 distance = omega (arith, ints, b.0, b.1) in
+    let fits : FitsSigned w16 distance = omega (arith, ints, low, high) in
     let s = short_spells distance at fits in
     (s.0, omega (arith, ints, s.1), s.2)
 
 far_spells : (from to at : ℕ) → is_far from to ≡ true → IsFar from (pos to) at (far from to)
 far_spells from to at reached =
     let b = and_parts (nat_le from (to + 2 ^ 31)) (nat_lt to (from + 2 ^ 31)) reached in
+    let low : from ≤ to + 2 ^ 31 = leb-true from (to + 2 ^ 31) b.0 in
+    let high : to < from + 2 ^ 31 = ltb-true to (from + 2 ^ 31) b.1 in
     let distance = pos to -ℤ pos from in
-    let fits : FitsSigned w32 distance = omega (arith, ints, b.0, b.1) in
+    let fits : FitsSigned w32 distance = omega (arith, ints, low, high) in
     let s = int_spells distance at fits in
     (s.0, omega (arith, ints, s.1), s.2)
 
@@ -129,8 +141,8 @@ increasing_is [] h = tt
 increasing_is (pair ∷ pairs) h = above_is pair.0 pairs h
 
 -- five parts, and four
-regrouped : (a b c d e : List ℕ) → a ++ (b ++ (c ++ (d ++ e))) ≡ a ++ b ++ c ++ d ++ e
-regrouped a b c d e = sym (append_assoc (a ++ b ++ c) d e ∙ append_assoc (a ++ b) c (d ++ e) ∙ append_assoc a b (c ++ (d ++ e)))
+regrouped : (a b c d e : List ℕ) → a ++ (b ++ (c ++ (d ++ e))) ≡ a ++ b ++ (c ++ d) ++ e
+regrouped a b c d e = sym (append_assoc (a ++ b) (c ++ d) e ∙ append_assoc a b (c ++ d ++ e) ∙ ap (λ (l : List ℕ). a ++ (b ++ l)) (append_assoc c d e))
 
 regrouped_four : (a b c d : List ℕ) → a ++ (b ++ (c ++ d)) ≡ a ++ b ++ c ++ d
 regrouped_four a b c d = sym (append_assoc (a ++ b) c d ∙ append_assoc a b (c ++ d))
@@ -144,7 +156,8 @@ table_form from low default targets fits sound near_default reached =
     let high = low +ℤ pos (length targets) -ℤ pos 1 in
     let whole = low +ℤ pos (length (map pos targets)) -ℤ pos 1 in
     let same : high ≡ whole = ap (λ (n : ℕ). low +ℤ pos n -ℤ pos 1) (sym many) in
-    let high_fits : FitsSigned w32 high = omega (arith, ints, fits, b.0, b.1) in
+    let some : 1 ≤ length targets = leb-true 1 (length targets) b.0 in
+    let high_fits : FitsSigned w32 high = grind (arith, ints, fits, some, b.1) in
     let p = padding from in
     let d = far from default in
     let l = int low in
@@ -163,8 +176,8 @@ table_form from low default targets fits sound near_default reached =
     record {
       loose = loose;
       stands = (default, targets, refl, refl, refl);
-      spelled = loose_spells 0xaa forms.Table loose from (p ++ d ++ l ++ h ++ t) refl
-          (low, pos default, map pos targets, refl, record { some = omega (arith, b.0, many); items = subst Items (regrouped p d l h t) all });
+      spelled = loose_spells 0xaa forms.Table loose from (p ++ d ++ (l ++ h) ++ t) refl
+          (low, pos default, map pos targets, refl, record { some = omega (arith, some, many); items = subst Items (regrouped p d l h t) all });
     }
 
 lookup_form : (from : ℕ) (default : ℕ) (pairs : List (ℤ × ℕ)) → HaveInts pairs → length pairs < 2 ^ 31 → are_rising pairs ≡ true → is_far from default ≡ true
@@ -229,7 +242,7 @@ spells (ways.Entry op k) at fit sound reached instr w =
     straight op (forms.Entry w.0) instr at (u2 k) w.1 (k, ap looses.Straight w.2, u2_spells k (at + 1) fit)
 spells (ways.Interface k words) at fit sound reached instr w =
     straight 0xb9 forms.Interface instr at (u2 k ++ words ∷ 0 ∷ []) refl
-    (k, ap looses.Straight w, joined (IsU2 k) (AreBytes 2) (at + 1) (u2 k) (words ∷ 0 ∷ []) (u2_spells k (at + 1) fit) (words ∷ 0 ∷ [], refl, refl))
+    (k, ap looses.Straight w, joined (IsU2 k) (AreBytes 2) (at + 1) (u2 k) (words ∷ 0 ∷ []) (u2_spells k (at + 1) fit) (words ∷ 0 ∷ [], (refl, refl)))
 spells (ways.Primitive k) at fit sound reached instr w = straight 0xbc forms.Primitive instr at (k ∷ []) refl (k, ap looses.Straight w, u1_spells k (at + 1))
 spells (ways.Near op to) at fit sound reached instr w =
     jump_form op (forms.Near w.0) w.0 to at (near at to) instr w.1 w.2 (pos to, refl, near_spells at to (at + 1) reached)
@@ -241,5 +254,9 @@ spells (ways.Table low default targets) at fit sound reached instr w =
 spells (ways.Lookup default pairs) at fit sound reached instr w =
     let b = and_parts (is_far at default) (list_all (λ (pair : ℤ × ℕ). is_far at pair.1) pairs) reached in
     let s = and_parts (nat_lt (length pairs) (2 ^ 31)) (are_rising pairs) sound in
-    let few : length pairs < 2 ^ 31 = omega (arith, s.0) in
+    let few : length pairs < 2 ^ 31 = ltb-true (length pairs) (2 ^ 31) s.0 in
     subst (λ (i : Instr). SpellsInstr i at (lookup_bytes at default pairs)) (sym w) (lookup_form at default pairs fit few s.1 b.0 b.1)
+
+pub on_ok : {A E P Q : Type 0} (r : Result A E) → (P → Q) → OnOk r P → OnOk r Q
+on_ok (Ok x) f h = f h
+on_ok (Err x) f h = tt

@@ -89,14 +89,22 @@ padding from = repeat (padding_at (from + 1)) (0 ∷ [])
 abbrev pub pair_bytes : ℕ → ℤ × ℕ → List ℕ
 pair_bytes from pair = int pair.0 ++ far from pair.1
 
+-- the lowest int of a tableswitch, and the highest
+abbrev pub bounds : ℤ → ℕ → List ℕ
+bounds low count = int low ++ int (low +ℤ pos count -ℤ pos 1)
+
+-- the opcode of a switch at `from`, the zeros, and the default target
+abbrev pub switch_head : ℕ → ℕ → ℕ → List ℕ
+switch_head op from default = op ∷ (padding from ++ far from default)
+
 -- a tableswitch, and a lookupswitch, at `from`
 abbrev pub table_bytes : ℕ → ℤ → ℕ → List ℕ → List ℕ
 table_bytes from low default targets =
-    0xaa ∷ (padding from ++ far from default ++ int low ++ int (low +ℤ pos (length targets) -ℤ pos 1) ++ flat_map (far from) targets)
+    switch_head 0xaa from default ++ bounds low (length targets) ++ flat_map (far from) targets
 
 abbrev pub lookup_bytes : ℕ → ℕ → List (ℤ × ℕ) → List ℕ
 lookup_bytes from default pairs =
-    0xab ∷ (padding from ++ far from default ++ int (pos (length pairs)) ++ flat_map (pair_bytes from) pairs)
+    switch_head 0xab from default ++ int (pos (length pairs)) ++ flat_map (pair_bytes from) pairs
 
 -- the bytes of the instruction at the offset
 unfoldable pub bytes_of : Written → ℕ → List ℕ

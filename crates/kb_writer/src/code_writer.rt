@@ -34,6 +34,7 @@ fn push_rows(into: &mut Vec<u8>, handlers: &[Handler]) -> Result<(), NoMemory>
 }
 
 /// How many bytes the content of a Code attribute takes.
+#[tactic(auto, using(crate::proofs::FileLaws::content_length))]
 fn content_size(code: &Code) -> u32
     requires { HasSizes code.now }
     ensures { result ≡ length (content_bytes code.now) }

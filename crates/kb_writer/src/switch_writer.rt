@@ -4,7 +4,7 @@ ghost use Rattle.std.specs.Prelude.{◌≡◌, ◌<◌, ◌^◌, ◌++◌, pos, 
 
 ghost use Rattle.std.specs.List.{flat_map, list_all};
 ghost use Rattle.kb_writer.specs.Numbers.{int};
-ghost use Rattle.kb_writer.specs.Instructions.{HaveInts, is_near, is_far, is_table, near, far, padding, pair_bytes, table_bytes, lookup_bytes};
+ghost use Rattle.kb_writer.specs.Instructions.{HaveInts, is_near, is_far, is_table, near, far, padding, pair_bytes, bounds, switch_head, table_bytes, lookup_bytes};
 
 use crate::memory::NoMemory;
 use crate::numbers::{push_run, push_u1, push_u2, push_u4};
@@ -36,6 +36,7 @@ pub fn push_far(into: &mut Vec<u8>, from: u32, to: u32) -> Result<(), NoMemory>
 }
 
 /// The zeros between the opcode at `from` and the next multiple of four.
+#[tactic(auto, using(crate::proofs::InstrLaws::zeros_are))]
 fn push_padding(into: &mut Vec<u8>, from: u32) -> Result<(), NoMemory>
     ensures { OnOk result (into.new.items ≡ into.old.items ++ padding from) }
 {
@@ -78,6 +79,25 @@ fn highest(low: i32, count: usize) -> i32
     (i64::from(low) + count as i64 - 1) as i32
 }
 
+/// The lowest int of a tableswitch, and the highest.
+fn push_bounds(into: &mut Vec<u8>, low: i32, count: usize) -> Result<(), NoMemory>
+    requires { IsTrue (is_table low count) }
+    ensures { OnOk result (into.new.items ≡ into.old.items ++ bounds low count) }
+{
+    push_int(into, low)?;
+    push_int(into, highest(low, count))
+}
+
+/// The opcode of a switch, the zeros, and the default target.
+fn push_switch(into: &mut Vec<u8>, op: u8, from: u32, default: u32) -> Result<(), NoMemory>
+    requires { IsTrue (is_far from default) }
+    ensures { OnOk result (into.new.items ≡ into.old.items ++ switch_head op from default) }
+{
+    push_u1(into, op)?;
+    push_padding(into, from)?;
+    push_far(into, from, default)
+}
+
 /// A tableswitch.
 pub fn push_table(into: &mut Vec<u8>, from: u32, low: i32, default: u32, targets: &[u32]) -> Result<(), NoMemory>
     requires sound { IsTrue (is_table low (length targets.now)) }
@@ -85,11 +105,8 @@ pub fn push_table(into: &mut Vec<u8>, from: u32, low: i32, default: u32, targets
     requires reached { IsTrue (list_all (is_far from) targets.now) }
     ensures { OnOk result (into.new.items ≡ into.old.items ++ table_bytes from low default targets.now) }
 {
-    push_u1(into, 0xaa)?;
-    push_padding(into, from)?;
-    push_far(into, from, default)?;
-    push_int(into, low)?;
-    push_int(into, highest(low, targets.len()))?;
+    push_switch(into, 0xaa, from, default)?;
+    push_bounds(into, low, targets.len())?;
     push_targets(into, from, targets)
 }
 
@@ -101,9 +118,7 @@ pub fn push_lookup(into: &mut Vec<u8>, from: u32, default: u32, pairs: &[(i32, u
     ensures bytes { OnOk result (into.new.items ≡ into.old.items ++ lookup_bytes from default pairs.now) }
     ensures ints { OnOk result (HaveInts pairs.now) }
 {
-    push_u1(into, 0xab)?;
-    push_padding(into, from)?;
-    push_far(into, from, default)?;
+    push_switch(into, 0xab, from, default)?;
     push_int(into, pairs.len() as i32)?;
     push_pairs(into, from, pairs)
 }
