@@ -190,10 +190,10 @@ code_spells name pool (Some code) zeroth few w fits at =
     let Named = IsAny (SpellsCodeName pool) in
     let Content = IsSized 4 (SpellsCode pool code) in
     let named : Named (at + 2) (u2 name) = (name, (w.named, (names_text pool name (codes "Code") zeroth w.named, u2_spells name (at + 2) few))) in
-    let held : Content (at + 4) (sized content) = record {
+    let held : Content (at + 2 + 2) (sized content) = record {
       content = content;
-      spelled = content_spells name pool code w fits (at + 4 + 4);
-      sized = joined (IsNumber 4 (length content)) (IsRun content) (at + 4) (u4 (length content)) content (u4_spells (length content) (at + 4) size) refl;
+      spelled = content_spells name pool code w fits (at + 2 + 2 + 4);
+      sized = joined (IsNumber 4 (length content)) (IsRun content) (at + 2 + 2) (u4 (length content)) content (u4_spells (length content) (at + 2 + 2) size) refl;
     } in
     let attribute : (Named ⊳ Content) (at + 2) (u2 name ++ sized content) = joined Named Content (at + 2) (u2 name) (sized content) named held in
     record {

@@ -21,17 +21,17 @@ use Rattle.kb_code.specs.Reading.{padding_at}
 use Rattle.kb_writer.specs.declared.written.Written.{Written}
 use Rattle.kb_writer.specs.declared.written.Written.TheVariants as ways
 use Rattle.kb_writer.specs.Numbers.{u2, byte, short, int}
-use Rattle.kb_writer.specs.Instructions.{Writes, is_sound, is_table, is_near, is_far, reaches, are_above, are_rising, near, far, padding, pair_bytes, bounds, table_bytes, lookup_bytes, bytes_of, size_of, HaveInts, HasNumbers}
+use Rattle.kb_writer.specs.Instructions.{Writes, is_sound, is_table, is_near, is_far, reaches, are_above, are_rising, near, far, padding, pair_bytes, bounds, switch_head, table_bytes, lookup_bytes, bytes_of, size_of, HaveInts, HasNumbers}
 use Rattle.kb_writer.proofs.Bytes.{u1_spells, u2_spells, byte_spells, short_spells, int_spells, joined}
 
 -- ---- how many bytes
 
-repeated_length : (n : ℕ) → length (repeat n (0 ∷ [])) ≡ n
+repeated_length : (n : ℕ) → length {A = ℕ} (repeat n (0 ∷ [])) ≡ n
 repeated_length zero = refl
 repeated_length (suc n) = omega (arith, repeated_length n)
 
 -- zeros, cut from three of them
-pub zeros_are : (n : ℕ) → n < 4 → take n (0 ∷ 0 ∷ 0 ∷ []) ≡ repeat n (0 ∷ [])
+pub zeros_are : (n : ℕ) → n < 4 → take {A = ℕ} n (0 ∷ 0 ∷ 0 ∷ []) ≡ repeat n (0 ∷ [])
 zeros_are zero few = refl
 zeros_are (suc zero) few = refl
 zeros_are (suc (suc zero)) few = refl
@@ -47,7 +47,7 @@ pairs_length from [] = refl
 pairs_length from (pair ∷ pairs) = omega (arith, length-append (pair_bytes from pair) (flat_map (pair_bytes from) pairs), pairs_length from pairs)
 
 pub size_is : (w : Written) (at : ℕ) → length (bytes_of w at) ≡ size_of w at
-unfolding bytes_of size_of
+unfolding bytes_of size_of switch_head bounds
 size_is (ways.Alone op) at = refl
 size_is (ways.PushByte z) at = refl
 size_is (ways.PushShort z) at = refl
@@ -149,7 +149,7 @@ regrouped_four a b c d = sym (append_assoc (a ++ b) c d ∙ append_assoc a b (c 
 
 table_form : (from : ℕ) (low : ℤ) (default : ℕ) (targets : List ℕ) → FitsSigned w32 low → is_table low (length targets) ≡ true → is_far from default ≡ true
     → list_all (is_far from) targets ≡ true → SpellsInstr (instrs.Table low default targets) from (table_bytes from low default targets)
-unfolding form_of control_form
+unfolding form_of control_form switch_head bounds
 table_form from low default targets fits sound near_default reached =
     let b = and_parts (nat_le 1 (length targets)) (int_lt (low +ℤ pos (length targets) -ℤ pos 1) (pos (2 ^ 31))) sound in
     let many : length (map pos targets) ≡ length targets = length-map targets pos in
@@ -182,7 +182,7 @@ table_form from low default targets fits sound near_default reached =
 
 lookup_form : (from : ℕ) (default : ℕ) (pairs : List (ℤ × ℕ)) → HaveInts pairs → length pairs < 2 ^ 31 → are_rising pairs ≡ true → is_far from default ≡ true
     → list_all (λ pair. is_far from pair.1) pairs ≡ true → SpellsInstr (instrs.Lookup default pairs) from (lookup_bytes from default pairs)
-unfolding form_of control_form
+unfolding form_of control_form switch_head
 lookup_form from default pairs fit few rising near_default reached =
     let many : length (map whole_pair pairs) ≡ length pairs = length-map pairs whole_pair in
     let count = pos (length pairs) in

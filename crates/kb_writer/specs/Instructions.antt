@@ -90,11 +90,11 @@ abbrev pub pair_bytes : ℕ → ℤ × ℕ → List ℕ
 pair_bytes from pair = int pair.0 ++ far from pair.1
 
 -- the lowest int of a tableswitch, and the highest
-abbrev pub bounds : ℤ → ℕ → List ℕ
+unfoldable pub bounds : ℤ → ℕ → List ℕ
 bounds low count = int low ++ int (low +ℤ pos count -ℤ pos 1)
 
 -- the opcode of a switch at `from`, the zeros, and the default target
-abbrev pub switch_head : ℕ → ℕ → ℕ → List ℕ
+unfoldable pub switch_head : ℕ → ℕ → ℕ → List ℕ
 switch_head op from default = op ∷ (padding from ++ far from default)
 
 -- a tableswitch, and a lookupswitch, at `from`

@@ -36,7 +36,6 @@ pub fn push_far(into: &mut Vec<u8>, from: u32, to: u32) -> Result<(), NoMemory>
 }
 
 /// The zeros between the opcode at `from` and the next multiple of four.
-#[tactic(auto, using(crate::proofs::InstrLaws::zeros_are))]
 fn push_padding(into: &mut Vec<u8>, from: u32) -> Result<(), NoMemory>
     ensures { OnOk result (into.new.items ≡ into.old.items ++ padding from) }
 {
@@ -80,6 +79,7 @@ fn highest(low: i32, count: usize) -> i32
 }
 
 /// The lowest int of a tableswitch, and the highest.
+#[tactic(auto, unfolding(crate::specs::Instructions::bounds))]
 fn push_bounds(into: &mut Vec<u8>, low: i32, count: usize) -> Result<(), NoMemory>
     requires { IsTrue (is_table low count) }
     ensures { OnOk result (into.new.items ≡ into.old.items ++ bounds low count) }
@@ -89,6 +89,7 @@ fn push_bounds(into: &mut Vec<u8>, low: i32, count: usize) -> Result<(), NoMemor
 }
 
 /// The opcode of a switch, the zeros, and the default target.
+#[tactic(auto, unfolding(crate::specs::Instructions::switch_head))]
 fn push_switch(into: &mut Vec<u8>, op: u8, from: u32, default: u32) -> Result<(), NoMemory>
     requires { IsTrue (is_far from default) }
     ensures { OnOk result (into.new.items ≡ into.old.items ++ switch_head op from default) }
