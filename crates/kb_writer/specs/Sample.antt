@@ -1,10 +1,9 @@
--- A class file of a test: class A, which extends java/lang/Object, with `public static int f(int, int)`, which adds its
+-- The pool and the methods of a class file of a test: class A, which extends java/lang/Object, with `public static int f(int, int)`, which adds its
 -- arguments.
 use Rattle.std.specs.Prelude.{List, [], ◌∷◌, Some, codes}
 use Rattle.kb_classfile.specs.declared.file.PoolEntry.{PoolEntry}
 use Rattle.kb_classfile.specs.declared.file.PoolEntry.TheVariants as entries
 use Rattle.kb_classfile.specs.declared.file.Method.{Method}
-use Rattle.kb_classfile.specs.declared.file.ClassFile.{ClassFile}
 
 abbrev pub pool_a : List PoolEntry
 pool_a =
@@ -20,7 +19,3 @@ methods_a =
       code = Some (record { max_stack = 2; max_locals = 2; bytes = 0x1a ∷ 0x1b ∷ 0x60 ∷ 0xac ∷ []; handlers = [] });
     }
     ∷ []
-
-abbrev pub class_a : ClassFile
-class_a =
-    record { major = 52; pool = pool_a; access = 0x0021; this = 2; parent = 4; interfaces = []; fields = []; methods = methods_a }
