@@ -1,12 +1,12 @@
 -- Numbers and lists spell what they were made of.
-use Rattle.std.proofs.Common.{◌≡◌, ℕ, ◌+◌, ◌<◌, ◌^◌, ℤ, pos, ◌+ℤ◌, ◌-ℤ◌, IsTrue, true, List, [], ◌∷◌, ◌++◌, length, map, refl, sym, subst, ap, ◌∙◌, arith}
-use Rattle.std.specs.Int.{w8, w16, w32, cast_unsigned, cast_signed}
+use Rattle.std.proofs.Common.{ℕ, ◌+◌, ◌<◌, ◌^◌, ℤ, List, [], ◌∷◌, ◌++◌, length, refl, sym, arith}
+use Rattle.std.specs.Int.{w8, w16, w32, cast_unsigned}
 use Rattle.std.specs.Int.RustNames.{FitsSigned}
 use Rattle.std.specs.List.{flat_map}
 use Rattle.std.proofs.lemmas.Int.{ints, to_z-of_z}
 use Rattle.kb_grammar.specs.Grammar.{Piece, ◌⊳◌, IsNumber, Each}
 use Rattle.kb_classfile.specs.Spelling.{SpellsTable}
-use Rattle.kb_code.specs.Listing.{IsByte, IsShort, IsInt, IsNear, IsFar}
+use Rattle.kb_code.specs.Listing.{IsByte, IsShort, IsInt}
 use Rattle.kb_writer.specs.Numbers.{u2, u4, byte, short, int}
 use Rattle.kb_writer.specs.Pieces.{Anywhere, EachSpelled}
 use Rattle.kb_writer.specs.Files.{table}

@@ -1,8 +1,6 @@
 -- The bytes of a class file spell it, part by part.
-use Rattle.std.proofs.Common.{◌≡◌, ℕ, zero, suc, ◌+◌, ◌*◌, ◌<◌, ◌≤◌, ◌^◌, ◌⊎◌, inl, inr, ℤ, Bool, true, false, List, [], ◌∷◌, ◌++◌, length, drop, Option, Some, None, refl, sym, subst, ap, ◌∙◌, arith, append_assoc, length-append}
+use Rattle.std.proofs.Common.{◌≡◌, ℕ, zero, suc, ◌+◌, ◌*◌, ◌<◌, ◌≤◌, ◌^◌, inl, false, List, [], ◌∷◌, ◌++◌, length, drop, Option, Some, None, refl, sym, subst, ◌∙◌, arith, append_assoc, length-append}
 use Rattle.std.specs.Prelude.{slice_get, codes}
-use Rattle.std.specs.Int.{w32, cast_unsigned}
-use Rattle.std.specs.Int.RustNames.{FitsSigned}
 use Rattle.std.specs.List.{AllByRecursion, flat_map}
 use Rattle.std.proofs.lemmas.List.{append-nil}
 use Rattle.kb_grammar.specs.Grammar.{Piece, ◌⊳◌, IsRun, IsAny, IsNumber, Each, IsSized}
@@ -15,12 +13,12 @@ use Rattle.kb_classfile.specs.declared.file.Method.{Method}
 use Rattle.kb_classfile.specs.declared.file.ClassFile.{ClassFile}
 use Rattle.kb_classfile.specs.declared.pool.EntryKind.{EntryKind}
 use Rattle.kb_classfile.specs.declared.pool.EntryKind.TheVariants as kinds
-use Rattle.kb_classfile.specs.Pool.{utf8_in, entry_at, NamesEntry}
+use Rattle.kb_classfile.specs.Pool.{utf8_in, NamesEntry}
 use Rattle.kb_classfile.specs.Spelling.{IsU1, IsU2, IsU4, SpellsTable, SpellsInfo, SpellsEntry, SpellsEntries, SpellsPoolCount, SpellsPool, SpellsIndex, SpellsAttribute, SpellsAttributes, SpellsInstructions, SpellsCatch, SpellsHandler, SpellsCode, SpellsCodeName, SpellsMethodAttribute, SpellsMethodAttributes, SpellsField, SpellsMethod, SpellsVersion, SpellsClass, Spells, is_wide, magic}
 use Rattle.kb_writer.specs.Numbers.{u2, u4, int}
-use Rattle.kb_writer.specs.Pieces.{Anywhere, EachSpelled}
-use Rattle.kb_writer.specs.Files.{IsTable, IsWritten, IsWritablePool, HasSizes, IsWritableHandler, IsWritableCode, IfCode, IsWritableField, IsWritableMethod, IsWritable, table, sized, entry_bytes, pool_bytes, handler_bytes, content_bytes, code_bytes, field_bytes, method_bytes, head_bytes, class_bytes, FitsEntry, FitsHandler, FitsCode, FitsField, FitsMethod, FitsIndex, Fits}
-use Rattle.kb_writer.proofs.Bytes.{u1_spells, u2_spells, u4_spells, int_spells, joined, joined_anywhere, each_spells, table_spells}
+use Rattle.kb_writer.specs.Pieces.{Anywhere}
+use Rattle.kb_writer.specs.Files.{IsTable, IsWritten, IsWritablePool, IsWritableHandler, IsWritableCode, IfCode, IsWritableField, IsWritableMethod, IsWritable, table, sized, entry_bytes, pool_bytes, handler_bytes, content_bytes, code_bytes, field_bytes, method_bytes, class_bytes, FitsEntry, FitsHandler, FitsCode, FitsField, FitsMethod, FitsIndex, Fits}
+use Rattle.kb_writer.proofs.Bytes.{u1_spells, u2_spells, u4_spells, int_spells, joined, joined_anywhere, table_spells}
 
 -- ---- tools
 

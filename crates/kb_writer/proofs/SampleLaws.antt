@@ -1,6 +1,5 @@
 -- The class file of the test can be written.
-use Rattle.std.proofs.Common.{◌≡◌, ◌<◌, ◌≤◌, ◌^◌, List, [], ◌∷◌, Some, refl, arith}
-use Rattle.kb_classfile.specs.declared.file.PoolEntry.TheVariants as entries
+use Rattle.std.proofs.Common.{[], ◌∷◌, Some, refl, arith}
 use Rattle.kb_classfile.specs.declared.file.ClassFile.{ClassFile}
 use Rattle.kb_classfile.specs.declared.pool.EntryKind.TheVariants as kinds
 use Rattle.kb_classfile.specs.Pool.{NamesEntry}

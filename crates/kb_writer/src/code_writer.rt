@@ -90,7 +90,11 @@ fn push_code(into: &mut Vec<u8>, code: &Code, code_name: u16) -> Result<(), NoMe
 
 /// The attributes of a method: its code, if it has some.
 #[tactic(auto, unfolding(crate::specs::Files::code_bytes))]
-pub fn push_method_code(into: &mut Vec<u8>, code: &Option<Code>, code_name: u16) -> Result<(), NoMemory>
+pub fn push_method_code(
+    into: &mut Vec<u8>,
+    code: &Option<Code>,
+    code_name: u16,
+) -> Result<(), NoMemory>
     requires { IfCode HasSizes code.now }
     ensures bytes { OnOk result (into.new.items ≡ into.old.items ++ code_bytes code_name code.now) }
     ensures numbers { OnOk result (IfCode FitsCode code.now) }

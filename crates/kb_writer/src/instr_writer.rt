@@ -93,7 +93,13 @@ fn push_instr(code: &mut Vec<u8>, written: &Written, at: u32) -> Result<(), NoMe
         Written::Primitive(kind) => push_small(code, 0xbc, *kind),
         Written::Near(op, to) => push_near_branch(code, *op, at, *to),
         Written::Far(op, to) => push_far_branch(code, *op, at, *to),
-        Written::Table(low, default, targets) => push_table(code, at, *low, *default, targets.as_slice()),
+        Written::Table(low, default, targets) => push_table(
+            code,
+            at,
+            *low,
+            *default,
+            targets.as_slice(),
+        ),
         Written::Lookup(default, pairs) => push_lookup(code, at, *default, pairs.as_slice()),
     }
 }

@@ -1,7 +1,6 @@
 //! Writing distances and switches (JVMS 8 section 6.5 on tableswitch and lookupswitch).
 
 ghost use Rattle.std.specs.Prelude.{◌≡◌, ◌<◌, ◌^◌, ◌++◌, pos, ◌+ℤ◌, ◌-ℤ◌, length, IsTrue, OnOk};
-
 ghost use Rattle.std.specs.List.{flat_map, list_all};
 ghost use Rattle.kb_writer.specs.Numbers.{int};
 ghost use Rattle.kb_writer.specs.Instructions.{HaveInts, is_near, is_far, is_table, near, far, padding, pair_bytes, bounds, switch_head, table_bytes, lookup_bytes};
@@ -100,7 +99,13 @@ fn push_switch(into: &mut Vec<u8>, op: u8, from: u32, default: u32) -> Result<()
 }
 
 /// A tableswitch.
-pub fn push_table(into: &mut Vec<u8>, from: u32, low: i32, default: u32, targets: &[u32]) -> Result<(), NoMemory>
+pub fn push_table(
+    into: &mut Vec<u8>,
+    from: u32,
+    low: i32,
+    default: u32,
+    targets: &[u32],
+) -> Result<(), NoMemory>
     requires sound { IsTrue (is_table low (length targets.now)) }
     requires near { IsTrue (is_far from default) }
     requires reached { IsTrue (list_all (is_far from) targets.now) }
@@ -112,7 +117,12 @@ pub fn push_table(into: &mut Vec<u8>, from: u32, low: i32, default: u32, targets
 }
 
 /// A lookupswitch.
-pub fn push_lookup(into: &mut Vec<u8>, from: u32, default: u32, pairs: &[(i32, u32)]) -> Result<(), NoMemory>
+pub fn push_lookup(
+    into: &mut Vec<u8>,
+    from: u32,
+    default: u32,
+    pairs: &[(i32, u32)],
+) -> Result<(), NoMemory>
     requires count { length pairs.now < 2 ^ 31 }
     requires near { IsTrue (is_far from default) }
     requires reached { IsTrue (list_all (λ pair. is_far from pair.1) pairs.now) }

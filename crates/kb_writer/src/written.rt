@@ -150,14 +150,11 @@ impl Written {
         match self {
             Written::Alone(_) => 1,
             Written::PushByte(_) | Written::Constant(_) | Written::Primitive(_) => 2,
-            Written::Local(_, local) => {
-                if *local < 256 {
-                    2
-                } else {
-                    4
-                }
-            }
-            Written::PushShort(_) | Written::Increment(..) | Written::Entry(..) | Written::Near(..) => 3,
+            Written::Local(_, local) => { if *local < 256 { 2 } else { 4 } }
+            Written::PushShort(_)
+            | Written::Increment(..)
+            | Written::Entry(..)
+            | Written::Near(..) => 3,
             Written::Interface(..) | Written::Far(..) => 5,
             Written::Table(_, _, targets) => 13 + padding_behind(at) + 4 * targets.as_slice().len(),
             Written::Lookup(_, pairs) => 9 + padding_behind(at) + 8 * pairs.as_slice().len(),

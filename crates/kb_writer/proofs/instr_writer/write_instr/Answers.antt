@@ -1,4 +1,3 @@
-use Rattle.std.proofs.Common.{OnOk}
 use Rattle.kb_writer.proofs.InstrLaws.{size_is, spells, on_ok}
 use Rattle.kb_writer.proofs.instr_writer.write_instr.Goals as goal
 
