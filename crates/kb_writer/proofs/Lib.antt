@@ -1,0 +1,4 @@
+pub mod Bytes
+pub mod InstrLaws
+pub mod FileLaws
+pub mod SampleLaws

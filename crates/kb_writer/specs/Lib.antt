@@ -1,0 +1,5 @@
+pub mod Numbers
+pub mod Pieces
+pub mod Instructions
+pub mod Files
+pub mod Sample
