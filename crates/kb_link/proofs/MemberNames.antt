@@ -30,7 +30,7 @@ and_true a b e f = rw (e, f) refl
 
 -- ---- types
 
-base_of_key : List ℕ → Base
+abbrev base_of_key : List ℕ → Base
 base_of_key [] = bool_base
 base_of_key (zero ∷ name) = bool_base
 base_of_key (suc zero ∷ name) = byte_base
@@ -53,7 +53,7 @@ base_back float_base = refl
 base_back double_base = refl
 base_back (class_base name) = refl
 
-type_of_key : List ℕ → JType
+abbrev type_of_key : List ℕ → JType
 type_of_key [] = arrays_of 0 bool_base
 type_of_key (dims ∷ key) = arrays_of dims (base_of_key key)
 
@@ -178,7 +178,7 @@ module _ (classes : List Class) (own : HaveOwnMethods classes) (class : ℕ) (na
         let other = declared_is found some in
         let owner : (n : ℕ) (k : IsNumberOf classes class name kind n) → k.stands.method.class.0 ≡ class = λ n k. own.numbered class k.declaring k.stands.method k.class_is (k.place, k.stands.there) in
         let same : found ≡ id = one_id classes found id other.stands.method is.stands.method own other.there is.there (owner found other ∙ sym (owner id is))
-            (other.stands.named ∙ sym is.stands.named) (other.stands.typed ∙ sym is.stands.typed) in
+        (other.stands.named ∙ sym is.stands.named) (other.stands.typed ∙ sym is.stands.typed) in
         some ∙ ap (λ (n : ℕ). Some n) same
 
   -- what is told is that number
