@@ -1,5 +1,4 @@
-pub mod ByName
-pub mod Chains
-pub mod Fields
-pub mod Methods
-pub mod Rows
+pub mod NameLaws
+pub mod FieldLaws
+pub mod MethodLaws
+pub mod RowLaws
