@@ -1,6 +1,6 @@
 -- Methods by the classes that declare them.
-use Rattle.std.proofs.Common.{◌≡◌, ◌<◌, ◌≤◌, ℕ, zero, suc, ◌+◌, ◌⊎◌, inl, inr, Bool, true, false, ◌&&◌, ◌==◌, not, List, [], ◌∷◌, length, drop, filter, get_or, Option, Some, None, slice_get, refl, sym, ap, subst, ◌∙◌, arith, if◌then◌else◌}
-use Rattle.std.specs.Option.{option_map, option_and_then, option_map_or}
+use Rattle.std.proofs.Common.{◌≡◌, ◌<◌, ◌≤◌, ℕ, zero, suc, ◌+◌, inl, inr, Bool, true, false, ◌&&◌, ◌==◌, not, List, [], ◌∷◌, length, drop, filter, Option, Some, None, slice_get, refl, sym, ap, ◌∙◌, arith, if◌then◌else◌}
+use Rattle.std.specs.Option.{option_map_or}
 use Rattle.std.proofs.lemmas.List.{drop_all}
 use Rattle.std.proofs.lemmas.Option.{slice_get_within, slice_get_cases}
 use Rattle.kb_class.specs.Class.{Class}
@@ -15,7 +15,7 @@ use Rattle.kb_names.specs.declared.types.ExactType.{ExactType}
 use Rattle.kb_names.specs.declared.types.ExactType.TheVariants as exact
 use Rattle.kb_names.specs.declared.types.MethodType.{MethodType}
 use Rattle.kb_world.specs.Lookup.{or_else, first_along, class_of, declares, declares_open, interfaces_from}
-use Rattle.kb_world.specs.Tables.{is_superinterface, open_if_above}
+use Rattle.kb_world.specs.Tables.{open_if_above}
 
 module _ (world : World) (linked : IsLinked world) (name : List ℕ) (kind : MethodType) (number : ℕ) where
   -- no class has the number

@@ -1,13 +1,13 @@
 -- Rows of what entries stand for.
-use Rattle.std.proofs.Common.{◌≡◌, ◌<◌, ◌≤◌, ◌+◌, ◌^◌, ℕ, zero, suc, List, [], ◌∷◌, ◌++◌, length, get_or, Option, Some, None, slice_get, min, ◌⊎◌, inl, inr, below_more, refl, sym, ap, subst, ◌∙◌, arith}
+use Rattle.std.proofs.Common.{◌≡◌, ◌<◌, ◌≤◌, ◌+◌, ℕ, List, [], ◌∷◌, ◌++◌, length, get_or, Option, Some, None, slice_get, min, inl, inr, below_more, sym, ap, subst, ◌∙◌, arith}
 use Rattle.std.proofs.lemmas.List.{get_or_append_left, get_or_push, get_or_past, length_push}
 use Rattle.std.proofs.lemmas.Option.{slice_get_past, slice_get_cases}
-use Rattle.std.specs.Option.{option_map, option_and_then}
+use Rattle.std.specs.Option.{option_and_then}
 use Rattle.kb_class.specs.Class.{Class, Sought, reference_of_entry}
 use Rattle.kb_link.specs.World.{World}
 use Rattle.kb_link.proofs.Places.{get_pushed}
 use Rattle.kb_world.specs.Lookup.{sought_at, class_of_sought, slot_of_sought, method_of_sought, special_of_sought}
-use Rattle.kb_world.specs.Tables.{slot_told, StandsFor, IsResolved, IsRow, nothing}
+use Rattle.kb_world.specs.Tables.{StandsFor, IsResolved, IsRow, nothing}
 use Rattle.kb_world.specs.declared.resolving.Resolved.{Resolved}
 
 -- ---- what an entry stands for
@@ -65,10 +65,10 @@ module _ {A : Type 0} (P : ℕ → A → Type 0) where
   one_more_there xs after x n is count each one = (
     more_items xs after x n is count,
     λ k y at.
-    elim (get_pushed xs x k y (subst (λ (ys : List A). slice_get ys k ≡ Some y) is at)) [
-      | inl old ↦ each k y old
-      | inr new ↦ (let place : n ≡ k = sym count ∙ sym new.0 in subst (λ (z : A). P k z) new.1 (subst (λ (i : ℕ). P i x) place one))
-    ],
+        elim (get_pushed xs x k y (subst (λ (ys : List A). slice_get ys k ≡ Some y) is at)) [
+          | inl old ↦ each k y old
+          | inr new ↦ (let place : n ≡ k = sym count ∙ sym new.0 in subst (λ (z : A). P k z) new.1 (subst (λ (i : ℕ). P i x) place one))
+        ],
   )
 
 -- a row that has each entry of the class with a number of 16 bits
