@@ -1,9 +1,8 @@
-pub mod ByName
-pub mod Chains
-pub mod Fields
+pub mod NameLaws
+pub mod FieldLaws
+pub mod MethodLaws
+pub mod RowLaws
 pub mod Inside
 pub mod Marking
-pub mod Methods
 pub mod Reaching
 pub mod ReachLaws
-pub mod Rows

@@ -6,13 +6,12 @@ ghost use Rattle.kb_link.specs.World.{chain_of, number_in};
 
 use kb_class::ClassId;
 use kb_link::{FieldSlot, Linked};
-use kb_names::Name;
 
-/// The number of the class of that name.
-pub(crate) fn number_named(linked: &Linked, name: &Name) -> Option<u32>
+/// The number of the class whose name has these bytes.
+pub(crate) fn number_named(linked: &Linked, name: &[u8]) -> Option<u32>
     ensures { result ≡ number_in linked.now.classes name.now }
 {
-    match linked.class_named(name) {
+    match linked.class_of_text(name) {
         Some(id) => Some(id.0),
         None => None,
     }

@@ -68,7 +68,7 @@ fn field_class(
     requires { IsLinked linked.now × HaveTables linked.now tables.now }
     ensures { result ≡ option_and_then (λ number. field_class linked.now number name.now kind.now) (number_in linked.now.classes class.now) }
 {
-    let Some(number) = number_named(linked, class) else {
+    let Some(number) = number_named(linked, class.as_slice()) else {
         return None;
     };
     first_declaring(linked, tables, chain_at(linked, number), name, kind)

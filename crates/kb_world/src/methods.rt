@@ -4,10 +4,10 @@ ghost use Rattle.kb_class.specs.Platform.{object_name};
 ghost use Rattle.kb_link.specs.Links.{IsLinked};
 ghost use Rattle.kb_link.specs.Rules.{is_interface};
 ghost use Rattle.kb_link.specs.Subtypes.{numbers_of};
-ghost use Rattle.kb_link.specs.World.{number_in};
 ghost use Rattle.kb_world.specs.Lookup.{declares, declares_open, first_along, first_sought, is_open, resolved_in, superinterfaces};
 ghost use Rattle.kb_world.specs.Tables.{declares_as, is_superinterface, open_if_above};
 
+use crate::chains::number_named;
 use kb_class::{ClassId, LoadedClass, MethodId, MethodInfo};
 use kb_link::Linked;
 use kb_names::{MethodType, Name};
@@ -17,6 +17,9 @@ const PRIVATE_OR_STATIC: u16 = 0x000a;
 
 /// ACC_INTERFACE (JVMS 8 table 4.1-A).
 const INTERFACE: u16 = 0x0200;
+
+/// Where the methods of arrays are sought, and those that each interface has.
+pub(crate) const OBJECT: &[u8] = b"java/lang/Object";
 
 /// Which methods are taken.
 #[derive(Clone, Copy)]
@@ -102,33 +105,26 @@ pub(crate) fn found_along(
 /// The method that a name and a type stand for in the class of that number.
 pub(crate) fn resolved_in(
     linked: &Linked,
-    object: Option<u32>,
     number: u32,
     name: &Name,
     kind: &MethodType,
 ) -> Option<u32>
-    requires { IsLinked linked.now × (number < length linked.now.classes) × (object ≡ number_in linked.now.classes object_name) }
+    requires { IsLinked linked.now × (number < length linked.now.classes) }
     ensures { result ≡ resolved_in linked.now name.now kind.now number }
 {
-    match found_first(linked, object, number, name, kind) {
+    match found_first(linked, number, name, kind) {
         Some(id) => Some(id),
         None => found_above(linked, number, name, kind),
     }
 }
 
 // The method in the class and its superclasses, or in the interface and java/lang/Object.
-fn found_first(
-    linked: &Linked,
-    object: Option<u32>,
-    number: u32,
-    name: &Name,
-    kind: &MethodType,
-) -> Option<u32>
-    requires { IsLinked linked.now × (number < length linked.now.classes) × (object ≡ number_in linked.now.classes object_name) }
+fn found_first(linked: &Linked, number: u32, name: &Name, kind: &MethodType) -> Option<u32>
+    requires { IsLinked linked.now × (number < length linked.now.classes) }
     ensures { result ≡ first_along (declares linked.now name.now kind.now) (first_sought linked.now number (slice_get linked.now.classes number)) }
 {
     if is_interface(linked.class_of(ClassId(number))) {
-        return found_in_interface(linked, object, number, name, kind);
+        return found_in_interface(linked, number, name, kind);
     }
     found_along(
         linked,
@@ -140,20 +136,14 @@ fn found_first(
 }
 
 // The method in the interface and java/lang/Object.
-fn found_in_interface(
-    linked: &Linked,
-    object: Option<u32>,
-    number: u32,
-    name: &Name,
-    kind: &MethodType,
-) -> Option<u32>
-    requires { IsLinked linked.now × (object ≡ number_in linked.now.classes object_name) }
+fn found_in_interface(linked: &Linked, number: u32, name: &Name, kind: &MethodType) -> Option<u32>
+    requires { IsLinked linked.now }
     ensures { result ≡ first_along (declares linked.now name.now kind.now) (number ∷ numbers_of linked.now.classes (object_name ∷ [])) }
 {
     if let Some(id) = declared_in(linked, number, name, kind) {
         return Some(id);
     }
-    match object {
+    match number_named(linked, OBJECT) {
         Some(object) => declared_in(linked, object, name, kind),
         None => None,
     }

@@ -1,12 +1,9 @@
 //! What the entries of the constant pools stand for, found once for each.
 ghost use Rattle.std.specs.Prelude.{◌≡◌, ◌<◌, [], length, slice_index_or, IfOk};
-ghost use Rattle.kb_class.specs.Platform.{object_name};
 ghost use Rattle.kb_class.specs.References.{sought_of};
 ghost use Rattle.kb_link.specs.Links.{IsLinked};
-ghost use Rattle.kb_link.specs.World.{number_in};
 ghost use Rattle.kb_world.specs.Tables.{HaveTables, StandsFor, IsResolved, IsRow, AreRows, nothing};
 
-use crate::chains::number_named;
 use crate::fields::{class_of_field, slot_sought};
 use crate::special::{method_sought, special_sought};
 use crate::tables::{MemberTables, member_tables};
@@ -34,10 +31,9 @@ pub(crate) fn rows_of(alloc: Global, linked: &Linked) -> Result<Vec<Row<Resolved
     ensures { IfOk result (λ rows. AreRows linked.now rows.items) }
 {
     let tables = member_tables(alloc, linked)?;
-    let object = number_named(linked, &Name::from_slice(alloc, b"java/lang/Object")?);
     let mut rows = Vec::new(alloc);
     for number in 0..linked.class_count() {
-        let row = row_of(alloc, linked, tables.as_slice(), object, number)?;
+        let row = row_of(alloc, linked, tables.as_slice(), number)?;
         let Ok(()) = rows.push(row) else {
             return Err(NoMemory);
         };
@@ -50,10 +46,9 @@ fn row_of(
     alloc: Global,
     linked: &Linked,
     tables: &[MemberTables],
-    object: Option<u32>,
     class: u32,
 ) -> Result<Row<Resolved>, NoMemory>
-    requires { IsLinked linked.now × HaveTables linked.now tables.now × (object ≡ number_in linked.now.classes object_name) × (class < length linked.now.classes) }
+    requires { IsLinked linked.now × HaveTables linked.now tables.now × (class < length linked.now.classes) }
     ensures { IfOk result (IsRow linked.now class) }
 {
     let count = linked
@@ -62,26 +57,25 @@ fn row_of(
         .min(MOST_ENTRIES);
     let mut row = Row::new(alloc);
     for entry in 0..count {
-        let told = resolved(alloc, linked, tables, object, class, entry as u16)?;
+        let told = resolved_entry(alloc, linked, tables, class, entry as u16)?;
         row.push(told)?;
     }
     Ok(row)
 }
 
 // What an entry stands for.
-fn resolved(
+fn resolved_entry(
     alloc: Global,
     linked: &Linked,
     tables: &[MemberTables],
-    object: Option<u32>,
     class: u32,
     entry: u16,
 ) -> Result<Resolved, NoMemory>
-    requires { IsLinked linked.now × HaveTables linked.now tables.now × (object ≡ number_in linked.now.classes object_name) × (class < length linked.now.classes) }
+    requires { IsLinked linked.now × HaveTables linked.now tables.now × (class < length linked.now.classes) }
     ensures { IfOk result (IsResolved linked.now class entry) }
 {
     match linked.class_of(ClassId(class)).reference_entry(entry) {
-        Some(reference) => stands_for(alloc, linked, tables, object, class, &reference),
+        Some(reference) => stands_for(alloc, linked, tables, class, &reference),
         None => Ok(nothing()),
     }
 }
@@ -91,11 +85,10 @@ fn stands_for(
     alloc: Global,
     linked: &Linked,
     tables: &[MemberTables],
-    object: Option<u32>,
     class: u32,
     reference: &Reference<'_>,
 ) -> Result<Resolved, NoMemory>
-    requires { IsLinked linked.now × HaveTables linked.now tables.now × (object ≡ number_in linked.now.classes object_name) }
+    requires { IsLinked linked.now × HaveTables linked.now tables.now }
     ensures { IfOk result (StandsFor linked.now class (sought_of reference.now)) }
 {
     let name = Name::from_slice(alloc, reference.name)?;
@@ -103,8 +96,8 @@ fn stands_for(
     Ok(Resolved {
         declaring,
         slot: slot_sought(linked, tables, declaring, reference),
-        method: method_sought(linked, object, reference, &name),
-        special: special_sought(linked, object, class, reference, &name),
+        method: method_sought(linked, reference, &name),
+        special: special_sought(linked, class, reference, &name),
     })
 }
 

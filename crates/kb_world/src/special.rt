@@ -3,53 +3,45 @@
 ghost use Rattle.std.specs.Prelude.{◌≡◌, ◌==◌, drop};
 ghost use Rattle.std.specs.List.{list_any};
 ghost use Rattle.std.specs.Option.{option_copied};
-ghost use Rattle.kb_class.specs.Platform.{object_name};
 ghost use Rattle.kb_class.specs.References.{sought_of};
 ghost use Rattle.kb_link.specs.Links.{IsLinked};
-ghost use Rattle.kb_link.specs.World.{number_in};
 ghost use Rattle.kb_world.specs.Lookup.{class_of, method_of_sought, special_for, special_of_sought, special_start};
 ghost use Rattle.kb_world.specs.Tables.{method_kind};
 
 use crate::chains::{chain_at, number_named};
-use crate::methods::{Pick, found_along, resolved_in};
+use crate::methods::{OBJECT, Pick, found_along, resolved_in};
 use kb_class::{MemberKind, Reference, ReferenceKind};
 use kb_link::Linked;
 use kb_names::{ExactType, MethodType, Name};
 
 /// The method that is sought.
-pub(crate) fn method_sought(
-    linked: &Linked,
-    object: Option<u32>,
-    reference: &Reference<'_>,
-    name: &Name,
-) -> Option<u32>
-    requires { IsLinked linked.now × (object ≡ number_in linked.now.classes object_name) × (name.now ≡ reference.now.name.now) }
+pub(crate) fn method_sought(linked: &Linked, reference: &Reference<'_>, name: &Name) -> Option<u32>
+    requires { IsLinked linked.now × (name.now ≡ reference.now.name.now) }
     ensures { result ≡ method_of_sought linked.now (sought_of reference.now) }
 {
     let Some(kind) = method_kind(reference) else {
         return None;
     };
-    let Some(number) = class_of(linked, object, reference.class) else {
+    let Some(number) = class_of(linked, reference.class) else {
         return None;
     };
-    resolved_in(linked, object, number, name, kind)
+    resolved_in(linked, number, name, kind)
 }
 
 /// What invokespecial calls of what is sought, in code of the class `current`.
 pub(crate) fn special_sought(
     linked: &Linked,
-    object: Option<u32>,
     current: u32,
     reference: &Reference<'_>,
     name: &Name,
 ) -> Option<u32>
-    requires { IsLinked linked.now × (object ≡ number_in linked.now.classes object_name) × (name.now ≡ reference.now.name.now) }
+    requires { IsLinked linked.now × (name.now ≡ reference.now.name.now) }
     ensures { result ≡ special_of_sought linked.now current (sought_of reference.now) }
 {
     let Some(kind) = method_kind(reference) else {
         return None;
     };
-    let Some(named) = class_of(linked, object, reference.class) else {
+    let Some(named) = class_of(linked, reference.class) else {
         return None;
     };
     special_for(linked, current, name, kind, named)
@@ -67,13 +59,12 @@ fn method_kind<'a>(reference: &Reference<'a>) -> Option<&'a MethodType>
 }
 
 // The number of the class in which the members of a type are sought.
-fn class_of(linked: &Linked, object: Option<u32>, class: &ExactType) -> Option<u32>
-    requires { object ≡ number_in linked.now.classes object_name }
+fn class_of(linked: &Linked, class: &ExactType) -> Option<u32>
     ensures { result ≡ class_of linked.now class.now }
 {
     match class {
-        ExactType::Class(name) => number_named(linked, name),
-        ExactType::Array(_) => object,
+        ExactType::Class(name) => number_named(linked, name.as_slice()),
+        ExactType::Array(_) => number_named(linked, OBJECT),
     }
 }
 

@@ -1,6 +1,6 @@
 use Rattle.std.proofs.Common.{◌≡◌}
 use Rattle.kb_world.specs.Lookup.{first_along, declares_open, superinterfaces}
-use Rattle.kb_world.proofs.Methods.{found_behind}
+use Rattle.kb_world.proofs.MethodLaws.{found_behind}
 use Rattle.kb_world.proofs.methods.found_above.Given as goal
 
 abbrev pub invariant-loop-number : goal.invariant-loop-number

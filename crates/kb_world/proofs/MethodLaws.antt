@@ -1,18 +1,21 @@
 -- Methods by the classes that declare them.
-use Rattle.std.proofs.Common.{◌≡◌, ◌<◌, ◌≤◌, ℕ, zero, suc, ◌+◌, ◌⊎◌, inl, inr, Bool, true, false, ◌&&◌, ◌==◌, not, List, [], ◌∷◌, length, drop, filter, get_or, Option, Some, None, slice_get, refl, sym, ap, subst, ◌∙◌, arith, if◌then◌else◌}
-use Rattle.std.specs.Option.{option_map, option_and_then, option_map_or}
+use Rattle.std.proofs.Common.{◌≡◌, ◌<◌, ◌≤◌, ℕ, zero, suc, ◌+◌, inl, inr, Bool, true, false, ◌&&◌, ◌==◌, not, List, [], ◌∷◌, length, drop, filter, Option, Some, None, slice_get, refl, sym, ap, ◌∙◌, arith, if◌then◌else◌}
+use Rattle.std.specs.Option.{option_map_or}
 use Rattle.std.proofs.lemmas.List.{drop_all}
 use Rattle.std.proofs.lemmas.Option.{slice_get_within, slice_get_cases}
 use Rattle.kb_class.specs.Class.{Class}
-use Rattle.kb_class.specs.declared.members.MethodInfo.{MethodInfo}
+use Rattle.kb_class.specs.Platform.{object_name}
 use Rattle.kb_link.specs.Links.{IsLinked}
 use Rattle.kb_link.specs.Rules.{is_interface}
 use Rattle.kb_link.specs.Subtypes.{is_super}
-use Rattle.kb_link.specs.World.{World, method_at, methods_in}
+use Rattle.kb_link.specs.World.{World, methods_in}
 use Rattle.kb_link.proofs.MemberNames.{declared_is}
+use Rattle.kb_link.proofs.Named.{number_inside}
+use Rattle.kb_names.specs.declared.types.ExactType.{ExactType}
+use Rattle.kb_names.specs.declared.types.ExactType.TheVariants as exact
 use Rattle.kb_names.specs.declared.types.MethodType.{MethodType}
-use Rattle.kb_world.specs.Lookup.{or_else, only_where, first_along, declares, declares_open, is_open, is_open_at, interfaces_from, superinterfaces}
-use Rattle.kb_world.specs.Tables.{is_superinterface, open_if_above}
+use Rattle.kb_world.specs.Lookup.{or_else, first_along, class_of, declares, declares_open, interfaces_from}
+use Rattle.kb_world.specs.Tables.{open_if_above}
 
 module _ (world : World) (linked : IsLinked world) (name : List ℕ) (kind : MethodType) (number : ℕ) where
   -- no class has the number
@@ -31,16 +34,10 @@ module _ (world : World) (linked : IsLinked world) (name : List ℕ) (kind : Met
       let of = declared_is world.classes linked.loaded.methods number name kind id is in
       slice_get_within (methods_in world.classes) id of.stands.method of.there
 
-module _ (world : World) (name : List ℕ) (kind : MethodType) (number : ℕ) where
-  -- whether what is declared is taken
-  pub open_told : (found : Option ℕ) (id : ℕ) (method : MethodInfo) → found ≡ declares world name kind number → found ≡ Some id → method_at world id ≡ Some method
-      → declares_open world name kind number ≡ only_where (is_open method) id
-  open_told found id method is some there =
-      ap (λ (o : Option ℕ). option_and_then (λ (n : ℕ). only_where (is_open_at world n) n) o) (sym is ∙ some)
-      ∙ ap (λ (o : Option MethodInfo). only_where (option_map_or is_open o false) id) there
-
-  pub none_open : declares world name kind number ≡ None → declares_open world name kind number ≡ None
-  none_open none = ap (λ (o : Option ℕ). option_and_then (λ (n : ℕ). only_where (is_open_at world n) n) o) none
+-- the class in which members are sought is one of the world
+pub sought_inside : (world : World) (type : ExactType) (number : ℕ) → class_of world type ≡ Some number → number < length world.classes
+sought_inside world (exact.Class name) number at = number_inside world.classes name number at
+sought_inside world (exact.Array component) number at = number_inside world.classes object_name number at
 
 -- ---- superinterfaces
 
@@ -89,3 +86,11 @@ module _ (world : World) (low : ℕ) (name : List ℕ) (kind : MethodType) where
 
   pub found_last : (number : ℕ) → length world.classes ≤ number → found_behind number ≡ None
   found_last number past = ap (found_from number) (drop_all number world.classes past)
+
+  -- the class of the number has the method
+  pub found_here : (number id : ℕ) → number < length world.classes → Some id ≡ open_if_above world low name kind number → found_behind number ≡ Some id
+  found_here number id inside is = found_next number inside ∙ ap (λ (o : Option ℕ). or_else o (found_behind (number + 1))) (sym is)
+
+  -- it has none
+  pub found_later : (number : ℕ) → number < length world.classes → None ≡ open_if_above world low name kind number → found_behind number ≡ found_behind (number + 1)
+  found_later number inside is = found_next number inside ∙ ap (λ (o : Option ℕ). or_else o (found_behind (number + 1))) (sym is)

@@ -1,12 +1,13 @@
 -- Rows of what entries stand for.
-use Rattle.std.proofs.Common.{◌≡◌, ◌<◌, ◌≤◌, ◌+◌, ◌^◌, ℕ, zero, suc, List, [], ◌∷◌, ◌++◌, length, get_or, Option, Some, None, slice_get, min, ◌⊎◌, inl, inr, below_more, refl, sym, ap, subst, ◌∙◌, arith}
-use Rattle.std.proofs.lemmas.List.{get_or_append_left, get_or_push, get_or_past}
+use Rattle.std.proofs.Common.{◌≡◌, ◌<◌, ◌≤◌, ◌+◌, ℕ, List, [], ◌∷◌, ◌++◌, length, get_or, Option, Some, None, slice_get, min, inl, inr, below_more, sym, ap, subst, ◌∙◌, arith}
+use Rattle.std.proofs.lemmas.List.{get_or_append_left, get_or_push, get_or_past, length_push}
 use Rattle.std.proofs.lemmas.Option.{slice_get_past, slice_get_cases}
-use Rattle.std.specs.Option.{option_map, option_and_then}
+use Rattle.std.specs.Option.{option_and_then}
 use Rattle.kb_class.specs.Class.{Class, Sought, reference_of_entry}
 use Rattle.kb_link.specs.World.{World}
+use Rattle.kb_link.proofs.Places.{get_pushed}
 use Rattle.kb_world.specs.Lookup.{sought_at, class_of_sought, slot_of_sought, method_of_sought, special_of_sought}
-use Rattle.kb_world.specs.Tables.{slot_told, StandsFor, IsResolved, IsRow, nothing}
+use Rattle.kb_world.specs.Tables.{StandsFor, IsResolved, IsRow, nothing}
 use Rattle.kb_world.specs.declared.resolving.Resolved.{Resolved}
 
 -- ---- what an entry stands for
@@ -40,6 +41,9 @@ module _ (world : World) (class entry : ℕ) where
 
 -- ---- rows
 
+more_items : {A : Type 0} (xs after : List A) (x : A) (n : ℕ) → after ≡ xs ++ x ∷ [] → length xs ≡ n → length after ≡ n + 1
+more_items xs after x n is count = ap length is ∙ length_push xs x ∙ ap (λ (m : ℕ). m + 1) count
+
 module _ {A : Type 0} (P : ℕ → A → Type 0) where
   -- one item more
   pub each_pushed : (xs : List A) (x d : A) (n : ℕ) → length xs ≡ n → ((k : ℕ) → k < n → P k (get_or xs k d)) → P n x → (k : ℕ) → k < n + 1 → P k (get_or (xs ++ x ∷ []) k d)
@@ -47,6 +51,25 @@ module _ {A : Type 0} (P : ℕ → A → Type 0) where
       below_more (λ k. P k (get_or (xs ++ x ∷ []) k d)) n
       (λ k below. subst (P k) (sym (get_or_append_left xs (x ∷ []) d k (omega (arith, below, count)))) (each k below))
       (subst (P n) (sym (get_or_push xs x d n count)) one)
+
+  pub one_more : (xs after : List A) (x d : A) (n : ℕ) → after ≡ xs ++ x ∷ [] → length xs ≡ n → ((k : ℕ) → k < n → P k (get_or xs k d)) → P n x
+      → (length after ≡ n + 1) × ((k : ℕ) → k < n + 1 → P k (get_or after k d))
+  one_more xs after x d n is count each one = (
+    more_items xs after x n is count,
+    subst (λ (ys : List A). (k : ℕ) → k < n + 1 → P k (get_or ys k d)) (sym is) (each_pushed xs x d n count each one),
+  )
+
+  -- the same of items that are there
+  pub one_more_there : (xs after : List A) (x : A) (n : ℕ) → after ≡ xs ++ x ∷ [] → length xs ≡ n → ((k : ℕ) (y : A) → slice_get xs k ≡ Some y → P k y) → P n x
+      → (length after ≡ n + 1) × ((k : ℕ) (y : A) → slice_get after k ≡ Some y → P k y)
+  one_more_there xs after x n is count each one = (
+    more_items xs after x n is count,
+    λ k y at.
+        elim (get_pushed xs x k y (subst (λ (ys : List A). slice_get ys k ≡ Some y) is at)) [
+          | inl old ↦ each k y old
+          | inr new ↦ (let place : n ≡ k = sym count ∙ sym new.0 in subst (λ (z : A). P k z) new.1 (subst (λ (i : ℕ). P i x) place one))
+        ],
+  )
 
 -- a row that has each entry of the class with a number of 16 bits
 pub is_row : (world : World) (class : ℕ) (of : Class) (row : List Resolved) (count : ℕ) → slice_get world.classes class ≡ Some of → count ≡ min (length of.entries) 65536 → length row ≡ count

@@ -1,9 +1,10 @@
 -- Items by their names: the places that a table has, and the first item of a name that is such.
-use Rattle.std.proofs.Common.{◌≡◌, ◌≢◌, ℕ, zero, suc, ◌+◌, Bool, true, false, ◌&&◌, ◌||◌, List, [], ◌∷◌, ◌++◌, length, Option, Some, None, slice_get, is_some, refl, sym, ap, subst, ◌∙◌, arith, if◌then◌else◌}
+use Rattle.std.proofs.Common.{◌≡◌, ◌≢◌, ℕ, suc, ◌+◌, Bool, true, false, ◌&&◌, ◌||◌, List, [], ◌∷◌, ◌++◌, length, Option, Some, None, slice_get, get_or, take, length-take, ◌<◌, is_some, refl, sym, ap, subst, ◌∙◌, arith, if◌then◌else◌}
 use Rattle.std.specs.List.{find, list_any}
 use Rattle.std.specs.Option.{option_map, option_and_then, option_map_or}
 use Rattle.std.specs.Str.{bytes_eq}
-use Rattle.std.proofs.lemmas.List.{append-nil, append_assoc}
+use Rattle.std.proofs.lemmas.Grind.{take_at_read}
+use Rattle.std.proofs.lemmas.List.{append-nil}
 use Rattle.std.proofs.lemmas.Slice.Eq.{bytes_eq-Decides}
 use Rattle.kb_link.specs.Members.{place_where}
 use Rattle.kb_link.specs.Tables.{AddsPlace}
@@ -45,6 +46,14 @@ module _ {A : Type 0} (named : A → List ℕ) where
           let last : places_named named name 0 xs ++ (if bytes_eq (named x) name then place ∷ [] else []) ≡ places_named named name 0 xs =
           (rw e (append-nil (places_named named name 0 xs))) in
           adds.others name other ∙ by name ∙ sym last ∙ sym (named_pushed name 0 place xs x sum)
+
+  -- the same of the items of a list as far as they are read
+  pub by_name_next : (before after : List ℕ → List ℕ) (items : List A) (item : A) (place : ℕ) → place < length items → item ≡ get_or items place item → IsByName named (take place items) before
+      → AddsPlace before after (named item) place → IsByName named (take (place + 1) items) after
+  by_name_next before after items item place inside is by adds =
+      let taken : take (place + 1) items ≡ take place items ++ item ∷ [] = (take_at_read items place item inside).1 ∙ ap (λ (x : A). take place items ++ x ∷ []) (sym is) in
+      let fits : place ≡ length (take place items) = omega (arith, length-take place items, inside) in
+      subst (λ (xs : List A). IsByName named xs after) (sym taken) (by_name_pushed before after (take place items) item place by fits adds)
 
 -- ---- the first item of a name that is such
 

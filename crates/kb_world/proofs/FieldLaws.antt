@@ -1,21 +1,17 @@
 -- Fields by their names and types, and their slots.
-use Rattle.std.proofs.Common.{◌≡◌, ◌<◌, ◌≤◌, ℕ, Bool, true, false, ◌&&◌, ◌==◌, List, [], ◌∷◌, length, Option, Some, None, slice_get, is_some, refl, sym, ap, subst, ◌∙◌, arith}
+use Rattle.std.proofs.Common.{◌≡◌, ℕ, Bool, true, false, ◌&&◌, ◌==◌, List, [], ◌∷◌, Option, Some, slice_get, is_some, refl, sym, ap, ◌∙◌}
 use Rattle.std.specs.List.{list_any}
-use Rattle.std.specs.Option.{option_map, option_and_then}
+use Rattle.std.specs.Option.{option_and_then}
 use Rattle.std.specs.Str.{bytes_eq}
-use Rattle.std.proofs.lemmas.Option.{slice_get_past, slice_get_within}
 use Rattle.kb_class.specs.Class.{Class}
 use Rattle.kb_class.specs.declared.members.FieldInfo.{FieldInfo}
 use Rattle.kb_link.specs.declared.slots.FieldSlot.{FieldSlot}
-use Rattle.kb_link.specs.Links.{IsLinked}
 use Rattle.kb_link.specs.Members.{is_field, place_where, same_type}
-use Rattle.kb_link.specs.Slots.{slots_of}
 use Rattle.kb_link.specs.World.{World}
 use Rattle.kb_names.specs.declared.types.JType.{JType}
 use Rattle.kb_world.specs.Lookup.{only_where, declaring, is_slot, slot_among}
-use Rattle.kb_world.specs.Tables.{has_name, name_of_slot, is_slot_for, HaveTables}
-use Rattle.kb_world.specs.declared.tables.MemberTables.{MemberTables}
-use Rattle.kb_world.proofs.ByName.{any_place, get_first}
+use Rattle.kb_world.specs.Tables.{has_name, name_of_slot, is_slot_for}
+use Rattle.kb_world.proofs.NameLaws.{any_place, get_first}
 
 module _ (world : World) (name : List ℕ) (type : JType) (number : ℕ) where
   -- the class declares the field where it has a place there
@@ -25,12 +21,6 @@ module _ (world : World) (name : List ℕ) (type : JType) (number : ℕ) where
       ap (λ (o : Option Class). option_and_then (λ (c : Class). only_where (list_any (is_field name type) c.fields) number) o) there
       ∙ ap (λ (b : Bool). only_where b number)
       (ap (λ (fs : List FieldInfo). list_any (is_field name type) fs) (sym are) ∙ any_place (is_field name type) fields ∙ ap (λ (o : Option ℕ). is_some o) (sym is))
-
-  -- no class has the number
-  pub declared_nowhere : (tables : List MemberTables) → HaveTables world tables → length tables ≤ number → declaring world name type number ≡ None
-  declared_nowhere tables have past =
-      ap (λ (o : Option Class). option_and_then (λ (c : Class). only_where (list_any (is_field name type) c.fields) number) o)
-      (slice_get_past world.classes number (omega (arith, past, have.len)))
 
 -- ---- slots
 
