@@ -4,8 +4,6 @@
 mod answer;
 mod classes;
 mod explore;
-#[cfg(test)]
-mod link_tests;
 mod memory;
 mod methods;
 mod operations;

@@ -8,7 +8,7 @@ use std::process::Abort;
 use std::test::Fail;
 
 /// A class file with `static int f(int, int)`, which adds its arguments.
-pub(crate) const CLASS_A: [u8; 102] = [
+const CLASS_A: [u8; 102] = [
     0xca, 0xfe, 0xba, 0xbe, 0x00, 0x00, 0x00, 0x34, 0x00, 0x08, 0x01, 0x00, 0x01, 0x41, 0x07, 0x00,
     0x01, 0x01, 0x00, 0x10, 0x6a, 0x61, 0x76, 0x61, 0x2f, 0x6c, 0x61, 0x6e, 0x67, 0x2f, 0x4f, 0x62,
     0x6a, 0x65, 0x63, 0x74, 0x07, 0x00, 0x03, 0x01, 0x00, 0x01, 0x66, 0x01, 0x00, 0x05, 0x28, 0x49,
@@ -42,7 +42,7 @@ const CLASS_B: [u8; 261] = [
 /// Where the flags of the method of class A stand.
 const METHOD_FLAGS: usize = 71;
 
-pub(crate) const EXPLORE_A: &str = "explore --method A.f(II)I A.class";
+const EXPLORE_A: &str = "explore --method A.f(II)I A.class";
 
 /// The report on class A.
 const REPORT_A: &str = "kiasan report 1
@@ -99,7 +99,7 @@ const fn row<'a>(
 }
 
 /// A shelf with these files, whose calls of these numbers fail, from 0.
-pub(crate) fn shelf_of(
+fn shelf_of(
     alloc: Global,
     named: &[(&str, &[u8])],
     fails: Vec<u64>,
@@ -164,12 +164,12 @@ fn test_a(alloc: Global, steps: u32, lines: &str) -> Result<String, AllocError> 
 }
 
 /// A sink that takes 10 bytes in a call.
-pub(crate) fn sink_failing_at(alloc: Global, fails: Vec<u64>) -> Result<MemorySink, Fail> {
+fn sink_failing_at(alloc: Global, fails: Vec<u64>) -> Result<MemorySink, Fail> {
     Ok(MemorySink::new(alloc, 10, fails).with_room(4096)?)
 }
 
 /// The program's answer to these words.
-pub(crate) fn answer_to(
+fn answer_to(
     alloc: Global,
     line: &str,
     shelf: &mut MemoryShelf,
@@ -183,7 +183,7 @@ pub(crate) fn answer_to(
 }
 
 /// Asserts that the words have this status and this text where the file A.class has these bytes.
-pub(crate) fn assert_answer<A: Abort + AllocGlobal>(
+fn assert_answer<A: Abort + AllocGlobal>(
     rt: &A,
     line: &str,
     bytes: &[u8],
@@ -424,7 +424,7 @@ fn words_and_files_are_refused(rt: HostRuntime) -> Result<(), Fail> {
 }
 
 /// These bytes, one piece behind the other.
-pub(crate) fn joined(alloc: Global, pieces: &[&[u8]]) -> Result<Vec<u8>, AllocError> {
+fn joined(alloc: Global, pieces: &[&[u8]]) -> Result<Vec<u8>, AllocError> {
     let mut all = Vec::new(alloc);
     for piece in pieces {
         all.extend_from_slice(piece)?;
@@ -433,7 +433,7 @@ pub(crate) fn joined(alloc: Global, pieces: &[&[u8]]) -> Result<Vec<u8>, AllocEr
 }
 
 /// Class A with other bytes from an offset on.
-pub(crate) fn changed(alloc: Global, at: usize, bytes: &[u8]) -> Result<Vec<u8>, AllocError> {
+fn changed(alloc: Global, at: usize, bytes: &[u8]) -> Result<Vec<u8>, AllocError> {
     let front = at.min(CLASS_A.len());
     let behind = at.saturating_add(bytes.len()).min(CLASS_A.len());
     joined(alloc, &[&CLASS_A[..front], bytes, &CLASS_A[behind..]])
