@@ -1,5 +1,5 @@
 -- Members by their names and types: whether types are the same, and the number of the method that a class declares.
-use Rattle.std.proofs.Common.{◌≡◌, ℕ, zero, suc, ◌⊎◌, Bool, true, false, ◌&&◌, List, [], ◌∷◌, map, Option, Some, None, IfSome, IfNone, slice_get, refl, sym, ap, subst, ◌∙◌, true≢false}
+use Rattle.std.proofs.Common.{◌≡◌, ℕ, zero, suc, ◌⊎◌, Bool, true, false, ◌==◌, ◌&&◌, List, [], ◌∷◌, map, Option, Some, None, IfSome, IfNone, slice_get, refl, sym, ap, subst, ◌∙◌, true≢false}
 use Rattle.std.specs.Option.{option_map}
 use Rattle.std.specs.Str.{bytes_eq}
 use Rattle.std.proofs.lemmas.Bool.Decides.{Decides-eqb}
@@ -30,7 +30,7 @@ and_true a b e f = rw (e, f) refl
 
 -- ---- types
 
-base_of_key : List ℕ → Base
+abbrev base_of_key : List ℕ → Base
 base_of_key [] = bool_base
 base_of_key (zero ∷ name) = bool_base
 base_of_key (suc zero ∷ name) = byte_base
@@ -53,7 +53,7 @@ base_back float_base = refl
 base_back double_base = refl
 base_back (class_base name) = refl
 
-type_of_key : List ℕ → JType
+abbrev type_of_key : List ℕ → JType
 type_of_key [] = arrays_of 0 bool_base
 type_of_key (dims ∷ key) = arrays_of dims (base_of_key key)
 
@@ -147,16 +147,16 @@ module _ (classes : List Class) (own : HaveOwnMethods classes) (class : ℕ) (na
   declared_is id at =
       let found = place_there (is_method class name kind) (methods_in classes) id at in
       let method = found.0 in
-      let outer = both_true _ _ found.2 in
-      let number : method.class.0 ≡ class = (Decides-eqb method.class.0 class).0 outer.0 in
-      let inner = both_true (bytes_eq method.name name) (same_kind method.kind kind) outer.1 in
+      let outer = both_true ((method.class.0 == class) && bytes_eq method.name name) (same_kind method.kind kind) found.2 in
+      let inner = both_true (method.class.0 == class) (bytes_eq method.name name) outer.0 in
+      let number : method.class.0 ≡ class = (Decides-eqb method.class.0 class).0 inner.0 in
       let stands = stands_in classes id method found.1 in
       let numbers : stands.number ≡ class = sym (own.numbered stands.number stands.class method stands.class_is (stands.place, stands.there)) ∙ number in
       record {
         declaring = stands.class;
         class_is = ap (λ (n : ℕ). slice_get classes n) (sym numbers) ∙ stands.class_is;
         place = stands.place;
-        stands = record { method = method; there = stands.there; named = (bytes_eq-Decides method.name name).0 inner.0; typed = kind_is method.kind kind inner.1 };
+        stands = record { method = method; there = stands.there; named = (bytes_eq-Decides method.name name).0 inner.1; typed = kind_is method.kind kind outer.1 };
         there = found.1;
       }
 
@@ -164,8 +164,10 @@ module _ (classes : List Class) (own : HaveOwnMethods classes) (class : ℕ) (na
   is_such id is =
       let method = is.stands.method in
       let number : method.class.0 ≡ class = own.numbered class is.declaring method is.class_is (is.place, is.stands.there) in
-      and_true _ _ ((Decides-eqb method.class.0 class).1 number)
-      (and_true _ _ ((bytes_eq-Decides method.name name).1 is.stands.named) (subst (λ (k : MethodType). same_kind k kind ≡ true) (sym is.stands.typed) (kind_self kind)))
+      let numbers : (method.class.0 == class) ≡ true = (Decides-eqb method.class.0 class).1 number in
+      let names : bytes_eq method.name name ≡ true = (bytes_eq-Decides method.name name).1 is.stands.named in
+      let types : same_kind method.kind kind ≡ true = subst (λ (k : MethodType). same_kind k kind ≡ true) (sym is.stands.typed) (kind_self kind) in
+      and_true ((method.class.0 == class) && bytes_eq method.name name) (same_kind method.kind kind) (and_true (method.class.0 == class) (bytes_eq method.name name) numbers names) types
 
   -- a method of the class has it
   pub declared_there : (id : ℕ) → IsNumberOf classes class name kind id → declared_method classes class name kind ≡ Some id
@@ -176,7 +178,7 @@ module _ (classes : List Class) (own : HaveOwnMethods classes) (class : ℕ) (na
         let other = declared_is found some in
         let owner : (n : ℕ) (k : IsNumberOf classes class name kind n) → k.stands.method.class.0 ≡ class = λ n k. own.numbered class k.declaring k.stands.method k.class_is (k.place, k.stands.there) in
         let same : found ≡ id = one_id classes found id other.stands.method is.stands.method own other.there is.there (owner found other ∙ sym (owner id is))
-            (other.stands.named ∙ sym is.stands.named) (other.stands.typed ∙ sym is.stands.typed) in
+        (other.stands.named ∙ sym is.stands.named) (other.stands.typed ∙ sym is.stands.typed) in
         some ∙ ap (λ (n : ℕ). Some n) same
 
   -- what is told is that number

@@ -1,5 +1,5 @@
 -- Class files have one world: what is said of the parts of a world beside its classes and chains tells them in whole.
-use Rattle.std.proofs.Common.{◌≡◌, ◌↔◌, ◌⊎◌, inl, inr, ℕ, zero, suc, ◌<◌, Bool, true, false, true≢false, List, [], ◌∷◌, ◌++◌, length, map, slice_get, slice_index_or, refl, sym, ap, subst, ◌∙◌, arith}
+use Rattle.std.proofs.Common.{◌≡◌, ◌↔◌, ◌⊎◌, inl, inr, ℕ, zero, suc, ◌<◌, Bool, true, false, true≢false, List, [], ◌∷◌, ◌++◌, length, map, Some, slice_get, slice_index_or, refl, sym, ap, subst, ◌∙◌, arith}
 use Rattle.std.proofs.lemmas.Option.{same_Some}
 use Rattle.kb_names.specs.declared.types.ExactType.{ExactType}
 use Rattle.kb_names.specs.declared.types.ExactType.TheVariants as exact
@@ -42,9 +42,9 @@ one_supers classes xs ys p q = same_items [] xs ys (p.len ∙ sym q.len) row
     row low inside =
         let within : low < length classes = subst (λ (n : ℕ). low < n) p.len inside in
         same_items false (slice_index_or xs low []) (slice_index_or ys low []) (p.rows low within ∙ sym (q.rows low within)) (λ high far.
-            same_marks (is_super xs low high) (is_super ys low high)
-                (λ marked. (q.each low high within).1 ((p.each low high within).0 marked))
-                (λ marked. (p.each low high within).1 ((q.each low high within).0 marked)))
+        same_marks (is_super xs low high) (is_super ys low high)
+        (λ marked. (q.each low high within).1 ((p.each low high within).0 marked))
+        (λ marked. (p.each low high within).1 ((q.each low high within).0 marked)))
 
 -- ---- rising lists
 
@@ -86,8 +86,8 @@ module _ {A : Type 0} (key : A → List ℕ) where
       nowhere place z at = cc
   one_rising (x ∷ xs) (y ∷ ys) p q to from = go (first_or_behind y ys q x (to x (0, refl))) (first_or_behind x xs p y (from y (0, refl)))
       (λ same. one_rising xs ys (rising_rest x xs p) (rising_rest y ys q)
-          (λ z has. among_others x xs p z has y ys same (to z (suc has.0, has.1)))
-          (λ z has. among_others y ys q z has x xs (sym same) (from z (suc has.0, has.1))))
+      (λ z has. among_others x xs p z has y ys same (to z (suc has.0, has.1)))
+      (λ z has. among_others y ys q z has x xs (sym same) (from z (suc has.0, has.1))))
     where
       joined : x ≡ y → xs ≡ ys → x ∷ xs ≡ y ∷ ys
       joined first rest = rw (first, rest) refl
@@ -104,7 +104,7 @@ map_itself (x ∷ xs) = ap (λ (ys : List (List ℕ)). x ∷ ys) (map_itself xs)
 one_literals : (classes : List Class) (xs ys : List (List ℕ)) → AreLiterals classes xs → AreLiterals classes ys → xs ≡ ys
 one_literals classes xs ys p q =
     one_rising (λ (x : List ℕ). x) xs ys (subst IsRising (sym (map_itself xs)) p.rises) (subst IsRising (sym (map_itself ys)) q.rises)
-        (λ z has. (q.same z).1 ((p.same z).0 has)) (λ z has. (p.same z).1 ((q.same z).0 has))
+    (λ z has. (q.same z).1 ((p.same z).0 has)) (λ z has. (p.same z).1 ((q.same z).0 has))
 
 one_arrays : (classes : List Class) (xs ys : List JType) → AreArrays classes xs → AreArrays classes ys → xs ≡ ys
 one_arrays classes xs ys p q =
