@@ -2,7 +2,7 @@
 use Rattle.std.proofs.Common.{Option, None, IfSome, ◌≡◌, ◌≢◌, ℕ, zero, suc, ◌+◌, ◌*◌, ◌<◌, ◌≤◌, Bool, true, false, true≢false, ◌==◌, ◌||◌, List, [], ◌∷◌, ◌++◌, length, replicate, get_or, Some, slice_get, refl, sym, ap, subst, ◌∙◌, arith, length-append, get_or-set_same, get_or-set_other}
 use Rattle.std.proofs.Math.ListN.{set}
 use Rattle.std.specs.List.{list_any, sum_by}
-use Rattle.std.proofs.lemmas.List.Sums.{sum_by-set}
+use Rattle.std.proofs.lemmas.List.Sums.{sum_by-set, sum_by-cons}
 use Rattle.std.proofs.lemmas.List.Folds.{sum_by-replicate}
 use Rattle.std.proofs.lemmas.Option.{same_Some, none-some, slice_get_within}
 use Rattle.std.proofs.lemmas.Bool.Decides.{Decides-eqb}
@@ -38,7 +38,7 @@ one_most false = omega arith
 weight_most : (marks : List Bool) → sum_by weight marks ≤ length marks
 weight_most [] = omega arith
 weight_most (m ∷ marks) =
-    let sum : sum_by weight (m ∷ marks) ≡ weight m + sum_by weight marks = refl in
+    let sum : sum_by weight (m ∷ marks) ≡ weight m + sum_by weight marks = sum_by-cons weight m marks in
     let rest : sum_by weight marks ≤ length marks = weight_most marks in
     omega (arith, sum, rest, one_most m)
 

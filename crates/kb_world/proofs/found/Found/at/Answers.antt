@@ -1,7 +1,10 @@
-use Rattle.std.proofs.Common.{◌≡◌, ◌<◌, IfSome, subst}
+use Rattle.std.proofs.Common.{◌≡◌, ◌<◌, length, slice_get, IfSome, subst, rules}
 use Rattle.kb_world.specs.Found.{FoundMethods}
 use Rattle.kb_world.proofs.Marking.{told_inside}
 use Rattle.kb_world.proofs.found.Found.at.Goals as goal
 
 pub returns-clause-inside : goal.returns-clause-inside
-returns-clause-inside c = ?
+returns-clause-inside c =
+    let there : c.copied.result ≡ slice_get c.self.inside.numbers.items c.args.place = search rules in
+    subst (λ (f : FoundMethods). IfSome c.copied.result (λ n. (n < f.all) × (c.args.place < f.all))) c.self.view_is
+    (told_inside c.self.inside.numbers.items c.self.inside.marks.items c.args.place c.copied.result c.self.invariant there)

@@ -4,7 +4,7 @@ use Rattle.kb_world.proofs.Reaching.{IsWalked}
 use Rattle.kb_world.proofs.world.World.check_methods.Given as goal
 
 abbrev pub invariant-loop-number : goal.invariant-loop-number
-invariant-loop-number l = (l.found.all ≡ length (methods_in l.self.classes)) × IsWalked l.self l.id.0 l.place l.found.numbers
+invariant-loop-number l = (l.found.all ≡ length (methods_in l.self.classes)) × IsWalked l.self l.fn.id.0 l.place l.found.numbers
 
 abbrev pub decreases-loop-number : goal.decreases-loop-number
 decreases-loop-number l = length (methods_in l.self.classes) - l.place
