@@ -1,3 +1,7 @@
+pub mod NameLaws
+pub mod FieldLaws
+pub mod MethodLaws
+pub mod RowLaws
 mod Inside
 mod Marking
 mod Reaching

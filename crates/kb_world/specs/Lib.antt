@@ -3,4 +3,5 @@ pub mod Faults
 pub mod Found
 pub mod Lookup
 pub mod Reach
+pub mod Tables
 pub mod Walks

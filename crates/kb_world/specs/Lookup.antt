@@ -1,5 +1,5 @@
 -- Resolution and selection (JVMS 8 sections 5.4.3 and 5.4.6), with this project's own rules where comments say so.
-use Rattle.std.specs.Prelude.{ℕ, suc, Bool, true, false, ◌==◌, ◌&&◌, not, bit_and, List, [], ◌∷◌, drop, filter, Option, Some, None, slice_get, slice_index_or, codes, if◌then◌else◌}
+use Rattle.std.specs.Prelude.{ℕ, suc, Bool, false, ◌==◌, ◌&&◌, not, bit_and, List, [], ◌∷◌, drop, filter, Option, Some, None, slice_get, slice_index_or, codes, if◌then◌else◌}
 use Rattle.std.specs.List.{list_any}
 use Rattle.std.specs.Option.{option_and_then, option_map_or}
 use Rattle.std.specs.Str.{bytes_eq}
@@ -18,7 +18,7 @@ use Rattle.kb_link.specs.declared.slots.FieldSlot.{FieldSlot}
 use Rattle.kb_link.specs.World.{World, number_in, method_at, chain_of}
 use Rattle.kb_link.specs.Members.{is_field, same_type, declared_method}
 use Rattle.kb_link.specs.Rules.{is_interface}
-use Rattle.kb_link.specs.Slots.{is_static, slots_of}
+use Rattle.kb_link.specs.Slots.{slots_of}
 use Rattle.kb_link.specs.Subtypes.{is_super, numbers_of}
 
 -- what is there, or else the other

@@ -1,19 +1,26 @@
 //! The world of classes: what is linked, with resolution, selection, and what a method reaches.
 //!
-//! `specs/Lookup.antt` has resolution and selection as searches over the lists of linked classes, `specs/Faults.antt`
-//! and `specs/Calls.antt` what is wrong with an instruction, `specs/Reach.antt` the methods that a target reaches and the first
-//! thing there that cannot be carried out.
+//! `specs/Lookup.antt` has resolution and selection as searches over the lists of linked classes, `specs/Tables.antt` the
+//! tables that answer in their place; `specs/Faults.antt` and `specs/Calls.antt` what is wrong with an instruction,
+//! `specs/Reach.antt` the methods that a target reaches and the first thing there that cannot be carried out.
 #![tactic(auto)]
 
+mod by_name;
 mod calls;
+mod chains;
 mod checks;
 mod faults;
+mod fields;
 mod found;
 mod laws;
 mod linking;
 mod lookup;
 mod mentions;
+mod methods;
 mod reach;
+mod resolving;
+mod special;
+mod tables;
 mod world;
 
 pub use kb_link::{FieldSlot, LinkRefusal, What};

@@ -4,6 +4,8 @@ ghost use Rattle.std.specs.Option.{option_copied};
 ghost use Rattle.kb_link.specs.World.{methods_in};
 ghost use Rattle.kb_world.specs.Lookup.{resolved_field, resolved_field_class, resolved_method, selected, selected_special};
 
+use crate::fields::slot_in;
+use crate::methods::{Pick, found_along};
 use crate::world::World;
 use kb_class::{ClassId, MethodId};
 use kb_link::FieldSlot;
@@ -15,7 +17,10 @@ impl World {
         requires { class.0 < length self.now.classes }
         ensures { option_map (λ (id : ClassId). id.0) result ≡ resolved_field_class self.now class.0 entry }
     {
-        None
+        match self.entry_at(class, entry).declaring {
+            Some(number) => Some(ClassId(number)),
+            None => None,
+        }
     }
 
     /// The slot of the field which a Fieldref entry names. None where there is no such field, where it has no slot, or where
@@ -24,7 +29,8 @@ impl World {
         requires { class.0 < length self.now.classes }
         ensures { option_copied result ≡ resolved_field self.now class.0 entry }
     {
-        None
+        let told = self.entry_at(class, entry);
+        slot_in(self.linked(), told.declaring, told.slot)
     }
 
     /// The method which a Methodref or InterfaceMethodref entry names. None where there is no such method, or where the entry
@@ -33,7 +39,7 @@ impl World {
         requires { class.0 < length self.now.classes }
         ensures there { option_map (λ (id : MethodId). id.0) result ≡ resolved_method self.now class.0 entry }
     {
-        None
+        method_id(self.entry_at(class, entry).method)
     }
 
     /// What invokespecial of a Methodref or InterfaceMethodref entry calls, in code of the class of the entry.
@@ -41,7 +47,7 @@ impl World {
         requires { class.0 < length self.now.classes }
         ensures { option_map (λ (id : MethodId). id.0) result ≡ selected_special self.now class.0 entry }
     {
-        None
+        method_id(self.entry_at(class, entry).special)
     }
 
     /// What is called in place of the method where the receiver is of the class: the first method of its name and type from
@@ -51,6 +57,18 @@ impl World {
         requires method { method.0 < length (methods_in self.now.classes) }
         ensures { option_map (λ (id : MethodId). id.0) result ≡ selected self.now class.0 method.0 }
     {
-        None
+        let linked = self.linked();
+        let wanted = linked.method_of(method);
+        let chain = linked.chain_of(class);
+        method_id(found_along(linked, Pick::Open, chain, &wanted.name, &wanted.kind))
+    }
+}
+
+fn method_id(number: Option<u32>) -> Option<MethodId>
+    ensures { option_map (λ (id : MethodId). id.0) result ≡ number }
+{
+    match number {
+        Some(number) => Some(MethodId(number)),
+        None => None,
     }
 }

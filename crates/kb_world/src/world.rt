@@ -8,11 +8,13 @@ ghost use Rattle.kb_link.specs.Placing.{place_in};
 ghost use Rattle.kb_link.specs.Slots.{slots_of};
 ghost use Rattle.kb_link.specs.Subtypes.{fits};
 ghost use Rattle.kb_link.specs.Targets.{IsTargetOf};
+ghost use Rattle.kb_world.specs.Tables.{IsResolved};
 
+use crate::resolving::{Resolved, resolved_at, rows_of};
 use kb_class::{ClassId, MethodId, MethodInfo};
 use kb_classfile::ClassFile;
 use kb_link::{FieldSlot, Linked};
-use kb_names::{ExactType, JType, Name, NoMemory, Target};
+use kb_names::{ExactType, JType, Name, NoMemory, Row, Target};
 use std::alloc::Global;
 use std::marker::Model;
 
@@ -21,6 +23,8 @@ use std::marker::Model;
 #[derive(Drop)]
 pub struct World {
     linked: Linked,
+    // Of each class what each entry of its constant pool stands for.
+    rows: Vec<Row<Resolved>>,
 }
 
 impl Model for World {
@@ -31,15 +35,28 @@ impl Model for World {
 
     ghost view = { λ w. w.linked };
 
-    ghost invariant = { λ w. IsLinked w.linked };
+    ghost use Rattle.kb_world.specs.Tables.{AreRows};
+
+    ghost invariant = { λ w. IsLinked w.linked × AreRows w.linked w.rows.items };
 }
 
 impl World {
     /// The world of linked classes.
     pub(crate) fn of(alloc: Global, linked: Linked) -> Result<World, NoMemory>
+        requires { IsLinked linked }
         ensures { IfOk result (λ world. world ≡ linked) }
     {
-        Ok(World { linked })
+        let rows = rows_of(alloc, &linked)?;
+        Ok(World { linked, rows })
+    }
+
+    /// What an entry of a class stands for; nothing where the class has no such entry.
+    pub(crate) fn entry_at(&self, class: ClassId, entry: u16) -> Resolved
+        requires { class.0 < length self.now.classes }
+        ensures there { IsResolved self.now class.0 entry result }
+        ensures linked { IsLinked self.now }
+    {
+        resolved_at(self.rows.as_slice(), class.0, entry)
     }
 
     /// The linked classes.

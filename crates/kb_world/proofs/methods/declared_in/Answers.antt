@@ -1,0 +1,8 @@
+use Rattle.std.proofs.Common.{◌≤◌, length, sym, arith}
+use Rattle.kb_world.proofs.MethodLaws.{declared_past}
+use Rattle.kb_world.proofs.methods.declared_in.Goals as goal
+
+pub returns-then-number-class_count : goal.returns-then-number-class_count
+returns-then-number-class_count c =
+    let past : length c.args.linked.now.classes ≤ c.args.number = omega (arith, c.if-number-class_count.true, c.class_count.ensures) in
+    sym (declared_past c.args.linked.now c.requires c.args.name.now c.args.kind.now c.args.number past)

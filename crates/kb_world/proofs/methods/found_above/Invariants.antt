@@ -1,0 +1,7 @@
+use Rattle.std.proofs.Common.{◌≡◌}
+use Rattle.kb_world.specs.Lookup.{first_along, declares_open, superinterfaces}
+use Rattle.kb_world.proofs.MethodLaws.{found_behind}
+use Rattle.kb_world.proofs.methods.found_above.Given as goal
+
+abbrev pub invariant-loop-number : goal.invariant-loop-number
+invariant-loop-number l = found_behind l.linked l.low l.name l.kind l.number ≡ first_along (declares_open l.linked l.name l.kind) (superinterfaces l.linked l.low)
