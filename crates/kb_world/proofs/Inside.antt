@@ -21,6 +21,7 @@ use Rattle.kb_link.proofs.MemberNames.{place_there}
 use Rattle.kb_link.proofs.MethodNumbers.{stands_in}
 use Rattle.kb_link.proofs.Named.{number_inside}
 use Rattle.kb_world.specs.Lookup.{or_else, only_where, first_along, class_of, sought_at, declares, is_open_at, if_open, declares_open, first_sought, superinterfaces, resolved_in, method_sought, method_of_sought, resolved_method, selected_for, selected, special_start, special_for, special_sought, special_of_sought, selected_special}
+use Rattle.kb_world.specs.Calls.{selected_on}
 
 -- ---- what holds of each number that is told holds of the first
 
@@ -41,13 +42,17 @@ module _ (P : ℕ → Type 0) where
   where_such true n h = h
   where_such false n h = tt
 
--- it holds of what the code tells
-pub of_told : (P : ℕ → Type 0) (told : Option MethodId) (o : Option ℕ) → option_map (λ (id : MethodId). id.0) told ≡ o → IfSome o P → IfSome told (λ id. P id.0)
+-- it holds of what is told
+of_some : (P : ℕ → Type 0) (n : ℕ) (o : Option ℕ) → Some n ≡ o → IfSome o P → P n
+of_some P n None e h = absurd (none-some n (sym e))
+of_some P n (Some m) e h = subst P (same_Some m n (sym e)) h
+
+of_told : (P : ℕ → Type 0) (told : Option MethodId) (o : Option ℕ) → option_map (λ (id : MethodId). id.0) told ≡ o → IfSome o P → IfSome told (λ id. P id.0)
 of_told P None o e h = tt
 of_told P (Some id) None e h = absurd (none-some id.0 (sym e))
 of_told P (Some id) (Some n) e h = subst P (same_Some n id.0 (sym e)) h
 
-pub of_told_class : (P : ℕ → Type 0) (told : Option ClassId) (o : Option ℕ) → option_map (λ (id : ClassId). id.0) told ≡ o → IfSome o P → IfSome told (λ id. P id.0)
+of_told_class : (P : ℕ → Type 0) (told : Option ClassId) (o : Option ℕ) → option_map (λ (id : ClassId). id.0) told ≡ o → IfSome o P → IfSome told (λ id. P id.0)
 of_told_class P None o e h = tt
 of_told_class P (Some id) None e h = absurd (none-some id.0 (sym e))
 of_told_class P (Some id) (Some n) e h = subst P (same_Some n id.0 (sym e)) h
@@ -87,14 +92,14 @@ module _ (world : World) where
   in_sought references.InterfaceMethod class name (kinds.Field type) = tt
   in_sought references.InterfaceMethod class name (kinds.Method kind) = then_such IsInside (resolved_in world name kind) (in_class name kind) (class_of world class)
 
-  pub resolved_inside : (class entry : ℕ) → IfSome (resolved_method world class entry) IsInside
+  resolved_inside : (class entry : ℕ) → IfSome (resolved_method world class entry) IsInside
   resolved_inside class entry =
       then_such IsInside (method_of_sought world) (λ sought. in_sought sought.what sought.class sought.member.name sought.member.kind) (sought_at world class entry)
 
   for_inside : (name : List ℕ) (kind : MethodType) (class : ℕ) → IfSome (selected_for world name kind class) IsInside
   for_inside name kind class = first_such IsInside (declares_open world name kind) (open_inside name kind) (chain_of world class)
 
-  pub selected_inside : (class method : ℕ) → IfSome (selected world class method) IsInside
+  selected_inside : (class method : ℕ) → IfSome (selected world class method) IsInside
   selected_inside class method = then_such IsInside (λ (m : MethodInfo). selected_for world m.name m.kind class) (λ m. for_inside m.name m.kind class) (method_at world method)
 
   special_class : (current : ℕ) (name : List ℕ) (kind : MethodType) (named : ℕ) → IfSome (special_for world current name kind named) IsInside
@@ -107,9 +112,22 @@ module _ (world : World) where
   in_special current references.InterfaceMethod class name (kinds.Field type) = tt
   in_special current references.InterfaceMethod class name (kinds.Method kind) = then_such IsInside (special_for world current name kind) (special_class current name kind) (class_of world class)
 
-  pub special_inside : (class entry : ℕ) → IfSome (selected_special world class entry) IsInside
+  special_inside : (class entry : ℕ) → IfSome (selected_special world class entry) IsInside
   special_inside class entry =
       then_such IsInside (special_of_sought world class) (λ sought. in_special class sought.what sought.class sought.member.name sought.member.kind) (sought_at world class entry)
+
+  pub resolved_at : (class entry number : ℕ) → Some number ≡ resolved_method world class entry → IsInside number
+  resolved_at class entry number e = of_some IsInside number (resolved_method world class entry) e (resolved_inside class entry)
+
+  pub special_at : (class entry number : ℕ) → Some number ≡ selected_special world class entry → IsInside number
+  special_at class entry number e = of_some IsInside number (selected_special world class entry) e (special_inside class entry)
+
+  pub special_told : (class entry : ℕ) (told : Option MethodId) → option_map (λ (id : MethodId). id.0) told ≡ selected_special world class entry → IfSome told (λ id. IsInside id.0)
+  special_told class entry told e = of_told IsInside told (selected_special world class entry) e (special_inside class entry)
+
+  pub selected_told : (method : ℕ) (receiver : ExactType) (told : Option MethodId) → option_map (λ (id : MethodId). id.0) told ≡ selected_on world method receiver → IfSome told (λ id. IsInside id.0)
+  selected_told method receiver told e =
+      of_told IsInside told (selected_on world method receiver) e (then_such IsInside (λ class. selected world class method) (λ class. selected_inside class method) (class_of world receiver))
 
   -- ---- classes
 
@@ -125,6 +143,9 @@ module _ (world : World) where
     go None e = tt
     go (Some n) e = number_inside world.classes name n e
 
-  pub class_inside : (type : ExactType) → IfSome (class_of world type) (λ n. n < length world.classes)
+  class_inside : (type : ExactType) → IfSome (class_of world type) (λ n. n < length world.classes)
   class_inside (exact.Class name) = named_inside name
   class_inside (exact.Array component) = named_inside object_name
+
+  pub class_told : (type : ExactType) (told : Option ClassId) → option_map (λ (id : ClassId). id.0) told ≡ class_of world type → IfSome told (λ id. id.0 < length world.classes)
+  class_told type told e = of_told_class (λ n. n < length world.classes) told (class_of world type) e (class_inside type)

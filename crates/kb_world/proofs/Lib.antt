@@ -2,7 +2,7 @@ pub mod NameLaws
 pub mod FieldLaws
 pub mod MethodLaws
 pub mod RowLaws
-pub mod Inside
-pub mod Marking
-pub mod Reaching
+mod Inside
+mod Marking
+mod Reaching
 pub mod ReachLaws

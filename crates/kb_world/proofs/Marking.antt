@@ -1,8 +1,8 @@
 -- Marks of the methods that are found.
-use Rattle.std.proofs.Common.{◌≡◌, ◌≢◌, ℕ, zero, suc, ◌+◌, ◌*◌, ◌<◌, ◌≤◌, Bool, true, false, true≢false, ◌==◌, ◌||◌, List, [], ◌∷◌, ◌++◌, length, replicate, get_or, Some, slice_get, refl, sym, ap, subst, ◌∙◌, arith, length-append, get_or-set_same, get_or-set_other}
+use Rattle.std.proofs.Common.{Option, None, IfSome, ◌≡◌, ◌≢◌, ℕ, zero, suc, ◌+◌, ◌*◌, ◌<◌, ◌≤◌, Bool, true, false, true≢false, ◌==◌, ◌||◌, List, [], ◌∷◌, ◌++◌, length, replicate, get_or, Some, slice_get, refl, sym, ap, subst, ◌∙◌, arith, length-append, get_or-set_same, get_or-set_other}
 use Rattle.std.proofs.Math.ListN.{set}
 use Rattle.std.specs.List.{list_any, sum_by}
-use Rattle.std.proofs.lemmas.List.Sums.{sum_by-set}
+use Rattle.std.proofs.lemmas.List.Sums.{sum_by-set, sum_by-cons}
 use Rattle.std.proofs.lemmas.List.Folds.{sum_by-replicate}
 use Rattle.std.proofs.lemmas.Option.{same_Some, none-some, slice_get_within}
 use Rattle.std.proofs.lemmas.Bool.Decides.{Decides-eqb}
@@ -37,7 +37,10 @@ one_most false = omega arith
 
 weight_most : (marks : List Bool) → sum_by weight marks ≤ length marks
 weight_most [] = omega arith
-weight_most (m ∷ marks) = let rest : sum_by weight marks ≤ length marks = weight_most marks in omega (arith, rest, one_most m)
+weight_most (m ∷ marks) =
+    let sum : sum_by weight (m ∷ marks) ≡ weight m + sum_by weight marks = sum_by-cons weight m marks in
+    let rest : sum_by weight marks ≤ length marks = weight_most marks in
+    omega (arith, sum, rest, one_most m)
 
 unmarked : (all n : ℕ) → get_or (replicate all false) n false ≡ false
 unmarked zero n = refl
@@ -83,3 +86,8 @@ pub found_inside : (numbers : List ℕ) (marks : List Bool) (place n : ℕ) → 
 found_inside numbers marks place n are at =
     let within : place < length numbers = slice_get_within numbers place n at in
     (marked_inside marks n (are.same n ∙ any_there numbers place n at), omega (arith, within, are.many, weight_most marks))
+
+-- the same of what is told of a place
+pub told_inside : (numbers : List ℕ) (marks : List Bool) (place : ℕ) (told : Option ℕ) → AreMarked numbers marks → told ≡ slice_get numbers place → IfSome told (λ n. (n < length marks) × (place < length marks))
+told_inside numbers marks place None are e = tt
+told_inside numbers marks place (Some n) are e = found_inside numbers marks place n are (sym e)

@@ -3,12 +3,13 @@ ghost use Rattle.std.specs.Prelude.{◌≡◌, ◌<◌, length, not, option_map,
 ghost use Rattle.std.specs.List.{list_any};
 ghost use Rattle.kb_link.specs.World.{methods_in};
 ghost use Rattle.kb_link.specs.Slots.{is_static};
-ghost use Rattle.kb_world.specs.Lookup.{class_of, is_open, resolved_method};
+ghost use Rattle.kb_world.specs.Lookup.{class_of, resolved_method};
 ghost use Rattle.kb_world.specs.declared.calls.Call.TheVariants as calls;
 ghost use Rattle.kb_world.specs.Faults.{told};
 ghost use Rattle.kb_world.specs.Calls.{takes, selected_on, called_on, called, is_callable_method, is_callable, is_for, fault_of_kind, fault_of_number, call_fault};
 
 use crate::faults::{Fault, has_left_out};
+use crate::methods::{OBJECT, is_open};
 use crate::world::World;
 use kb_class::{ClassId, MemberKind, MethodId, MethodInfo, ReferenceKind};
 use kb_link::What;
@@ -25,9 +26,6 @@ pub(crate) enum Call {
 
 /// ACC_STATIC (JVMS 8 table 4.6-A).
 const STATIC: u16 = 0x0008;
-
-/// ACC_PRIVATE and ACC_STATIC.
-const NOT_OPEN: u16 = 0x000a;
 
 impl World {
     /// What is wrong with a call of the entry, in code of the class.
@@ -187,7 +185,7 @@ impl World {
     {
         match of {
             ExactType::Class(name) => self.linked().class_of_text(name.as_slice()),
-            ExactType::Array(_) => self.linked().class_of_text(b"java/lang/Object"),
+            ExactType::Array(_) => self.linked().class_of_text(OBJECT),
         }
     }
 
@@ -232,11 +230,4 @@ pub(crate) fn is_static(method: &MethodInfo) -> bool
     ensures { result ≡ is_static method.now.access }
 {
     method.access & STATIC != 0
-}
-
-// Whether the method is neither private nor static.
-fn is_open(method: &MethodInfo) -> bool
-    ensures { result ≡ is_open method.now }
-{
-    method.access & NOT_OPEN == 0
 }

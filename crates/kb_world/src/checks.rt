@@ -72,6 +72,7 @@ impl World {
     }
 
     // What is wrong with an instruction of a class.
+    #[tactic(auto, unfolding(crate::specs::Calls::fault_of))]
     fn fault_of(&self, class: ClassId, instr: &Instr) -> Option<Fault<'_>>
         requires { class.0 < length self.now.classes }
         ensures { option_map told result ≡ fault_of self.now class.0 instr.now }
@@ -101,7 +102,7 @@ impl World {
         fault: Fault<'_>,
     ) -> LinkRefusal
         requires { method.0 < length (methods_in self.now.classes) }
-        ensures { (result ≡ refusals.NoMemory) ⊎ Tells self.now method.0 at (told fault) result }
+        ensures { (result ≡ refusals.NoMemory) ⊎ Tells self.now method.0 at (told fault.entry) result }
     {
         match fault {
             Fault::NoField => match self.target_of(alloc, method) {

@@ -119,7 +119,10 @@ impl World {
         ensures { option_map told result ≡ fault_of_new_type self.now of.now }
     {
         match of {
-            ExactType::Class(name) => self.object_fault(self.class_named(name)?),
+            ExactType::Class(name) => {
+                let class = self.class_named(name)?;
+                self.object_fault(class)
+            }
             ExactType::Array(_) => Some(Fault::Outside(What::Kind)),
         }
     }

@@ -1,7 +1,7 @@
 //! The world of classes: what is linked, with resolution, selection, and what a method reaches.
 //!
 //! `specs/Lookup.antt` has resolution and selection as searches over the lists of linked classes, `specs/Tables.antt` the
-//! tables that answer in their place, `specs/Faults.antt` and `specs/Calls.antt` what is wrong with an instruction,
+//! tables that answer in their place; `specs/Faults.antt` and `specs/Calls.antt` what is wrong with an instruction,
 //! `specs/Reach.antt` the methods that a target reaches and the first thing there that cannot be carried out.
 #![tactic(auto)]
 

@@ -46,6 +46,7 @@ impl World {
     }
 
     // Adds the methods that an instruction of a class mentions.
+    #[tactic(auto, unfolding(crate::specs::Calls::mentions))]
     fn add_of(&self, class: ClassId, instr: &Instr, found: &mut Found) -> Result<(), NoMemory>
         requires class { class.0 < length self.now.classes }
         requires all { found.old.all ≡ length (methods_in self.now.classes) }

@@ -68,8 +68,8 @@ fn open_in(linked: &Linked, number: u32, name: &Name, kind: &MethodType) -> Opti
     Some(id)
 }
 
-// Whether the method is neither private nor static.
-fn is_open(method: &MethodInfo) -> bool
+/// Whether the method is neither private nor static.
+pub(crate) fn is_open(method: &MethodInfo) -> bool
     ensures { result ≡ is_open method.now }
 {
     method.access & PRIVATE_OR_STATIC == 0

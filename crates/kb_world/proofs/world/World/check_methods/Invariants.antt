@@ -3,8 +3,8 @@ use Rattle.kb_link.specs.World.{methods_in}
 use Rattle.kb_world.proofs.Reaching.{IsWalked}
 use Rattle.kb_world.proofs.world.World.check_methods.Given as goal
 
-abbrev pub invariant-loop-place : goal.invariant-loop-place
-invariant-loop-place l = (l.found.all ≡ length (methods_in l.self.classes)) × IsWalked l.self l.id.0 l.place l.found.numbers
+abbrev pub invariant-loop-number : goal.invariant-loop-number
+invariant-loop-number l = (l.found.all ≡ length (methods_in l.self.classes)) × IsWalked l.self l.fn.id.0 l.place l.found.numbers
 
-abbrev pub decreases-loop-place : goal.decreases-loop-place
-decreases-loop-place l = length (methods_in l.self.classes) - l.place
+abbrev pub decreases-loop-number : goal.decreases-loop-number
+decreases-loop-number l = length (methods_in l.self.classes) - l.place
