@@ -1,0 +1,3 @@
+// Gone as an interface.
+interface Gone {
+}
