@@ -12,7 +12,6 @@ use Rattle.kb_class.specs.declared.members.MemberKind.TheVariants as kinds
 use Rattle.kb_class.specs.declared.members.MethodInfo.{MethodInfo}
 use Rattle.kb_class.specs.declared.ids.MethodId.{MethodId}
 use Rattle.kb_class.specs.declared.ids.ClassId.{ClassId}
-use Rattle.kb_class.specs.Class.{Class, Sought}
 use Rattle.kb_class.specs.Platform.{object_name}
 use Rattle.kb_link.specs.World.{World, number_in, method_at, methods_in, chain_of}
 use Rattle.kb_link.specs.Members.{declared_method, is_method}

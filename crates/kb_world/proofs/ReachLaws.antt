@@ -1,23 +1,22 @@
 -- What is reached is one list, and what is reached first that has a fault is one.
-use Rattle.std.proofs.Common.{◌≡◌, ℕ, zero, suc, ◌+◌, ◌<◌, ◌≤◌, ◌⊎◌, inl, inr, List, [], ◌∷◌, ◌++◌, length, take, Option, Some, None, slice_get, refl, sym, ap, subst, ◌∙◌, arith}
+use Rattle.std.proofs.Common.{◌≡◌, ℕ, zero, suc, ◌+◌, ◌<◌, ◌≤◌, ◌⊎◌, inl, inr, List, [], ◌∷◌, ◌++◌, length, take, Some, None, slice_get, refl, sym, ap, subst, ◌∙◌, arith}
 use Rattle.std.specs.List.{AllByRecursion}
-use Rattle.std.proofs.lemmas.List.{take_all, take-append-le, length-append}
-use Rattle.std.proofs.lemmas.Option.{same_Some, none-some, some_pair_parts, slice_get_within, slice_get_past}
+use Rattle.std.proofs.lemmas.List.{take_all, length-append}
+use Rattle.std.proofs.lemmas.Option.{same_Some, none-some, some_pair_parts, slice_get_past}
 use Rattle.kb_names.specs.declared.types.Target.{Target}
 use Rattle.kb_class.specs.declared.ids.MethodId.{MethodId}
 use Rattle.kb_class.specs.declared.members.MethodInfo.{MethodInfo}
 use Rattle.kb_class.specs.Class.{Class}
 use Rattle.kb_link.specs.declared.linking.LinkRefusal.{LinkRefusal}
 use Rattle.kb_link.specs.declared.linking.LinkRefusal.TheVariants as refusals
-use Rattle.kb_link.specs.declared.linking.What.{What}
-use Rattle.kb_link.specs.World.{World, method_at}
+use Rattle.kb_link.specs.World.{World}
 use Rattle.kb_link.specs.Links.{IsLinked}
 use Rattle.kb_link.specs.Targets.{Declares, IsTargetOf}
 use Rattle.kb_link.proofs.TargetLaws.{one_declared}
 use Rattle.kb_link.proofs.Places.{get_last}
 use Rattle.kb_link.proofs.MethodNumbers.{get_before}
 use Rattle.kb_world.specs.Faults.{Fault, NoField, Missing, Outside, Initialiser}
-use Rattle.kb_world.specs.Reach.{found_by, method_fault, fault_of_target, HasNoFault, IsFront, IsReached, IsFirstFault, OfTarget, OfMethod, IsFaultOf, HasNoFaults, IsAccepted, Refuses}
+use Rattle.kb_world.specs.Reach.{found_by, method_fault, HasNoFault, IsFront, IsReached, IsFirstFault, OfTarget, OfMethod, IsFaultOf, HasNoFaults, IsAccepted, Refuses}
 use Rattle.kb_world.specs.Walks.{Tells, StopsAt}
 use Rattle.kb_link.specs.Split.{is_special}
 

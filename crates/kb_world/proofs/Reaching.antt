@@ -1,18 +1,16 @@
 -- The walk over the methods that are reached.
-use Rattle.std.proofs.Common.{◌≡◌, ℕ, zero, suc, ◌+◌, ◌<◌, ◌≤◌, ◌⊎◌, inl, inr, Bool, true, false, ◌==◌, List, [], ◌∷◌, ◌++◌, length, take, Option, Some, None, slice_get, refl, sym, ap, subst, ◌∙◌, arith, append_assoc}
+use Rattle.std.proofs.Common.{◌≡◌, ℕ, zero, suc, ◌+◌, ◌<◌, ◌≤◌, ◌⊎◌, inl, inr, Bool, true, false, ◌==◌, List, [], ◌∷◌, ◌++◌, length, take, Some, None, slice_get, refl, sym, ap, subst, ◌∙◌, arith, append_assoc}
 use Rattle.std.specs.List.{AllByRecursion, list_any, flat_map, fold}
 use Rattle.std.proofs.lemmas.Grind.{flat_map-append, fold-append}
 use Rattle.std.proofs.lemmas.List.{append-nil, take_all, take-append-le, length-take-le, length-append}
-use Rattle.std.proofs.lemmas.Option.{same_Some, none-some, slice_get_within, slice_get_past}
-use Rattle.kb_class.specs.declared.members.MethodInfo.{MethodInfo}
+use Rattle.std.proofs.lemmas.Option.{same_Some, none-some, slice_get_within}
 use Rattle.kb_link.specs.declared.linking.LinkRefusal.{LinkRefusal}
 use Rattle.kb_link.specs.declared.linking.LinkRefusal.TheVariants as refusals
 use Rattle.kb_link.specs.World.{World}
-use Rattle.kb_link.proofs.Places.{get_pushed, get_last}
+use Rattle.kb_link.proofs.Places.{get_pushed}
 use Rattle.kb_world.specs.Faults.{Fault}
-use Rattle.kb_world.specs.Found.{FoundMethods}
-use Rattle.kb_world.specs.Reach.{with_new, found_by, method_mentions, method_fault, fault_of_target, HasNoFault, IsFront, IsReached, IsFirstFault, OfTarget, OfMethod, HasNoFaults}
-use Rattle.kb_world.specs.Walks.{with_all, Tells, TellsFirst, StopsAt, IsFaultOfMethod}
+use Rattle.kb_world.specs.Reach.{with_new, found_by, method_mentions, method_fault, fault_of_target, HasNoFault, IsFront, IsFirstFault, OfTarget, OfMethod, HasNoFaults}
+use Rattle.kb_world.specs.Walks.{Tells, StopsAt, IsFaultOfMethod}
 
 -- ---- what is found stays in front
 

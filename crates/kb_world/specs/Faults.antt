@@ -1,5 +1,5 @@
 -- What is wrong with an instruction that is no call (own rules over JVMS 8 sections 5.4.3, 5.5 and 6.5).
-use Rattle.std.specs.Prelude.{ℕ, Bool, true, false, ◌==◌, ◌||◌, not, nat_le, is_some, List, Option, Some, None, slice_get, if◌then◌else◌}
+use Rattle.std.specs.Prelude.{ℕ, Bool, true, false, ◌==◌, ◌||◌, not, nat_le, is_some, List, Option, Some, None, slice_get}
 use Rattle.std.specs.List.{list_any}
 use Rattle.std.specs.Option.{option_and_then, option_map_or}
 use Rattle.kb_names.specs.Shape.{Base, class_base}

@@ -1,6 +1,6 @@
 -- What a method reaches, and the first thing there that cannot be carried out (own rules over JVMS 8 sections 5.4.3, 5.5 and
 -- 6.5).
-use Rattle.std.specs.Prelude.{◌≡◌, ℕ, Bool, false, ◌==◌, is_some, IsSome, List, [], ◌∷◌, ◌++◌, fold, take, Option, Some, None, slice_get, if◌then◌else◌}
+use Rattle.std.specs.Prelude.{◌≡◌, ℕ, false, ◌==◌, IsSome, List, [], ◌∷◌, ◌++◌, fold, take, Option, Some, None, slice_get, if◌then◌else◌}
 use Rattle.std.specs.List.{AllByRecursion, list_any, flat_map}
 use Rattle.std.specs.Option.{option_map, option_and_then, option_map_or}
 use Rattle.kb_names.specs.declared.types.Target.{Target}

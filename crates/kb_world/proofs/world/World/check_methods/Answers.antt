@@ -1,7 +1,7 @@
-use Rattle.std.proofs.Common.{◌≡◌, ℕ, ◌+◌, ◌-◌, ◌<◌, [], ◌∷◌, length, fold, Some, None, slice_get, sym, ap, subst, ◌∙◌, arith}
+use Rattle.std.proofs.Common.{◌≡◌, ℕ, ◌+◌, ◌-◌, ◌<◌, [], ◌∷◌, length, Some, None, slice_get, sym, ap, subst, ◌∙◌, arith}
 use Rattle.kb_link.specs.World.{World, methods_in}
 use Rattle.kb_world.specs.Found.{FoundMethods}
-use Rattle.kb_world.specs.Reach.{with_new, method_mentions}
+use Rattle.kb_world.specs.Reach.{method_mentions}
 use Rattle.kb_world.specs.Walks.{with_all}
 use Rattle.kb_world.proofs.Reaching.{IsWalked, walk_starts, walk_goes, walk_ends, walk_stops}
 use Rattle.kb_world.proofs.world.World.check_methods.Goals as goal
