@@ -20,4 +20,4 @@ pub use class_writer::write_class;
 pub use instr_writer::write_instr;
 pub use kb_rows::Row;
 pub use memory::NoMemory;
-pub use written::Written;
+pub use written::{Written, padding_behind};

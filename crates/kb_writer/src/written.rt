@@ -97,7 +97,7 @@ fn pairs_reach(from: u32, pairs: &[(i32, u32)]) -> bool
     pairs.iter().all(|pair| is_far(from, pair.1))
 }
 
-/// How many bytes lead from the opcode at the offset to the next multiple of four.
+/// How many zeros stand between the opcode of a switch at the offset `at` and the next multiple of four: 0 to 3.
 pub fn padding_behind(at: u32) -> usize
     ensures value { result ≡ padding_at (at + 1) }
     ensures few { result < 4 }
