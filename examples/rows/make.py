@@ -76,6 +76,7 @@ def by_hand():
         "field.class": CLASS_A[:64] + b"\0\0\0\1\0\x09\0\5\0\6\0\0" + CLASS_A[68:],
         # other names and superclasses
         "string.class": class_like_a(b"java/lang/String", b"java/lang/Object"),
+        "object.class": changed(61, b"\4"),
         "missing.class": class_like_a(b"A", b"Missing"),
         "itself.class": class_like_a(b"A", b"A"),
         "final.class": class_like_a(b"A", b"java/lang/String"),
