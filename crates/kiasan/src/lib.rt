@@ -17,8 +17,6 @@ mod status;
 mod straight;
 mod target;
 mod term_stack;
-#[cfg(test)]
-mod tests;
 mod top;
 mod unbuilt;
 mod verdicts;

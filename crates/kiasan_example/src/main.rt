@@ -4,6 +4,9 @@
 //! itself has no words, so this one takes the main path.
 #![tactic(auto)]
 
+#[cfg(test)]
+mod tests;
+
 use kb_outside::{MemoryShelf, MemorySink};
 use kb_samples::CLASS_A;
 use kiasan::{Status, kiasan};

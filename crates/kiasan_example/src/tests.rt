@@ -1,0 +1,82 @@
+//! What no row of words over files can show of the top call: how often it reads a file, and a sink that fails.
+
+use kb_outside::{MemoryShelf, MemorySink};
+use kb_samples::CLASS_A;
+use kiasan::{Status, kiasan};
+use std::alloc::{AllocError, Global};
+use std::test::Fail;
+
+const EXPLORE_A: &str = "explore --method A.f(II)I A.class";
+
+const REPLAY_A: &str = "replay --tests A.tests A.class";
+
+/// The test of class A's one path.
+const TEST_A: &str = "test A.f(II)I
+bounds alloc 16 loops 10 depth 16 steps 2000
+arg 0
+arg 0
+returns 0
+end
+";
+
+/// A shelf with class A and its test, whose calls of these numbers fail, from 0.
+fn shelf_failing_at(alloc: Global, fails: Vec<u64>) -> Result<MemoryShelf, AllocError> {
+    let mut files = Vec::new(alloc);
+    files.push((String::from_str(alloc, "A.class")?, CLASS_A.to_vec(alloc)?))?;
+    let tests = TEST_A.as_bytes().to_vec(alloc)?;
+    files.push((String::from_str(alloc, "A.tests")?, tests))?;
+    Ok(MemoryShelf::new(files, fails))
+}
+
+/// A sink that takes 10 bytes in a call, and fails at those of these numbers, from 0.
+fn sink_failing_at(alloc: Global, fails: Vec<u64>) -> Result<MemorySink, Fail> {
+    Ok(MemorySink::new(alloc, 10, fails).with_room(4096)?)
+}
+
+/// The program's answer to these words.
+fn answer_to(
+    alloc: Global,
+    line: &str,
+    shelf: &mut MemoryShelf,
+    sink: &mut MemorySink,
+) -> Result<Status, AllocError> {
+    let mut words = Vec::new(alloc);
+    for word in line.split_whitespace() {
+        words.push(String::from_str(alloc, word)?)?;
+    }
+    Ok(kiasan(alloc, words.as_slice(), shelf, sink))
+}
+
+/// A second call of the shelf would fail.
+#[test]
+fn an_exploration_reads_its_file_once(rt: HostRuntime) -> Result<(), Fail> {
+    let alloc = rt.alloc();
+    let mut shelf = shelf_failing_at(alloc, vec![in alloc; 1u64]?)?;
+    let mut sink = sink_failing_at(alloc, Vec::new(alloc))?;
+    let status = answer_to(alloc, EXPLORE_A, &mut shelf, &mut sink)?;
+    assert_eq!(rt; status, Status::Complete);
+    Ok(())
+}
+
+/// A third call of the shelf would fail.
+#[test]
+fn a_replay_reads_each_of_its_files_once(rt: HostRuntime) -> Result<(), Fail> {
+    let alloc = rt.alloc();
+    let mut shelf = shelf_failing_at(alloc, vec![in alloc; 2u64]?)?;
+    let mut sink = sink_failing_at(alloc, Vec::new(alloc))?;
+    let status = answer_to(alloc, REPLAY_A, &mut shelf, &mut sink)?;
+    assert_eq!(rt; status, Status::Complete);
+    Ok(())
+}
+
+/// The third call of the sink fails.
+#[test]
+fn a_sink_that_fails_has_the_front_of_the_report(rt: HostRuntime) -> Result<(), Fail> {
+    let alloc = rt.alloc();
+    let mut shelf = shelf_failing_at(alloc, Vec::new(alloc))?;
+    let mut sink = sink_failing_at(alloc, vec![in alloc; 2u64]?)?;
+    let status = answer_to(alloc, EXPLORE_A, &mut shelf, &mut sink)?;
+    assert_eq!(rt; status, Status::WriteFault);
+    assert_eq!(rt; sink.bytes(), b"kiasan report 1\ntarg".as_slice());
+    Ok(())
+}
