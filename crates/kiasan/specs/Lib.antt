@@ -9,6 +9,7 @@ pub mod Paths
 pub mod Reach
 pub mod Refusals
 pub mod Report
+pub mod ReportExample
 pub mod StatusNumber
 pub mod Straight
 pub mod StraightPath

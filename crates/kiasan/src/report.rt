@@ -3,6 +3,7 @@ ghost use Rattle.std.specs.Prelude.{◌≡◌, ℕ, ◌+◌, List, [], ◌∷◌
 ghost use Rattle.kb_grammar.specs.Lines.{lines_text};
 ghost use Rattle.kb_test.specs.Texts.{arg_line};
 ghost use Rattle.kiasan.specs.Report.{operand_text, term_text, slot_text, seen_text, out_text, ending_text, init_text, title_line, target_line, settings_line, bounds_text, run_bounds_text, bound_text, head_text, decisions_line, further_decisions, see_line, see_lines, let_lines, when_line, when_lines, input_lines, leaf_text, path_text, paths_text, count_of, total_line, report_text};
+ghost use Rattle.kiasan.specs.ReportExample.{example_report, example_text};
 
 use crate::memory::NoMemory;
 use crate::path::{Leaf, LeafKind, Operand, Origin, Out, Path, Seen, SymEnding, Term};
@@ -120,6 +121,12 @@ pub fn report_text(alloc: Global, report: &Report) -> Result<Vec<u8>, NoMemory>
     text.extend_from_slice(rest.as_bytes())?;
     Ok(text)
 }
+
+/// The report of `specs/ReportExample.antt`, with decisions, conditions and a method without a result, which come in no report by
+/// now, has the text that stands beside it.
+pub fn example_has_its_text()
+    ensures { report_text example_report ≡ example_text }
+{}
 
 /// What stands behind the target in the text of a report.
 fn rest_text(alloc: Global, report: &Report) -> Result<String, AllocError>
@@ -325,73 +332,4 @@ fn count(paths: &[Path], kind: LeafKind) -> usize
         }
     }
     count
-}
-
-#[cfg(test)]
-mod tests {
-    use super::*;
-    use crate::path::{Ended, Picture};
-    use crate::target::read_target;
-    use kb_heap::Heap;
-    use kb_terms::Op;
-    use std::test::Fail;
-
-    /// Decisions, conditions and a method without a result come in no report by now.
-    #[test]
-    fn the_text_of_a_report(rt: HostRuntime) -> Result<(), Fail> {
-        let alloc = rt.alloc();
-        let target = read_target(alloc, "A.f(I)V")?.expect(&rt, "a target");
-        let term = Term {
-            op: Op::Lt,
-            left: Operand::Var(0),
-            right: Some(Operand::Const(-3)),
-        };
-        let path = Path {
-            decisions: Row::from_vec(vec![in alloc; 1, 0]?),
-            picture: Picture {
-                seen: Row::from_vec(vec![in alloc; (Origin::Arg(0), Seen::Int(0))]?),
-            },
-            terms: Row::from_vec(vec![in alloc; term]?),
-            when: Row::from_vec(vec![in alloc; (0, false), (0, true)]?),
-            leaf: Leaf::Ended(Ended {
-                ending: SymEnding::Returned(None),
-                input: Input {
-                    heap: Heap::new(alloc),
-                    args: Row::from_vec(vec![in alloc; Value::Int(-7)]?),
-                },
-            }),
-        };
-        let report = Report {
-            target: target.copied(alloc)?,
-            init: Init::Lazier,
-            bounds: Bounds {
-                k: 1,
-                array: 2,
-                run: RunBounds {
-                    alloc: 3,
-                    loops: 4,
-                    depth: 5,
-                    steps: 6,
-                },
-            },
-            paths: 7,
-            budget: 8,
-            leaves: Row::from_vec(vec![in alloc; path]?),
-        };
-        let text = report_text(alloc, &report)?;
-        let expected = "kiasan report 1
-target A.f(I)V
-init lazier k 1 array 2 alloc 3 loops 4 depth 5 steps 6 paths 7 budget 8
-path 1.0
-see a0 v0
-let t0 lt v0 -3
-when not t0
-when t0
-returns
-arg -7
-total 1 ended 1 cut 0 undecided 0 open 0
-";
-        assert_eq!(rt; text.as_slice(), expected.as_bytes());
-        Ok(())
-    }
 }
