@@ -1,5 +1,6 @@
 #!/usr/bin/env python3
-"""Writes the class files of crates/kiasan_rows/data: from the Java sources beside this script, and by hand.
+"""Writes the class files of crates/kiasan_rows/data and crates/kb_world_rows/data: from the Java sources beside this script, and
+by hand.
 
 Usage: examples/rows/make.py
 It needs javac of a JDK from 9 to 19 (later ones no longer make files of version 52). The tests and the table of rows beside the
@@ -15,6 +16,7 @@ from pathlib import Path
 HERE = Path(__file__).resolve().parent
 ROOT = HERE.parent.parent
 DATA = ROOT / "crates" / "kiasan_rows" / "data"
+WORLD_DATA = ROOT / "crates" / "kb_world_rows" / "data"
 CLASS_A = (ROOT / "examples" / "A.class").read_bytes()
 PUBLIC_STATIC = 9
 CLASS_LIMIT = 1_048_576
@@ -316,6 +318,36 @@ def by_hand():
     }
 
 
+def class_of_pattern(name, parent=b"two", extends=4, implements=10, first=15, flags=0x21):
+    """A class with a field `int m` and methods `void m()` and `void n()`, all without access flags: by its name, a name for its
+    superclass, the numbers of the entries of its superclass, its interface and the name of its first method, and its flags.
+
+    Its constant pool: 1 is its name, 2 its class, 3 the other name, 4 its class; classes are 6 java/lang/Object,
+    8 java/lang/String, 10 java/lang/Cloneable and 12 `[[I`; 13 is the text `I`, 14 `()V`, 15 `m`, 16 `n`, 17 `<clinit>`,
+    18 `Code`, 19 the string constant `m`, and 20 the int 7.
+    """
+    entries = []
+    for text in (name, parent, b"java/lang/Object", b"java/lang/String", b"java/lang/Cloneable", b"[[I"):
+        entries += [utf8(text), struct.pack(">BH", 7, len(entries) + 1)]
+    entries += [utf8(text) for text in (b"I", b"()V", b"m", b"n", b"<clinit>", b"Code")]
+    entries += [struct.pack(">BH", 8, 15), struct.pack(">Bi", 3, 7)]
+    code = struct.pack(">HIHHIBHH", 18, 13, 0, 1, 1, 0xB1, 0, 0)
+    methods = [struct.pack(">HHHH", 0, number, 14, 1) + code for number in (first, 16)]
+    front = struct.pack(">IHHH", 0xCAFEBABE, 0, 52, len(entries) + 1) + b"".join(entries)
+    members = struct.pack(">HHHHH", 1, 0, 15, 13, 0) + struct.pack(">H", 2) + b"".join(methods)
+    return front + struct.pack(">HHHHH", flags, 2, extends, 1, implements) + members + b"\0\0"
+
+
+def for_worlds():
+    """Class one is below two, and low below the interface six; java/lang/Object is above the others."""
+    return {
+        "one.class": class_of_pattern(b"one"),
+        "two.class": class_of_pattern(b"two", extends=6),
+        "low.class": class_of_pattern(b"low", b"six", extends=6, implements=4),
+        "six.class": class_of_pattern(b"six", extends=6, flags=0x621),
+    }
+
+
 def main():
     shapes = same_names("Shape", "Base", "Square", "H", "S") | {"A": "below_s.class", "B": "beside.class"}
     files = compiled("Shapes.java", shapes)
@@ -330,6 +362,9 @@ def main():
     files |= faults_of_files() | faults_of_code() | with_handlers() | by_hand()
     for name, content in files.items():
         (DATA / name).write_bytes(content)
+    worlds = compiled("World.java", same_names("H", "S", "A", "B")) | for_worlds()
+    for name, content in worlds.items():
+        (WORLD_DATA / name).write_bytes(content)
 
 
 if __name__ == "__main__":

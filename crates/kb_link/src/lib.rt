@@ -25,8 +25,6 @@ mod placing;
 mod slots;
 mod subtypes;
 mod supers;
-#[cfg(test)]
-mod tests;
 mod universe;
 
 pub use by_name::add_place;

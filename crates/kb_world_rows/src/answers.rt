@@ -1,0 +1,222 @@
+//! What a world answers.
+
+ghost use Rattle.std.specs.Prelude.{◌<◌, length, IfSome};
+ghost use Rattle.kb_link.specs.World.{methods_in};
+
+use kb_class::{ClassId, MethodId};
+use kb_names::{
+    ExactType, JType, Name, Spelling, read_target, read_type, write_name, write_type,
+};
+use kb_world::{FieldSlot, World};
+use std::alloc::Global;
+use std::io::{self, Error, ErrorKind};
+
+/// Writes the answer to a question, which is the first of the three words, about the other two.
+pub fn write_answer(
+    alloc: Global,
+    world: &World,
+    words: (&str, &str, &str),
+    text: &mut Vec<u8>,
+) -> io::Result<()> {
+    let (question, first, second) = words;
+    match question {
+        "subtype" => write_subtype(alloc, world, first, second, text),
+        "universe" => write_universe(world, text),
+        "literals" => write_number(alloc, world.literals(), text),
+        "class" => write_class(alloc, world, first, text),
+        "slots" => write_slots(alloc, world, first, text),
+        "entry" => write_entry(alloc, world, first, second, text),
+        "method" => write_method(alloc, world, first, text),
+        "place" => write_place(alloc, world, first, second, text),
+        _ => Err(unknown()),
+    }
+}
+
+/// Whether an object of the first type, which is exact, is of the second one.
+fn write_subtype(
+    alloc: Global,
+    world: &World,
+    low: &str,
+    high: &str,
+    text: &mut Vec<u8>,
+) -> io::Result<()> {
+    let Some(low) = exact_type(alloc, low.as_bytes()) else {
+        return Err(unknown());
+    };
+    let Ok(high) = read_type(alloc, high.as_bytes()) else {
+        return Err(unknown());
+    };
+    let answer = world.subtype(&low, &high);
+    Ok(text.extend_from_slice(format!(in alloc; "{answer}\n")?.as_bytes())?)
+}
+
+/// The types of the universe, each on a line.
+fn write_universe(world: &World, text: &mut Vec<u8>) -> io::Result<()> {
+    for of in world.universe() {
+        write_exact(of, text)?;
+        text.push(b'\n')?;
+    }
+    Ok(())
+}
+
+/// The number of the class, its name, and whether a file gives it.
+fn write_class(alloc: Global, world: &World, name: &str, text: &mut Vec<u8>) -> io::Result<()> {
+    let Some(class) = class_of(alloc, world, name) else {
+        return write_none(text);
+    };
+    text.extend_from_slice(format!(in alloc; "{} ", class.0)?.as_bytes())?;
+    write_text(world.name_of(class), text)?;
+    let from = match world.file_of(class) {
+        Some(_) => " from a file\n",
+        None => " of the platform\n",
+    };
+    Ok(text.extend_from_slice(from.as_bytes())?)
+}
+
+/// The slots of the objects of the class, each on a line.
+fn write_slots(alloc: Global, world: &World, name: &str, text: &mut Vec<u8>) -> io::Result<()> {
+    let Some(class) = class_of(alloc, world, name) else {
+        return write_none(text);
+    };
+    for field in world.fields_of(class) {
+        write_slot(alloc, field, text)?;
+    }
+    Ok(())
+}
+
+/// The number of the slot, that of the class that declares it, its name and its type.
+fn write_slot(alloc: Global, field: &FieldSlot, text: &mut Vec<u8>) -> io::Result<()> {
+    let numbers = format!(in alloc; "{} of class {}: ", field.slot, field.class.0)?;
+    text.extend_from_slice(numbers.as_bytes())?;
+    write_text(&field.name, text)?;
+    text.push(b' ')?;
+    write_kind(&field.kind, text)?;
+    Ok(text.push(b'\n')?)
+}
+
+/// What the entry of that number of the class's constant pool is, of the kinds that the world tells.
+fn write_entry(
+    alloc: Global,
+    world: &World,
+    name: &str,
+    entry: &str,
+    text: &mut Vec<u8>,
+) -> io::Result<()> {
+    let Some(class) = class_of(alloc, world, name) else {
+        return write_none(text);
+    };
+    let Ok(entry) = entry.parse::<u16>() else {
+        return Err(unknown());
+    };
+    if let Some(of) = world.type_entry(class, entry) {
+        text.extend_from_slice(b"type ")?;
+        write_exact(of, text)?;
+        return Ok(text.push(b'\n')?);
+    }
+    if let Some(value) = world.int_entry(class, entry) {
+        return Ok(text.extend_from_slice(format!(in alloc; "int {value}\n")?.as_bytes())?);
+    }
+    match world.literal_entry(class, entry) {
+        Some(number) => {
+            Ok(text.extend_from_slice(format!(in alloc; "literal {number}\n")?.as_bytes())?)
+        }
+        None => write_none(text),
+    }
+}
+
+/// The name of the method, the number of its class, and its access flags.
+fn write_method(alloc: Global, world: &World, target: &str, text: &mut Vec<u8>) -> io::Result<()> {
+    let Some(id) = method_of(alloc, world, target) else {
+        return write_none(text);
+    };
+    let method = world.method_of(id);
+    write_text(&method.name, text)?;
+    let numbers = format!(in alloc; " of class {} with flags {}\n", method.class.0, method.access)?;
+    Ok(text.extend_from_slice(numbers.as_bytes())?)
+}
+
+/// The place of the instruction at that offset of the method's code.
+fn write_place(
+    alloc: Global,
+    world: &World,
+    target: &str,
+    at: &str,
+    text: &mut Vec<u8>,
+) -> io::Result<()> {
+    let Some(id) = method_of(alloc, world, target) else {
+        return write_none(text);
+    };
+    let Ok(at) = at.parse::<u32>() else {
+        return Err(unknown());
+    };
+    match world.place_at(id, at) {
+        Some(place) => write_number(alloc, place, text),
+        None => write_none(text),
+    }
+}
+
+/// The class of that name.
+#[tactic(auto, using(kb_link::proofs::Named::number_inside))]
+fn class_of(alloc: Global, world: &World, name: &str) -> Option<ClassId>
+    ensures { IfSome result (λ id. id.0 < length world.now.classes) }
+{
+    let Ok(name) = Name::from_slice(alloc, name.as_bytes()) else {
+        return None;
+    };
+    world.class_named(&name)
+}
+
+/// The method that the target names.
+fn method_of(alloc: Global, world: &World, target: &str) -> Option<MethodId>
+    ensures { IfSome result (λ id. id.0 < length (methods_in world.now.classes)) }
+{
+    let Ok(target) = read_target(alloc, target.as_bytes()) else {
+        return None;
+    };
+    world.find_target(&target)
+}
+
+/// The class of that name, or the array type of that descriptor.
+fn exact_type(alloc: Global, text: &[u8]) -> Option<ExactType> {
+    match text {
+        [b'[', component @ ..] => Some(ExactType::Array(read_type(alloc, component).ok()?)),
+        _ => Some(ExactType::Class(Name::from_slice(alloc, text).ok()?)),
+    }
+}
+
+fn write_exact(of: &ExactType, text: &mut Vec<u8>) -> io::Result<()> {
+    match of {
+        ExactType::Class(name) => write_text(name, text),
+        ExactType::Array(component) => {
+            text.push(b'[')?;
+            write_kind(component, text)
+        }
+    }
+}
+
+fn write_kind(kind: &JType, text: &mut Vec<u8>) -> io::Result<()> {
+    match write_type(kind, Spelling::Escaped, text) {
+        Ok(()) => Ok(()),
+        Err(_) => Err(Error::from(ErrorKind::OutOfMemory)),
+    }
+}
+
+fn write_text(name: &Name, text: &mut Vec<u8>) -> io::Result<()> {
+    match write_name(name, text) {
+        Ok(()) => Ok(()),
+        Err(_) => Err(Error::from(ErrorKind::OutOfMemory)),
+    }
+}
+
+fn write_number(alloc: Global, number: u32, text: &mut Vec<u8>) -> io::Result<()> {
+    Ok(text.extend_from_slice(format!(in alloc; "{number}\n")?.as_bytes())?)
+}
+
+fn write_none(text: &mut Vec<u8>) -> io::Result<()> {
+    Ok(text.extend_from_slice(b"none\n")?)
+}
+
+/// The fault of a row that asks for nothing.
+fn unknown() -> Error {
+    Error::from(ErrorKind::InvalidData)
+}
