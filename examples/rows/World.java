@@ -1,5 +1,4 @@
-// Classes with slots and literals, of which a world is asked (make.py).
-
+// Classes for the rows of crates/kb_world_rows: fields, of which some have slots, and string constants.
 class H {
     S s;
 
