@@ -4,9 +4,7 @@ ghost use Rattle.std.specs.Prelude.{◌<◌, length, IfSome};
 ghost use Rattle.kb_link.specs.World.{methods_in};
 
 use kb_class::{ClassId, MethodId};
-use kb_names::{
-    ExactType, JType, Name, Spelling, read_target, read_type, write_name, write_type,
-};
+use kb_names::{ExactType, JType, Name, Spelling, read_target, read_type, write_name, write_type};
 use kb_world::{FieldSlot, World};
 use std::alloc::Global;
 use std::io::{self, Error, ErrorKind};
@@ -131,7 +129,10 @@ fn write_method(alloc: Global, world: &World, target: &str, text: &mut Vec<u8>) 
     };
     let method = world.method_of(id);
     write_text(&method.name, text)?;
-    let numbers = format!(in alloc; " of class {} with flags {}\n", method.class.0, method.access)?;
+    let numbers = format!(in alloc;
+        " of class {} with flags {}\n",
+        method.class.0, method.access
+    )?;
     Ok(text.extend_from_slice(numbers.as_bytes())?)
 }
 

@@ -14,22 +14,22 @@ use Rattle.kiasan.specs.declared.report.Report.{Report}
 
 abbrev pub example_path : Path
 example_path = record {
-    decisions = 1 ∷ 0 ∷ [];
-    picture = record { seen = (Arg 0, SeenInt 0) ∷ [] };
-    terms = record { op = Lt; left = Var 0; right = Some (Const (negsuc 2)) } ∷ [];
-    when = (0, false) ∷ (0, true) ∷ [];
-    leaf = Ended (record { ending = Returned None; input = record { heap = record { objects = [] }; args = IntValue (negsuc 6) ∷ [] } });
-  }
+  decisions = 1 ∷ 0 ∷ [];
+  picture = record { seen = (Arg 0, SeenInt 0) ∷ [] };
+  terms = record { op = Lt; left = Var 0; right = Some (Const (negsuc 2)) } ∷ [];
+  when = (0, false) ∷ (0, true) ∷ [];
+  leaf = Ended (record { ending = Returned None; input = record { heap = record { objects = [] }; args = IntValue (negsuc 6) ∷ [] } });
+}
 
 abbrev pub example_report : Report
 example_report = record {
-    target = record { class = codes "A"; name = codes "f"; kind = record { params = IntType ∷ []; result = None } };
-    init = Lazier;
-    bounds = record { k = 1; array = 2; run = record { alloc = 3; loops = 4; depth = 5; steps = 6 } };
-    paths = 7;
-    budget = 8;
-    leaves = example_path ∷ [];
-  }
+  target = record { class = codes "A"; name = codes "f"; kind = record { params = IntType ∷ []; result = None } };
+  init = Lazier;
+  bounds = record { k = 1; array = 2; run = record { alloc = 3; loops = 4; depth = 5; steps = 6 } };
+  paths = 7;
+  budget = 8;
+  leaves = example_path ∷ [];
+}
 
 abbrev pub example_text : List ℕ
 example_text =
