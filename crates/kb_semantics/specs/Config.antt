@@ -3,7 +3,6 @@
 use Rattle.std.specs.Prelude.{ℕ, Bool, List, [], ◌∷◌, ◌-◌, ◌++◌, length, map, replicate, nat_lt, nat_le, nat_eq, Option, Some, None, cond, slice_get, slice_set, option_and_then}
 use Rattle.std.specs.Option.{option_map_or}
 use Rattle.kb_names.specs.declared.types.JType.{JType}
-use Rattle.kb_names.specs.declared.types.MethodType.{MethodType}
 use Rattle.kb_names.specs.declared.types.Target.{Target}
 use Rattle.kb_code.specs.Listing.{offset_of}
 use Rattle.kb_code.specs.declared.instruction.Instr.{Instr}

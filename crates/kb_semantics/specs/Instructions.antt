@@ -1,6 +1,6 @@
 -- What each instruction does: one definition an instruction, with its mnemonic and opcode (JVMS 8 section 6.5). `next` is the
 -- offset behind it.
-use Rattle.std.specs.Prelude.{ℕ, ℤ, pos, Bool, true, false, not, ◌&&◌, List, [], ◌∷◌, ◌++◌, ◌+◌, length, map, replicate, take, drop, nat_lt, nat_le, nat_eq, is_some, Option, Some, None, option_map, option_and_then, slice_get, codes, if◌then◌else◌}
+use Rattle.std.specs.Prelude.{ℕ, ℤ, pos, Bool, true, false, not, ◌&&◌, List, [], ◌∷◌, ◌++◌, ◌+◌, length, replicate, take, drop, nat_lt, nat_le, nat_eq, is_some, Option, Some, None, option_map, option_and_then, slice_get, codes, if◌then◌else◌}
 use Rattle.std.specs.List.{list_any}
 use Rattle.std.specs.Option.{option_map_or}
 use Rattle.std.specs.Str.{bytes_eq}
@@ -12,12 +12,10 @@ use Rattle.kb_names.specs.declared.types.JType.TheVariants as types
 use Rattle.kb_names.specs.declared.types.MethodType.{MethodType}
 use Rattle.kb_code.specs.declared.instruction.Cond.{Cond}
 use Rattle.kb_code.specs.declared.instruction.Elem.{Elem}
-use Rattle.kb_code.specs.declared.instruction.Elem.TheVariants as elems
 use Rattle.kb_code.specs.declared.instruction.IntCut.{IntCut}
 use Rattle.kb_code.specs.declared.instruction.IntCut.TheVariants as cuts
 use Rattle.kb_code.specs.declared.instruction.IntOp.{IntOp}
 use Rattle.kb_code.specs.declared.instruction.IntOp.TheVariants as ops
-use Rattle.kb_class.specs.declared.ids.MethodId.{MethodId}
 use Rattle.kb_class.specs.declared.members.MemberKind.{MemberKind}
 use Rattle.kb_class.specs.declared.members.MemberKind.TheVariants as kinds
 use Rattle.kb_class.specs.declared.members.MethodInfo.{MethodInfo}
@@ -28,12 +26,10 @@ use Rattle.kb_heap.specs.declared.heap.Value.{Value}
 use Rattle.kb_heap.specs.declared.heap.Value.TheVariants.{Int, Null, Ref}
 use Rattle.kb_heap.specs.declared.heap.Object.{Object}
 use Rattle.kb_heap.specs.declared.heap.Heap.{Heap}
-use Rattle.kb_heap.specs.Heap.{object_at, value_at, with_value, with_object}
+use Rattle.kb_heap.specs.Heap.{object_at, with_value, with_object}
 use Rattle.kb_link.specs.declared.slots.FieldSlot.{FieldSlot}
 use Rattle.kb_link.specs.World.{World, number_in, chain_of, type_entry_of, int_entry_of, literal_entry_of}
 use Rattle.kb_link.specs.Subtypes.{fits, type_of_exact}
-use Rattle.kb_world.specs.declared.calls.Call.{Call}
-use Rattle.kb_world.specs.declared.calls.Call.TheVariants as calls
 use Rattle.kb_world.specs.Lookup.{or_else, only_where, sought_at, resolved_field, resolved_method, selected_special}
 use Rattle.kb_world.specs.Calls.{selected_on, receives, is_without_file}
 use Rattle.kb_semantics.specs.Config.{Setting, Config, Outcome, info_of, class_number, local_of, with_local}
@@ -346,6 +342,13 @@ throw s next c =
 
 -- ---- calls
 
+-- how a call finds its method: by the receiver's class (invokevirtual, invokeinterface), upwards from a class that does not
+-- depend on the receiver (invokespecial), or as the method that is named (invokestatic)
+pub data CallKind : Type 0 where
+  BySelection : CallKind
+  Special : CallKind
+  Static : CallKind
+
 -- the type of the method that a call's entry names
 abbrev pub kind_of_member : MemberKind → Option MethodType
 kind_of_member (kinds.Field type) = None
@@ -363,8 +366,8 @@ abbrev pub callee_at : World → ℕ → ℕ → Option Callee
 callee_at world class entry = option_and_then callee_of (sought_at world class entry)
 
 -- the operands of a call: with a receiver first, but for invokestatic
-abbrev pub operands_of : Call → MethodType → List Value → Option (Taken (List Value))
-operands_of calls.Static kind stack = arguments kind.params stack
+abbrev pub operands_of : CallKind → MethodType → List Value → Option (Taken (List Value))
+operands_of Static kind stack = arguments kind.params stack
 operands_of _ kind stack = receiver_and_arguments kind.params stack
 
 abbrev pub equals_name : List ℕ
@@ -398,14 +401,14 @@ selected_at world class entry callee receiver =
     option_and_then (λ method. selected_on world method receiver) (if receives world callee.class receiver then resolved_method world class entry else None)
 
 -- the call with its operands: the receiver's null test comes before all else
-abbrev pub invokes_on : Call → ℕ → Setting → ℕ → Config → Callee → List Value → List Value → Outcome
-invokes_on calls.Static entry s next c callee args rest = invokes s next c (resolved_method s.world (here s c) entry) args rest
-invokes_on calls.Special entry s next c callee args rest =
+abbrev pub invokes_on : CallKind → ℕ → Setting → ℕ → Config → Callee → List Value → List Value → Outcome
+invokes_on Static entry s next c callee args rest = invokes s next c (resolved_method s.world (here s c) entry) args rest
+invokes_on Special entry s next c callee args rest =
     on_object s c (receiver_of args) (λ o object. invokes s next c (selected_special s.world (here s c) entry) args rest)
-invokes_on _ entry s next c callee args rest =
+invokes_on BySelection entry s next c callee args rest =
     on_object s c (receiver_of args) (λ o object. invokes s next c (selected_at s.world (here s c) entry callee object.kind) args rest)
 
 -- invokevirtual (b6), invokespecial (b7), invokestatic (b8), invokeinterface (b9)
-unfoldable pub invoke : Call → ℕ → Setting → ℕ → Config → Outcome
-invoke call entry s next c =
-    with s c (callee_at s.world (here s c) entry) (λ callee. with s c (operands_of call callee.kind c.frame.stack) (λ t. invokes_on call entry s next c callee t.it t.rest))
+unfoldable pub invoke : CallKind → ℕ → Setting → ℕ → Config → Outcome
+invoke kind entry s next c =
+    with s c (callee_at s.world (here s c) entry) (λ callee. with s c (operands_of kind callee.kind c.frame.stack) (λ t. invokes_on kind entry s next c callee t.it t.rest))

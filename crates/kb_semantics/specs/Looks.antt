@@ -1,7 +1,7 @@
 -- What a step looks into, reads, stores and compares. An exploration may choose the shape of its input and split its inputs
 -- only by these (the choice when an object is looked into is after Deng, Lee and Robby, ASE 2006; which instructions look into
 -- what is an own rule).
-use Rattle.std.specs.Prelude.{ℕ, zero, suc, ℤ, pos, Bool, true, false, ◌&&◌, List, [], ◌∷◌, ◌++◌, length, map, filter, nat_le, nat_lt, Option, Some, None, option_map, option_and_then, is_some, if◌then◌else◌}
+use Rattle.std.specs.Prelude.{ℕ, zero, suc, ℤ, pos, Bool, false, ◌&&◌, List, [], ◌∷◌, ◌++◌, length, map, filter, nat_le, nat_lt, Option, Some, None, option_map, option_and_then, is_some, if◌then◌else◌}
 use Rattle.std.specs.List.{filter_map}
 use Rattle.std.specs.Option.{option_map_or}
 use Rattle.kb_names.specs.declared.types.JType.{JType}
@@ -15,14 +15,12 @@ use Rattle.kb_heap.specs.declared.heap.Value.{Value}
 use Rattle.kb_heap.specs.declared.heap.Object.{Object}
 use Rattle.kb_heap.specs.Heap.{object_at}
 use Rattle.kb_link.specs.declared.slots.FieldSlot.{FieldSlot}
-use Rattle.kb_world.specs.declared.calls.Call.{Call}
-use Rattle.kb_world.specs.declared.calls.Call.TheVariants as calls
 use Rattle.kb_world.specs.Lookup.{only_where, resolved_field, selected_special}
 use Rattle.kb_semantics.specs.Config.{Setting, Config, info_of, instruction_at}
 use Rattle.kb_semantics.specs.Values.{takes_component}
 use Rattle.kb_semantics.specs.Comparisons.{Comparison, equal, less, less_unsigned, compared, compared_keys, table_keys}
 use Rattle.kb_semantics.specs.Operands.{Reference, Taken, reference_of, an_int, a_reference, two_ints, two_references, an_element, an_element_and_value, an_object_and_value, receiver_of, argument_of}
-use Rattle.kb_semantics.specs.Instructions.{here, field_of, Elements, array_at, place_in_array, takes_object, is_equals, Callee, callee_at, operands_of, selected_at}
+use Rattle.kb_semantics.specs.Instructions.{here, field_of, Elements, array_at, place_in_array, takes_object, is_equals, CallKind, BySelection, Special, Static, Callee, callee_at, operands_of, selected_at}
 
 -- the instruction that a step takes up: None where the run ends as past its steps, or off the end of its code
 abbrev pub taken_up : Setting → Config → Option Instr
@@ -83,16 +81,16 @@ compared_sides s c found args =
     then both_sides c (receiver_of args) (argument_of args) else []
 
 -- the receiver of invokevirtual and invokeinterface, and both sides of Object.equals
-abbrev pub looked_by_call : Call → ℕ → Setting → Config → Callee → List Value → List Reference
-looked_by_call calls.Static entry s c callee args = []
-looked_by_call calls.Special entry s c callee args =
+abbrev pub looked_by_call : CallKind → ℕ → Setting → Config → Callee → List Value → List Reference
+looked_by_call Static entry s c callee args = []
+looked_by_call Special entry s c callee args =
     if_some (receiver_of args) (λ o. compared_sides s c (selected_special s.world (here s c) entry) args)
-looked_by_call _ entry s c callee args =
+looked_by_call BySelection entry s c callee args =
     receiver_of args ∷ if_some (object_of c (receiver_of args)) (λ object. compared_sides s c (selected_at s.world (here s c) entry callee object.kind) args)
 
-abbrev pub looked_by_calls : Call → ℕ → Setting → Config → List Reference
-looked_by_calls call entry s c =
-    if_some (callee_at s.world (here s c) entry) (λ callee. if_some (operands_of call callee.kind c.frame.stack) (λ t. looked_by_call call entry s c callee t.it))
+abbrev pub looked_by_calls : CallKind → ℕ → Setting → Config → List Reference
+looked_by_calls kind entry s c =
+    if_some (callee_at s.world (here s c) entry) (λ callee. if_some (operands_of kind callee.kind c.frame.stack) (λ t. looked_by_call kind entry s c callee t.it))
 
 -- the value of an aastore whose index is in range
 abbrev pub looked_by_store : Config → Elem → Taken ((Reference × ℤ) × Value) → List Reference
@@ -110,9 +108,9 @@ looked_by (instrs.PutField entry) s c = if_some (resolved_field s.world (here s 
 looked_by (instrs.LoadElem elem) s c = if_some (an_element c.frame.stack) (λ t. t.it.0 ∷ [])
 looked_by (instrs.StoreElem elem) s c = if_some (an_element_and_value elem c.frame.stack) (λ t. t.it.0.0 ∷ looked_by_store c elem t)
 looked_by instrs.Length s c = looked_operand c
-looked_by (instrs.Virtual entry) s c = looked_by_calls calls.Virtual entry s c
-looked_by (instrs.Interface entry) s c = looked_by_calls calls.Interface entry s c
-looked_by (instrs.Special entry) s c = looked_by_calls calls.Special entry s c
+looked_by (instrs.Virtual entry) s c = looked_by_calls BySelection entry s c
+looked_by (instrs.Interface entry) s c = looked_by_calls BySelection entry s c
+looked_by (instrs.Special entry) s c = looked_by_calls Special entry s c
 looked_by (instrs.Cast entry) s c = looked_operand c
 looked_by (instrs.InstanceOf entry) s c = looked_operand c
 looked_by instrs.Throw s c = looked_operand c

@@ -1,6 +1,6 @@
 -- What instructions take from the operand stack (JVMS 8 section 6.5): each shape of operands once, None where one is missing or
 -- has another kind. What an instruction does, looks into, reads, stores and compares goes by these.
-use Rattle.std.specs.Prelude.{ℕ, ℤ, Bool, true, false, ◌&&◌, List, [], ◌∷◌, length, take, drop, reverse, nat_le, nat_lt, is_some, Option, Some, None, option_map, option_and_then, slice_get}
+use Rattle.std.specs.Prelude.{ℕ, ℤ, Bool, true, false, ◌&&◌, List, [], ◌∷◌, length, take, drop, reverse, is_some, Option, Some, None, option_map, option_and_then, slice_get}
 use Rattle.std.specs.Option.{option_map_or}
 use Rattle.kb_names.specs.declared.types.JType.{JType}
 use Rattle.kb_names.specs.declared.types.JType.TheVariants as types
@@ -59,7 +59,7 @@ a_reference stack = option_map (taken stack) (reference_of (top_of stack))
 
 -- one operand, and the other below it: with the other first
 abbrev pub behind_it : {A B : Type 0} → (List Value → Option (Taken B)) → Taken A → Option (Taken (B × A))
-behind_it below top = option_map (λ (t : Taken B). record { it = (t.it, top.it); rest = t.rest }) (below top.rest)
+behind_it {B = B} below top = option_map (λ (t : Taken B). record { it = (t.it, top.it); rest = t.rest }) (below top.rest)
 
 abbrev pub above_it : {A B : Type 0} → (List Value → Option (Taken B)) → (List Value → Option (Taken A)) → List Value → Option (Taken (B × A))
 above_it below top stack = option_and_then (behind_it below) (top stack)

@@ -1,6 +1,6 @@
 -- The ways in which a step goes on or ends. Each states its order of tests once, and every instruction goes by them
 -- (JVMS 8 sections 2.6, 2.10 and 6.5; the bounds and what is ill-typed are own rules).
-use Rattle.std.specs.Prelude.{ℕ, ◌+◌, Bool, true, false, ◌==◌, ◌&&◌, ◌||◌, not, is_some, suc, List, [], ◌∷◌, length, nat_le, nat_lt, Option, Some, None, drop, map, option_map, option_and_then, codes, if◌then◌else◌}
+use Rattle.std.specs.Prelude.{ℕ, ◌+◌, Bool, false, ◌==◌, ◌&&◌, ◌||◌, is_some, suc, List, [], ◌∷◌, length, nat_le, nat_lt, Option, Some, None, drop, map, option_map, option_and_then, codes, if◌then◌else◌}
 use Rattle.std.specs.Option.{option_map_or}
 use Rattle.kb_names.specs.declared.types.ExactType.{ExactType}
 use Rattle.kb_names.specs.declared.types.ExactType.TheVariants as exact
@@ -19,7 +19,7 @@ use Rattle.kb_heap.specs.Heap.{with_object}
 use Rattle.kb_link.specs.World.{World, type_entry_of}
 use Rattle.kb_link.specs.Subtypes.{fits, type_of_exact}
 use Rattle.kb_world.specs.Lookup.{only_where}
-use Rattle.kb_semantics.specs.Config.{Setting, Frame, Config, Ended, Outcome, Goes, Ends, code_of, class_number, result_of, place_in_code, behind, has_room, first_frame}
+use Rattle.kb_semantics.specs.Config.{Setting, Frame, Config, Outcome, Goes, Ends, code_of, class_number, result_of, place_in_code, behind, has_room, first_frame}
 use Rattle.kb_semantics.specs.Values.{kept, new_object}
 
 -- ---- the run ends, with the heap from before the instruction
