@@ -69,7 +69,7 @@ unfoldable pub goes_to : Setting → Config → Frame → List Frame → ℕ →
 goes_to s c frame callers target stack heap =
     if has_room s.world frame.method (length stack)
     then option_map_or (λ transfers. carries_out c (record frame { at = target; stack = stack; transfers = transfers }) callers heap)
-        (counted s.bounds frame.at target frame.transfers) (past c Loops)
+    (counted s.bounds frame.at target frame.transfers) (past c Loops)
     else ill_typed s c
 
 -- the current frame goes on at a target
