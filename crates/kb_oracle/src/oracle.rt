@@ -33,7 +33,12 @@ pub trait Oracle {
         ensures { result ≡ budget self.now };
 
     /// Whether the conditions can hold, each a comparison with its stated truth.
-    fn ask(&mut self, alloc: Global, pool: &Pool, when: &[(TermId, bool)]) -> Result<Answer, OracleStop>
+    fn ask(
+        &mut self,
+        alloc: Global,
+        pool: &Pool,
+        when: &[(TermId, bool)],
+    ) -> Result<Answer, OracleStop>
         requires { AreConditions pool.now when.now }
         ensures answers { IfOk result (IsAnswerTo (query_of pool.now when.now) (budget self.old)) }
         ensures met { IfOk result (IfModel (λ values. AreMetInPool pool.now values when.now)) }
