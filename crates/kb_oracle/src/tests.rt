@@ -3,8 +3,8 @@ ghost use Rattle.std.specs.Prelude.{◌≡◌, ◌<◌, IfOk};
 ghost use Rattle.kb_terms.specs.Terms.{IsTerm};
 
 use crate::{
-    Answer, Oracle, OracleStop, SolverOracle, Told, ToldOracle, models_are_not_refuted,
-    models_meet_every_pool,
+    Answer, Oracle, OracleStop, SolverOracle, Told, ToldOracle, larger_pools_ask_the_same,
+    models_are_not_refuted, models_meet_every_pool,
 };
 use kb_blast::{blast, can_blast};
 use kb_chain::{Log, Verdict, check_fresh, check_refutation};
@@ -99,6 +99,7 @@ fn a_model_has_a_value_for_each_variable(rt: HostRuntime) -> Result<(), Fail> {
     let when = [(less, true), (off, false), (more, true)];
     let answer = asked(&rt, &mut SolverOracle::new(1000), &pool, &when)?;
     assert!(rt; is_model(&answer, &[0, 0, 1]));
+    larger_pools_ask_the_same();
     models_are_not_refuted();
     models_meet_every_pool();
     Ok(())
