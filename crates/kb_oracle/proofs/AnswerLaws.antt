@@ -1,5 +1,6 @@
 -- What the solver's answers say of the query.
-use Rattle.std.proofs.Common.{◌≡◌, ◌≢◌, ◌↔◌, ℕ, ℤ, pos, Bool, true, false, List, [], ◌∷◌, ◌++◌, length, Contains, Option, Some, None, IsSomeAnd, slice_get, ◌⊎◌, inl, inr, refl, sym, ap, subst, ◌∙◌, arith}
+use Rattle.std.proofs.Common.{rules, ◌≡◌, ◌≢◌, ◌↔◌, ℕ, zero, suc, ℤ, pos, Bool, true, false, List, [], ◌∷◌, ◌++◌, length, Contains, Option, Some, None, IsSomeAnd, slice_get, ◌⊎◌, inl, inr, refl, sym, ap, subst, ◌∙◌, arith}
+use Rattle.std.specs.Prelude.{replicate}
 use Rattle.std.proofs.lemmas.Bool.{cases_eq, false≢true}
 use Rattle.std.proofs.lemmas.Option.{get_or_from_slice_get}
 use Rattle.kb_chain.specs.Literal.{Literal, has}
@@ -23,6 +24,11 @@ use Rattle.kb_oracle.specs.Laws.{ModelsAreNotRefuted, ModelsMeetEveryPool}
 use Rattle.kb_oracle.proofs.Queries.{numbers-words, Contains-cases, elsewhere, length-kinds, conditions-numbered}
 
 -- ---- models
+
+pub int_at-zeros : (n v : ℕ) → int_at (replicate n (pos 0)) v ≡ pos 0
+int_at-zeros zero v = refl
+int_at-zeros (suc n) zero = refl
+int_at-zeros (suc n) (suc v) = int_at-zeros n v
 
 zero-fits : (kind : VarKind) → KindFits kind (pos 0)
 zero-fits IntKind = search rules
