@@ -1,6 +1,7 @@
 -- What the solver's answers say of the query.
-use Rattle.std.proofs.Common.{rules, ◌≡◌, ◌≢◌, ◌↔◌, ℕ, zero, suc, ℤ, pos, Bool, true, false, List, [], ◌∷◌, ◌++◌, length, Contains, Option, Some, None, IsSomeAnd, slice_get, ◌⊎◌, inl, inr, refl, sym, ap, subst, ◌∙◌, arith}
+use Rattle.std.proofs.Common.{rules, ◌≡◌, ◌≢◌, ◌↔◌, ℕ, zero, suc, ℤ, pos, Bool, true, false, List, [], ◌∷◌, ◌++◌, length, take, Contains, Option, Some, None, IsSomeAnd, slice_get, ◌⊎◌, inl, inr, refl, sym, ap, subst, ◌∙◌, arith}
 use Rattle.std.specs.Prelude.{replicate}
+use Rattle.std.proofs.Math.Seq.{take-append_seam}
 use Rattle.std.proofs.lemmas.Bool.{cases_eq, false≢true}
 use Rattle.std.proofs.lemmas.Option.{get_or_from_slice_get}
 use Rattle.kb_chain.specs.Literal.{Literal, has}
@@ -24,6 +25,9 @@ use Rattle.kb_oracle.specs.Laws.{ModelsAreNotRefuted, ModelsMeetEveryPool}
 use Rattle.kb_oracle.proofs.Queries.{numbers-words, Contains-cases, elsewhere, length-kinds, conditions-numbered}
 
 -- ---- models
+
+pub take-front : (xs ys : List ℤ) (n : ℕ) → length xs ≡ n → take n (xs ++ ys) ≡ xs
+take-front xs ys n e = subst (λ k. take k (xs ++ ys) ≡ xs) e (take-append_seam xs ys)
 
 pub int_at-zeros : (n v : ℕ) → int_at (replicate n (pos 0)) v ≡ pos 0
 int_at-zeros zero v = refl

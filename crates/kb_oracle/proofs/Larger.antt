@@ -67,7 +67,7 @@ module _ (old new : List Node) (formed : IsPool old) (larger : IsPool new) (grow
   second-kept : (numbered : List TermId) (t : TermId) (op : Op) (left : TermId) (right : Option TermId) → node_at old t ≡ Some (Apply op left right)
       → operands_of new numbered right ≡ operands_of old numbered right
   second-kept numbered t op left None e = refl
-  second-kept numbered t op left (Some r) e = ap Some (operand-kept numbered r (second-term old t op left (Some r) formed e))
+  second-kept numbered t op left (Some r) e = ap Some (operand-kept numbered r (second-term old t op left (Some r) formed e r refl))
 
   listed-kept : (numbered ts : List TermId) → list_all (λ t. node_passes is_any (node_at old t)) ts ≡ true → AreTerms old ts → listed new numbered ts ≡ listed old numbered ts
   listed-kept numbered [] h inside = refl

@@ -53,12 +53,18 @@ elsewhere (w ∷ words) v absent = (
 -- a pool has as many kinds as variables
 pub length-kinds : (nodes : List Node) → length (kinds_of nodes) ≡ variables_of nodes
 length-kinds [] = refl
-length-kinds (Const c ∷ nodes) = length-kinds nodes ∙ sym (sum_by-cons (λ n. cond (is_variable n) 1 0) (Const c) nodes)
+length-kinds (Const c ∷ nodes) =
+    let rest = length-kinds nodes in
+    let more = sum_by-cons (λ n. cond (is_variable n) 1 0) (Const c) nodes in
+    omega (arith, rest, more)
 length-kinds (Var v kind ∷ nodes) =
     let rest = length-kinds nodes in
     let more = sum_by-cons (λ n. cond (is_variable n) 1 0) (Var v kind) nodes in
     omega (arith, rest, more)
-length-kinds (Apply op left right ∷ nodes) = length-kinds nodes ∙ sym (sum_by-cons (λ n. cond (is_variable n) 1 0) (Apply op left right) nodes)
+length-kinds (Apply op left right ∷ nodes) =
+    let rest = length-kinds nodes in
+    let more = sum_by-cons (λ n. cond (is_variable n) 1 0) (Apply op left right) nodes in
+    omega (arith, rest, more)
 
 -- the numbering of a pool's conditions is one
 pub conditions-numbered : (nodes : List Node) (when : List (TermId × Bool)) → IsPool nodes → AreConditions nodes when

@@ -1,5 +1,5 @@
 //! What an oracle answers.
-ghost use Rattle.std.specs.Prelude.{◌≡◌};
+ghost use Rattle.std.specs.Prelude.{◌≡◌, IfOk};
 ghost use Rattle.kb_oracle.specs.Answers.{unsure_after, bad_after};
 
 use crate::memory::NoMemory;
@@ -57,6 +57,13 @@ impl<T: Drop> From<AllocFailed<T>> for OracleStop {
     fn from(_error: AllocFailed<T>) -> OracleStop {
         OracleStop::NoMemory
     }
+}
+
+/// An answer that is the same.
+pub(crate) fn copy_of(answer: &Answer) -> Result<Answer, AllocError>
+    ensures { IfOk result (λ copy. copy ≡ answer.now) }
+{
+    answer.clone()
 }
 
 /// The count of undecided answers after one more answer.

@@ -6,7 +6,7 @@ ghost use Rattle.kb_blast.specs.Meaning.{AreMetInPool};
 ghost use Rattle.kb_oracle.specs.Answers.{IsAnswerTo, IfModel, OnUndecided, IfBad, Gains};
 ghost use Rattle.kb_oracle.specs.States.{told_at, DoesAsTold, IsToldBad, told_after};
 
-use crate::answer::{Answer, OracleStop, bad_after, unsure_after};
+use crate::answer::{Answer, OracleStop, bad_after, copy_of, unsure_after};
 use crate::oracle::Oracle;
 use crate::search::{decide, search};
 use kb_terms::{Pool, TermId};
@@ -144,7 +144,7 @@ impl Oracle for ToldOracle {
         self.calls = call.saturating_add(1);
         match answer_told(alloc, told_at(&self.told, call), self.budget, pool, when) {
             Ok(answer) => {
-                let copy = answer.clone()?;
+                let copy = copy_of(&answer)?;
                 self.given.push(copy)?;
                 self.unsure = unsure_after(self.unsure, &answer);
                 Ok(answer)

@@ -21,7 +21,7 @@ returns-in_ok-push-in-Ok-clause-after c =
     let calls : c.saturating_add-self-inside.result ≡ next_count s.calls = rw (← c.self.view_is) (search rules) in
     let bad : c.self.inside.bad ≡ s.bad = ap (λ (s : ToldState). s.bad) c.self.view_is in
     let unsure : c.unsure_after-self-inside.result ≡ unsure_after s.unsure c.in-Ok.answer = rw (← c.self.view_is) (search rules) in
-    let given : c.push.new.self.items ≡ s.given ++ c.in-Ok.answer ∷ [] = rw (← c.self.view_is) (search rules) in
+    let given : c.push.new.self.items ≡ s.given ++ c.in-Ok.answer ∷ [] = rw (← c.self.view_is, ← c.in_ok-copy-in-Ok.ensures) c.in_ok-push-in-Ok.ensures.items in
     cc
 
 pub returns-in-Err-clause-unserved : goal.returns-in-Err-clause-unserved
