@@ -1,5 +1,5 @@
 -- What the solver's answers say of the query.
-use Rattle.std.proofs.Common.{rules, ◌≡◌, ◌≢◌, ◌↔◌, ℕ, zero, suc, ℤ, pos, Bool, true, false, List, [], ◌∷◌, ◌++◌, length, take, Contains, Option, Some, None, IsSomeAnd, slice_get, ◌⊎◌, inl, inr, refl, sym, ap, subst, ◌∙◌, arith}
+use Rattle.std.proofs.Common.{rules, ◌≡◌, ◌≢◌, ℕ, zero, suc, ℤ, pos, Bool, true, false, List, [], ◌∷◌, ◌++◌, length, take, Contains, Option, Some, None, IsSomeAnd, ◌⊎◌, inl, inr, refl, sym, subst, ◌∙◌, arith}
 use Rattle.std.specs.Prelude.{replicate}
 use Rattle.std.proofs.Math.Seq.{take-append_seam}
 use Rattle.std.proofs.lemmas.Bool.{cases_eq, false≢true}
@@ -15,8 +15,8 @@ use Rattle.kb_terms.specs.declared.node.TermId.{TermId}
 use Rattle.kb_terms.specs.declared.node.VarKind.{VarKind}
 use Rattle.kb_terms.specs.declared.node.VarKind.TheVariants.{Int as IntKind, Bool as BoolKind}
 use Rattle.kb_terms.specs.declared.node.Node.{Node}
-use Rattle.kb_terms.specs.Terms.{int_at, variables_of, IsPool}
-use Rattle.kb_blast.specs.Query.{Query, query_of, AreConditions}
+use Rattle.kb_terms.specs.Terms.{int_at, variables_of}
+use Rattle.kb_blast.specs.Query.{Query, query_of}
 use Rattle.kb_blast.specs.Conditions.{occurring, with_kinds, kind_at, formula_of, words_of}
 use Rattle.kb_blast.specs.Meaning.{KindFits, InputsFit, Meets, MeetsInPool, IsElsewhere}
 use Rattle.kb_blast.proofs.Pooled.{pool-meets, pool-says}

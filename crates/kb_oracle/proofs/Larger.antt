@@ -1,5 +1,5 @@
 -- A pool with more terms asks the same query.
-use Rattle.std.proofs.Common.{◌≡◌, ℕ, zero, suc, ◌<◌, Bool, true, List, [], ◌∷◌, ◌++◌, length, drop, fold, Option, Some, None, slice_get, if◌then◌else◌, refl, sym, ap, subst, ◌∙◌, arith}
+use Rattle.std.proofs.Common.{◌≡◌, ℕ, zero, suc, ◌<◌, Bool, true, List, [], ◌∷◌, ◌++◌, length, drop, fold, Option, Some, None, slice_get, if◌then◌else◌, refl, sym, ap, ◌∙◌, arith}
 use Rattle.std.proofs.Math.ListN.{take-append-drop}
 use Rattle.std.specs.List.{list_all}
 use Rattle.std.proofs.lemmas.Bool.{and_parts}
@@ -15,7 +15,7 @@ use Rattle.kb_terms.specs.Numbering.{has_term, with_term, visit_node, visit, num
 use Rattle.kb_terms.proofs.Entries.{slice_get-append-left}
 use Rattle.kb_terms.proofs.Values.{IsTerm-extends}
 use Rattle.kb_terms.proofs.Walking.{first-before, second-before}
-use Rattle.kb_blast.specs.Query.{Query, operand_from, operand_of, operands_of, listed, kinds_of, roots_of, numbered_conditions, numbered_query, query_of, node_passes, is_any, is_comparison, AreConditions}
+use Rattle.kb_blast.specs.Query.{operand_from, operand_of, operands_of, listed, kinds_of, roots_of, numbered_conditions, numbered_query, query_of, node_passes, is_any, is_comparison, AreConditions}
 use Rattle.kb_blast.proofs.Listed.{is-operation, listed-cons, first-term, second-term}
 use Rattle.kb_blast.proofs.Pooled.{all-any, are-terms}
 use Rattle.kb_oracle.specs.Laws.{LargerPoolsAskTheSame}

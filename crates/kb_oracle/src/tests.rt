@@ -1,7 +1,4 @@
 //! Queries whose answers are known by hand, and what a told oracle does at each call.
-ghost use Rattle.std.specs.Prelude.{◌≡◌, ◌<◌, IfOk};
-ghost use Rattle.kb_terms.specs.Terms.{IsTerm};
-
 use crate::{
     Answer, Oracle, OracleStop, SolverOracle, Told, ToldOracle, larger_pools_ask_the_same,
     models_are_not_refuted, models_meet_every_pool,

@@ -1,6 +1,6 @@
-use Rattle.std.proofs.Common.{◌≡◌, ◌∙◌, sym, ap, subst}
+use Rattle.std.proofs.Common.{◌∙◌, sym, subst}
 use Rattle.kb_chain.specs.Cnf.{Cnf}
-use Rattle.kb_chain.specs.Clause.{Satisfies, assignment_of}
+use Rattle.kb_chain.specs.Clause.{assignment_of}
 use Rattle.kb_chain.specs.Propagation.{IsFresh}
 use Rattle.kb_blast.specs.Query.{query_of}
 use Rattle.kb_blast.specs.Meaning.{MeetsInPool, Reads, IsElsewhere}

@@ -1,4 +1,4 @@
-use Rattle.std.proofs.Common.{rules, ◌≡◌, ◌∙◌, ap, pos, length, arith}
+use Rattle.std.proofs.Common.{rules, ◌≡◌, ◌∙◌, ap, pos, length}
 use Rattle.std.specs.Prelude.{replicate}
 use Rattle.kb_terms.specs.Terms.{int_at}
 use Rattle.kb_oracle.proofs.AnswerLaws.{int_at-zeros, take-front}
