@@ -31,7 +31,7 @@ kb_eliminate: kb_chain
 kb_sat: kb_chain kb_eliminate
 kb_circuit: kb_arith kb_chain
 kb_blast: kb_arith kb_chain kb_circuit kb_terms
-kb_oracle: kb_arith kb_blast kb_chain kb_outside kb_sat kb_terms
+kb_oracle: kb_blast kb_chain kb_outside kb_sat kb_terms
 asking: kb_blast kb_chain kb_oracle kb_terms
 """
 
