@@ -53,6 +53,7 @@ use std::alloc::{AllocError, AllocFailed, Global};
 @MAIN@
 
 /// There was no memory.
+#[derive(Clone, Copy, Debug)]
 struct Stop;
 
 impl From<AllocError> for Stop {
