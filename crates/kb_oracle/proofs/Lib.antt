@@ -1,0 +1,4 @@
+pub mod Queries
+pub mod AnswerLaws
+pub mod ToldLaws
+pub mod Larger

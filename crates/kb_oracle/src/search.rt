@@ -1,0 +1,75 @@
+//! A search for the answer to a query. It sees the query and the budget, and nothing that was asked before.
+ghost use Rattle.std.specs.Prelude.{◌≡◌, ◌<◌, ◌≤◌, ℕ, pos, length, IfOk};
+ghost use Rattle.kb_chain.specs.Clause.{assignment_of};
+ghost use Rattle.kb_terms.specs.Terms.{int_at};
+ghost use Rattle.kb_blast.specs.Query.{query_of, AreConditions};
+ghost use Rattle.kb_blast.specs.Meaning.{AreMetInPool, AreReadable, Reads, IsElsewhere};
+ghost use Rattle.kb_oracle.specs.Answers.{IsAnswerTo, IfModel, IfRefuted, IsDecided};
+
+use crate::answer::Answer;
+use crate::memory::NoMemory;
+use kb_blast::{Blasted, blast, read_back};
+use kb_chain::Row;
+use kb_sat::{Solved, solve};
+use kb_terms::{Pool, TermId};
+use std::alloc::Global;
+
+/// What the solver says of the conditions' formula within a budget.
+pub(crate) fn search(
+    alloc: Global,
+    budget: u32,
+    pool: &Pool,
+    when: &[(TermId, bool)],
+) -> Result<Answer, NoMemory>
+    requires conditions { AreConditions pool.now when.now }
+    requires budget { 0 < budget }
+    ensures answers { IfOk result (IsAnswerTo (query_of pool.now when.now) budget) }
+    ensures met { IfOk result (IfModel (λ values. AreMetInPool pool.now values when.now)) }
+    ensures within { IfOk result (IfRefuted (λ log. length log.entries ≤ budget)) }
+{
+    let blasted = blast(alloc, pool, when)?;
+    match solve(alloc, &blasted.formula, budget)? {
+        Solved::Sat(bits) => {
+            let values = values_of(alloc, &blasted, bits.as_slice(), pool.variables())?;
+            Ok(Answer::Model(values))
+        }
+        Solved::Unsat(log) => Ok(Answer::Refuted(log)),
+        Solved::Undecided(log) => Ok(Answer::Undecided(log)),
+    }
+}
+
+/// The value of each of so many variables under the bits of a formula's variables; 0 for a variable without a word.
+fn values_of(
+    alloc: Global,
+    blasted: &Blasted,
+    bits: &[bool],
+    variables: u32,
+) -> Result<Row<i32>, NoMemory>
+    requires readable { AreReadable blasted.now.formula.vars variables blasted.now.vars }
+    requires bits { length bits.now ≡ blasted.now.formula.vars }
+    ensures count { IfOk result (λ values. length values ≡ variables) }
+    ensures read { IfOk result (Reads (assignment_of bits.now) blasted.now.vars) }
+    ensures others { IfOk result (λ values. (v : ℕ) → IsElsewhere v blasted.now.vars → int_at values v ≡ pos 0) }
+{
+    let mut values = vec![in alloc; 0; variables as usize]?;
+    read_back(blasted, bits, &mut values);
+    Ok(Row::from_vec(values))
+}
+
+/// What the solver says within the largest budget. A search that spends even this one is want of memory.
+pub(crate) fn decide(
+    alloc: Global,
+    pool: &Pool,
+    when: &[(TermId, bool)],
+) -> Result<Answer, NoMemory>
+    requires { AreConditions pool.now when.now }
+    ensures answers { (budget : ℕ) → IfOk result (IsAnswerTo (query_of pool.now when.now) budget) }
+    ensures met { IfOk result (IfModel (λ values. AreMetInPool pool.now values when.now)) }
+    ensures decided { IfOk result IsDecided }
+{
+    match search(alloc, u32::MAX, pool, when)? {
+        Answer::Model(values) => Ok(Answer::Model(values)),
+        Answer::Refuted(log) => Ok(Answer::Refuted(log)),
+        Answer::Undecided(_) => Err(NoMemory),
+    }
+}
