@@ -133,12 +133,17 @@ fn asked(alloc: Global, budget: u32, pool: &Pool, when: &[(TermId, bool)]) -> Re
         return Ok(None);
     }
     let mut oracle = SolverOracle::new(budget);
-    let text = match oracle.ask(alloc, pool, when)? {
-        Answer::Model(_) => String::from_str(alloc, "model 0")?,
-        Answer::Refuted(log) => format!(in alloc; "refuted {}", log.entries.as_slice().len())?,
-        Answer::Undecided(log) => format!(in alloc; "undecided {}", log.entries.as_slice().len())?,
-    };
-    Ok(Some(text))
+    let answer = oracle.ask(alloc, pool, when)?;
+    Ok(Some(told(alloc, &answer)?))
+}
+
+/// What the answer is, and how many entries its log has.
+fn told(alloc: Global, answer: &Answer) -> Result<String, Stop> {
+    match answer {
+        Answer::Model(_) => Ok(String::from_str(alloc, "model 0")?),
+        Answer::Refuted(log) => Ok(format!(in alloc; "refuted {}", log.entries.as_slice().len())?),
+        Answer::Undecided(log) => Ok(format!(in alloc; "undecided {}", log.entries.as_slice().len())?),
+    }
 }
 
 /// How many clauses the formula has, which is made so many times.
