@@ -17,7 +17,7 @@ use kb_names::ExactType;
 
 /// How a method is called: by invokevirtual, invokeinterface, invokespecial or invokestatic.
 #[derive(Clone, Copy)]
-pub(crate) enum Call {
+pub enum Call {
     Virtual,
     Interface,
     Special,
