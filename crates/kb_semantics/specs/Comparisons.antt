@@ -1,6 +1,6 @@
 -- The comparisons of numbers by which instructions go on (JVMS 8 section 6.5; which comparison an instruction makes is an own
 -- rule).
-use Rattle.std.specs.Prelude.{ℕ, ℤ, pos, suc, ◌+ℤ◌, Bool, not, List, [], ◌∷◌, ◌++◌, map, int_lt, nat_lt, if◌then◌else◌}
+use Rattle.std.specs.Prelude.{ℕ, ℤ, pos, ◌+ℤ◌, Bool, not, List, [], ◌∷◌, map, int_lt, nat_lt, if◌then◌else◌}
 use Rattle.std.specs.Ordering.{int_eq}
 use Rattle.kb_arith.specs.Word.{bits_of}
 use Rattle.kb_code.specs.declared.instruction.Cond.{Cond}
