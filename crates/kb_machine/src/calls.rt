@@ -9,19 +9,19 @@ ghost use Rattle.kb_semantics.specs.Operands.{Taken, argument_of, receiver_of};
 ghost use Rattle.kb_semantics.specs.Ways.{enters};
 ghost use Rattle.kb_world.specs.Lookup.{selected_special};
 ghost use Rattle.kb_heap.specs.declared.heap.Value.{Value as PlainValue};
-ghost use Rattle.kb_machine.specs.Turns.{config_of, setting_of, told};
+ghost use Rattle.kb_machine.specs.Turns.{config_of, kind_of, setting_of, told};
 
 use crate::NoMemory;
 use crate::branching::same_reference;
 use crate::frame::Frame;
 use crate::state::State;
 use crate::throwing::NULL_POINTER;
-use crate::turn::{Step, Turn};
+use crate::turn::{Call, Step, Turn};
 use crate::types::truth;
 use kb_class::{ClassId, MemberKind, MethodId, MethodInfo};
 use kb_heap::{Bound, Value};
 use kb_names::{ExactType, MethodType};
-use kb_world::{Call, World};
+use kb_world::World;
 use std::mem;
 
 impl State {
@@ -33,7 +33,7 @@ impl State {
         call: Call,
         entry: u16,
     ) -> Result<Step, NoMemory>
-        ensures { IfOk result (λ step. told turn.now step self.new ≡ invoke call entry (setting_of turn.now) turn.now.next (config_of turn.now self.old)) }
+        ensures { IfOk result (λ step. told turn.now step self.new ≡ invoke (kind_of call) entry (setting_of turn.now) turn.now.next (config_of turn.now self.old)) }
     {
         let class = self.frame.class(turn.world);
         let Some(found) = turn.world.find_reference(class, entry) else {
@@ -54,7 +54,7 @@ impl State {
         of: &ExactType,
         kind: &MethodType,
     ) -> Result<Step, NoMemory>
-        ensures { IfOk result (λ step. told turn.now step self.new ≡ with (setting_of turn.now) (config_of turn.now self.old) (operands_of call kind.now self.old.frame.stack) (λ (t : Taken (List PlainValue)). invokes_on call entry (setting_of turn.now) turn.now.next (config_of turn.now self.old) (record { class = of.now; kind = kind.now }) t.it t.rest)) }
+        ensures { IfOk result (λ step. told turn.now step self.new ≡ with (setting_of turn.now) (config_of turn.now self.old) (operands_of (kind_of call) kind.now self.old.frame.stack) (λ (t : Taken (List PlainValue)). invokes_on (kind_of call) entry (setting_of turn.now) turn.now.next (config_of turn.now self.old) (record { class = of.now; kind = kind.now }) t.it t.rest)) }
     {
         match self.frame.operands(turn.alloc, call, kind)? {
             Some(args) => self.invokes_on(turn, call, entry, of, args.as_slice()),
@@ -71,15 +71,13 @@ impl State {
         of: &ExactType,
         args: &[Value],
     ) -> Result<Step, NoMemory>
-        ensures { (kind : PlainKind) → IfOk result (λ step. told turn.now step self.new ≡ invokes_on call entry (setting_of turn.now) turn.now.next (config_of turn.now self.old) (record { class = of.now; kind = kind }) args.now self.old.frame.stack) }
+        ensures { (kind : PlainKind) → IfOk result (λ step. told turn.now step self.new ≡ invokes_on (kind_of call) entry (setting_of turn.now) turn.now.next (config_of turn.now self.old) (record { class = of.now; kind = kind }) args.now self.old.frame.stack) }
     {
         let class = self.frame.class(turn.world);
         match call {
             Call::Static => self.invokes(turn, turn.world.find_resolved(class, entry), args),
             Call::Special => self.invokes_special(turn, class, entry, args),
-            Call::Virtual | Call::Interface => {
-                self.invokes_selected(turn, class, entry, of, args)
-            }
+            Call::BySelection => self.invokes_selected(turn, class, entry, of, args),
         }
     }
 

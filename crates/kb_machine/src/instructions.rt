@@ -10,9 +10,9 @@ ghost use Rattle.kb_machine.specs.Turns.{config_of, setting_of, told};
 use crate::NoMemory;
 use crate::frame::Frame;
 use crate::state::State;
-use crate::turn::{Step, Turn};
+use crate::turn::{Call, Step, Turn};
 use kb_code::Instr;
-use kb_world::{Call, World};
+use kb_world::World;
 
 /// An instruction, and the offset behind it.
 #[derive(Clone, Copy)]
@@ -99,10 +99,10 @@ impl State {
             Instr::Return => self.return_nothing(turn),
             Instr::GetField(entry) => self.get_field(turn, *entry),
             Instr::PutField(entry) => self.put_field(turn, *entry),
-            Instr::Virtual(entry) => self.invoke(turn, Call::Virtual, *entry),
+            Instr::Virtual(entry) => self.invoke(turn, Call::BySelection, *entry),
             Instr::Special(entry) => self.invoke(turn, Call::Special, *entry),
             Instr::Static(entry) => self.invoke(turn, Call::Static, *entry),
-            Instr::Interface(entry) => self.invoke(turn, Call::Interface, *entry),
+            Instr::Interface(entry) => self.invoke(turn, Call::BySelection, *entry),
             Instr::New(entry) => self.make_object(turn, *entry),
             Instr::NewPrim(code) => self.make_primitives(turn, *code),
             Instr::NewRefs(entry) => self.make_references(turn, *entry),

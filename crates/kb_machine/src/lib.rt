@@ -9,11 +9,13 @@ mod branching;
 mod calls;
 mod constants;
 mod fields;
+mod fits;
 mod frame;
 mod instructions;
 mod ints;
 mod kinds;
 mod locals;
+mod machine;
 mod operands;
 mod pool;
 mod rearranging;
@@ -27,6 +29,8 @@ mod value_stack;
 mod variables;
 mod ways;
 
+pub use fits::fits_types;
+pub use machine::run;
 use std::alloc::AllocError;
 
 /// Memory ran out.
@@ -41,6 +45,12 @@ impl From<AllocError> for NoMemory {
 
 impl From<kb_names::NoMemory> for NoMemory {
     fn from(_error: kb_names::NoMemory) -> NoMemory {
+        NoMemory
+    }
+}
+
+impl From<kb_heap::NoMemory> for NoMemory {
+    fn from(_error: kb_heap::NoMemory) -> NoMemory {
         NoMemory
     }
 }

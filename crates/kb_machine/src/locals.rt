@@ -29,6 +29,7 @@ impl Model for Locals {
 
 impl Locals {
     /// Those of a frame that begins with these arguments, of which all are kept.
+    #[tactic(auto, using(crate::proofs::LocalLaws::same_first))]
     pub(crate) fn begin(alloc: Global, args: &[Value], count: usize) -> Result<Locals, NoMemory>
         ensures { IfOk result (λ locals. locals ≡ first_locals args.now count) }
     {
@@ -37,6 +38,7 @@ impl Locals {
     }
 
     /// The value of a local, if it was written.
+    #[tactic(auto, using(crate::proofs::LocalLaws::same_read))]
     pub(crate) fn get(&self, local: usize) -> Option<Value>
         ensures { result ≡ option_and_then (λ v. v) (slice_get self.now local) }
     {
@@ -47,6 +49,7 @@ impl Locals {
     }
 
     /// Writes a local, where there is one.
+    #[tactic(auto, using(crate::proofs::LocalLaws::written_there, crate::proofs::LocalLaws::same_write, crate::proofs::LocalLaws::unwritten_past))]
     pub(crate) fn set(&mut self, local: usize, value: Value) -> Result<(), NoMemory>
         ensures { OnOk result (self.new ≡ slice_set self.old local (Some value)) }
     {

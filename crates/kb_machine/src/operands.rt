@@ -4,7 +4,7 @@
 ghost use Rattle.std.specs.Prelude.{◌≡◌, IfOk, OnOk};
 ghost use Rattle.kb_semantics.specs.Instructions.{operands_of};
 ghost use Rattle.kb_semantics.specs.Operands.{a_reference, a_value_for, arguments, receiver_and_arguments, an_object_and_value, reference_of, top_of, an_element, an_int, two_ints, two_references, is_of_elem, a_value_where, an_element_and_value, value_of_reference};
-ghost use Rattle.kb_machine.specs.Turns.{as_taken};
+ghost use Rattle.kb_machine.specs.Turns.{as_taken, kind_of};
 ghost use Rattle.kb_world.specs.Lookup.{only_where};
 
 use crate::frame::Frame;
@@ -13,7 +13,7 @@ use crate::kinds::{are_of_kinds, are_with_receiver, kept};
 use kb_code::Elem;
 use kb_heap::{Row, Value};
 use kb_names::{JType, MethodType};
-use kb_world::Call;
+use crate::turn::Call;
 use std::alloc::Global;
 
 impl Frame {
@@ -133,12 +133,12 @@ impl Frame {
         call: Call,
         kind: &MethodType,
     ) -> Result<Option<Row<Value>>, NoMemory>
-        ensures it { IfOk result (λ args. operands_of call kind.now self.old.stack ≡ as_taken args self.new.stack) }
+        ensures it { IfOk result (λ args. operands_of (kind_of call) kind.now self.old.stack ≡ as_taken args self.new.stack) }
         ensures frame { OnOk result (self.new ≡ record self.old { stack = self.new.stack }) }
     {
         match call {
             Call::Static => self.arguments(alloc, kind.params.as_slice()),
-            _ => self.receiver_and_arguments(alloc, kind.params.as_slice()),
+            Call::BySelection | Call::Special => self.receiver_and_arguments(alloc, kind.params.as_slice()),
         }
     }
 

@@ -82,11 +82,7 @@ impl State {
         let Some(of) = self.heap.objects.as_slice().get(object as usize) else {
             return Ok(place);
         };
-        let Ok(name) = Name::from_slice(turn.alloc, THROWABLE) else {
-            return Err(NoMemory);
-        };
-        let throwable = JType::Class(name);
-        if !turn.world.subtype(&of.kind, &throwable) {
+        if !turn.world.is_of_class(&of.kind, THROWABLE) {
             return Ok(place);
         }
         match unwind(turn, &mut self.frame, &mut self.callers, &of.kind) {

@@ -6,6 +6,7 @@ use kb_world::World;
 use std::alloc::Global;
 
 /// What stays the same through one step.
+#[derive(Drop)]
 pub(crate) struct Turn<'w> {
     pub(crate) alloc: Global,
     pub(crate) world: &'w World,
@@ -16,6 +17,15 @@ pub(crate) struct Turn<'w> {
     pub(crate) carried: u32,
     /// The offset behind the instruction.
     pub(crate) next: u32,
+}
+
+/// How a call finds its method: by the receiver's class (invokevirtual, invokeinterface), upwards from a class that does not
+/// depend on the receiver (invokespecial), or as the method that is named (invokestatic).
+#[derive(Clone, Copy, Debug, PartialEq, Eq)]
+pub(crate) enum Call {
+    BySelection,
+    Special,
+    Static,
 }
 
 /// What a step comes to.

@@ -28,6 +28,7 @@ impl State {
     }
 
     /// It goes on at the next offset.
+    #[tactic(auto, unfolding(kb_semantics::specs::Ways::goes_on))]
     pub(crate) fn goes(&mut self, turn: &Turn<'_>) -> Step
         ensures { told turn.now result self.new ≡ goes (setting_of turn.now) (config_of turn.now self.old) turn.now.next self.old.frame.stack }
     {
@@ -38,6 +39,7 @@ impl State {
     }
 
     /// It goes on at the next offset with one value more on the stack.
+    #[tactic(auto, unfolding(kb_semantics::specs::Ways::goes_on))]
     pub(crate) fn push(&mut self, turn: &Turn<'_>, value: Value) -> Result<Step, NoMemory>
         ensures { IfOk result (λ step. told turn.now step self.new ≡ goes (setting_of turn.now) (config_of turn.now self.old) turn.now.next (value ∷ self.old.frame.stack)) }
     {
@@ -49,6 +51,7 @@ impl State {
     }
 
     /// It goes on at the next offset with a value in a local.
+    #[tactic(auto, unfolding(kb_semantics::specs::Ways::goes_on))]
     pub(crate) fn sets_local(
         &mut self,
         turn: &Turn<'_>,
@@ -64,6 +67,7 @@ impl State {
     }
 
     /// It goes on at a target.
+    #[tactic(auto, unfolding(kb_semantics::specs::Ways::goes_to))]
     pub(crate) fn jumps(&mut self, turn: &Turn<'_>, target: u32) -> Step
         ensures { told turn.now result self.new ≡ jumps (setting_of turn.now) (config_of turn.now self.old) target self.old.frame.stack }
     {

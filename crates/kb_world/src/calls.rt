@@ -17,7 +17,7 @@ use kb_names::ExactType;
 
 /// How a method is called: by invokevirtual, invokeinterface, invokespecial or invokestatic.
 #[derive(Clone, Copy)]
-pub enum Call {
+pub(crate) enum Call {
     Virtual,
     Interface,
     Special,

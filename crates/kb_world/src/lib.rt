@@ -24,7 +24,6 @@ mod special;
 mod tables;
 mod world;
 
-pub use calls::Call;
 pub use kb_link::{FieldSlot, LinkRefusal, What};
 pub use laws::{one_answer, one_reached};
 pub use linking::link;

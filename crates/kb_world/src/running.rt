@@ -3,10 +3,12 @@ ghost use Rattle.std.specs.Prelude.{◌≡◌, [], ◌==◌, length, nat_lt, opt
 ghost use Rattle.std.specs.List.{list_any};
 ghost use Rattle.std.specs.Option.{option_copied, option_and_then, option_map_or};
 ghost use Rattle.kb_class.specs.declared.members.MethodInfo.{MethodInfo as PlainMethod};
+ghost use Rattle.kb_names.specs.declared.types.JType.TheVariants as types;
+ghost use Rattle.kb_class.specs.Class.{Class};
 ghost use Rattle.kb_class.specs.References.{sought_of};
 ghost use Rattle.kb_link.specs.Placing.{place_in};
 ghost use Rattle.kb_link.specs.Slots.{slots_of};
-ghost use Rattle.kb_link.specs.Subtypes.{fits, type_of_exact};
+ghost use Rattle.kb_link.specs.Subtypes.{fits, is_above_arrays, is_below, type_of_exact};
 ghost use Rattle.kb_link.specs.World.{chain_of, method_at, number_in, type_entry_of, int_entry_of};
 ghost use Rattle.kb_world.specs.Calls.{is_without_file, selected_on};
 ghost use Rattle.kb_world.specs.Lookup.{resolved_field, resolved_method, selected_special, sought_at};
@@ -142,6 +144,42 @@ impl World {
         self.linked().exact_subtype(low, high)
     }
 
+    /// The name of a class: empty where no class has the number.
+    pub fn find_name(&self, class: ClassId) -> &[u8]
+        ensures { result.now ≡ option_map_or (λ (c : Class). c.name) (slice_get self.now.classes class.0) [] }
+    {
+        if !self.has_class(class) {
+            return &[];
+        }
+        self.name_of(class).as_slice()
+    }
+
+    /// Whether an object of the exact type is of the class of that name, as [`World::subtype`] says it.
+    pub fn is_of_class(&self, kind: &ExactType, name: &[u8]) -> bool
+        ensures { result ≡ fits self.now kind.now (types.Class name.now) }
+    {
+        match kind {
+            ExactType::Class(low) => self.is_below(low.as_slice(), name),
+            ExactType::Array(_) => is_above_arrays(name),
+        }
+    }
+
+    // Whether the first class or interface is the second one, or below it.
+    fn is_below(&self, low: &[u8], high: &[u8]) -> bool
+        ensures { result ≡ is_below self.now low.now high.now }
+    {
+        if low == high {
+            return true;
+        }
+        let Some(below) = self.linked().class_of_text(low) else {
+            return false;
+        };
+        let Some(above) = self.linked().class_of_text(high) else {
+            return false;
+        };
+        self.linked().is_above(below, above)
+    }
+
     /// The slots of the objects of the class of that name: none where there is no such class.
     pub fn slots_named(&self, name: &Name) -> &[FieldSlot]
         ensures { result.now ≡ option_map_or (slots_of self.now) (number_in self.now.classes name.now) [] }
@@ -161,4 +199,17 @@ impl World {
             None => false,
         }
     }
+}
+
+// Whether the class is one that every array is a subtype of.
+fn is_above_arrays(name: &[u8]) -> bool
+    ensures { result ≡ is_above_arrays name.now }
+{
+    if name == b"java/lang/Object".as_slice() {
+        return true;
+    }
+    if name == b"java/lang/Cloneable".as_slice() {
+        return true;
+    }
+    name == b"java/io/Serializable".as_slice()
 }

@@ -1,0 +1,5 @@
+pub mod ListingLaws
+pub mod LocalLaws
+pub mod RunLaws
+pub mod Stacks
+pub mod Steps

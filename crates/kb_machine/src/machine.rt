@@ -1,0 +1,149 @@
+//! Runs of methods.
+
+ghost use Rattle.std.specs.Prelude.{◌≡◌, suc, IfOk};
+ghost use Rattle.kb_semantics.specs.Config.{no_target, target_of};
+ghost use Rattle.kb_semantics.specs.Step.{first_heap, run, run_of};
+ghost use Rattle.kb_semantics.specs.Values.{literal};
+ghost use Rattle.kb_world.specs.Reach.{IsAccepted};
+ghost use Rattle.kb_machine.specs.Turns.{begun, ending_told};
+
+use crate::NoMemory;
+use crate::frame::Frame;
+use crate::instructions::instruction_at;
+use crate::state::{Callers, State};
+use crate::turn::{Step, Turn};
+use kb_class::MethodId;
+use kb_heap::{Bound, Ending, Heap, Input, Object, Place, Row, RunBounds};
+use kb_names::{ExactType, MethodType, Name, Target};
+use kb_world::World;
+use std::alloc::Global;
+
+/// The run of the method over the input within the bounds: how it ends, and the heap then.
+///
+/// The heap has the objects of the input, then one object for each string literal of the world, then those that the run makes.
+/// An operand of another kind than the instruction takes, an operand stack or a local beyond its limit, and code that runs off
+/// its end are ill-typed.
+///
+/// Source: JVMS 8 sections 2.6, 2.10, 2.11 and 6.5.
+pub fn run(
+    alloc: Global,
+    world: &World,
+    target: MethodId,
+    input: &Input,
+    bounds: &RunBounds,
+) -> Result<(Ending, Heap), NoMemory>
+    requires { IsAccepted world.now target }
+    ensures { IfOk result (λ ended. run_of (record { world = world.now; bounds = bounds.now }) target input.now ≡ record { ending = ended.0; heap = ended.1 }) }
+{
+    let Ok(inputs) = u32::try_from(input.heap.objects.as_slice().len()) else {
+        return Err(NoMemory);
+    };
+    let state = State {
+        frame: Frame::begin(alloc, world, target, input.args.as_slice())?,
+        callers: Callers::new(alloc),
+        heap: first_heap(alloc, world, &input.heap)?,
+    };
+    run_from(alloc, world, bounds, inputs, state)
+}
+
+// The run from the state on, where nothing was carried out before.
+fn run_from(
+    alloc: Global,
+    world: &World,
+    bounds: &RunBounds,
+    inputs: u32,
+    state: State,
+) -> Result<(Ending, Heap), NoMemory>
+    ensures { IfOk result (λ ended. run (suc bounds.now.steps) (record { world = world.now; bounds = bounds.now }) (begun inputs state) ≡ record { ending = ended.0; heap = ended.1 }) }
+{
+    let mut state = state;
+    for carried in 0..bounds.steps {
+        let Some(found) = instruction_at(world, &state.frame) else {
+            let place = ending_of(alloc, world, state.ill_typed())?;
+            return Ok((place, state.heap));
+        };
+        let turn = Turn {
+            alloc,
+            world,
+            bounds: *bounds,
+            inputs,
+            carried,
+            next: found.next,
+        };
+        let step = state.take(&turn, found.instr)?;
+        if step != Step::Goes {
+            let ending = ending_of(alloc, world, step)?;
+            return Ok((ending, state.heap));
+        }
+    }
+    Ok((Ending::Past(Bound::Steps), state.heap))
+}
+
+// How the run ends, where a step ends it.
+fn ending_of(alloc: Global, world: &World, step: Step) -> Result<Ending, NoMemory>
+    ensures { IfOk result (λ ending. ending ≡ ending_told world.now step) }
+{
+    match step {
+        Step::Goes => Ok(Ending::Past(Bound::Steps)),
+        Step::Returned(value) => Ok(Ending::Returned(value)),
+        Step::Threw(object) => Ok(Ending::Threw(object)),
+        Step::IllTyped(method, at) => {
+            let method = target_of(alloc, world, method)?;
+            Ok(Ending::IllTyped(Place { method, at }))
+        }
+        Step::Past(bound) => Ok(Ending::Past(bound)),
+    }
+}
+
+// The method by its class's name, its name and its type.
+fn target_of(alloc: Global, world: &World, method: MethodId) -> Result<Target, NoMemory>
+    ensures { IfOk result (λ target. target ≡ target_of world.now method) }
+{
+    let Some(info) = world.find_method(method) else {
+        return Ok(no_target(alloc));
+    };
+    Ok(Target {
+        class: Name::from_slice(alloc, world.find_name(info.class))?,
+        name: info.name.copied(alloc)?,
+        kind: info.kind.copied(alloc)?,
+    })
+}
+
+// What stands for a method that is none.
+fn no_target(alloc: Global) -> Target
+    ensures { result ≡ no_target }
+{
+    Target {
+        class: Name::new(alloc),
+        name: Name::new(alloc),
+        kind: MethodType {
+            params: Row::new(alloc),
+            result: None,
+        },
+    }
+}
+
+// The first heap of a run.
+fn first_heap(alloc: Global, world: &World, heap: &Heap) -> Result<Heap, NoMemory>
+    ensures { IfOk result (λ first. first ≡ first_heap world.now heap.now) }
+{
+    let mut first = heap.copied(alloc)?;
+    for _ in 0..world.literals() {
+        let literal = literal(alloc)?;
+        let Ok(_) = first.add(literal) else {
+            return Err(NoMemory);
+        };
+    }
+    Ok(first)
+}
+
+// The object of a string literal.
+fn literal(alloc: Global) -> Result<Object, NoMemory>
+    ensures { IfOk result (λ object. object ≡ literal) }
+{
+    let name = Name::from_slice(alloc, b"java/lang/String".as_slice())?;
+    Ok(Object {
+        kind: ExactType::Class(name),
+        values: Row::new(alloc),
+    })
+}
