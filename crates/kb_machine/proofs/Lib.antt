@@ -1,3 +1,4 @@
+pub mod LandingLaws
 pub mod ListingLaws
 pub mod LocalLaws
 pub mod RunLaws

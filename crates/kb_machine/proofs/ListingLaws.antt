@@ -5,11 +5,7 @@ use Rattle.kb_code.specs.Listing.{offset_of}
 use Rattle.kb_code.specs.declared.instruction.Instr.{Instr}
 use Rattle.kb_link.specs.Placing.{place_of_offset}
 use Rattle.kb_semantics.specs.Config.{instruction_in}
-
--- the instruction at a place, and the offset of the one behind it
-abbrev pub from_place : List (ℕ × Instr) → ℕ → Option ℕ → Option (Instr × ℕ)
-from_place items size None = None
-from_place items size (Some place) = option_map (λ (item : ℕ × Instr). (item.1, offset_of (drop (suc place) items) size)) (slice_get items place)
+use Rattle.kb_machine.specs.Listings.{from_place}
 
 behind_item : (item : ℕ × Instr) (rest : List (ℕ × Instr)) (size : ℕ) (place : Option ℕ) → from_place rest size place ≡ from_place (item ∷ rest) size (option_map suc place)
 behind_item item rest size None = refl

@@ -1,9 +1,10 @@
 -- Stacks, which are kept from the bottom up.
-use Rattle.std.proofs.Common.{◌≡◌, ℕ, zero, suc, ◌+◌, ◌-◌, ◌<◌, ◌≤◌, List, [], ◌∷◌, ◌++◌, length, take, drop, reverse, nat_le, Bool, true, false, ◌&&◌, refl, sym, ap, ◌∙◌, arith}
-use Rattle.std.proofs.lemmas.List.{reverse-append, reverse-reverse, length-reverse, length-drop, take-append-drop}
+use Rattle.std.proofs.Common.{◌≡◌, ℕ, zero, suc, ◌+◌, ◌-◌, ◌<◌, ◌≤◌, List, [], ◌∷◌, ◌++◌, length, take, drop, reverse, nat_le, Bool, true, false, ◌&&◌, None, refl, sym, ap, ◌∙◌, arith}
+use Rattle.std.proofs.lemmas.List.{reverse-append, reverse-reverse, length-reverse, length-drop, length-take, take-append-drop}
+use Rattle.std.proofs.lemmas.Bool.{leb-false}
 use Rattle.kb_heap.specs.declared.heap.Value.{Value}
 use Rattle.kb_names.specs.declared.types.JType.{JType}
-use Rattle.kb_semantics.specs.Operands.{are_of_kinds}
+use Rattle.kb_semantics.specs.Operands.{are_of_kinds, arguments}
 
 take_left : {A : Type 0} (xs ys : List A) (n : ℕ) → n ≡ length xs → take n (xs ++ ys) ≡ xs
 take_left [] ys zero e = refl
@@ -41,3 +42,12 @@ of_kinds_many (type ∷ params) (v ∷ values) h = ap suc (of_kinds_many params 
   both : (a b : Bool) → a && b ≡ true → b ≡ true
   both true b e = e
   both false b e = absurd cc
+
+-- no arguments where there are fewer values
+pub no_arguments : (params : List JType) (stack : List Value) → nat_le (length params) (length stack) ≡ false → arguments params stack ≡ None
+no_arguments params stack few = go (are_of_kinds params (reverse (take (length params) stack))) refl where
+  go : (are : Bool) → are_of_kinds params (reverse (take (length params) stack)) ≡ are → arguments params stack ≡ None
+  go true e =
+      let many : length (reverse (take (length params) stack)) ≡ length params = of_kinds_many params (reverse (take (length params) stack)) e in
+      absurd (omega (arith, many, length-reverse (take (length params) stack), length-take (length params) stack, leb-false (length params) (length stack) few))
+  go false e = rw e refl

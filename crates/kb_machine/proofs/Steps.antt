@@ -7,7 +7,7 @@ use Rattle.kb_heap.specs.declared.heap.Value.{Value}
 use Rattle.kb_heap.specs.declared.ending.Ending.TheVariants.{Threw}
 use Rattle.kb_class.specs.declared.ids.MethodId.{MethodId}
 use Rattle.kb_semantics.specs.Config.{Setting, Config, Frame, Outcome, Goes, Ends}
-use Rattle.kb_semantics.specs.Ways.{branches, enters, goes, goes_on, goes_to, goes_with, hands_over, jumps, lands, nearest_handler, returns_value, standpoint, throws, throws_in}
+use Rattle.kb_semantics.specs.Ways.{branches, enters, goes, goes_on, goes_to, goes_with, hands_over, jumps, lands, nearest_handler, returns_value, standpoint, throws, throws_in, throws_object}
 use Rattle.kb_machine.specs.Turns.{told}
 use Rattle.kb_machine.specs.declared.NoMemory.{NoMemory}
 use Rattle.kb_machine.specs.declared.state.State.{State}
@@ -71,3 +71,11 @@ module _ (s : Setting) (c : Config) (left : List Value) where
     go : (callers : List Frame) → returns_value s (with_stack c left) value ≡ returns_value s c value
     unfolding returns_value hands_over
     go callers = refl
+
+-- what is thrown does not look at the stack
+pub throws_cleared : (s : Setting) (c : Config) (class : List ℕ) → throws s (record c { frame = record c.frame { stack = [] } }) class ≡ throws s c class
+throws_cleared s c class = throws_stack s c [] class
+
+pub throws_object_cleared : (s : Setting) (c : Config) (object : ℕ) (kind : ExactType) →
+    throws_object s (record c { frame = record c.frame { stack = [] } }) object kind ≡ throws_object s c object kind
+throws_object_cleared s c object kind = throws_object_stack s c [] object kind

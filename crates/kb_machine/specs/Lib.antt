@@ -2,5 +2,4 @@ pub mod Unwritten
 pub mod Turns
 pub mod Landings
 pub mod Arrays
-pub mod Returns
 pub mod Listings

@@ -50,7 +50,7 @@ pub(crate) enum Stored {
 
 impl State {
     /// iaload, aaload, baload
-    #[tactic(auto, unfolding(kb_semantics::specs::Instructions::load_element))]
+    #[tactic(auto, unfolding(kb_semantics::specs::Instructions::load_element, kb_semantics::specs::Ways::goes_on), using(crate::proofs::Steps::throws_cleared))]
     pub(crate) fn load_element(&mut self, turn: &Turn<'_>, elem: Elem) -> Result<Step, NoMemory>
         ensures { IfOk result (λ step. told turn.now step self.new ≡ load_element elem (setting_of turn.now) turn.now.next (config_of turn.now self.old)) }
     {
@@ -68,7 +68,7 @@ impl State {
     }
 
     /// arraylength
-    #[tactic(auto, unfolding(kb_semantics::specs::Instructions::array_length))]
+    #[tactic(auto, unfolding(kb_semantics::specs::Instructions::array_length, kb_semantics::specs::Ways::goes_on), using(crate::proofs::Steps::throws_cleared))]
     pub(crate) fn array_length(&mut self, turn: &Turn<'_>) -> Result<Step, NoMemory>
         ensures { IfOk result (λ step. told turn.now step self.new ≡ array_length (setting_of turn.now) turn.now.next (config_of turn.now self.old)) }
     {
@@ -85,7 +85,7 @@ impl State {
     }
 
     /// iastore, aastore, bastore
-    #[tactic(auto, unfolding(kb_semantics::specs::Instructions::store_element))]
+    #[tactic(auto, unfolding(kb_semantics::specs::Instructions::store_element, kb_semantics::specs::Ways::goes_on), using(crate::proofs::Steps::throws_cleared))]
     pub(crate) fn store_element(&mut self, turn: &Turn<'_>, elem: Elem) -> Result<Step, NoMemory>
         ensures { IfOk result (λ step. told turn.now step self.new ≡ store_element elem (setting_of turn.now) turn.now.next (config_of turn.now self.old)) }
     {
@@ -104,7 +104,7 @@ impl State {
     }
 
     /// newarray, anewarray
-    #[tactic(auto, unfolding(kb_semantics::specs::Instructions::make_array))]
+    #[tactic(auto, unfolding(kb_semantics::specs::Instructions::make_array, kb_semantics::specs::Ways::goes_on), using(crate::proofs::Steps::throws_cleared))]
     pub(crate) fn make_array(&mut self, turn: &Turn<'_>, component: Option<JType>) -> Result<Step, NoMemory>
         ensures { IfOk result (λ step. told turn.now step self.new ≡ make_array component (setting_of turn.now) turn.now.next (config_of turn.now self.old)) }
     {
@@ -132,6 +132,7 @@ impl State {
     }
 
     // An element is written, and it goes on at the next offset.
+    #[tactic(auto, unfolding(kb_semantics::specs::Ways::goes_on))]
     fn put_element(&mut self, turn: &Turn<'_>, array: u32, place: u32, value: Value) -> Step
         requires { IsPlace self.old.heap array place }
         ensures { told turn.now result self.new ≡ goes_with (setting_of turn.now) (config_of turn.now self.old) turn.now.next self.old.frame.stack (with_value self.old.heap array place value) }

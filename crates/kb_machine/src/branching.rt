@@ -12,7 +12,7 @@ use kb_code::Cond;
 
 impl State {
     /// ifeq, ifne, iflt, ifge, ifgt, ifle
-    #[tactic(auto, unfolding(kb_semantics::specs::Instructions::if_int))]
+    #[tactic(auto, unfolding(kb_semantics::specs::Instructions::if_int, kb_semantics::specs::Ways::goes_on, kb_semantics::specs::Ways::goes_to))]
     pub(crate) fn if_int(&mut self, turn: &Turn<'_>, cond: Cond, target: u32) -> Step
         ensures { told turn.now result self.new ≡ if_int cond target (setting_of turn.now) turn.now.next (config_of turn.now self.old) }
     {
@@ -23,7 +23,7 @@ impl State {
     }
 
     /// if_icmpeq, if_icmpne, if_icmplt, if_icmpge, if_icmpgt, if_icmple
-    #[tactic(auto, unfolding(kb_semantics::specs::Instructions::if_ints))]
+    #[tactic(auto, unfolding(kb_semantics::specs::Instructions::if_ints, kb_semantics::specs::Ways::goes_on, kb_semantics::specs::Ways::goes_to))]
     pub(crate) fn if_ints(&mut self, turn: &Turn<'_>, cond: Cond, target: u32) -> Step
         ensures { told turn.now result self.new ≡ if_ints cond target (setting_of turn.now) turn.now.next (config_of turn.now self.old) }
     {
@@ -34,7 +34,7 @@ impl State {
     }
 
     /// if_acmpeq, if_acmpne
-    #[tactic(auto, unfolding(kb_semantics::specs::Instructions::if_same))]
+    #[tactic(auto, unfolding(kb_semantics::specs::Instructions::if_same, kb_semantics::specs::Ways::goes_on, kb_semantics::specs::Ways::goes_to))]
     pub(crate) fn if_same(&mut self, turn: &Turn<'_>, want: bool, target: u32) -> Step
         ensures { told turn.now result self.new ≡ if_same want target (setting_of turn.now) turn.now.next (config_of turn.now self.old) }
     {
@@ -48,7 +48,7 @@ impl State {
     }
 
     /// ifnull, ifnonnull
-    #[tactic(auto, unfolding(kb_semantics::specs::Instructions::if_null))]
+    #[tactic(auto, unfolding(kb_semantics::specs::Instructions::if_null, kb_semantics::specs::Ways::goes_on, kb_semantics::specs::Ways::goes_to))]
     pub(crate) fn if_null(&mut self, turn: &Turn<'_>, want: bool, target: u32) -> Step
         ensures { told turn.now result self.new ≡ if_null want target (setting_of turn.now) turn.now.next (config_of turn.now self.old) }
     {
@@ -67,7 +67,7 @@ impl State {
     }
 
     /// lookupswitch
-    #[tactic(auto, unfolding(kb_semantics::specs::Instructions::switch))]
+    #[tactic(auto, unfolding(kb_semantics::specs::Instructions::switch, kb_semantics::specs::Ways::goes_to))]
     pub(crate) fn lookup_switch(&mut self, turn: &Turn<'_>, default: u32, keys: &[(i32, u32)]) -> Step
         ensures { told turn.now result self.new ≡ switch keys.now default (setting_of turn.now) turn.now.next (config_of turn.now self.old) }
     {
@@ -78,7 +78,7 @@ impl State {
     }
 
     /// tableswitch
-    #[tactic(auto, unfolding(kb_semantics::specs::Instructions::switch))]
+    #[tactic(auto, unfolding(kb_semantics::specs::Instructions::switch, kb_semantics::specs::Ways::goes_to))]
     pub(crate) fn table_switch(&mut self, turn: &Turn<'_>, low: i32, default: u32, targets: &[u32]) -> Step
         ensures { told turn.now result self.new ≡ switch (table_keys low targets.now) default (setting_of turn.now) turn.now.next (config_of turn.now self.old) }
     {

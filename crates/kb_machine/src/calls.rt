@@ -149,6 +149,7 @@ impl State {
     }
 
     // A method with code begins with these arguments.
+    #[tactic(auto, unfolding(kb_semantics::specs::Ways::enters))]
     fn enters(
         &mut self,
         turn: &Turn<'_>,

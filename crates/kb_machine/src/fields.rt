@@ -17,7 +17,7 @@ use kb_world::{FieldSlot, World};
 
 impl State {
     /// getfield
-    #[tactic(auto, unfolding(kb_semantics::specs::Instructions::get_field))]
+    #[tactic(auto, unfolding(kb_semantics::specs::Instructions::get_field, kb_semantics::specs::Ways::goes_on), using(crate::proofs::Steps::throws_cleared))]
     pub(crate) fn get_field(&mut self, turn: &Turn<'_>, entry: u16) -> Result<Step, NoMemory>
         ensures { IfOk result (λ step. told turn.now step self.new ≡ get_field entry (setting_of turn.now) turn.now.next (config_of turn.now self.old)) }
     {
@@ -38,7 +38,7 @@ impl State {
     }
 
     /// putfield
-    #[tactic(auto, unfolding(kb_semantics::specs::Instructions::put_field))]
+    #[tactic(auto, unfolding(kb_semantics::specs::Instructions::put_field, kb_semantics::specs::Ways::goes_on), using(crate::proofs::Steps::throws_cleared))]
     pub(crate) fn put_field(&mut self, turn: &Turn<'_>, entry: u16) -> Result<Step, NoMemory>
         ensures { IfOk result (λ step. told turn.now step self.new ≡ put_field entry (setting_of turn.now) turn.now.next (config_of turn.now self.old)) }
     {
@@ -69,6 +69,7 @@ impl State {
     }
 
     // A slot of an object is written, and it goes on at the next offset.
+    #[tactic(auto, unfolding(kb_semantics::specs::Ways::goes_on))]
     fn put_slot(&mut self, turn: &Turn<'_>, object: u32, field: &FieldSlot, value: Value) -> Step
         ensures { told turn.now result self.new ≡ with (setting_of turn.now) (config_of turn.now self.old) (option_and_then (λ (of : PlainObject). field_of turn.now.world.now of field.now) (object_at self.old.heap object)) (λ before. goes_with (setting_of turn.now) (config_of turn.now self.old) turn.now.next self.old.frame.stack (with_value self.old.heap object field.now.slot value)) }
     {
@@ -83,6 +84,7 @@ impl State {
     }
 
     /// It goes on at the next offset with an object more in the heap, and its reference on the stack.
+    #[tactic(auto, unfolding(kb_semantics::specs::Ways::goes_on))]
     pub(crate) fn makes(&mut self, turn: &Turn<'_>, object: Object) -> Result<Step, NoMemory>
         ensures { IfOk result (λ step. told turn.now step self.new ≡ makes (setting_of turn.now) turn.now.next (config_of turn.now self.old) object self.old.frame.stack) }
     {

@@ -4,7 +4,7 @@ ghost use Rattle.std.specs.Prelude.{◌≡◌, drop, option_map, IfOk};
 ghost use Rattle.kb_code.specs.Listing.{offset_of};
 ghost use Rattle.kb_semantics.specs.Config.{behind, instruction_at};
 ghost use Rattle.kb_semantics.specs.Step.{effect};
-ghost use Rattle.kb_machine.specs.Listings.{plain_found};
+ghost use Rattle.kb_machine.specs.Listings.{from_place, plain_found};
 ghost use Rattle.kb_machine.specs.Turns.{config_of, setting_of, told};
 
 use crate::NoMemory;
@@ -22,15 +22,27 @@ pub(crate) struct Found<'w> {
 }
 
 /// The instruction at the frame's offset.
+#[tactic(auto, using(crate::proofs::ListingLaws::by_place))]
 pub(crate) fn instruction_at<'w>(world: &'w World, frame: &Frame) -> Option<Found<'w>>
     ensures { option_map plain_found result ≡ instruction_at world.now frame.now.method frame.now.at }
 {
-    let code = world.find_code(frame.method())?;
-    let place = world.find_place(frame.method(), frame.at())? as usize;
-    let items = code.listing.items.as_slice();
-    let (_, instr) = items.get(place)?;
-    let next = offset_at(items, place + 1, code.size);
-    Some(Found { instr, next })
+    let place = world.find_place(frame.method(), frame.at());
+    match world.find_code(frame.method()) {
+        Some(code) => found_at(code.listing.items.as_slice(), code.size, place),
+        None => None,
+    }
+}
+
+// The instruction at a place of a listing.
+fn found_at(items: &[(u32, Instr)], size: u32, place: Option<u32>) -> Option<Found<'_>>
+    ensures { option_map plain_found result ≡ from_place items.now size place }
+{
+    let place = place? as usize;
+    let item = items.get(place)?;
+    Some(Found {
+        instr: &item.1,
+        next: offset_at(items, place + 1, size),
+    })
 }
 
 // The offset of the item at that place, or the code's length.

@@ -14,7 +14,7 @@ use kb_heap::Value;
 
 impl State {
     /// iadd, isub, imul, idiv, irem, ishl, ishr, iushr, iand, ior, ixor
-    #[tactic(auto, unfolding(kb_semantics::specs::Instructions::apply_two))]
+    #[tactic(auto, unfolding(kb_semantics::specs::Instructions::apply_two, kb_semantics::specs::Ways::goes_on), using(crate::proofs::Steps::throws_cleared))]
     pub(crate) fn apply_two(&mut self, turn: &Turn<'_>, op: IntOp) -> Result<Step, NoMemory>
         ensures { IfOk result (λ step. told turn.now step self.new ≡ apply_two op (setting_of turn.now) turn.now.next (config_of turn.now self.old)) }
     {
@@ -28,7 +28,7 @@ impl State {
     }
 
     /// ineg
-    #[tactic(auto, unfolding(kb_semantics::specs::Instructions::negate))]
+    #[tactic(auto, unfolding(kb_semantics::specs::Instructions::negate, kb_semantics::specs::Ways::goes_on))]
     pub(crate) fn negate(&mut self, turn: &Turn<'_>) -> Result<Step, NoMemory>
         ensures { IfOk result (λ step. told turn.now step self.new ≡ negate (setting_of turn.now) turn.now.next (config_of turn.now self.old)) }
     {
@@ -39,7 +39,7 @@ impl State {
     }
 
     /// i2b, i2c, i2s
-    #[tactic(auto, unfolding(kb_semantics::specs::Instructions::narrow))]
+    #[tactic(auto, unfolding(kb_semantics::specs::Instructions::narrow, kb_semantics::specs::Ways::goes_on))]
     pub(crate) fn narrow(&mut self, turn: &Turn<'_>, cut: IntCut) -> Result<Step, NoMemory>
         ensures { IfOk result (λ step. told turn.now step self.new ≡ narrow cut (setting_of turn.now) turn.now.next (config_of turn.now self.old)) }
     {

@@ -10,7 +10,7 @@ use crate::turn::{Step, Turn};
 
 impl State {
     /// pop
-    #[tactic(auto, unfolding(kb_semantics::specs::Instructions::rearrange))]
+    #[tactic(auto, unfolding(kb_semantics::specs::Instructions::rearrange, kb_semantics::specs::Ways::goes_on))]
     pub(crate) fn pop(&mut self, turn: &Turn<'_>) -> Step
         ensures { told turn.now result self.new ≡ rearrange (without 1) (setting_of turn.now) turn.now.next (config_of turn.now self.old) }
     {
@@ -21,7 +21,7 @@ impl State {
     }
 
     /// pop2
-    #[tactic(auto, unfolding(kb_semantics::specs::Instructions::rearrange))]
+    #[tactic(auto, unfolding(kb_semantics::specs::Instructions::rearrange, kb_semantics::specs::Ways::goes_on))]
     pub(crate) fn pop2(&mut self, turn: &Turn<'_>) -> Step
         ensures { told turn.now result self.new ≡ rearrange (without 2) (setting_of turn.now) turn.now.next (config_of turn.now self.old) }
     {
@@ -32,7 +32,7 @@ impl State {
     }
 
     /// dup
-    #[tactic(auto, unfolding(kb_semantics::specs::Instructions::rearrange))]
+    #[tactic(auto, unfolding(kb_semantics::specs::Instructions::rearrange, kb_semantics::specs::Ways::goes_on))]
     pub(crate) fn dup(&mut self, turn: &Turn<'_>) -> Result<Step, NoMemory>
         ensures { IfOk result (λ step. told turn.now step self.new ≡ rearrange (copied_below 1 1) (setting_of turn.now) turn.now.next (config_of turn.now self.old)) }
     {
@@ -44,7 +44,7 @@ impl State {
     }
 
     /// dup_x1
-    #[tactic(auto, unfolding(kb_semantics::specs::Instructions::rearrange))]
+    #[tactic(auto, unfolding(kb_semantics::specs::Instructions::rearrange, kb_semantics::specs::Ways::goes_on))]
     pub(crate) fn dup_x1(&mut self, turn: &Turn<'_>) -> Result<Step, NoMemory>
         ensures { IfOk result (λ step. told turn.now step self.new ≡ rearrange (copied_below 1 2) (setting_of turn.now) turn.now.next (config_of turn.now self.old)) }
     {
@@ -56,7 +56,7 @@ impl State {
     }
 
     /// dup_x2
-    #[tactic(auto, unfolding(kb_semantics::specs::Instructions::rearrange))]
+    #[tactic(auto, unfolding(kb_semantics::specs::Instructions::rearrange, kb_semantics::specs::Ways::goes_on))]
     pub(crate) fn dup_x2(&mut self, turn: &Turn<'_>) -> Result<Step, NoMemory>
         ensures { IfOk result (λ step. told turn.now step self.new ≡ rearrange (copied_below 1 3) (setting_of turn.now) turn.now.next (config_of turn.now self.old)) }
     {
@@ -68,7 +68,7 @@ impl State {
     }
 
     /// dup2
-    #[tactic(auto, unfolding(kb_semantics::specs::Instructions::rearrange))]
+    #[tactic(auto, unfolding(kb_semantics::specs::Instructions::rearrange, kb_semantics::specs::Ways::goes_on))]
     pub(crate) fn dup2(&mut self, turn: &Turn<'_>) -> Result<Step, NoMemory>
         ensures { IfOk result (λ step. told turn.now step self.new ≡ rearrange (copied_below 2 2) (setting_of turn.now) turn.now.next (config_of turn.now self.old)) }
     {
@@ -80,7 +80,7 @@ impl State {
     }
 
     /// dup2_x1
-    #[tactic(auto, unfolding(kb_semantics::specs::Instructions::rearrange))]
+    #[tactic(auto, unfolding(kb_semantics::specs::Instructions::rearrange, kb_semantics::specs::Ways::goes_on))]
     pub(crate) fn dup2_x1(&mut self, turn: &Turn<'_>) -> Result<Step, NoMemory>
         ensures { IfOk result (λ step. told turn.now step self.new ≡ rearrange (copied_below 2 3) (setting_of turn.now) turn.now.next (config_of turn.now self.old)) }
     {
@@ -92,7 +92,7 @@ impl State {
     }
 
     /// dup2_x2
-    #[tactic(auto, unfolding(kb_semantics::specs::Instructions::rearrange))]
+    #[tactic(auto, unfolding(kb_semantics::specs::Instructions::rearrange, kb_semantics::specs::Ways::goes_on))]
     pub(crate) fn dup2_x2(&mut self, turn: &Turn<'_>) -> Result<Step, NoMemory>
         ensures { IfOk result (λ step. told turn.now step self.new ≡ rearrange (copied_below 2 4) (setting_of turn.now) turn.now.next (config_of turn.now self.old)) }
     {
@@ -104,7 +104,7 @@ impl State {
     }
 
     /// swap
-    #[tactic(auto, unfolding(kb_semantics::specs::Instructions::rearrange))]
+    #[tactic(auto, unfolding(kb_semantics::specs::Instructions::rearrange, kb_semantics::specs::Ways::goes_on))]
     pub(crate) fn swap(&mut self, turn: &Turn<'_>) -> Result<Step, NoMemory>
         ensures { IfOk result (λ step. told turn.now step self.new ≡ rearrange exchanged (setting_of turn.now) turn.now.next (config_of turn.now self.old)) }
     {

@@ -1,24 +1,25 @@
 //! Returns (JVMS 8 sections 2.6.4 and 6.5).
 
-ghost use Rattle.std.specs.Prelude.{◌≡◌, is_some, option_and_then, IfOk};
-ghost use Rattle.kb_semantics.specs.Config.{result_of};
+ghost use Rattle.std.specs.Prelude.{◌≡◌, is_some, length, option_and_then, IfOk, IsTrue};
+ghost use Rattle.kb_semantics.specs.Config.{behind, has_room, result_of};
 ghost use Rattle.kb_semantics.specs.Values.{kept};
 ghost use Rattle.kb_semantics.specs.Instructions.{return_int, return_nothing, return_reference};
-ghost use Rattle.kb_semantics.specs.Ways.{hands_over, returns_nothing, returns_value};
-ghost use Rattle.kb_machine.specs.Returns.{resumed};
+ghost use Rattle.kb_semantics.specs.Ways.{hands_over, pushed, returns_nothing, returns_value};
 ghost use Rattle.kb_machine.specs.Turns.{config_of, setting_of, told};
 
 use crate::NoMemory;
+use crate::frame::Frame;
 use crate::instructions::behind;
 use crate::kinds::kept;
 use crate::operands::value_of;
 use crate::state::State;
 use crate::turn::{Step, Turn};
 use kb_heap::Value;
+use kb_world::World;
 
 impl State {
     /// ireturn
-    #[tactic(auto, unfolding(kb_semantics::specs::Instructions::return_int))]
+    #[tactic(auto, unfolding(kb_semantics::specs::Instructions::return_int, kb_semantics::specs::Ways::returns_value, kb_semantics::specs::Ways::hands_over))]
     pub(crate) fn return_int(&mut self, turn: &Turn<'_>) -> Result<Step, NoMemory>
         ensures { IfOk result (λ step. told turn.now step self.new ≡ return_int (setting_of turn.now) turn.now.next (config_of turn.now self.old)) }
     {
@@ -29,7 +30,7 @@ impl State {
     }
 
     /// areturn
-    #[tactic(auto, unfolding(kb_semantics::specs::Instructions::return_reference))]
+    #[tactic(auto, unfolding(kb_semantics::specs::Instructions::return_reference, kb_semantics::specs::Ways::returns_value, kb_semantics::specs::Ways::hands_over))]
     pub(crate) fn return_reference(&mut self, turn: &Turn<'_>) -> Result<Step, NoMemory>
         ensures { IfOk result (λ step. told turn.now step self.new ≡ return_reference (setting_of turn.now) turn.now.next (config_of turn.now self.old)) }
     {
@@ -40,7 +41,7 @@ impl State {
     }
 
     /// return
-    #[tactic(auto, unfolding(kb_semantics::specs::Instructions::return_nothing))]
+    #[tactic(auto, unfolding(kb_semantics::specs::Instructions::return_nothing, kb_semantics::specs::Ways::returns_nothing))]
     pub(crate) fn return_nothing(&mut self, turn: &Turn<'_>) -> Result<Step, NoMemory>
         ensures { IfOk result (λ step. told turn.now step self.new ≡ return_nothing (setting_of turn.now) turn.now.next (config_of turn.now self.old)) }
     {
@@ -72,6 +73,7 @@ impl State {
     }
 
     // The method returns a value.
+    #[tactic(auto, unfolding(kb_semantics::specs::Ways::returns_value))]
     fn returns_value(&mut self, turn: &Turn<'_>, value: Value) -> Result<Step, NoMemory>
         ensures { IfOk result (λ step. told turn.now step self.new ≡ returns_value (setting_of turn.now) (config_of turn.now self.old) value) }
     {
@@ -82,6 +84,7 @@ impl State {
     }
 
     // The method's result goes to its caller.
+    #[tactic(auto, unfolding(kb_semantics::specs::Ways::hands_over))]
     fn hands_over(&mut self, turn: &Turn<'_>, value: Option<Value>) -> Result<Step, NoMemory>
         ensures { IfOk result (λ step. told turn.now step self.new ≡ hands_over (setting_of turn.now) (config_of turn.now self.old) value) }
     {
@@ -90,24 +93,25 @@ impl State {
             return Ok(Step::Returned(value));
         };
         self.frame = caller;
-        self.resumes(turn, place, value)
-    }
-
-    // The frame goes on behind its invoke, with the result on its stack; the run ends at the place where it may not have it.
-    fn resumes(
-        &mut self,
-        turn: &Turn<'_>,
-        place: Step,
-        value: Option<Value>,
-    ) -> Result<Step, NoMemory>
-        ensures { IfOk result (λ step. told turn.now step self.new ≡ resumed turn.now place self.old value) }
-    {
-        let next = behind(turn.world, &self.frame);
-        self.frame.give(value)?;
-        if !self.frame.is_allowed(turn.world) {
+        if !self.frame.resumes(turn.world, value)? {
             return Ok(place);
         }
-        self.frame.go(next);
         Ok(Step::Goes)
+    }
+}
+
+impl Frame {
+    // It goes on behind its invoke, with the result on its stack: false where it may not have it.
+    fn resumes(&mut self, world: &World, value: Option<Value>) -> Result<bool, NoMemory>
+        ensures room { IfOk result (λ room. room ≡ has_room world.now self.old.method (length (pushed value self.old.stack))) }
+        ensures frame { IfOk result (λ room. IsTrue room → self.new ≡ record self.old { at = behind world.now self.old.method self.old.at; stack = pushed value self.old.stack }) }
+    {
+        let next = behind(world, self);
+        self.give(value)?;
+        if !self.is_allowed(world) {
+            return Ok(false);
+        }
+        self.go(next);
+        Ok(true)
     }
 }

@@ -1,7 +1,6 @@
 //! What a run changes: its frames and its heap.
 
-ghost use Rattle.std.specs.Prelude.{◌≡◌, ◌++◌, ◌∷◌, [], length, OnOk};
-ghost use Rattle.std.specs.Option.{option_to_list};
+ghost use Rattle.std.specs.Prelude.{◌≡◌, ◌∷◌, [], length, IfNone, IfSome, OnOk};
 
 use crate::NoMemory;
 use crate::frame::Frame;
@@ -50,7 +49,8 @@ impl Callers {
 
     /// Takes off the nearest one.
     pub(crate) fn pop(&mut self) -> Option<Frame>
-        ensures { self.old ≡ option_to_list result ++ self.new }
+        ensures some { IfSome result (λ frame. self.old ≡ frame ∷ self.new) }
+        ensures none { IfNone result (self.old ≡ []) }
     {
         self.frames.pop()
     }

@@ -94,7 +94,7 @@ impl State {
     }
 
     /// athrow
-    #[tactic(auto, unfolding(kb_semantics::specs::Instructions::throw))]
+    #[tactic(auto, unfolding(kb_semantics::specs::Instructions::throw, kb_semantics::specs::Ways::goes_on), using(crate::proofs::Steps::throws_cleared, crate::proofs::Steps::throws_object_cleared))]
     pub(crate) fn throw(&mut self, turn: &Turn<'_>) -> Result<Step, NoMemory>
         ensures { IfOk result (λ step. told turn.now step self.new ≡ throw (setting_of turn.now) turn.now.next (config_of turn.now self.old)) }
     {

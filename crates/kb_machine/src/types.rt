@@ -20,7 +20,7 @@ use std::alloc::Global;
 
 impl State {
     /// checkcast
-    #[tactic(auto, unfolding(kb_semantics::specs::Instructions::cast))]
+    #[tactic(auto, unfolding(kb_semantics::specs::Instructions::cast, kb_semantics::specs::Ways::goes_on), using(crate::proofs::Steps::throws_cleared))]
     pub(crate) fn cast(&mut self, turn: &Turn<'_>, entry: u16) -> Result<Step, NoMemory>
         ensures { IfOk result (λ step. told turn.now step self.new ≡ cast entry (setting_of turn.now) turn.now.next (config_of turn.now self.old)) }
     {
@@ -38,7 +38,7 @@ impl State {
     }
 
     /// instanceof
-    #[tactic(auto, unfolding(kb_semantics::specs::Instructions::instance_of))]
+    #[tactic(auto, unfolding(kb_semantics::specs::Instructions::instance_of, kb_semantics::specs::Ways::goes_on), using(crate::proofs::Steps::throws_cleared))]
     pub(crate) fn instance_of(&mut self, turn: &Turn<'_>, entry: u16) -> Result<Step, NoMemory>
         ensures { IfOk result (λ step. told turn.now step self.new ≡ instance_of entry (setting_of turn.now) turn.now.next (config_of turn.now self.old)) }
     {

@@ -52,6 +52,7 @@ pub(crate) fn unwind(
 }
 
 // The frame goes on at a handler.
+#[tactic(auto, unfolding(kb_semantics::specs::Ways::goes_to))]
 fn land(turn: &Turn<'_>, frame: &mut Frame, target: u32) -> Landing
     ensures { (c : Config) (heap : PlainHeap) (object : ℕ) (callers : List PlainFrame) → goes_to (setting_of turn.now) c frame.old callers target (Ref object ∷ []) heap ≡ landed turn.now result c heap object frame.new callers }
 {

@@ -35,7 +35,7 @@ impl State {
     }
 
     /// istore
-    #[tactic(auto, unfolding(kb_semantics::specs::Instructions::store_int))]
+    #[tactic(auto, unfolding(kb_semantics::specs::Instructions::store_int, kb_semantics::specs::Ways::goes_on))]
     pub(crate) fn store_int(&mut self, turn: &Turn<'_>, local: u16) -> Result<Step, NoMemory>
         ensures { IfOk result (λ step. told turn.now step self.new ≡ store_int local (setting_of turn.now) turn.now.next (config_of turn.now self.old)) }
     {
@@ -46,7 +46,7 @@ impl State {
     }
 
     /// astore
-    #[tactic(auto, unfolding(kb_semantics::specs::Instructions::store_reference))]
+    #[tactic(auto, unfolding(kb_semantics::specs::Instructions::store_reference, kb_semantics::specs::Ways::goes_on))]
     pub(crate) fn store_reference(&mut self, turn: &Turn<'_>, local: u16) -> Result<Step, NoMemory>
         ensures { IfOk result (λ step. told turn.now step self.new ≡ store_reference local (setting_of turn.now) turn.now.next (config_of turn.now self.old)) }
     {
