@@ -4,3 +4,4 @@ pub mod LocalLaws
 pub mod RunLaws
 pub mod Stacks
 pub mod Steps
+pub mod SwitchLaws

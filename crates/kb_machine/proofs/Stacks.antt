@@ -1,9 +1,10 @@
 -- Stacks, which are kept from the bottom up.
-use Rattle.std.proofs.Common.{◌≡◌, ℕ, zero, suc, ◌+◌, ◌-◌, ◌<◌, ◌≤◌, List, [], ◌∷◌, ◌++◌, length, take, drop, reverse, nat_le, Bool, true, false, ◌&&◌, None, refl, sym, ap, ◌∙◌, arith}
+use Rattle.std.proofs.Common.{◌≡◌, ℕ, zero, suc, ◌+◌, ◌-◌, ◌<◌, ◌≤◌, List, [], ◌∷◌, ◌++◌, length, take, drop, reverse, nat_le, Bool, true, false, ◌&&◌, Option, Some, None, refl, sym, ap, ◌∙◌, arith}
 use Rattle.std.proofs.lemmas.List.{reverse-append, reverse-reverse, length-reverse, length-drop, length-take, take-append-drop}
 use Rattle.std.proofs.lemmas.Bool.{leb-false}
 use Rattle.kb_heap.specs.declared.heap.Value.{Value}
 use Rattle.kb_names.specs.declared.types.JType.{JType}
+use Rattle.kb_world.specs.Lookup.{only_where}
 use Rattle.kb_semantics.specs.Operands.{are_of_kinds, arguments}
 
 take_left : {A : Type 0} (xs ys : List A) (n : ℕ) → n ≡ length xs → take n (xs ++ ys) ≡ xs
@@ -51,3 +52,12 @@ no_arguments params stack few = go (are_of_kinds params (reverse (take (length p
       let many : length (reverse (take (length params) stack)) ≡ length params = of_kinds_many params (reverse (take (length params) stack)) e in
       absurd (omega (arith, many, length-reverse (take (length params) stack), length-take (length params) stack, leb-false (length params) (length stack) few))
   go false e = rw e refl
+
+-- where so many values could not be taken
+pub none_taken : (params : List JType) (stack : List Value) → None ≡ only_where (nat_le (length params) (length stack)) (reverse (take (length params) stack)) → arguments params stack ≡ None
+none_taken params stack none = go (nat_le (length params) (length stack)) refl where
+  go : (enough : Bool) → nat_le (length params) (length stack) ≡ enough → arguments params stack ≡ None
+  go true e =
+      let wrong : None ≡ Some (reverse (take (length params) stack)) = none ∙ ap (λ (b : Bool). only_where b (reverse (take (length params) stack))) e in
+      absurd cc
+  go false e = no_arguments params stack e

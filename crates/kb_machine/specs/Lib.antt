@@ -3,3 +3,4 @@ pub mod Turns
 pub mod Landings
 pub mod Arrays
 pub mod Listings
+pub mod Callees

@@ -1,14 +1,13 @@
 //! Calls (JVMS 8 sections 2.6 and 6.5).
 
-ghost use Rattle.std.specs.Prelude.{◌≡◌, List, option_map, IfOk};
+ghost use Rattle.std.specs.Prelude.{◌≡◌, option_map, IfOk};
 ghost use Rattle.kb_class.specs.declared.ids.MethodId.{MethodId as PlainId};
 ghost use Rattle.kb_heap.specs.declared.heap.Object.{Object as PlainObject};
-ghost use Rattle.kb_names.specs.declared.types.MethodType.{MethodType as PlainKind};
-ghost use Rattle.kb_semantics.specs.Instructions.{invoke, is_equals, invokes, invokes_on, on_object, operands_of, platform_result, selected_at, with};
-ghost use Rattle.kb_semantics.specs.Operands.{Taken, argument_of, receiver_of};
+ghost use Rattle.kb_semantics.specs.Instructions.{callee_at, invoke, is_equals, invokes, invokes_on, on_object, platform_result, selected_at};
+ghost use Rattle.kb_semantics.specs.Operands.{argument_of, receiver_of};
 ghost use Rattle.kb_semantics.specs.Ways.{enters};
 ghost use Rattle.kb_world.specs.Lookup.{selected_special};
-ghost use Rattle.kb_heap.specs.declared.heap.Value.{Value as PlainValue};
+ghost use Rattle.kb_machine.specs.Callees.{plain_callee};
 ghost use Rattle.kb_machine.specs.Turns.{config_of, kind_of, setting_of, told};
 
 use crate::NoMemory;
@@ -24,6 +23,13 @@ use kb_names::{ExactType, MethodType};
 use kb_world::World;
 use std::mem;
 
+/// A call's entry: the type in which the method is sought, and the method's type.
+#[derive(Clone, Copy)]
+pub(crate) struct Callee<'w> {
+    pub(crate) class: &'w ExactType,
+    pub(crate) kind: &'w MethodType,
+}
+
 impl State {
     /// invokevirtual, invokespecial, invokestatic, invokeinterface
     #[tactic(auto, unfolding(kb_semantics::specs::Instructions::invoke))]
@@ -36,28 +42,11 @@ impl State {
         ensures { IfOk result (λ step. told turn.now step self.new ≡ invoke (kind_of call) entry (setting_of turn.now) turn.now.next (config_of turn.now self.old)) }
     {
         let class = self.frame.class(turn.world);
-        let Some(found) = turn.world.find_reference(class, entry) else {
+        let Some(callee) = callee_at(turn.world, class, entry) else {
             return Ok(self.ill_typed());
         };
-        match found.kind {
-            MemberKind::Method(kind) => self.invokes_as(turn, call, entry, found.class, kind),
-            MemberKind::Field(_) => Ok(self.ill_typed()),
-        }
-    }
-
-    // A method of that type is called, which is sought in another type.
-    fn invokes_as(
-        &mut self,
-        turn: &Turn<'_>,
-        call: Call,
-        entry: u16,
-        of: &ExactType,
-        kind: &MethodType,
-    ) -> Result<Step, NoMemory>
-        ensures { IfOk result (λ step. told turn.now step self.new ≡ with (setting_of turn.now) (config_of turn.now self.old) (operands_of (kind_of call) kind.now self.old.frame.stack) (λ (t : Taken (List PlainValue)). invokes_on (kind_of call) entry (setting_of turn.now) turn.now.next (config_of turn.now self.old) (record { class = of.now; kind = kind.now }) t.it t.rest)) }
-    {
-        match self.frame.operands(turn.alloc, call, kind)? {
-            Some(args) => self.invokes_on(turn, call, entry, of, args.as_slice()),
+        match self.frame.operands(turn.alloc, call, callee.kind)? {
+            Some(args) => self.invokes_on(turn, call, entry, &callee, args.as_slice()),
             None => Ok(self.ill_typed()),
         }
     }
@@ -68,16 +57,16 @@ impl State {
         turn: &Turn<'_>,
         call: Call,
         entry: u16,
-        of: &ExactType,
+        callee: &Callee<'_>,
         args: &[Value],
     ) -> Result<Step, NoMemory>
-        ensures { (kind : PlainKind) → IfOk result (λ step. told turn.now step self.new ≡ invokes_on (kind_of call) entry (setting_of turn.now) turn.now.next (config_of turn.now self.old) (record { class = of.now; kind = kind }) args.now self.old.frame.stack) }
+        ensures { IfOk result (λ step. told turn.now step self.new ≡ invokes_on (kind_of call) entry (setting_of turn.now) turn.now.next (config_of turn.now self.old) (plain_callee callee.now) args.now self.old.frame.stack) }
     {
         let class = self.frame.class(turn.world);
         match call {
             Call::Static => self.invokes(turn, turn.world.find_resolved(class, entry), args),
             Call::Special => self.invokes_special(turn, class, entry, args),
-            Call::BySelection => self.invokes_selected(turn, class, entry, of, args),
+            Call::BySelection => self.invokes_selected(turn, class, entry, callee, args),
         }
     }
 
@@ -106,10 +95,10 @@ impl State {
         turn: &Turn<'_>,
         class: ClassId,
         entry: u16,
-        of: &ExactType,
+        callee: &Callee<'_>,
         args: &[Value],
     ) -> Result<Step, NoMemory>
-        ensures { (kind : PlainKind) → IfOk result (λ step. told turn.now step self.new ≡ on_object (setting_of turn.now) (config_of turn.now self.old) (receiver_of args.now) (λ o (object : PlainObject). invokes (setting_of turn.now) turn.now.next (config_of turn.now self.old) (selected_at turn.now.world.now class.0 entry (record { class = of.now; kind = kind }) object.kind) args.now self.old.frame.stack)) }
+        ensures { IfOk result (λ step. told turn.now step self.new ≡ on_object (setting_of turn.now) (config_of turn.now self.old) (receiver_of args.now) (λ o (object : PlainObject). invokes (setting_of turn.now) turn.now.next (config_of turn.now self.old) (selected_at turn.now.world.now class.0 entry (plain_callee callee.now) object.kind) args.now self.old.frame.stack)) }
     {
         let Some(object) = receiver_of(args) else {
             return self.throws(turn, NULL_POINTER);
@@ -117,7 +106,7 @@ impl State {
         let Some(receiver) = self.heap.objects.as_slice().get(object as usize) else {
             return Ok(self.ill_typed());
         };
-        let found = selected_at(turn.world, class, entry, of, &receiver.kind);
+        let found = selected_at(turn.world, class, entry, callee, &receiver.kind);
         self.invokes(turn, found, args)
     }
 
@@ -168,6 +157,20 @@ impl State {
     }
 }
 
+// What a call's entry of the class names.
+fn callee_at<'w>(world: &'w World, class: ClassId, entry: u16) -> Option<Callee<'w>>
+    ensures { option_map plain_callee result ≡ callee_at world.now class.0 entry }
+{
+    let found = world.find_reference(class, entry)?;
+    match found.kind {
+        MemberKind::Method(kind) => Some(Callee {
+            class: found.class,
+            kind,
+        }),
+        MemberKind::Field(_) => None,
+    }
+}
+
 // The receiver of these arguments.
 fn receiver_of(args: &[Value]) -> Option<u32>
     ensures { result ≡ receiver_of args.now }
@@ -183,12 +186,12 @@ fn selected_at(
     world: &World,
     class: ClassId,
     entry: u16,
-    of: &ExactType,
+    callee: &Callee<'_>,
     receiver: &ExactType,
 ) -> Option<MethodId>
-    ensures { (kind : PlainKind) → option_map (λ (id : PlainId). id.0) result ≡ selected_at world.now class.0 entry (record { class = of.now; kind = kind }) receiver.now }
+    ensures { option_map (λ (id : PlainId). id.0) result ≡ selected_at world.now class.0 entry (plain_callee callee.now) receiver.now }
 {
-    if !world.exact_subtype(receiver, of) {
+    if !world.exact_subtype(receiver, callee.class) {
         return None;
     }
     let method = world.find_resolved(class, entry)?;

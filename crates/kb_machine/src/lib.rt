@@ -21,6 +21,8 @@ mod pool;
 mod rearranging;
 mod returns;
 mod state;
+#[cfg(test)]
+mod tests;
 mod throwing;
 mod turn;
 mod types;

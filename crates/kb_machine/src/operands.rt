@@ -143,6 +143,7 @@ impl Frame {
     }
 
     // Arguments for parameters of these types.
+    #[tactic(auto, using(crate::proofs::Stacks::none_taken))]
     fn arguments(
         &mut self,
         alloc: Global,
@@ -161,6 +162,7 @@ impl Frame {
     }
 
     // Those with a receiver before them.
+    #[tactic(auto, using(crate::proofs::Stacks::none_taken))]
     fn receiver_and_arguments(
         &mut self,
         alloc: Global,

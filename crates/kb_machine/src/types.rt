@@ -38,7 +38,7 @@ impl State {
     }
 
     /// instanceof
-    #[tactic(auto, unfolding(kb_semantics::specs::Instructions::instance_of, kb_semantics::specs::Ways::goes_on), using(crate::proofs::Steps::throws_cleared))]
+    #[tactic(auto, unfolding(kb_semantics::specs::Instructions::instance_of, kb_semantics::specs::Ways::goes_on))]
     pub(crate) fn instance_of(&mut self, turn: &Turn<'_>, entry: u16) -> Result<Step, NoMemory>
         ensures { IfOk result (λ step. told turn.now step self.new ≡ instance_of entry (setting_of turn.now) turn.now.next (config_of turn.now self.old)) }
     {

@@ -70,6 +70,7 @@ impl ValueStack {
     }
 
     /// Takes so many values off the top, and gives them from the lowest one on. None where there are fewer.
+    #[tactic(auto, using(crate::proofs::Stacks::top_taken, crate::proofs::Stacks::rest_left))]
     pub(crate) fn take_top(
         &mut self,
         alloc: Global,
