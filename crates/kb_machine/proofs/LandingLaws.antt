@@ -1,5 +1,5 @@
 -- How a thrown object goes through the frames, one after the other.
-use Rattle.std.proofs.Common.{◌≡◌, ℕ, zero, suc, List, [], ◌∷◌, drop, map, length, Option, Some, None, Result, Ok, Err, IfOk, OnOk, refl, sym, ap, ◌∙◌}
+use Rattle.std.proofs.Common.{◌≡◌, ℕ, zero, suc, List, [], ◌∷◌, drop, map, length, true, if◌then◌else◌, Option, Some, None, Result, Ok, Err, IfOk, OnOk, refl, sym, ap, ◌∙◌}
 use Rattle.std.specs.Option.{option_map, option_map_or}
 use Rattle.kb_names.specs.declared.types.ExactType.{ExactType}
 use Rattle.kb_heap.specs.declared.ending.Ending.TheVariants.{Threw}
@@ -8,8 +8,12 @@ use Rattle.kb_heap.specs.declared.heap.Value.TheVariants.{Ref}
 use Rattle.kb_semantics.specs.Config.{Setting, Config, Frame, Outcome, Ends}
 use Rattle.kb_heap.specs.declared.heap.Object.{Object}
 use Rattle.kb_heap.specs.Heap.{with_object}
+use Rattle.kb_class.specs.Platform.{throwable}
+use Rattle.kb_link.specs.Subtypes.{fits}
+use Rattle.kb_names.specs.declared.types.JType.TheVariants as types
+use Rattle.kb_semantics.specs.Instructions.{with}
 use Rattle.kb_semantics.specs.Values.{new_object}
-use Rattle.kb_semantics.specs.Ways.{goes_to, handler_at, lands, nearest_handler, standpoint, throws, throws_in}
+use Rattle.kb_semantics.specs.Ways.{goes_to, handler_at, lands, nearest_handler, standpoint, throws, throws_in, throws_object, ill_typed}
 use Rattle.kb_machine.specs.Landings.{landed, unwound}
 use Rattle.kb_machine.specs.Turns.{config_of, setting_of, told}
 use Rattle.kb_machine.specs.declared.NoMemory.{NoMemory}
@@ -67,3 +71,13 @@ pub caught : (t : Turn) (old new : State) (r : Result Step NoMemory) (o : Outcom
     IfOk r (λ step. told t step new ≡ o)
 caught t old new (Ok step) o frame callers heap number e goes is = rw (goes, is) (sym e)
 caught t old new (Err x) o frame callers heap number e goes is = tt
+
+-- what an object of the heap that is thrown comes to
+pub thrown_there : (t : Turn) (old : State) (number : ℕ) (found : Option Object) (of : Object) (result : Landing) (frame : Frame) (callers : List Frame) → found ≡ Some of →
+    fits t.world.now of.kind (types.Class throwable) ≡ true →
+    unwound (setting_of t) (config_of t old) old.heap number of.kind (old.frame ∷ old.callers) ≡ landed t result (config_of t old) old.heap number frame callers →
+    with (setting_of t) (config_of t old) found
+        (λ (object : Object). if fits t.world.now object.kind (types.Class throwable) then throws_object (setting_of t) (config_of t old) number object.kind else ill_typed (setting_of t) (config_of t old))
+    ≡ landed t result (config_of t old) old.heap number frame callers
+unfolding throws_in
+thrown_there t old number found of result frame callers there fit h = rw (there, fit) h
