@@ -1,4 +1,0 @@
-pub mod Locals
-pub mod Steps
-pub mod RunLaws
-pub mod Methods
