@@ -11,6 +11,7 @@ pub mod Refusals
 pub mod Report
 pub mod StatusNumber
 pub mod Straight
+pub mod StraightMachine
 pub mod StraightPath
 pub mod Symbolic
 pub mod Target
