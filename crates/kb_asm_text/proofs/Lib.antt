@@ -1,0 +1,5 @@
+pub mod WordLaws
+pub mod EachLaws
+pub mod TokenLaws
+pub mod SameLines
+pub mod TextLaws

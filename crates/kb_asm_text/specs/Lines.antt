@@ -1,6 +1,7 @@
 -- The lines of assembler texts. A line is words with one space between two, and its first word says which line it is.
 use Rattle.std.specs.Prelude.{◌≡◌, ℕ, ◌^◌, ℤ, pos, ◌+ℤ◌, ◌-ℤ◌, int_lt, nat_le, Bool, true, false, IsTrue, ◌&&◌, ◌==◌, List, [], ◌∷◌, ◌++◌, length, Option, None, Some, codes, if◌then◌else◌}
 use Rattle.std.specs.Str.{bytes_eq}
+use Rattle.kb_grammar.specs.Lines.{Lacks}
 use Rattle.kb_grammar.specs.Numbers.{SpellsInt, SpellsWithin}
 use Rattle.kb_names.specs.Descriptors.{SpellsType, SpellsMethod}
 use Rattle.kb_names.specs.declared.class_names.Spelling.TheVariants.{Escaped}
@@ -81,6 +82,7 @@ pub record SpellsCase (case : Case) (word : List ℕ) : Type 0 where
   pub key : List ℕ
   pub target : List ℕ
   pub is : word ≡ key ++ 58 ∷ target
+  pub no_colon : Lacks 58 key
   pub key_is : SpellsInt case.key key
   pub target_is : SpellsLabel case.target target
 

@@ -3,11 +3,16 @@
 //! `specs/Lines.antt` says which line a text spells, and `specs/Texts.antt` which line may stand where.
 #![tactic(auto)]
 
+mod heads;
 mod keyword;
 mod line;
 mod memory;
+mod names;
+mod operands;
 mod place;
+mod reading;
 mod shape;
+mod switches;
 mod text;
 mod tokens;
 mod words;
@@ -18,4 +23,5 @@ pub use line::{
 };
 pub use memory::NoMemory;
 pub use place::Place;
-pub use text::Front;
+pub use reading::read_line;
+pub use text::{Front, read_front};

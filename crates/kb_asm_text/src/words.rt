@@ -75,3 +75,19 @@ pub(crate) fn four_words(words: &[Row<u8>]) -> Option<(&[u8], &[u8], &[u8], &[u8
         fourth.as_slice(),
     ))
 }
+
+/// The words, if there are five.
+pub(crate) fn five_words(words: &[Row<u8>]) -> Option<(&[u8], &[u8], &[u8], &[u8], &[u8])>
+    ensures { MatchOption result ((a b c d e : List ℕ) → words.now ≡ a ∷ b ∷ c ∷ d ∷ e ∷ [] → ⊥) (λ p. words.now ≡ p.0.now ∷ p.1.now ∷ p.2.now ∷ p.3.now ∷ p.4.now ∷ []) }
+{
+    let [first, second, third, fourth, fifth] = words else {
+        return None;
+    };
+    Some((
+        first.as_slice(),
+        second.as_slice(),
+        third.as_slice(),
+        fourth.as_slice(),
+        fifth.as_slice(),
+    ))
+}
