@@ -1,4 +1,5 @@
 pub mod WordLaws
+pub mod MadeLaws
 pub mod EachLaws
 pub mod TokenLaws
 pub mod SameLines

@@ -14,6 +14,7 @@ use crate::operands::read_operand;
 use crate::shape::{op_of, shape_at};
 use crate::tokens::read_byte_hex;
 use crate::words::{one_word, words_of};
+use kb_grammar::behind;
 use kb_rows::Row;
 use std::alloc::Global;
 
@@ -91,7 +92,7 @@ fn label_line(alloc: Global, first: &[u8], words: &[Row<u8>]) -> Result<Option<L
     if !words.is_empty() {
         return Ok(None);
     }
-    let [b':', word @ ..] = first else {
+    let Some(word) = behind(first, b":") else {
         return Ok(None);
     };
     match read_label(alloc, word)? {
