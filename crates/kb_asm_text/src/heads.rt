@@ -1,7 +1,7 @@
 //! The lines of a class and its members, and the rows of handler tables.
 
 ghost use Rattle.std.specs.Prelude.{◌≡◌, Some, IfOk, MatchOption};
-ghost use Rattle.kb_grammar.specs.Lines.{IsRead};
+ghost use Rattle.kb_asm_text.specs.Words.{IsReadAs};
 ghost use Rattle.kb_asm_text.specs.declared.line.MethodHead.{MethodHead};
 ghost use Rattle.kb_asm_text.specs.declared.line.Sizes.{Sizes};
 ghost use Rattle.kb_asm_text.specs.Lines.{SpellsClassHead, SpellsFieldHead, SpellsMember, SpellsSized, SpellsMethodHead, SpellsCatch};
@@ -20,7 +20,7 @@ pub(crate) fn read_class(
     alloc: Global,
     words: &[Row<u8>],
 ) -> Result<Option<ClassHead>, NoMemory>
-    ensures { IfOk result (IsRead SpellsClassHead words.now) }
+    ensures { IfOk result (IsReadAs SpellsClassHead words.now) }
 {
     let Some((flags, name, parent)) = three_words(words) else {
         return Ok(None);
@@ -46,7 +46,7 @@ pub(crate) fn read_field(
     alloc: Global,
     words: &[Row<u8>],
 ) -> Result<Option<FieldHead>, NoMemory>
-    ensures { IfOk result (IsRead SpellsFieldHead words.now) }
+    ensures { IfOk result (IsReadAs SpellsFieldHead words.now) }
 {
     let Some((flags, name, kind)) = three_words(words) else {
         return Ok(None);
@@ -119,7 +119,7 @@ pub(crate) fn read_method(
     alloc: Global,
     words: &[Row<u8>],
 ) -> Result<Option<MethodHead>, NoMemory>
-    ensures { IfOk result (IsRead SpellsMethodHead words.now) }
+    ensures { IfOk result (IsReadAs SpellsMethodHead words.now) }
 {
     if let Some((flags, name, kind)) = three_words(words) {
         return read_member(alloc, None, flags, name, kind);
@@ -129,7 +129,7 @@ pub(crate) fn read_method(
 
 /// The row of a handler table that the words spell.
 pub(crate) fn read_catch(alloc: Global, words: &[Row<u8>]) -> Result<Option<Catch>, NoMemory>
-    ensures { IfOk result (IsRead SpellsCatch words.now) }
+    ensures { IfOk result (IsReadAs SpellsCatch words.now) }
 {
     let Some((start, end, target, class)) = four_words(words) else {
         return Ok(None);

@@ -14,7 +14,7 @@ use kb_rows::Row;
 use std::alloc::Global;
 
 /// The lines of a text up to the first one that does not fit.
-#[derive(Debug, Drop)]
+#[derive(Drop)]
 pub struct Front {
     pub lines: Row<Line>,
     /// Where they lead.
