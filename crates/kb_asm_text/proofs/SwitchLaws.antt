@@ -19,8 +19,8 @@ pub table_refuted : (words : List (List ℕ)) (first second : List ℕ) (others 
     → (operand : Operand) → SpellsOperand shapes.Table operand words → ⊥
 table_refuted words first second others low targets e int labels wrong operand h =
     let parts = subst
-        (λ (ws : List (List ℕ)). FirstWord (λ word rest. SpellsInt h.0 word × FirstWord (λ next more. SpellsLabel h.1 next × EachWord SpellsLabel h.2 more) rest) ws) e
-        h.4.spelled in
+    (λ (ws : List (List ℕ)). FirstWord (λ word rest. SpellsInt h.0 word × FirstWord (λ next more. SpellsLabel h.1 next × EachWord SpellsLabel h.2 more) rest) ws) e
+    h.4.spelled in
     let lows : h.0 ≡ low = same_int h.0 low first parts.0 int in
     let all : h.2 ≡ targets = each_same SpellsLabel same_label h.2 targets others parts.1.1 labels in
     not_both (is_table h.0 (length h.2)) (is_table low (length targets))

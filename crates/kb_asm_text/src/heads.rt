@@ -16,10 +16,7 @@ use kb_rows::Row;
 use std::alloc::Global;
 
 /// The class that the words name.
-pub(crate) fn read_class(
-    alloc: Global,
-    words: &[Row<u8>],
-) -> Result<Option<ClassHead>, NoMemory>
+pub(crate) fn read_class(alloc: Global, words: &[Row<u8>]) -> Result<Option<ClassHead>, NoMemory>
     ensures { IfOk result (IsReadAs SpellsClassHead words.now) }
 {
     let Some((flags, name, parent)) = three_words(words) else {
@@ -42,10 +39,7 @@ pub(crate) fn read_class(
 }
 
 /// The field that the words declare.
-pub(crate) fn read_field(
-    alloc: Global,
-    words: &[Row<u8>],
-) -> Result<Option<FieldHead>, NoMemory>
+pub(crate) fn read_field(alloc: Global, words: &[Row<u8>]) -> Result<Option<FieldHead>, NoMemory>
     ensures { IfOk result (IsReadAs SpellsFieldHead words.now) }
 {
     let Some((flags, name, kind)) = three_words(words) else {
@@ -115,10 +109,7 @@ fn read_coded(alloc: Global, words: &[Row<u8>]) -> Result<Option<MethodHead>, No
 }
 
 /// The method that the words declare.
-pub(crate) fn read_method(
-    alloc: Global,
-    words: &[Row<u8>],
-) -> Result<Option<MethodHead>, NoMemory>
+pub(crate) fn read_method(alloc: Global, words: &[Row<u8>]) -> Result<Option<MethodHead>, NoMemory>
     ensures { IfOk result (IsReadAs SpellsMethodHead words.now) }
 {
     if let Some((flags, name, kind)) = three_words(words) {

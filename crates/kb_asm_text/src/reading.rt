@@ -28,11 +28,7 @@ fn class_line(alloc: Global, first: &[u8], words: &[Row<u8>]) -> Result<Option<L
     }
 }
 
-fn implements_line(
-    alloc: Global,
-    first: &[u8],
-    words: &[Row<u8>],
-) -> Result<Option<Line>, NoMemory>
+fn implements_line(alloc: Global, first: &[u8], words: &[Row<u8>]) -> Result<Option<Line>, NoMemory>
     ensures { IfOk result (IsReadAs (λ line. SpellsBehind keywords.Implements line first.now) words.now) }
 {
     let Some(word) = one_word(words) else {

@@ -92,10 +92,7 @@ fn read_cases(alloc: Global, words: &[Row<u8>]) -> Result<Option<Row<Case>>, NoM
 }
 
 /// The operands of a tableswitch.
-pub(crate) fn table_operand(
-    alloc: Global,
-    words: &[Row<u8>],
-) -> Result<Option<Operand>, NoMemory>
+pub(crate) fn table_operand(alloc: Global, words: &[Row<u8>]) -> Result<Option<Operand>, NoMemory>
     ensures { IfOk result (IsReadAs (SpellsOperand Shape.Table) words.now) }
 {
     let Some((first, others)) = first_word(words) else {
@@ -120,10 +117,7 @@ pub(crate) fn table_operand(
 }
 
 /// The operands of a lookupswitch.
-pub(crate) fn lookup_operand(
-    alloc: Global,
-    words: &[Row<u8>],
-) -> Result<Option<Operand>, NoMemory>
+pub(crate) fn lookup_operand(alloc: Global, words: &[Row<u8>]) -> Result<Option<Operand>, NoMemory>
     ensures { IfOk result (IsReadAs (SpellsOperand Shape.Lookup) words.now) }
 {
     let Some((first, others)) = first_word(words) else {
