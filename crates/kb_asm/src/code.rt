@@ -1,16 +1,18 @@
 //! The code of a body.
 
 use crate::items::{Member, Pool};
-use crate::layout::{GOTO_W, INVOKEINTERFACE, LDC, Layout};
 use crate::memory::NoMemory;
-use crate::needs::{member_of, method_bytes, type_bytes};
-use crate::words::argument_words;
+use crate::needs::{INVOKEINTERFACE, LDC, member_of, method_bytes, type_bytes};
+use kb_asm_body::{Layout, argument_words, layout_of};
 use kb_asm_text::{BodyLine, Case, Catch, ClassRef, Constant, Line, Operand, Sizes};
 use kb_classfile::{Code, Handler};
 use kb_names::Name;
 use kb_rows::Row;
 use kb_writer::{Written, write_instr};
 use std::alloc::Global;
+
+/// The opcode of goto_w (JVMS 8 section 6.5).
+const GOTO_W: u8 = 0xc8;
 
 /// What the lines of a body are written by.
 #[derive(Clone, Copy)]
@@ -89,7 +91,7 @@ impl Body<'_> {
                     kind.as_slice(),
                 );
                 if op == INVOKEINTERFACE {
-                    return Ok(Written::Interface(entry, argument_words(&target.kind) as u8));
+                    return Ok(Written::Interface(entry, argument_words(&target.kind).unwrap_or(0)));
                 }
                 Ok(Written::Entry(op, entry))
             }
@@ -134,7 +136,7 @@ pub(crate) fn code_of(
     sizes: Sizes,
     lines: &[Line],
 ) -> Result<Code, NoMemory> {
-    let layout = Layout::of(alloc, lines)?;
+    let layout = layout_of(alloc, lines)?;
     let body = Body {
         pool,
         layout: &layout,

@@ -6,12 +6,10 @@ mod class;
 mod code;
 mod faults;
 mod items;
-mod layout;
 mod limits;
 mod memory;
 mod needs;
 #[cfg(test)]
 mod tests;
-mod words;
 
 pub use assemble::{AsmRefusal, assemble};

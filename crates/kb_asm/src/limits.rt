@@ -2,19 +2,14 @@
 
 use crate::items::Items;
 use crate::memory::{NoMemory, copied};
-use crate::needs::need;
-use crate::words::argument_words;
+use crate::needs::{INVOKEINTERFACE, need};
 use indexmap::IndexSet;
+use kb_asm_body::argument_words;
 use kb_asm_text::{BodyLine, Line, Operand};
 use std::alloc::Global;
 
 /// The most items of a list of a class file.
 const MOST_ITEMS: usize = 65_535;
-
-/// The most words that the arguments of an invokeinterface take.
-const MOST_WORDS: usize = 255;
-
-const INVOKEINTERFACE: u8 = 0xb9;
 
 /// What the lines that were looked at have.
 #[derive(Drop)]
@@ -47,7 +42,7 @@ impl Limits {
                 Ok(self.labels.insert(copied(alloc, label.as_slice())?)?)
             }
             BodyLine::Instr(op, Operand::Method(target)) => {
-                Ok(*op != INVOKEINTERFACE || argument_words(&target.kind) <= MOST_WORDS)
+                Ok(*op != INVOKEINTERFACE || argument_words(&target.kind).is_some())
             }
             BodyLine::Catch(_) => {
                 self.handlers += 1;

@@ -23,6 +23,12 @@ impl From<kb_asm_text::NoMemory> for NoMemory {
     }
 }
 
+impl From<kb_asm_body::NoMemory> for NoMemory {
+    fn from(_refusal: kb_asm_body::NoMemory) -> NoMemory {
+        NoMemory
+    }
+}
+
 impl From<kb_names::NoMemory> for NoMemory {
     fn from(_refusal: kb_names::NoMemory) -> NoMemory {
         NoMemory

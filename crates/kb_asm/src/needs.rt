@@ -7,9 +7,9 @@ use kb_names::{JType, MethodType, Spelling, Target, write_method_type, write_typ
 use std::alloc::Global;
 
 /// The opcodes of ldc and invokeinterface (JVMS 8 section 6.5).
-const LDC: u8 = 0x12;
+pub(crate) const LDC: u8 = 0x12;
 
-const INVOKEINTERFACE: u8 = 0xb9;
+pub(crate) const INVOKEINTERFACE: u8 = 0xb9;
 
 /// The descriptor of a type as it stands in a class file.
 pub(crate) fn type_bytes(alloc: Global, of: &JType) -> Result<Vec<u8>, NoMemory> {
