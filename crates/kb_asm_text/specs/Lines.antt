@@ -7,7 +7,6 @@ use Rattle.kb_names.specs.Descriptors.{SpellsType, SpellsMethod}
 use Rattle.kb_names.specs.declared.class_names.Spelling.TheVariants.{Escaped}
 use Rattle.kb_names.specs.declared.types.Target.{Target}
 use Rattle.kb_code.specs.Forms.{form_of}
-use Rattle.kb_code.specs.Names.{name_of}
 use Rattle.kb_asm_text.specs.declared.keyword.Keyword.{Keyword}
 use Rattle.kb_asm_text.specs.declared.keyword.Keyword.TheVariants as keywords
 use Rattle.kb_asm_text.specs.declared.shape.Shape.{Shape}
@@ -30,7 +29,7 @@ use Rattle.kb_asm_text.specs.declared.line.Line.{Line}
 use Rattle.kb_asm_text.specs.declared.line.Line.TheVariants as lines
 use Rattle.kb_asm_text.specs.Words.{IsOfWords, OneWord, TwoWords, ThreeWords, FourWords, FiveWords, FirstWord, EachWord}
 use Rattle.kb_asm_text.specs.Tokens.{SpellsByteHex, SpellsFlags, SpellsLabel, SpellsText, SpellsAny, SpellsByteInt, SpellsShortInt, SpellsClassRef}
-use Rattle.kb_asm_text.specs.Shapes.{shape_of}
+use Rattle.kb_asm_text.specs.Shapes.{shape_of, IsOpOf}
 
 -- a value that is made of another, which the words spell
 abbrev pub Made : {A B : Type 0} → (A → B) → (A → List (List ℕ) → Type 0) → B → List (List ℕ) → Type 0
@@ -171,7 +170,7 @@ SpellsBehind keywords.Label line first words =
     (label : List ℕ) × (line ≡ lines.Body (bodies.Label label)) × (word : List ℕ) × (first ≡ 58 ∷ word) × SpellsLabel label word × (words ≡ [])
 SpellsBehind keywords.Other line first words =
     (op : ℕ) × (operand : Operand) × (line ≡ lines.Body (bodies.Instr op operand))
-    × (name_of op ≡ Some first) × SpellsOperand (shape_of (form_of op)) operand words
+    × IsOpOf op first × SpellsOperand (shape_of (form_of op)) operand words
 
 abbrev pub SpellsWords : Line → List (List ℕ) → Type 0
 SpellsWords line words = FirstWord (λ first others. SpellsBehind (keyword_of first) line first others) words

@@ -1,10 +1,11 @@
 -- What kind of words stand behind a mnemonic, by what stands behind its opcode (The Java Virtual Machine Specification, Java
 -- SE 8 Edition, section 6.5).
-use Rattle.std.specs.Prelude.{Option, None, Some}
+use Rattle.std.specs.Prelude.{◌≡◌, ◌<◌, ℕ, List, Option, None, Some}
 use Rattle.kb_code.specs.declared.form.Entry.{Entry}
 use Rattle.kb_code.specs.declared.form.Entry.TheVariants as entries
 use Rattle.kb_code.specs.declared.form.Form.{Form}
 use Rattle.kb_code.specs.declared.form.Form.TheVariants as forms
+use Rattle.kb_code.specs.Names.{name_of}
 use Rattle.kb_asm_text.specs.declared.shape.Shape.{Shape}
 use Rattle.kb_asm_text.specs.declared.shape.Shape.TheVariants as shapes
 
@@ -39,3 +40,8 @@ shape_of (Some forms.Table) = shapes.Table
 shape_of (Some forms.Lookup) = shapes.Lookup
 shape_of (Some forms.Wide) = shapes.Unwritten
 shape_of (Some (forms.Skipped op n)) = shapes.Unwritten
+
+-- the opcode of a mnemonic: the first one that has it
+pub record IsOpOf (op : ℕ) (name : List ℕ) : Type 0 where
+  pub named : name_of op ≡ Some name
+  pub first : (lower : ℕ) → lower < op → name_of lower ≡ Some name → ⊥

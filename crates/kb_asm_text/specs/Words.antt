@@ -1,5 +1,5 @@
 -- Lines as words, with one space between two.
-use Rattle.std.specs.Prelude.{◌≡◌, ◌≢◌, ℕ, List, [], ◌∷◌, ◌++◌}
+use Rattle.std.specs.Prelude.{◌≡◌, ◌≢◌, ℕ, List, [], ◌∷◌, ◌++◌, Option, None, Some}
 use Rattle.kb_grammar.specs.Lines.{Lacks}
 
 -- the words with one space between two
@@ -49,3 +49,8 @@ FirstWord S [] = ⊥
 abbrev pub EachWord : {A : Type 0} → (A → List ℕ → Type 0) → List A → List (List ℕ) → Type 0
 EachWord S [] words = words ≡ []
 EachWord S (value ∷ values) words = FirstWord (λ first others. S value first × EachWord S values others) words
+
+-- what a reader of words may answer: what they spell, or none where they spell nothing
+abbrev pub IsReadAs : {A : Type 0} → (A → List (List ℕ) → Type 0) → List (List ℕ) → Option A → Type 0
+IsReadAs Spells words (Some value) = Spells value words
+IsReadAs Spells words None = (value : _) → Spells value words → ⊥

@@ -1,7 +1,7 @@
 //! The lines of a class and its members, and the rows of handler tables.
 
 ghost use Rattle.std.specs.Prelude.{◌≡◌, Some, IfOk, MatchOption};
-ghost use Rattle.kb_grammar.specs.Lines.{IsRead};
+ghost use Rattle.kb_asm_text.specs.Words.{IsReadAs};
 ghost use Rattle.kb_asm_text.specs.declared.line.MethodHead.{MethodHead};
 ghost use Rattle.kb_asm_text.specs.declared.line.Sizes.{Sizes};
 ghost use Rattle.kb_asm_text.specs.Lines.{SpellsClassHead, SpellsFieldHead, SpellsMember, SpellsSized, SpellsMethodHead, SpellsCatch};
@@ -16,11 +16,8 @@ use kb_rows::Row;
 use std::alloc::Global;
 
 /// The class that the words name.
-pub(crate) fn read_class(
-    alloc: Global,
-    words: &[Row<u8>],
-) -> Result<Option<ClassHead>, NoMemory>
-    ensures { IfOk result (IsRead SpellsClassHead words.now) }
+pub(crate) fn read_class(alloc: Global, words: &[Row<u8>]) -> Result<Option<ClassHead>, NoMemory>
+    ensures { IfOk result (IsReadAs SpellsClassHead words.now) }
 {
     let Some((flags, name, parent)) = three_words(words) else {
         return Ok(None);
@@ -42,11 +39,8 @@ pub(crate) fn read_class(
 }
 
 /// The field that the words declare.
-pub(crate) fn read_field(
-    alloc: Global,
-    words: &[Row<u8>],
-) -> Result<Option<FieldHead>, NoMemory>
-    ensures { IfOk result (IsRead SpellsFieldHead words.now) }
+pub(crate) fn read_field(alloc: Global, words: &[Row<u8>]) -> Result<Option<FieldHead>, NoMemory>
+    ensures { IfOk result (IsReadAs SpellsFieldHead words.now) }
 {
     let Some((flags, name, kind)) = three_words(words) else {
         return Ok(None);
@@ -115,11 +109,8 @@ fn read_coded(alloc: Global, words: &[Row<u8>]) -> Result<Option<MethodHead>, No
 }
 
 /// The method that the words declare.
-pub(crate) fn read_method(
-    alloc: Global,
-    words: &[Row<u8>],
-) -> Result<Option<MethodHead>, NoMemory>
-    ensures { IfOk result (IsRead SpellsMethodHead words.now) }
+pub(crate) fn read_method(alloc: Global, words: &[Row<u8>]) -> Result<Option<MethodHead>, NoMemory>
+    ensures { IfOk result (IsReadAs SpellsMethodHead words.now) }
 {
     if let Some((flags, name, kind)) = three_words(words) {
         return read_member(alloc, None, flags, name, kind);
@@ -129,7 +120,7 @@ pub(crate) fn read_method(
 
 /// The row of a handler table that the words spell.
 pub(crate) fn read_catch(alloc: Global, words: &[Row<u8>]) -> Result<Option<Catch>, NoMemory>
-    ensures { IfOk result (IsRead SpellsCatch words.now) }
+    ensures { IfOk result (IsReadAs SpellsCatch words.now) }
 {
     let Some((start, end, target, class)) = four_words(words) else {
         return Ok(None);

@@ -4,7 +4,7 @@ use kb_names::{JType, MethodType, Name, Target};
 use kb_rows::Row;
 
 /// The line that names the class and its superclass.
-#[derive(Debug, Drop)]
+#[derive(Drop)]
 pub struct ClassHead {
     pub access: u16,
     pub name: Name,
@@ -12,7 +12,7 @@ pub struct ClassHead {
 }
 
 /// A field.
-#[derive(Debug, Drop)]
+#[derive(Drop)]
 pub struct FieldHead {
     pub access: u16,
     pub name: Name,
@@ -20,14 +20,14 @@ pub struct FieldHead {
 }
 
 /// How many slots the operand stack and the locals of a method have.
-#[derive(Clone, Copy, Debug)]
+#[derive(Clone, Copy)]
 pub struct Sizes {
     pub max_stack: u16,
     pub max_locals: u16,
 }
 
 /// The first line of a method. One with code has sizes, and a body behind it.
-#[derive(Debug, Drop)]
+#[derive(Drop)]
 pub struct MethodHead {
     pub access: u16,
     pub name: Name,
@@ -36,14 +36,14 @@ pub struct MethodHead {
 }
 
 /// A constant that is pushed.
-#[derive(Debug, Drop)]
+#[derive(Drop)]
 pub enum Constant {
     Int(i32),
     Text(Name),
 }
 
 /// A field of a class, by the class's name, its own and its type.
-#[derive(Debug, Drop)]
+#[derive(Drop)]
 pub struct FieldName {
     pub class: Name,
     pub name: Name,
@@ -51,21 +51,21 @@ pub struct FieldName {
 }
 
 /// What a Class entry names: a class, or an array type.
-#[derive(Debug, Drop)]
+#[derive(Drop)]
 pub enum ClassRef {
     Class(Name),
     Array(JType),
 }
 
 /// An int of a lookupswitch, and the label where it goes on.
-#[derive(Debug, Drop)]
+#[derive(Drop)]
 pub struct Case {
     pub key: i32,
     pub target: Name,
 }
 
 /// What stands behind a mnemonic. Labels are names of letters and digits.
-#[derive(Debug, Drop)]
+#[derive(Drop)]
 pub enum Operand {
     /// Nothing.
     Alone,
@@ -94,7 +94,7 @@ pub enum Operand {
 }
 
 /// A row of the handler table by its labels, with the class that is caught, or none for any.
-#[derive(Debug, Drop)]
+#[derive(Drop)]
 pub struct Catch {
     pub start: Name,
     pub end: Name,
@@ -103,7 +103,7 @@ pub struct Catch {
 }
 
 /// A line of a body.
-#[derive(Debug, Drop)]
+#[derive(Drop)]
 pub enum BodyLine {
     /// Names the offset that follows.
     Label(Name),
@@ -115,7 +115,7 @@ pub enum BodyLine {
 }
 
 /// A line.
-#[derive(Debug, Drop)]
+#[derive(Drop)]
 pub enum Line {
     Class(ClassHead),
     /// A direct superinterface.

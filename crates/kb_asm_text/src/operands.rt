@@ -1,7 +1,7 @@
 //! What stands behind a mnemonic.
 
 ghost use Rattle.std.specs.Prelude.{IfOk};
-ghost use Rattle.kb_grammar.specs.Lines.{IsRead};
+ghost use Rattle.kb_asm_text.specs.Words.{IsReadAs};
 ghost use Rattle.kb_asm_text.specs.Lines.{SpellsConstant, SpellsFieldName, SpellsMethodName, SpellsOperand};
 
 use crate::line::{Constant, FieldName, Operand};
@@ -17,7 +17,7 @@ use kb_rows::Row;
 use std::alloc::Global;
 
 fn alone(words: &[Row<u8>]) -> Option<Operand>
-    ensures { IsRead (SpellsOperand Shape.Alone) words.now result }
+    ensures { IsReadAs (SpellsOperand Shape.Alone) words.now result }
 {
     if !words.is_empty() {
         return None;
@@ -26,28 +26,28 @@ fn alone(words: &[Row<u8>]) -> Option<Operand>
 }
 
 fn byte_operand(words: &[Row<u8>]) -> Option<Operand>
-    ensures { IsRead (SpellsOperand Shape.Byte) words.now result }
+    ensures { IsReadAs (SpellsOperand Shape.Byte) words.now result }
 {
     let number = read_byte_int(one_word(words)?)?;
     Some(Operand::Byte(number))
 }
 
 fn short_operand(words: &[Row<u8>]) -> Option<Operand>
-    ensures { IsRead (SpellsOperand Shape.Short) words.now result }
+    ensures { IsReadAs (SpellsOperand Shape.Short) words.now result }
 {
     let number = read_short_int(one_word(words)?)?;
     Some(Operand::Short(number))
 }
 
 fn local_operand(words: &[Row<u8>]) -> Option<Operand>
-    ensures { IsRead (SpellsOperand Shape.Local) words.now result }
+    ensures { IsReadAs (SpellsOperand Shape.Local) words.now result }
 {
     let number = number_within(one_word(words)?, 65_535)?;
     Some(Operand::Local(number as u16))
 }
 
 fn increment(words: &[Row<u8>]) -> Option<Operand>
-    ensures { IsRead (SpellsOperand Shape.Increment) words.now result }
+    ensures { IsReadAs (SpellsOperand Shape.Increment) words.now result }
 {
     let (local, constant) = two_words(words)?;
     let local = number_within(local, 255)?;
@@ -56,7 +56,7 @@ fn increment(words: &[Row<u8>]) -> Option<Operand>
 }
 
 fn primitive(words: &[Row<u8>]) -> Option<Operand>
-    ensures { IsRead (SpellsOperand Shape.Primitive) words.now result }
+    ensures { IsReadAs (SpellsOperand Shape.Primitive) words.now result }
 {
     let number = number_within(one_word(words)?, 255)?;
     Some(Operand::Primitive(number as u8))
@@ -64,7 +64,7 @@ fn primitive(words: &[Row<u8>]) -> Option<Operand>
 
 /// The constant that the words spell.
 fn read_constant(alloc: Global, words: &[Row<u8>]) -> Result<Option<Constant>, NoMemory>
-    ensures { IfOk result (IsRead SpellsConstant words.now) }
+    ensures { IfOk result (IsReadAs SpellsConstant words.now) }
 {
     let Some((kind, word)) = two_words(words) else {
         return Ok(None);
@@ -86,7 +86,7 @@ fn read_constant(alloc: Global, words: &[Row<u8>]) -> Result<Option<Constant>, N
 
 /// The field that the words name.
 fn read_field_name(alloc: Global, words: &[Row<u8>]) -> Result<Option<FieldName>, NoMemory>
-    ensures { IfOk result (IsRead SpellsFieldName words.now) }
+    ensures { IfOk result (IsReadAs SpellsFieldName words.now) }
 {
     let Some((class, name, kind)) = three_words(words) else {
         return Ok(None);
@@ -105,7 +105,7 @@ fn read_field_name(alloc: Global, words: &[Row<u8>]) -> Result<Option<FieldName>
 
 /// The method that the words name.
 fn read_method_name(alloc: Global, words: &[Row<u8>]) -> Result<Option<Target>, NoMemory>
-    ensures { IfOk result (IsRead SpellsMethodName words.now) }
+    ensures { IfOk result (IsReadAs SpellsMethodName words.now) }
 {
     let Some((class, name, kind)) = three_words(words) else {
         return Ok(None);
@@ -123,7 +123,7 @@ fn read_method_name(alloc: Global, words: &[Row<u8>]) -> Result<Option<Target>, 
 }
 
 fn constant(alloc: Global, words: &[Row<u8>]) -> Result<Option<Operand>, NoMemory>
-    ensures { IfOk result (IsRead (SpellsOperand Shape.Constant) words.now) }
+    ensures { IfOk result (IsReadAs (SpellsOperand Shape.Constant) words.now) }
 {
     match read_constant(alloc, words)? {
         Some(of) => Ok(Some(Operand::Constant(of))),
@@ -132,7 +132,7 @@ fn constant(alloc: Global, words: &[Row<u8>]) -> Result<Option<Operand>, NoMemor
 }
 
 fn field(alloc: Global, words: &[Row<u8>]) -> Result<Option<Operand>, NoMemory>
-    ensures { IfOk result (IsRead (SpellsOperand Shape.Field) words.now) }
+    ensures { IfOk result (IsReadAs (SpellsOperand Shape.Field) words.now) }
 {
     match read_field_name(alloc, words)? {
         Some(of) => Ok(Some(Operand::Field(of))),
@@ -141,7 +141,7 @@ fn field(alloc: Global, words: &[Row<u8>]) -> Result<Option<Operand>, NoMemory>
 }
 
 fn method(alloc: Global, words: &[Row<u8>]) -> Result<Option<Operand>, NoMemory>
-    ensures { IfOk result (IsRead (SpellsOperand Shape.Method) words.now) }
+    ensures { IfOk result (IsReadAs (SpellsOperand Shape.Method) words.now) }
 {
     match read_method_name(alloc, words)? {
         Some(of) => Ok(Some(Operand::Method(of))),
@@ -150,7 +150,7 @@ fn method(alloc: Global, words: &[Row<u8>]) -> Result<Option<Operand>, NoMemory>
 }
 
 fn new_class(alloc: Global, words: &[Row<u8>]) -> Result<Option<Operand>, NoMemory>
-    ensures { IfOk result (IsRead (SpellsOperand Shape.New) words.now) }
+    ensures { IfOk result (IsReadAs (SpellsOperand Shape.New) words.now) }
 {
     let Some(word) = one_word(words) else {
         return Ok(None);
@@ -162,7 +162,7 @@ fn new_class(alloc: Global, words: &[Row<u8>]) -> Result<Option<Operand>, NoMemo
 }
 
 fn class_ref(alloc: Global, words: &[Row<u8>]) -> Result<Option<Operand>, NoMemory>
-    ensures { IfOk result (IsRead (SpellsOperand Shape.Type) words.now) }
+    ensures { IfOk result (IsReadAs (SpellsOperand Shape.Type) words.now) }
 {
     let Some(word) = one_word(words) else {
         return Ok(None);
@@ -174,7 +174,7 @@ fn class_ref(alloc: Global, words: &[Row<u8>]) -> Result<Option<Operand>, NoMemo
 }
 
 fn target(alloc: Global, words: &[Row<u8>]) -> Result<Option<Operand>, NoMemory>
-    ensures { IfOk result (IsRead (SpellsOperand Shape.Branch) words.now) }
+    ensures { IfOk result (IsReadAs (SpellsOperand Shape.Branch) words.now) }
 {
     let Some(word) = one_word(words) else {
         return Ok(None);
@@ -191,7 +191,7 @@ pub(crate) fn read_operand(
     shape: Shape,
     words: &[Row<u8>],
 ) -> Result<Option<Operand>, NoMemory>
-    ensures { IfOk result (IsRead (SpellsOperand shape) words.now) }
+    ensures { IfOk result (IsReadAs (SpellsOperand shape) words.now) }
 {
     match shape {
         Shape::Unwritten => Ok(None),

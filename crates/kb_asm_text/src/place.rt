@@ -1,9 +1,9 @@
 //! Which line may stand behind which.
 
 ghost use Rattle.std.specs.Prelude.{◌≡◌};
-ghost use Rattle.kb_asm_text.specs.Texts.{next_place};
+ghost use Rattle.kb_asm_text.specs.Texts.{place_of_method, next_place};
 
-use crate::line::Line;
+use crate::line::{Line, Sizes};
 
 /// Where the lines of a class lead.
 #[derive(Clone, Copy, Debug, PartialEq, Eq)]
@@ -20,23 +20,44 @@ pub enum Place {
     Body,
 }
 
+/// Where the first line of a method leads.
+fn place_of_method(sizes: Option<Sizes>) -> Place
+    ensures { result ≡ place_of_method sizes }
+{
+    match sizes {
+        Some(_) => Place::Body,
+        None => Place::Methods,
+    }
+}
+
 /// Where that line leads, if it may stand there.
 pub(crate) fn next_place(place: Place, line: &Line) -> Option<Place>
     ensures { result ≡ next_place place line.now }
 {
-    match (place, line) {
-        (Place::Start, Line::Class(_)) => Some(Place::Head),
-        (Place::Head, Line::Implements(_)) => Some(Place::Head),
-        (Place::Head | Place::Fields, Line::Field(_)) => Some(Place::Fields),
-        (Place::Head | Place::Fields | Place::Methods, Line::Method(head)) => {
-            Some(if head.sizes.is_some() {
-                Place::Body
-            } else {
-                Place::Methods
-            })
-        }
-        (Place::Body, Line::Body(_)) => Some(Place::Body),
-        (Place::Body, Line::End) => Some(Place::Methods),
-        _ => None,
+    match line {
+        Line::Class(_) => match place {
+            Place::Start => Some(Place::Head),
+            _ => None,
+        },
+        Line::Implements(_) => match place {
+            Place::Head => Some(Place::Head),
+            _ => None,
+        },
+        Line::Field(_) => match place {
+            Place::Head | Place::Fields => Some(Place::Fields),
+            _ => None,
+        },
+        Line::Method(head) => match place {
+            Place::Head | Place::Fields | Place::Methods => Some(place_of_method(head.sizes)),
+            _ => None,
+        },
+        Line::Body(_) => match place {
+            Place::Body => Some(Place::Body),
+            _ => None,
+        },
+        Line::End => match place {
+            Place::Body => Some(Place::Methods),
+            _ => None,
+        },
     }
 }

@@ -1,6 +1,7 @@
 //! Lines are read.
 
 ghost use Rattle.std.specs.Prelude.{IfOk};
+ghost use Rattle.kb_asm_text.specs.Words.{IsReadAs};
 ghost use Rattle.kb_grammar.specs.Lines.{IsRead};
 ghost use Rattle.kb_asm_text.specs.Lines.{keyword_of, SpellsBehind, SpellsLine};
 ghost use Rattle.kb_asm_text.specs.declared.keyword.Keyword.TheVariants as keywords;
@@ -13,12 +14,13 @@ use crate::names::{read_label, read_text};
 use crate::operands::read_operand;
 use crate::shape::{op_of, shape_at};
 use crate::tokens::read_byte_hex;
-use crate::words::{one_word, words_of};
+use crate::words::{first_word, one_word, words_of};
+use kb_grammar::behind;
 use kb_rows::Row;
 use std::alloc::Global;
 
 fn class_line(alloc: Global, first: &[u8], words: &[Row<u8>]) -> Result<Option<Line>, NoMemory>
-    ensures { IfOk result (IsRead (λ line. SpellsBehind keywords.Class line first.now) words.now) }
+    ensures { IfOk result (IsReadAs (λ line. SpellsBehind keywords.Class line first.now) words.now) }
 {
     match read_class(alloc, words)? {
         Some(head) => Ok(Some(Line::Class(head))),
@@ -26,12 +28,8 @@ fn class_line(alloc: Global, first: &[u8], words: &[Row<u8>]) -> Result<Option<L
     }
 }
 
-fn implements_line(
-    alloc: Global,
-    first: &[u8],
-    words: &[Row<u8>],
-) -> Result<Option<Line>, NoMemory>
-    ensures { IfOk result (IsRead (λ line. SpellsBehind keywords.Implements line first.now) words.now) }
+fn implements_line(alloc: Global, first: &[u8], words: &[Row<u8>]) -> Result<Option<Line>, NoMemory>
+    ensures { IfOk result (IsReadAs (λ line. SpellsBehind keywords.Implements line first.now) words.now) }
 {
     let Some(word) = one_word(words) else {
         return Ok(None);
@@ -43,7 +41,7 @@ fn implements_line(
 }
 
 fn field_line(alloc: Global, first: &[u8], words: &[Row<u8>]) -> Result<Option<Line>, NoMemory>
-    ensures { IfOk result (IsRead (λ line. SpellsBehind keywords.Field line first.now) words.now) }
+    ensures { IfOk result (IsReadAs (λ line. SpellsBehind keywords.Field line first.now) words.now) }
 {
     match read_field(alloc, words)? {
         Some(head) => Ok(Some(Line::Field(head))),
@@ -52,7 +50,7 @@ fn field_line(alloc: Global, first: &[u8], words: &[Row<u8>]) -> Result<Option<L
 }
 
 fn method_line(alloc: Global, first: &[u8], words: &[Row<u8>]) -> Result<Option<Line>, NoMemory>
-    ensures { IfOk result (IsRead (λ line. SpellsBehind keywords.Method line first.now) words.now) }
+    ensures { IfOk result (IsReadAs (λ line. SpellsBehind keywords.Method line first.now) words.now) }
 {
     match read_method(alloc, words)? {
         Some(head) => Ok(Some(Line::Method(head))),
@@ -61,7 +59,7 @@ fn method_line(alloc: Global, first: &[u8], words: &[Row<u8>]) -> Result<Option<
 }
 
 fn end_line(first: &[u8], words: &[Row<u8>]) -> Option<Line>
-    ensures { IsRead (λ line. SpellsBehind keywords.End line first.now) words.now result }
+    ensures { IsReadAs (λ line. SpellsBehind keywords.End line first.now) words.now result }
 {
     if !words.is_empty() {
         return None;
@@ -70,14 +68,14 @@ fn end_line(first: &[u8], words: &[Row<u8>]) -> Option<Line>
 }
 
 fn raw_line(first: &[u8], words: &[Row<u8>]) -> Option<Line>
-    ensures { IsRead (λ line. SpellsBehind keywords.Raw line first.now) words.now result }
+    ensures { IsReadAs (λ line. SpellsBehind keywords.Raw line first.now) words.now result }
 {
     let byte = read_byte_hex(one_word(words)?)?;
     Some(Line::Body(BodyLine::Raw(byte)))
 }
 
 fn catch_line(alloc: Global, first: &[u8], words: &[Row<u8>]) -> Result<Option<Line>, NoMemory>
-    ensures { IfOk result (IsRead (λ line. SpellsBehind keywords.Catch line first.now) words.now) }
+    ensures { IfOk result (IsReadAs (λ line. SpellsBehind keywords.Catch line first.now) words.now) }
 {
     match read_catch(alloc, words)? {
         Some(row) => Ok(Some(Line::Body(BodyLine::Catch(row)))),
@@ -86,12 +84,12 @@ fn catch_line(alloc: Global, first: &[u8], words: &[Row<u8>]) -> Result<Option<L
 }
 
 fn label_line(alloc: Global, first: &[u8], words: &[Row<u8>]) -> Result<Option<Line>, NoMemory>
-    ensures { IfOk result (IsRead (λ line. SpellsBehind keywords.Label line first.now) words.now) }
+    ensures { IfOk result (IsReadAs (λ line. SpellsBehind keywords.Label line first.now) words.now) }
 {
     if !words.is_empty() {
         return Ok(None);
     }
-    let [b':', word @ ..] = first else {
+    let Some(word) = behind(first, b":") else {
         return Ok(None);
     };
     match read_label(alloc, word)? {
@@ -101,7 +99,7 @@ fn label_line(alloc: Global, first: &[u8], words: &[Row<u8>]) -> Result<Option<L
 }
 
 fn instr_line(alloc: Global, first: &[u8], words: &[Row<u8>]) -> Result<Option<Line>, NoMemory>
-    ensures { IfOk result (IsRead (λ line. SpellsBehind keywords.Other line first.now) words.now) }
+    ensures { IfOk result (IsReadAs (λ line. SpellsBehind keywords.Other line first.now) words.now) }
 {
     let Some(op) = op_of(first) else {
         return Ok(None);
@@ -114,7 +112,7 @@ fn instr_line(alloc: Global, first: &[u8], words: &[Row<u8>]) -> Result<Option<L
 
 /// The line that begins with that word, with the words behind it.
 fn read_behind(alloc: Global, first: &[u8], words: &[Row<u8>]) -> Result<Option<Line>, NoMemory>
-    ensures { IfOk result (IsRead (λ line. SpellsBehind (keyword_of first.now) line first.now) words.now) }
+    ensures { IfOk result (IsReadAs (λ line. SpellsBehind (keyword_of first.now) line first.now) words.now) }
 {
     match keyword_of(first) {
         Keyword::Class => class_line(alloc, first, words),
@@ -134,8 +132,8 @@ pub fn read_line(alloc: Global, text: &[u8]) -> Result<Option<Line>, NoMemory>
     ensures { IfOk result (IsRead SpellsLine text.now) }
 {
     let words = words_of(alloc, text)?;
-    let [first, others @ ..] = words.as_slice() else {
+    let Some((first, others)) = first_word(words.as_slice()) else {
         return Ok(None);
     };
-    read_behind(alloc, first.as_slice(), others)
+    read_behind(alloc, first, others)
 }

@@ -2,9 +2,8 @@
 
 ghost use Rattle.std.specs.Prelude.{◌≡◌, Some};
 ghost use Rattle.kb_grammar.specs.Lines.{IsRead};
-ghost use Rattle.kb_code.specs.Names.{name_of};
 ghost use Rattle.kb_code.specs.Forms.{form_of, constant_form, load_form, store_form, stack_form, math_form, conversion_form, comparison_form, control_form, reference_form, extended_form};
-ghost use Rattle.kb_asm_text.specs.Shapes.{shape_of};
+ghost use Rattle.kb_asm_text.specs.Shapes.{shape_of, IsOpOf};
 
 use kb_code::op_name;
 use kb_grammar::is_line;
@@ -32,7 +31,7 @@ pub enum Shape {
 
 /// The opcode of that mnemonic.
 pub(crate) fn op_of(name: &[u8]) -> Option<u8>
-    ensures { IsRead (λ op text. name_of op ≡ Some text) name.now result }
+    ensures { IsRead IsOpOf name.now result }
 {
     for op in 0..=0xc9u8 {
         if let Some(found) = op_name(op) {

@@ -2,7 +2,7 @@
 
 ghost use Rattle.std.specs.Prelude.{◌≡◌, length, IfOk};
 ghost use Rattle.kb_grammar.specs.Lines.{IsRead};
-ghost use Rattle.kb_asm_text.specs.Words.{EachWord};
+ghost use Rattle.kb_asm_text.specs.Words.{EachWord, IsReadAs};
 ghost use Rattle.kb_asm_text.specs.Tokens.{SpellsLabel};
 ghost use Rattle.kb_asm_text.specs.Lines.{is_table, are_rising, SpellsCase, SpellsOperand};
 
@@ -10,6 +10,7 @@ use crate::line::{Case, Operand};
 use crate::memory::NoMemory;
 use crate::names::read_label;
 use crate::shape::Shape;
+use crate::words::first_word;
 use kb_grammar::{cut, read_int};
 use kb_names::Name;
 use kb_rows::Row;
@@ -44,12 +45,12 @@ fn are_rising(cases: &[Case]) -> bool
 
 /// The labels that the words spell.
 fn read_labels(alloc: Global, words: &[Row<u8>]) -> Result<Option<Row<Name>>, NoMemory>
-    ensures { IfOk result (IsRead (EachWord SpellsLabel) words.now) }
+    ensures { IfOk result (IsReadAs (EachWord SpellsLabel) words.now) }
 {
     let mut labels = Row::new(alloc);
     let mut rest = words;
-    while let [first, others @ ..] = rest {
-        match read_label(alloc, first.as_slice())? {
+    while let Some((first, others)) = first_word(rest) {
+        match read_label(alloc, first)? {
             Some(label) => labels.push(label)?,
             None => return Ok(None),
         }
@@ -76,12 +77,12 @@ fn read_case(alloc: Global, word: &[u8]) -> Result<Option<Case>, NoMemory>
 
 /// The ints and the labels that the words spell.
 fn read_cases(alloc: Global, words: &[Row<u8>]) -> Result<Option<Row<Case>>, NoMemory>
-    ensures { IfOk result (IsRead (EachWord SpellsCase) words.now) }
+    ensures { IfOk result (IsReadAs (EachWord SpellsCase) words.now) }
 {
     let mut cases = Row::new(alloc);
     let mut rest = words;
-    while let [first, others @ ..] = rest {
-        match read_case(alloc, first.as_slice())? {
+    while let Some((first, others)) = first_word(rest) {
+        match read_case(alloc, first)? {
             Some(case) => cases.push(case)?,
             None => return Ok(None),
         }
@@ -91,22 +92,22 @@ fn read_cases(alloc: Global, words: &[Row<u8>]) -> Result<Option<Row<Case>>, NoM
 }
 
 /// The operands of a tableswitch.
-pub(crate) fn table_operand(
-    alloc: Global,
-    words: &[Row<u8>],
-) -> Result<Option<Operand>, NoMemory>
-    ensures { IfOk result (IsRead (SpellsOperand Shape.Table) words.now) }
+pub(crate) fn table_operand(alloc: Global, words: &[Row<u8>]) -> Result<Option<Operand>, NoMemory>
+    ensures { IfOk result (IsReadAs (SpellsOperand Shape.Table) words.now) }
 {
-    let [low, default, targets @ ..] = words else {
+    let Some((first, others)) = first_word(words) else {
         return Ok(None);
     };
-    let Some(low) = read_int(low.as_slice()) else {
+    let Some((second, rest)) = first_word(others) else {
         return Ok(None);
     };
-    let Some(default) = read_label(alloc, default.as_slice())? else {
+    let Some(low) = read_int(first) else {
         return Ok(None);
     };
-    let Some(targets) = read_labels(alloc, targets)? else {
+    let Some(default) = read_label(alloc, second)? else {
+        return Ok(None);
+    };
+    let Some(targets) = read_labels(alloc, rest)? else {
         return Ok(None);
     };
     if !is_table(low, targets.as_slice()) {
@@ -116,19 +117,16 @@ pub(crate) fn table_operand(
 }
 
 /// The operands of a lookupswitch.
-pub(crate) fn lookup_operand(
-    alloc: Global,
-    words: &[Row<u8>],
-) -> Result<Option<Operand>, NoMemory>
-    ensures { IfOk result (IsRead (SpellsOperand Shape.Lookup) words.now) }
+pub(crate) fn lookup_operand(alloc: Global, words: &[Row<u8>]) -> Result<Option<Operand>, NoMemory>
+    ensures { IfOk result (IsReadAs (SpellsOperand Shape.Lookup) words.now) }
 {
-    let [default, cases @ ..] = words else {
+    let Some((first, others)) = first_word(words) else {
         return Ok(None);
     };
-    let Some(default) = read_label(alloc, default.as_slice())? else {
+    let Some(default) = read_label(alloc, first)? else {
         return Ok(None);
     };
-    let Some(cases) = read_cases(alloc, cases)? else {
+    let Some(cases) = read_cases(alloc, others)? else {
         return Ok(None);
     };
     if !are_rising(cases.as_slice()) {

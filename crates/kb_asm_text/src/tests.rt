@@ -92,7 +92,8 @@ fn lines_are_read_or_not(rt: HostRuntime) {
 #[test]
 fn a_line_says_what_it_says(rt: HostRuntime) {
     let line = read_line(rt.alloc(), b"ldc int -7").expect(&rt, "a line");
-    let Some(Line::Body(BodyLine::Instr(op, Operand::Constant(Constant::Int(number))))) = line else {
+    let Some(Line::Body(BodyLine::Instr(op, Operand::Constant(Constant::Int(number))))) = line
+    else {
         assert!(rt; false, "no constant");
         return;
     };
@@ -126,8 +127,14 @@ fn texts_are_read_up_to_the_first_bad_line(rt: HostRuntime) {
     let alloc = rt.alloc();
     assert_eq!(rt; front_of(alloc, TEXT), Some((9, Place::Methods, true)));
     assert_eq!(rt; front_of(alloc, b""), Some((0, Place::Start, true)));
-    assert_eq!(rt; front_of(alloc, b"class 0021 A B"), Some((0, Place::Start, false)));
-    assert_eq!(rt; front_of(alloc, b"class 0021 A B\n"), Some((1, Place::Head, true)));
+    assert_eq!(rt;
+        front_of(alloc, b"class 0021 A B"),
+        Some((0, Place::Start, false))
+    );
+    assert_eq!(rt;
+        front_of(alloc, b"class 0021 A B\n"),
+        Some((1, Place::Head, true))
+    );
     assert_eq!(rt; front_of(alloc, b"nop\n"), Some((0, Place::Start, false)));
     let order = b"class 0021 A B\nfield 0000 n I\nimplements C\n";
     assert_eq!(rt; front_of(alloc, order), Some((2, Place::Fields, false)));

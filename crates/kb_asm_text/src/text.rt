@@ -14,7 +14,7 @@ use kb_rows::Row;
 use std::alloc::Global;
 
 /// The lines of a text up to the first one that does not fit.
-#[derive(Debug, Drop)]
+#[derive(Drop)]
 pub struct Front {
     pub lines: Row<Line>,
     /// Where they lead.
@@ -24,11 +24,7 @@ pub struct Front {
 }
 
 /// The line that the text spells, and where it leads, if it may stand there.
-fn next_line(
-    alloc: Global,
-    place: Place,
-    text: &[u8],
-) -> Result<Option<(Line, Place)>, NoMemory>
+fn next_line(alloc: Global, place: Place, text: &[u8]) -> Result<Option<(Line, Place)>, NoMemory>
     ensures { IfOk result (λ read. MatchOption read
         ((line : Line) → SpellsLine line text.now → place_next place line ≡ None)
         (λ p. SpellsLine p.0 text.now × (place_next place p.0 ≡ Some p.1))) }

@@ -91,3 +91,13 @@ pub(crate) fn five_words(words: &[Row<u8>]) -> Option<(&[u8], &[u8], &[u8], &[u8
         fifth.as_slice(),
     ))
 }
+
+/// The first word and the others, if there is one.
+pub(crate) fn first_word(words: &[Row<u8>]) -> Option<(&[u8], &[Row<u8>])>
+    ensures { MatchOption result (words.now ≡ []) (λ p. words.now ≡ p.0.now ∷ p.1.now) }
+{
+    let [first, others @ ..] = words else {
+        return None;
+    };
+    Some((first.as_slice(), others))
+}
