@@ -8,18 +8,16 @@ import java.nio.file.Files;
 import java.nio.file.Path;
 import java.util.Arrays;
 import java.util.List;
-import java.util.Set;
 
 /**
  * Writes how the runs of a table of rows end: by the Java virtual machine that runs this, but for rows whose ending stands in
  * the table itself.
  *
  * <p>A row is {@code CLASS.NAME(PARAMETERS)RESULT}, then an argument for each parameter, an int or {@code null}, and then bounds
- * of the run, each a word and a number. Lines that begin with {@code files} name class files, and lines that begin with # are
+ * of the run, as {@code loops=3}. Lines that begin with {@code files} name class files, and lines that begin with # are
  * comments. A comment {@code #= ENDING} behind a row has the row's ending.
  */
 class Expect {
-    private static final Set<String> BOUNDS = Set.of("alloc", "loops", "depth", "steps");
     private static final String STATED = "#= ";
 
     private final ClassLoader classes;
@@ -44,7 +42,7 @@ class Expect {
     }
 
     private String ending(String[] words) throws Exception {
-        List<String> args = Arrays.stream(words).skip(1).takeWhile(word -> !BOUNDS.contains(word)).toList();
+        List<String> args = Arrays.stream(words).skip(1).takeWhile(word -> !word.contains("=")).toList();
         Method method = method(words[0]);
         method.setAccessible(true);
         Class<?>[] types = method.getParameterTypes();
