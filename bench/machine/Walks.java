@@ -2,15 +2,20 @@
 // activation goes back at most 1,000 times.
 class Walks {
     static int array(int times) {
-        int[] numbers = new int[1000];
-        for (int i = 0; i < numbers.length; i++) {
-            numbers[i] = i;
-        }
+        int[] numbers = filled();
         int sum = 0;
         for (int i = 0; i < times; i++) {
             sum += sumOf(numbers);
         }
         return sum;
+    }
+
+    static int[] filled() {
+        int[] numbers = new int[1000];
+        for (int i = 0; i < numbers.length; i++) {
+            numbers[i] = i;
+        }
+        return numbers;
     }
 
     static int sumOf(int[] numbers) {
@@ -22,6 +27,15 @@ class Walks {
     }
 
     static int list(int times) {
+        Node first = listed();
+        int sum = 0;
+        for (int i = 0; i < times; i++) {
+            sum += first.sum();
+        }
+        return sum;
+    }
+
+    static Node listed() {
         Node first = null;
         for (int i = 0; i < 1000; i++) {
             Node node = new Node();
@@ -29,11 +43,7 @@ class Walks {
             node.next = first;
             first = node;
         }
-        int sum = 0;
-        for (int i = 0; i < times; i++) {
-            sum += first.sum();
-        }
-        return sum;
+        return first;
     }
 
     static int fib(int n) {
