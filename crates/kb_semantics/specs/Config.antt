@@ -90,15 +90,16 @@ abbrev pub instruction_in : List (ℕ × Instr) → ℕ → ℕ → Option (Inst
 instruction_in [] size at = None
 instruction_in (item ∷ rest) size at = cond (nat_eq item.0 at) (Some (item.1, offset_of rest size)) (instruction_in rest size at)
 
-abbrev pub instruction_of : World → Frame → Option (Instr × ℕ)
-instruction_of world frame = option_and_then (λ (code : MethodCode). instruction_in code.listing.items code.size frame.at) (code_of world frame.method)
+abbrev pub instruction_at : World → MethodId → ℕ → Option (Instr × ℕ)
+instruction_at world method at = option_and_then (λ (code : MethodCode). instruction_in code.listing.items code.size at) (code_of world method)
 
--- the offset behind the frame's instruction
-abbrev pub behind : World → Frame → ℕ
-behind world frame = option_map_or (λ (found : Instr × ℕ). found.1) (instruction_of world frame) frame.at
+-- the offset behind the instruction at an offset
+abbrev pub behind : World → MethodId → ℕ → ℕ
+behind world method at = option_map_or (λ (found : Instr × ℕ). found.1) (instruction_at world method at) at
 
-abbrev pub place_of : World → Frame → Place
-place_of world frame = record { method = target_of world frame.method; at = frame.at }
+-- an offset of a method's code, as endings tell it
+abbrev pub place_in_code : World → MethodId → ℕ → Place
+place_in_code world method at = record { method = target_of world method; at = at }
 
 -- ---- locals and stacks (section 4.7.3)
 
@@ -116,9 +117,9 @@ local_of world frame k = cond (nat_lt k (max_locals_of world frame.method)) (opt
 abbrev pub with_local : World → Frame → ℕ → Value → Option (List (Option Value))
 with_local world frame k v = only_where (nat_lt k (max_locals_of world frame.method)) (slice_set frame.locals k (Some v))
 
--- whether the frame's method may have such a stack
-abbrev pub may_have : World → Frame → List Value → Bool
-may_have world frame stack = nat_le (length stack) (max_stack_of world frame.method)
+-- whether a stack of the method may have so many values
+abbrev pub has_room : World → MethodId → ℕ → Bool
+has_room world method height = nat_le height (max_stack_of world method)
 
 -- the locals of a frame that begins with these arguments: it holds them all, whatever the limit is (own)
 abbrev pub first_locals : List Value → ℕ → List (Option Value)

@@ -1,13 +1,10 @@
 -- What each instruction does: one definition an instruction, with its mnemonic and opcode (JVMS 8 section 6.5). `next` is the
 -- offset behind it.
-use Rattle.std.specs.Prelude.{ℕ, ℤ, pos, Bool, true, false, ◌&&◌, List, [], ◌∷◌, ◌++◌, ◌+◌, length, map, replicate, take, drop, nat_lt, nat_le, nat_eq, is_some, Option, Some, None, option_map, option_and_then, slice_get, codes, if◌then◌else◌}
-use Rattle.std.specs.Ordering.{int_eq}
+use Rattle.std.specs.Prelude.{ℕ, ℤ, pos, Bool, true, false, not, ◌&&◌, List, [], ◌∷◌, ◌++◌, ◌+◌, length, map, replicate, take, drop, nat_lt, nat_le, nat_eq, is_some, Option, Some, None, option_map, option_and_then, slice_get, codes, if◌then◌else◌}
 use Rattle.std.specs.List.{list_any}
 use Rattle.std.specs.Option.{option_map_or}
 use Rattle.std.specs.Str.{bytes_eq}
-use Rattle.std.specs.Int.{w32, cast_unsigned}
 use Rattle.kb_arith.specs.Word.{word_add, word_sub, word_mul, word_div, word_rem, word_shl, word_shr, word_ushr, word_and, word_or, word_xor, word_neg, word_byte, word_char, word_short, truth}
-use Rattle.kb_names.specs.Types.{shape_of}
 use Rattle.kb_names.specs.declared.types.ExactType.{ExactType}
 use Rattle.kb_names.specs.declared.types.ExactType.TheVariants as exact
 use Rattle.kb_names.specs.declared.types.JType.{JType}
@@ -38,18 +35,18 @@ use Rattle.kb_link.specs.Subtypes.{fits, type_of_exact}
 use Rattle.kb_world.specs.declared.calls.Call.{Call}
 use Rattle.kb_world.specs.declared.calls.Call.TheVariants as calls
 use Rattle.kb_world.specs.Lookup.{or_else, only_where, sought_at, resolved_field, resolved_method, selected_special}
-use Rattle.kb_world.specs.Calls.{selected_on, is_without_file}
-use Rattle.kb_semantics.specs.Config.{Setting, Config, Outcome, Goes, Ends, info_of, class_number, local_of, with_local}
-use Rattle.kb_semantics.specs.Values.{kept, default_of, takes_component, component_of_code, new_object}
-use Rattle.kb_semantics.specs.Comparisons.{holds, switch_target, table_keys}
-use Rattle.kb_semantics.specs.Operands.{Reference, Taken, int_of, reference_of, value_of_reference, top_of, an_int, a_reference, two_ints, two_references, an_element, an_element_and_value, an_object_and_value, arguments, receiver_and_arguments, receiver_of}
+use Rattle.kb_world.specs.Calls.{selected_on, receives, is_without_file}
+use Rattle.kb_semantics.specs.Config.{Setting, Config, Outcome, info_of, class_number, local_of, with_local}
+use Rattle.kb_semantics.specs.Values.{kept, default_of, takes_component, new_object}
+use Rattle.kb_semantics.specs.Comparisons.{holds, is_so, equal, switch_target}
+use Rattle.kb_semantics.specs.Operands.{Reference, Taken, int_of, reference_of, value_of_reference, an_int, a_reference, two_ints, two_references, an_element, an_element_and_value, an_object_and_value, arguments, receiver_and_arguments, receiver_of, argument_of}
 use Rattle.kb_semantics.specs.Ways.{ill_typed, past, goes, goes_on, goes_with, jumps, branches, throws, throws_object, enters, pushed, returns_value, returns_nothing, null_pointer, arithmetic, index_outside, array_store, class_cast, negative_size}
 
 -- Where there is something, what it leads to; else the run ends as ill-typed.
 abbrev pub with : {A : Type 0} → Setting → Config → Option A → (A → Outcome) → Outcome
 with s c it f = option_map_or f it (ill_typed s c)
 
--- the class that declares the current method
+-- the number of the class that declares the current method
 abbrev pub here : Setting → Config → ℕ
 here s c = class_number s.world c.frame.method
 
@@ -67,14 +64,14 @@ push_null s next c = goes s c next (Null ∷ c.frame.stack)
 unfoldable pub push_int : ℤ → Setting → ℕ → Config → Outcome
 push_int z s next c = goes s c next (Int z ∷ c.frame.stack)
 
--- what an entry of the current class stands for: an int, or the object of a string literal, behind the input's objects
-abbrev pub constant_at : Setting → Config → ℕ → Option Value
-constant_at s c entry =
-    or_else (option_map Int (int_entry_of s.world (here s c) entry)) (option_map (λ literal. Ref (c.inputs + literal)) (literal_entry_of s.world (here s c) entry))
+-- what an entry of a class stands for: an int, or the object of a string literal, behind the input's objects
+abbrev pub constant_at : World → ℕ → ℕ → ℕ → Option Value
+constant_at world class entry inputs =
+    or_else (option_map Int (int_entry_of world class entry)) (option_map (λ literal. Ref (inputs + literal)) (literal_entry_of world class entry))
 
 -- ldc (12), ldc_w (13)
 unfoldable pub load_constant : ℕ → Setting → ℕ → Config → Outcome
-load_constant entry s next c = with s c (constant_at s c entry) (λ v. goes s c next (v ∷ c.frame.stack))
+load_constant entry s next c = with s c (constant_at s.world (here s c) entry c.inputs) (λ v. goes s c next (v ∷ c.frame.stack))
 
 -- ---- locals
 
@@ -127,8 +124,8 @@ abbrev pub int2_value : IntOp → ℤ → ℤ → Option ℤ
 int2_value ops.Add a b = Some (word_add a b)
 int2_value ops.Sub a b = Some (word_sub a b)
 int2_value ops.Mul a b = Some (word_mul a b)
-int2_value ops.Div a b = if int_eq b (pos 0) then None else Some (word_div a b)
-int2_value ops.Rem a b = if int_eq b (pos 0) then None else Some (word_rem a b)
+int2_value ops.Div a b = if is_so (equal b (pos 0)) then None else Some (word_div a b)
+int2_value ops.Rem a b = if is_so (equal b (pos 0)) then None else Some (word_rem a b)
 int2_value ops.Shl a b = Some (word_shl a b)
 int2_value ops.Shr a b = Some (word_shr a b)
 int2_value ops.Ushr a b = Some (word_ushr a b)
@@ -169,14 +166,14 @@ same_reference None None = true
 same_reference (Some o) (Some p) = nat_eq o p
 same_reference _ _ = false
 
-abbrev pub agrees : Bool → Bool → Bool
-agrees true so = so
-agrees false true = false
-agrees false false = true
+-- whether that is so, or is not, as is wanted
+abbrev pub is_wanted : Bool → Bool → Bool
+is_wanted true so = so
+is_wanted false so = not so
 
 -- if_acmpeq (a5), if_acmpne (a6)
 unfoldable pub if_same : Bool → ℕ → Setting → ℕ → Config → Outcome
-if_same want target s next c = with s c (two_references c.frame.stack) (λ t. branches s c next target (agrees want (same_reference t.it.0 t.it.1)) t.rest)
+if_same want target s next c = with s c (two_references c.frame.stack) (λ t. branches s c next target (is_wanted want (same_reference t.it.0 t.it.1)) t.rest)
 
 abbrev pub is_null : Reference → Bool
 is_null None = true
@@ -184,7 +181,7 @@ is_null (Some o) = false
 
 -- ifnull (c6), ifnonnull (c7)
 unfoldable pub if_null : Bool → ℕ → Setting → ℕ → Config → Outcome
-if_null want target s next c = with s c (a_reference c.frame.stack) (λ r. branches s c next target (agrees want (is_null r.it)) r.rest)
+if_null want target s next c = with s c (a_reference c.frame.stack) (λ r. branches s c next target (is_wanted want (is_null r.it)) r.rest)
 
 -- goto (a7), goto_w (c8)
 unfoldable pub goto : ℕ → Setting → ℕ → Config → Outcome
@@ -228,20 +225,16 @@ has_field world kind field = list_any (nat_eq field.class.0) (classes_of world k
 abbrev pub field_of : World → Object → FieldSlot → Option Value
 field_of world object field = if has_field world object.kind field then slice_get object.values field.slot else None
 
--- the field that an entry of the current class names
-abbrev pub field_at : Setting → Config → ℕ → Option FieldSlot
-field_at s c entry = resolved_field s.world (here s c) entry
-
 -- getfield (b4)
 unfoldable pub get_field : ℕ → Setting → ℕ → Config → Outcome
 get_field entry s next c =
-    with s c (field_at s c entry) (λ field. with s c (a_reference c.frame.stack) (λ r.
+    with s c (resolved_field s.world (here s c) entry) (λ field. with s c (a_reference c.frame.stack) (λ r.
     on_object s c r.it (λ o object. with s c (field_of s.world object field) (λ v. goes s c next (v ∷ r.rest)))))
 
 -- putfield (b5)
 unfoldable pub put_field : ℕ → Setting → ℕ → Config → Outcome
 put_field entry s next c =
-    with s c (field_at s c entry) (λ field. with s c (an_object_and_value field.kind c.frame.stack) (λ t.
+    with s c (resolved_field s.world (here s c) entry) (λ field. with s c (an_object_and_value field.kind c.frame.stack) (λ t.
     on_object s c t.it.0 (λ o object. with s c (field_of s.world object field) (λ before. goes_with s c next t.rest (with_value c.heap o field.slot t.it.1)))))
 
 -- new (bb)
@@ -258,15 +251,23 @@ make_object entry s next c = with s c (class_of_entry (type_entry_of s.world (he
 
 -- ---- arrays
 
--- the component of an array type
-abbrev pub component_of : ExactType → Option JType
-component_of (exact.Class name) = None
-component_of (exact.Array component) = Some component
+-- the component and the elements of an array
+pub record Elements : Type 0 where
+  pub component : JType
+  pub values : List Value
 
--- an array whose component is such: ill-typed where it is none
-abbrev pub on_array : Setting → Config → Reference → (JType → Bool) → (ℕ → Object → JType → Outcome) → Outcome
-on_array s c r such f =
-    on_object s c r (λ o object. with s c (option_and_then (λ component. only_where (such component) component) (component_of object.kind)) (λ component. f o object component))
+abbrev pub elements_of : ExactType → List Value → (JType → Bool) → Option Elements
+elements_of (exact.Class name) values such = None
+elements_of (exact.Array component) values such = only_where (such component) (record { component = component; values = values })
+
+-- those of an object, where it is an array whose component is such
+abbrev pub array_at : Heap → ℕ → (JType → Bool) → Option Elements
+array_at heap o such = option_and_then (λ (object : Object). elements_of object.kind object.values such) (object_at heap o)
+
+-- what an array leads to whose component is such, with its number; null throws
+abbrev pub on_array : Setting → Config → Reference → (JType → Bool) → (ℕ → Elements → Outcome) → Outcome
+on_array s c None such f = throws s c null_pointer
+on_array s c (Some o) such f = with s c (array_at c.heap o such) (f o)
 
 -- the place of an index in an array of that length
 abbrev pub place_in_array : ℤ → ℕ → Option ℕ
@@ -274,13 +275,13 @@ place_in_array (pos i) len = only_where (nat_lt i len) i
 place_in_array _ len = None
 
 -- where the index is in the array, what it leads to; else it throws
-abbrev pub on_place : Setting → Config → Object → ℤ → (ℕ → Outcome) → Outcome
+abbrev pub on_place : Setting → Config → Elements → ℤ → (ℕ → Outcome) → Outcome
 on_place s c array index f = option_map_or f (place_in_array index (length array.values)) (throws s c index_outside)
 
 -- iaload (2e), aaload (32), baload (33)
 unfoldable pub load_element : Elem → Setting → ℕ → Config → Outcome
 load_element elem s next c =
-    with s c (an_element c.frame.stack) (λ t. on_array s c t.it.0 (takes_component elem) (λ o array component.
+    with s c (an_element c.frame.stack) (λ t. on_array s c t.it.0 (takes_component elem) (λ o array.
     on_place s c array t.it.1 (λ place. with s c (slice_get array.values place) (λ v. goes s c next (v ∷ t.rest)))))
 
 -- whether the component takes the value: null, or an object that fits it (aastore)
@@ -291,16 +292,16 @@ takes_object world heap component _ = true
 -- iastore (4f), aastore (53), bastore (54)
 unfoldable pub store_element : Elem → Setting → ℕ → Config → Outcome
 store_element elem s next c =
-    with s c (an_element_and_value elem c.frame.stack) (λ t. on_array s c t.it.0.0 (takes_component elem) (λ o array component.
+    with s c (an_element_and_value elem c.frame.stack) (λ t. on_array s c t.it.0.0 (takes_component elem) (λ o array.
     on_place s c array t.it.0.1 (λ place.
-    if takes_object s.world c.heap component t.it.1
-    then with s c (kept component t.it.1) (λ v. goes_with s c next t.rest (with_value c.heap o place v))
+    if takes_object s.world c.heap array.component t.it.1
+    then with s c (kept array.component t.it.1) (λ v. goes_with s c next t.rest (with_value c.heap o place v))
     else throws s c array_store)))
 
 -- arraylength (be)
 unfoldable pub array_length : Setting → ℕ → Config → Outcome
 array_length s next c =
-    with s c (a_reference c.frame.stack) (λ r. on_array s c r.it (λ component. true) (λ o array component. goes s c next (Int (pos (length array.values)) ∷ r.rest)))
+    with s c (a_reference c.frame.stack) (λ r. on_array s c r.it (λ component. true) (λ o array. goes s c next (Int (pos (length array.values)) ∷ r.rest)))
 
 abbrev pub new_array : JType → ℕ → Object
 new_array component len = record { kind = exact.Array component; values = replicate len (default_of component) }
@@ -315,31 +316,27 @@ makes_array s next c component _ rest = throws s c negative_size
 unfoldable pub make_array : Option JType → Setting → ℕ → Config → Outcome
 make_array component s next c = with s c component (λ type. with s c (an_int c.frame.stack) (λ len. makes_array s next c type len.it len.rest))
 
--- the component of an array that anewarray makes
-abbrev pub component_of_entry : Setting → Config → ℕ → Option JType
-component_of_entry s c entry = option_map type_of_exact (type_entry_of s.world (here s c) entry)
+-- the component of an array that anewarray makes for an entry of a class
+abbrev pub component_of_entry : World → ℕ → ℕ → Option JType
+component_of_entry world class entry = option_map type_of_exact (type_entry_of world class entry)
 
 -- ---- types of objects
 
--- the type that an entry of the current class names
-abbrev pub type_at : Setting → Config → ℕ → Option ExactType
-type_at s c entry = type_entry_of s.world (here s c) entry
-
--- whether a reference that is not null leads to an object of the type
-abbrev pub is_instance : Setting → Config → ExactType → ℕ → Bool
-is_instance s c type o = option_map_or (λ (object : Object). fits s.world object.kind (type_of_exact type)) (object_at c.heap o) false
+-- whether the object of that number is of the type
+abbrev pub is_instance : World → Heap → ExactType → ℕ → Bool
+is_instance world heap type o = option_map_or (λ (object : Object). fits world object.kind (type_of_exact type)) (object_at heap o) false
 
 -- checkcast (c0)
 unfoldable pub cast : ℕ → Setting → ℕ → Config → Outcome
 cast entry s next c =
-    with s c (type_at s c entry) (λ type. with s c (a_reference c.frame.stack) (λ r.
-    if option_map_or (is_instance s c type) r.it true then goes s c next c.frame.stack else throws s c class_cast))
+    with s c (type_entry_of s.world (here s c) entry) (λ type. with s c (a_reference c.frame.stack) (λ r.
+    if option_map_or (is_instance s.world c.heap type) r.it true then goes s c next c.frame.stack else throws s c class_cast))
 
 -- instanceof (c1)
 unfoldable pub instance_of : ℕ → Setting → ℕ → Config → Outcome
 instance_of entry s next c =
-    with s c (type_at s c entry) (λ type. with s c (a_reference c.frame.stack) (λ r.
-    goes s c next (Int (truth (option_map_or (is_instance s c type) r.it false)) ∷ r.rest)))
+    with s c (type_entry_of s.world (here s c) entry) (λ type. with s c (a_reference c.frame.stack) (λ r.
+    goes s c next (Int (truth (option_map_or (is_instance s.world c.heap type) r.it false)) ∷ r.rest)))
 
 -- athrow (bf)
 unfoldable pub throw : Setting → ℕ → Config → Outcome
@@ -362,8 +359,8 @@ pub record Callee : Type 0 where
 abbrev pub callee_of : Sought → Option Callee
 callee_of sought = option_map (λ kind. record { class = sought.class; kind = kind }) (kind_of_member sought.member.kind)
 
-abbrev pub callee_at : Setting → Config → ℕ → Option Callee
-callee_at s c entry = option_and_then callee_of (sought_at s.world (here s c) entry)
+abbrev pub callee_at : World → ℕ → ℕ → Option Callee
+callee_at world class entry = option_and_then callee_of (sought_at world class entry)
 
 -- the operands of a call: with a receiver first, but for invokestatic
 abbrev pub operands_of : Call → MethodType → List Value → Option (Taken (List Value))
@@ -373,34 +370,32 @@ operands_of _ kind stack = receiver_and_arguments kind.params stack
 abbrev pub equals_name : List ℕ
 equals_name = codes "equals"
 
-abbrev pub second_of : List Value → Option Value
-second_of args = slice_get args 1
+-- whether the method is the platform's Object.equals, by its name
+abbrev pub is_equals : World → MethodInfo → Bool
+is_equals world method = is_without_file world method.class.0 && bytes_eq method.name equals_name
 
 -- What a method of a platform class answers: `equals` whether the two are one object; a constructor does nothing.
-abbrev pub platform_result : MethodInfo → List Value → Option Value
-platform_result method args =
-    if bytes_eq method.name equals_name
-    then Some (Int (truth (same_reference (receiver_of args) (option_map_or (λ r. r) (reference_of (second_of args)) None))))
-    else None
+abbrev pub platform_result : World → MethodInfo → List Value → Option Value
+platform_result world method args =
+    if is_equals world method then Some (Int (truth (same_reference (receiver_of args) (argument_of args)))) else None
 
 -- A method is called with these arguments: one with code gets a frame, one of a platform class answers at once, and any other is
 -- ill-typed.
 abbrev pub invokes_method : Setting → ℕ → Config → ℕ → MethodInfo → List Value → List Value → Outcome
 invokes_method s next c number method args rest =
     if is_some method.code then enters s c (record { 0 = number }) args rest
-    else if is_without_file s.world method.class.0 then goes s c next (pushed (platform_result method args) rest)
+    else if is_without_file s.world method.class.0 then goes s c next (pushed (platform_result s.world method args) rest)
     else ill_typed s c
 
 abbrev pub invokes : Setting → ℕ → Config → Option ℕ → List Value → List Value → Outcome
 invokes s next c found args rest =
     with s c found (λ number. with s c (info_of s.world (record { 0 = number })) (λ method. invokes_method s next c number method args rest))
 
--- what is called in place of the method of a call's entry where the receiver is of the exact type; ill-typed where that is no
--- subtype of the type in which the method is sought
-abbrev pub selected_at : Setting → Config → ℕ → Callee → ExactType → Option ℕ
-selected_at s c entry callee receiver =
-    option_and_then (λ method. selected_on s.world method receiver)
-    (if fits s.world receiver (type_of_exact callee.class) then resolved_method s.world (here s c) entry else None)
+-- what is called in place of the method of a call's entry where the receiver is of the exact type: none where that is no subtype
+-- of the type in which the method is sought
+abbrev pub selected_at : World → ℕ → ℕ → Callee → ExactType → Option ℕ
+selected_at world class entry callee receiver =
+    option_and_then (λ method. selected_on world method receiver) (if receives world callee.class receiver then resolved_method world class entry else None)
 
 -- the call with its operands: the receiver's null test comes before all else
 abbrev pub invokes_on : Call → ℕ → Setting → ℕ → Config → Callee → List Value → List Value → Outcome
@@ -408,9 +403,9 @@ invokes_on calls.Static entry s next c callee args rest = invokes s next c (reso
 invokes_on calls.Special entry s next c callee args rest =
     on_object s c (receiver_of args) (λ o object. invokes s next c (selected_special s.world (here s c) entry) args rest)
 invokes_on _ entry s next c callee args rest =
-    on_object s c (receiver_of args) (λ o object. invokes s next c (selected_at s c entry callee object.kind) args rest)
+    on_object s c (receiver_of args) (λ o object. invokes s next c (selected_at s.world (here s c) entry callee object.kind) args rest)
 
 -- invokevirtual (b6), invokespecial (b7), invokestatic (b8), invokeinterface (b9)
 unfoldable pub invoke : Call → ℕ → Setting → ℕ → Config → Outcome
 invoke call entry s next c =
-    with s c (callee_at s c entry) (λ callee. with s c (operands_of call callee.kind c.frame.stack) (λ t. invokes_on call entry s next c callee t.it t.rest))
+    with s c (callee_at s.world (here s c) entry) (λ callee. with s c (operands_of call callee.kind c.frame.stack) (λ t. invokes_on call entry s next c callee t.it t.rest))

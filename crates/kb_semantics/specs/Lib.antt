@@ -1,2 +1,11 @@
+pub mod Comparisons
+pub mod Config
+pub mod Inputs
+pub mod Instructions
+pub mod Looks
 pub mod Machine
+pub mod Operands
+pub mod Step
 pub mod Types
+pub mod Values
+pub mod Ways

@@ -4,34 +4,29 @@
 use Rattle.std.specs.Prelude.{ℕ, zero, suc, ℤ, pos, Bool, true, false, ◌&&◌, List, [], ◌∷◌, ◌++◌, length, map, filter, nat_le, nat_lt, Option, Some, None, option_map, option_and_then, is_some, if◌then◌else◌}
 use Rattle.std.specs.List.{filter_map}
 use Rattle.std.specs.Option.{option_map_or}
-use Rattle.std.specs.Str.{bytes_eq}
 use Rattle.kb_names.specs.declared.types.JType.{JType}
-use Rattle.kb_names.specs.declared.types.MethodType.{MethodType}
-use Rattle.kb_code.specs.declared.instruction.Cond.{Cond}
 use Rattle.kb_code.specs.declared.instruction.Elem.{Elem}
 use Rattle.kb_code.specs.declared.instruction.Elem.TheVariants as elems
 use Rattle.kb_code.specs.declared.instruction.IntOp.{IntOp}
 use Rattle.kb_code.specs.declared.instruction.IntOp.TheVariants as ops
 use Rattle.kb_code.specs.declared.instruction.Instr.{Instr}
 use Rattle.kb_code.specs.declared.instruction.Instr.TheVariants as instrs
-use Rattle.kb_class.specs.declared.members.MethodInfo.{MethodInfo}
 use Rattle.kb_heap.specs.declared.heap.Value.{Value}
 use Rattle.kb_heap.specs.declared.heap.Object.{Object}
 use Rattle.kb_heap.specs.Heap.{object_at}
 use Rattle.kb_link.specs.declared.slots.FieldSlot.{FieldSlot}
 use Rattle.kb_world.specs.declared.calls.Call.{Call}
 use Rattle.kb_world.specs.declared.calls.Call.TheVariants as calls
-use Rattle.kb_world.specs.Calls.{is_without_file}
-use Rattle.kb_world.specs.Lookup.{only_where, selected_special}
-use Rattle.kb_semantics.specs.Config.{Setting, Config, info_of, instruction_of}
+use Rattle.kb_world.specs.Lookup.{only_where, resolved_field, selected_special}
+use Rattle.kb_semantics.specs.Config.{Setting, Config, info_of, instruction_at}
 use Rattle.kb_semantics.specs.Values.{takes_component}
 use Rattle.kb_semantics.specs.Comparisons.{Comparison, equal, less, less_unsigned, compared, compared_keys, table_keys}
-use Rattle.kb_semantics.specs.Operands.{Reference, Taken, reference_of, an_int, a_reference, two_ints, two_references, an_element, an_element_and_value, an_object_and_value, receiver_of}
-use Rattle.kb_semantics.specs.Instructions.{here, field_at, field_of, component_of, place_in_array, takes_object, Callee, callee_at, operands_of, selected_at, equals_name, second_of}
+use Rattle.kb_semantics.specs.Operands.{Reference, Taken, reference_of, an_int, a_reference, two_ints, two_references, an_element, an_element_and_value, an_object_and_value, receiver_of, argument_of}
+use Rattle.kb_semantics.specs.Instructions.{here, field_of, Elements, array_at, place_in_array, takes_object, is_equals, Callee, callee_at, operands_of, selected_at}
 
 -- the instruction that a step takes up: None where the run ends as past its steps, or off the end of its code
 abbrev pub taken_up : Setting → Config → Option Instr
-taken_up s c = if nat_le s.bounds.steps c.carried then None else option_map (λ (found : Instr × ℕ). found.0) (instruction_of s.world c.frame)
+taken_up s c = if nat_le s.bounds.steps c.carried then None else option_map (λ (found : Instr × ℕ). found.0) (instruction_at s.world c.frame.method c.frame.at)
 
 -- ---- objects of the input
 
@@ -64,17 +59,13 @@ abbrev pub field_slot : Setting → Config → FieldSlot → ℕ → Option Slot
 field_slot s c field o =
     option_and_then (λ (object : Object). only_where (is_some (field_of s.world object field)) (record { object = o; slot = field.slot })) (object_at c.heap o)
 
--- an array whose component is such
-abbrev pub is_such_array : (JType → Bool) → Object → Bool
-is_such_array such object = option_map_or such (component_of object.kind) false
-
-abbrev pub array_of : Config → Reference → (JType → Bool) → Option Object
-array_of c r such = option_and_then (λ (object : Object). only_where (is_such_array such object) object) (object_of c r)
-
--- the element at an index in the range of an array that is such
+-- the element at an index in the range of an array whose component is such
 abbrev pub element_slot : Config → Reference → (JType → Bool) → ℤ → Option Slot
 element_slot c r such index =
-    option_and_then (λ o. option_and_then (λ (array : Object). option_map (λ place. record { object = o; slot = place }) (place_in_array index (length array.values))) (array_of c r such)) r
+    option_and_then (λ o. option_and_then (λ (array : Elements). option_map (λ place. record { object = o; slot = place }) (place_in_array index (length array.values))) (array_at c.heap o such)) r
+
+abbrev pub array_of : Config → Reference → (JType → Bool) → Option Elements
+array_of c r such = option_and_then (λ o. array_at c.heap o such) r
 
 abbrev pub if_some : {A B : Type 0} → Option A → (A → List B) → List B
 if_some it f = option_map_or f it []
@@ -85,13 +76,11 @@ at_most_one (Some x) = x ∷ []
 
 -- ---- what it looks into
 
--- whether a call of the method compares its receiver with its argument: Object.equals
-abbrev pub is_equals : Setting → ℕ → Bool
-is_equals s number = option_map_or (λ (m : MethodInfo). is_without_file s.world m.class.0 && bytes_eq m.name equals_name) (info_of s.world (record { 0 = number })) false
-
+-- both sides of a call of Object.equals
 abbrev pub compared_sides : Setting → Config → Option ℕ → List Value → List Reference
 compared_sides s c found args =
-    if option_map_or (is_equals s) found false then both_sides c (receiver_of args) (option_map_or (λ r. r) (reference_of (second_of args)) None) else []
+    if option_map_or (is_equals s.world) (option_and_then (λ number. info_of s.world (record { 0 = number })) found) false
+    then both_sides c (receiver_of args) (argument_of args) else []
 
 -- the receiver of invokevirtual and invokeinterface, and both sides of Object.equals
 abbrev pub looked_by_call : Call → ℕ → Setting → Config → Callee → List Value → List Reference
@@ -99,11 +88,11 @@ looked_by_call calls.Static entry s c callee args = []
 looked_by_call calls.Special entry s c callee args =
     if_some (receiver_of args) (λ o. compared_sides s c (selected_special s.world (here s c) entry) args)
 looked_by_call _ entry s c callee args =
-    receiver_of args ∷ if_some (object_of c (receiver_of args)) (λ object. compared_sides s c (selected_at s c entry callee object.kind) args)
+    receiver_of args ∷ if_some (object_of c (receiver_of args)) (λ object. compared_sides s c (selected_at s.world (here s c) entry callee object.kind) args)
 
 abbrev pub looked_by_calls : Call → ℕ → Setting → Config → List Reference
 looked_by_calls call entry s c =
-    if_some (callee_at s c entry) (λ callee. if_some (operands_of call callee.kind c.frame.stack) (λ t. looked_by_call call entry s c callee t.it))
+    if_some (callee_at s.world (here s c) entry) (λ callee. if_some (operands_of call callee.kind c.frame.stack) (λ t. looked_by_call call entry s c callee t.it))
 
 -- the value of an aastore whose index is in range
 abbrev pub looked_by_store : Config → Elem → Taken ((Reference × ℤ) × Value) → List Reference
@@ -117,7 +106,7 @@ looked_operand c = if_some (a_reference c.frame.stack) (λ r. r.it ∷ [])
 
 abbrev pub looked_by : Instr → Setting → Config → List Reference
 looked_by (instrs.GetField entry) s c = looked_operand c
-looked_by (instrs.PutField entry) s c = if_some (field_at s c entry) (λ field. if_some (an_object_and_value field.kind c.frame.stack) (λ t. t.it.0 ∷ []))
+looked_by (instrs.PutField entry) s c = if_some (resolved_field s.world (here s c) entry) (λ field. if_some (an_object_and_value field.kind c.frame.stack) (λ t. t.it.0 ∷ []))
 looked_by (instrs.LoadElem elem) s c = if_some (an_element c.frame.stack) (λ t. t.it.0 ∷ [])
 looked_by (instrs.StoreElem elem) s c = if_some (an_element_and_value elem c.frame.stack) (λ t. t.it.0.0 ∷ looked_by_store c elem t)
 looked_by instrs.Length s c = looked_operand c
@@ -138,7 +127,7 @@ looks s c = if_some (taken_up s c) (λ instr. inputs_among c (looked_by instr s 
 
 abbrev pub read_by : Instr → Setting → Config → List Slot
 read_by (instrs.GetField entry) s c =
-    if_some (field_at s c entry) (λ field. if_some (a_reference c.frame.stack) (λ r. at_most_one (option_and_then (field_slot s c field) r.it)))
+    if_some (resolved_field s.world (here s c) entry) (λ field. if_some (a_reference c.frame.stack) (λ r. at_most_one (option_and_then (field_slot s c field) r.it)))
 read_by (instrs.LoadElem elem) s c =
     if_some (an_element c.frame.stack) (λ t. at_most_one (element_slot c t.it.0 (takes_component elem) t.it.1))
 read_by _ s c = []
@@ -150,11 +139,10 @@ reads s c = if_some (taken_up s c) (λ instr. filter (λ slot. is_input c slot.o
 
 abbrev pub stored_by : Instr → Setting → Config → List Slot
 stored_by (instrs.PutField entry) s c =
-    if_some (field_at s c entry) (λ field. if_some (an_object_and_value field.kind c.frame.stack) (λ t. at_most_one (option_and_then (field_slot s c field) t.it.0)))
+    if_some (resolved_field s.world (here s c) entry) (λ field. if_some (an_object_and_value field.kind c.frame.stack) (λ t. at_most_one (option_and_then (field_slot s c field) t.it.0)))
 stored_by (instrs.StoreElem elem) s c =
     if_some (an_element_and_value elem c.frame.stack) (λ t. if_some (array_of c t.it.0.0 (takes_component elem)) (λ array.
-    if option_map_or (λ component. takes_object s.world c.heap component t.it.1) (component_of array.kind) false
-    then at_most_one (element_slot c t.it.0.0 (takes_component elem) t.it.0.1) else []))
+    if takes_object s.world c.heap array.component t.it.1 then at_most_one (element_slot c t.it.0.0 (takes_component elem) t.it.0.1) else []))
 stored_by _ s c = []
 
 -- The slots and elements that the step of a configuration writes, of any object.
@@ -168,8 +156,8 @@ abbrev pub numbers_below : ℕ → List ℕ
 numbers_below zero = []
 numbers_below (suc n) = numbers_below n ++ n ∷ []
 
--- an index with each place of an array, and with its length
-abbrev pub compared_index : ℤ → Object → List Comparison
+-- an index with each place of an array, and with its length: the array is one that the instruction takes
+abbrev pub compared_index : ℤ → Elements → List Comparison
 compared_index index array =
     less_unsigned index (pos (length array.values)) ∷ map (λ place. equal index (pos place)) (numbers_below (length array.values))
 

@@ -2,8 +2,6 @@
 -- has another kind. What an instruction does, looks into, reads, stores and compares goes by these.
 use Rattle.std.specs.Prelude.{ℕ, ℤ, Bool, true, false, ◌&&◌, List, [], ◌∷◌, length, take, drop, reverse, nat_le, nat_lt, is_some, Option, Some, None, option_map, option_and_then, slice_get}
 use Rattle.std.specs.Option.{option_map_or}
-use Rattle.kb_names.specs.declared.types.ExactType.{ExactType}
-use Rattle.kb_names.specs.declared.types.ExactType.TheVariants as exact
 use Rattle.kb_names.specs.declared.types.JType.{JType}
 use Rattle.kb_names.specs.declared.types.JType.TheVariants as types
 use Rattle.kb_code.specs.declared.instruction.Elem.{Elem}
@@ -100,19 +98,26 @@ an_object_and_value type stack = above_it a_reference (a_value_for type) stack
 
 abbrev pub are_of_kinds : List JType → List Value → Bool
 are_of_kinds [] [] = true
-are_of_kinds (type ∷ types) (value ∷ values) = is_of_kind type value && are_of_kinds types values
+are_of_kinds (type ∷ others) (value ∷ values) = is_of_kind type value && are_of_kinds others values
 are_of_kinds _ _ = false
 
 -- Arguments for parameters of these types, the last one on the top.
 abbrev pub arguments : List JType → List Value → Option (Taken (List Value))
-arguments types stack =
-    only_where (are_of_kinds types (reverse (take (length types) stack)))
-    (record { it = reverse (take (length types) stack); rest = drop (length types) stack })
+arguments params stack =
+    only_where (are_of_kinds params (reverse (take (length params) stack)))
+    (record { it = reverse (take (length params) stack); rest = drop (length params) stack })
 
 -- the same with a receiver before them, which is a reference
 abbrev pub receiver_and_arguments : List JType → List Value → Option (Taken (List Value))
-receiver_and_arguments types stack = arguments (types.Class object_name ∷ types) stack
+receiver_and_arguments params stack = arguments (types.Class object_name ∷ params) stack
 
--- the receiver of these arguments
+-- the reference at a place among these arguments
+abbrev pub reference_at : List Value → ℕ → Reference
+reference_at args place = option_map_or (λ r. r) (reference_of (slice_get args place)) None
+
+-- the receiver, and the first argument behind it
 abbrev pub receiver_of : List Value → Reference
-receiver_of args = option_map_or (λ r. r) (reference_of (top_of args)) None
+receiver_of args = reference_at args 0
+
+abbrev pub argument_of : List Value → Reference
+argument_of args = reference_at args 1

@@ -1,5 +1,5 @@
 -- One step of the machine, runs, and the configurations of a run (JVMS 8 sections 2.6, 2.11 and 6.5).
-use Rattle.std.specs.Prelude.{ℕ, zero, suc, ◌+◌, List, [], ◌++◌, length, map, replicate, nat_le, Option, Some, None, option_and_then, if◌then◌else◌}
+use Rattle.std.specs.Prelude.{ℕ, zero, suc, ◌+◌, List, [], ◌++◌, length, replicate, nat_le, Option, Some, None, option_and_then, if◌then◌else◌}
 use Rattle.std.specs.Option.{option_map_or}
 use Rattle.kb_code.specs.declared.instruction.Instr.{Instr}
 use Rattle.kb_code.specs.declared.instruction.Instr.TheVariants as instrs
@@ -10,11 +10,11 @@ use Rattle.kb_heap.specs.declared.heap.Heap.{Heap}
 use Rattle.kb_heap.specs.declared.heap.Input.{Input}
 use Rattle.kb_link.specs.World.{World}
 use Rattle.kb_world.specs.declared.calls.Call.TheVariants as calls
-use Rattle.kb_semantics.specs.Config.{Setting, Config, Ended, Outcome, Goes, Ends, instruction_of, first_frame}
+use Rattle.kb_semantics.specs.Config.{Setting, Config, Ended, Outcome, Goes, Ends, instruction_at, first_frame}
 use Rattle.kb_semantics.specs.Values.{component_of_code, literal}
 use Rattle.kb_semantics.specs.Comparisons.{table_keys}
 use Rattle.kb_semantics.specs.Ways.{ill_typed, past}
-use Rattle.kb_semantics.specs.Instructions.{nop, push_null, push_int, load_constant, load_int, load_reference, store_int, store_reference, increase, without, copied_below, exchanged, rearrange, apply_two, negate, narrow, if_int, if_ints, if_same, if_null, goto, switch, return_int, return_reference, return_nothing, get_field, put_field, make_object, load_element, store_element, array_length, make_array, component_of_entry, cast, instance_of, throw, invoke}
+use Rattle.kb_semantics.specs.Instructions.{here, nop, push_null, push_int, load_constant, load_int, load_reference, store_int, store_reference, increase, without, copied_below, exchanged, rearrange, apply_two, negate, narrow, if_int, if_ints, if_same, if_null, goto, switch, return_int, return_reference, return_nothing, get_field, put_field, make_object, load_element, store_element, array_length, make_array, component_of_entry, cast, instance_of, throw, invoke}
 
 -- What an instruction does in a configuration, where `next` is the offset behind it. An instruction that is left out ends the
 -- run as ill-typed: nothing that may be run reaches one.
@@ -60,7 +60,7 @@ effect (instrs.Static entry) = invoke calls.Static entry
 effect (instrs.Interface entry) = invoke calls.Interface entry
 effect (instrs.New entry) = make_object entry
 effect (instrs.NewPrim code) = make_array (component_of_code code)
-effect (instrs.NewRefs entry) = λ s next c. make_array (component_of_entry s c entry) s next c
+effect (instrs.NewRefs entry) = λ s next c. make_array (component_of_entry s.world (here s c) entry) s next c
 effect instrs.Length = array_length
 effect instrs.Throw = throw
 effect (instrs.Cast entry) = cast entry
@@ -72,7 +72,7 @@ effect (instrs.Other op) = λ s next c. ill_typed s c
 unfoldable pub step : Setting → Config → Outcome
 step s c =
     if nat_le s.bounds.steps c.carried then past c Steps
-    else option_map_or (λ found. effect found.0 s found.1 c) (instruction_of s.world c.frame) (ill_typed s c)
+    else option_map_or (λ found. effect found.0 s found.1 c) (instruction_at s.world c.frame.method c.frame.at) (ill_typed s c)
 
 -- what follows an outcome
 abbrev pub follow : Outcome → (Config → Ended) → Ended

@@ -1,6 +1,6 @@
 -- Types and their values: which values a slot, an element or a result of a type has, and how it keeps one (JVMS 8 sections 2.3,
 -- 2.4, 2.7 and 6.5). A further type of ints joins as a further case of each definition here.
-use Rattle.std.specs.Prelude.{◌≡◌, ◌⊎◌, ℕ, ℤ, pos, Bool, true, false, List, [], ◌∷◌, map, codes, is_some, nat_eq, Option, Some, None, if◌then◌else◌}
+use Rattle.std.specs.Prelude.{◌≡◌, ◌⊎◌, ℕ, ℤ, pos, Bool, true, false, List, [], ◌∷◌, map, codes, ◌==◌, is_some, Option, Some, None, if◌then◌else◌}
 use Rattle.std.specs.Int.{w32}
 use Rattle.std.specs.Int.RustNames.{FitsSigned}
 use Rattle.std.specs.Option.{option_map_or}
@@ -34,15 +34,15 @@ kept (types.Array component) Null = Some Null
 kept (types.Array component) (Ref o) = Some (Ref o)
 kept _ _ = None
 
--- whether a parameter of the type takes the value: it is kept as it is
+-- whether the value has the kind of the type; a parameter takes it as it is
 abbrev pub is_of_kind : JType → Value → Bool
 is_of_kind type value = is_some (kept type value)
 
--- the default value of a slot or an element of the type (sections 2.3 and 2.4)
+-- the default value of a slot or an element of the type (sections 2.3 and 2.4): null of a class or an array, else 0
 abbrev pub default_of : JType → Value
-default_of types.Bool = Int (pos 0)
-default_of types.Int = Int (pos 0)
-default_of _ = Null
+default_of (types.Class name) = Null
+default_of (types.Array component) = Null
+default_of _ = Int (pos 0)
 
 -- whether an array instruction of that kind takes arrays of the component: baload and bastore those of booleans
 abbrev pub takes_component : Elem → JType → Bool
@@ -52,16 +52,16 @@ takes_component elems.Ref (types.Class name) = true
 takes_component elems.Ref (types.Array component) = true
 takes_component _ _ = false
 
--- the component of an array newarray makes for a code (table 6.5.newarray-A): T_BOOLEAN and T_INT
+-- the component of an array that newarray makes for a code (table 6.5.newarray-A): T_BOOLEAN and T_INT
 abbrev pub component_of_code : ℕ → Option JType
-component_of_code code = if nat_eq code 4 then Some types.Bool else if nat_eq code 10 then Some types.Int else None
+component_of_code code = if code == 4 then Some types.Bool else if code == 10 then Some types.Int else None
 
 -- ---- values in a heap
 
--- an object of the heap that is of the type
-abbrev pub IsObjectOf : World → Heap → JType → Option Object → Type 0
-IsObjectOf world heap type None = ⊥
-IsObjectOf world heap type (Some object) = fits world object.kind type ≡ true
+-- there is an object, and it is of the type
+abbrev pub IsObjectOf : World → JType → Option Object → Type 0
+IsObjectOf world type None = ⊥
+IsObjectOf world type (Some object) = fits world object.kind type ≡ true
 
 -- The value is one of the type in a heap: an int of 32 bits with sign (section 2.3.1), a boolean 0 or 1 (section 2.3.4), null or
 -- an object of the type for a class or an array (section 2.4).
@@ -69,17 +69,17 @@ abbrev pub IsValueOf : World → Heap → JType → Value → Type 0
 IsValueOf world heap types.Int (Int z) = FitsSigned w32 z
 IsValueOf world heap types.Bool (Int z) = (z ≡ pos 0) ⊎ (z ≡ pos 1)
 IsValueOf world heap (types.Class name) Null = Unit {0}
-IsValueOf world heap (types.Class name) (Ref o) = IsObjectOf world heap (types.Class name) (object_at heap o)
+IsValueOf world heap (types.Class name) (Ref o) = IsObjectOf world (types.Class name) (object_at heap o)
 IsValueOf world heap (types.Array component) Null = Unit {0}
-IsValueOf world heap (types.Array component) (Ref o) = IsObjectOf world heap (types.Array component) (object_at heap o)
+IsValueOf world heap (types.Array component) (Ref o) = IsObjectOf world (types.Array component) (object_at heap o)
 IsValueOf world heap type value = ⊥
 
 -- each value is one of its type
 abbrev pub AreValuesOf : World → Heap → List JType → List Value → Type 0
 AreValuesOf world heap [] [] = Unit {0}
-AreValuesOf world heap (type ∷ types) (value ∷ values) = IsValueOf world heap type value × AreValuesOf world heap types values
+AreValuesOf world heap (type ∷ others) (value ∷ values) = IsValueOf world heap type value × AreValuesOf world heap others values
 AreValuesOf world heap [] (value ∷ values) = ⊥
-AreValuesOf world heap (type ∷ types) [] = ⊥
+AreValuesOf world heap (type ∷ others) [] = ⊥
 
 -- ---- objects
 

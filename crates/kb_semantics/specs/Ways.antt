@@ -1,10 +1,9 @@
 -- The ways in which a step goes on or ends. Each states its order of tests once, and every instruction goes by them
 -- (JVMS 8 sections 2.6, 2.10 and 6.5; the bounds and what is ill-typed are own rules).
-use Rattle.std.specs.Prelude.{ℕ, ◌+◌, Bool, true, false, ◌==◌, ◌&&◌, ◌||◌, not, is_some, suc, List, [], ◌∷◌, length, nat_le, nat_lt, Option, Some, None, option_map, option_and_then, slice_get, codes, if◌then◌else◌}
+use Rattle.std.specs.Prelude.{ℕ, ◌+◌, Bool, true, false, ◌==◌, ◌&&◌, ◌||◌, not, is_some, suc, List, [], ◌∷◌, length, nat_le, nat_lt, Option, Some, None, drop, map, option_map, option_and_then, codes, if◌then◌else◌}
 use Rattle.std.specs.Option.{option_map_or}
 use Rattle.kb_names.specs.declared.types.ExactType.{ExactType}
 use Rattle.kb_names.specs.declared.types.ExactType.TheVariants as exact
-use Rattle.kb_names.specs.declared.types.JType.{JType}
 use Rattle.kb_code.specs.declared.listing.Handler.{Handler}
 use Rattle.kb_class.specs.declared.ids.MethodId.{MethodId}
 use Rattle.kb_class.specs.declared.members.MethodCode.{MethodCode}
@@ -16,12 +15,11 @@ use Rattle.kb_heap.specs.declared.ending.Ending.TheVariants.{Returned, Threw, Il
 use Rattle.kb_heap.specs.declared.heap.Value.{Value}
 use Rattle.kb_heap.specs.declared.heap.Value.TheVariants.{Ref}
 use Rattle.kb_heap.specs.declared.heap.Heap.{Heap}
-use Rattle.kb_heap.specs.declared.heap.Object.{Object}
-use Rattle.kb_heap.specs.Heap.{object_at, with_object}
+use Rattle.kb_heap.specs.Heap.{with_object}
 use Rattle.kb_link.specs.World.{World, type_entry_of}
 use Rattle.kb_link.specs.Subtypes.{fits, type_of_exact}
 use Rattle.kb_world.specs.Lookup.{only_where}
-use Rattle.kb_semantics.specs.Config.{Setting, Frame, Config, Ended, Outcome, Goes, Ends, code_of, class_number, result_of, place_of, behind, may_have, first_frame}
+use Rattle.kb_semantics.specs.Config.{Setting, Frame, Config, Ended, Outcome, Goes, Ends, code_of, class_number, result_of, place_in_code, behind, has_room, first_frame}
 use Rattle.kb_semantics.specs.Values.{kept, new_object}
 
 -- ---- the run ends, with the heap from before the instruction
@@ -31,7 +29,7 @@ ends c ending = Ends (record { ending = ending; heap = c.heap })
 
 -- as ill-typed, at the instruction that was taken up
 abbrev pub ill_typed : Setting → Config → Outcome
-ill_typed s c = ends c (IllTyped (place_of s.world c.frame))
+ill_typed s c = ends c (IllTyped (place_in_code s.world c.frame.method c.frame.at))
 
 -- past a bound
 abbrev pub past : Config → Bound → Outcome
@@ -43,10 +41,11 @@ past c bound = ends c (Past bound)
 abbrev pub carries_out : Config → Frame → List Frame → Heap → Outcome
 carries_out c frame callers heap = Goes (record { frame = frame; callers = callers; heap = heap; inputs = c.inputs; carried = c.carried + 1 })
 
--- at the next offset, with these locals, this heap, and this stack, which the frame must be allowed
-abbrev pub goes_on : Setting → Config → ℕ → List (Option Value) → List Value → Heap → Outcome
+-- With these locals, this stack, for which the frame must have room, and this heap, at the next offset.
+unfoldable pub goes_on : Setting → Config → ℕ → List (Option Value) → List Value → Heap → Outcome
 goes_on s c next locals stack heap =
-    if may_have s.world c.frame stack then carries_out c (record c.frame { at = next; locals = locals; stack = stack }) c.callers heap
+    if has_room s.world c.frame.method (length stack)
+    then carries_out c (record c.frame { at = next; locals = locals; stack = stack }) c.callers heap
     else ill_typed s c
 
 -- with the same locals
@@ -59,17 +58,18 @@ goes s c next stack = goes_with s c next stack c.heap
 
 -- ---- it branches
 
--- The frame after a transfer of control to an offset. One to an offset not above the frame's own counts; None where it would be
--- one more than the bound.
-abbrev pub transferred : RunBounds → Frame → ℕ → List Value → Option Frame
-transferred bounds frame target stack =
-    if nat_le target frame.at then only_where (nat_lt frame.transfers bounds.loops) (record frame { at = target; stack = stack; transfers = frame.transfers + 1 })
-    else Some (record frame { at = target; stack = stack })
+-- The count of transfers behind a transfer of control from an offset to a target. One to an offset not above one's own counts;
+-- None where it would be one more than the bound.
+abbrev pub counted : RunBounds → ℕ → ℕ → ℕ → Option ℕ
+counted bounds at target transfers =
+    if nat_le target at then only_where (nat_lt transfers bounds.loops) (transfers + 1) else Some transfers
 
--- A frame goes on at a target with this stack, the frames of these callers and this heap: ill-typed comes before the bound.
-abbrev pub goes_to : Setting → Config → Frame → List Frame → ℕ → List Value → Heap → Outcome
+-- A frame goes on at a target with this stack, these callers and this heap: ill-typed comes before the bound.
+unfoldable pub goes_to : Setting → Config → Frame → List Frame → ℕ → List Value → Heap → Outcome
 goes_to s c frame callers target stack heap =
-    if may_have s.world frame stack then option_map_or (λ f. carries_out c f callers heap) (transferred s.bounds frame target stack) (past c Loops)
+    if has_room s.world frame.method (length stack)
+    then option_map_or (λ transfers. carries_out c (record frame { at = target; stack = stack; transfers = transfers }) callers heap)
+        (counted s.bounds frame.at target frame.transfers) (past c Loops)
     else ill_typed s c
 
 -- the current frame goes on at a target
@@ -95,26 +95,43 @@ handler_among world class at kind [] = None
 handler_among world class at kind (handler ∷ others) =
     if is_taken_by world class at kind handler then Some handler.target else handler_among world class at kind others
 
--- that of a frame; in a caller's the offset is that of its invoke
-abbrev pub handler_of : World → Frame → ExactType → Option ℕ
-handler_of world frame kind =
-    option_and_then (λ (code : MethodCode). handler_among world (class_number world frame.method) frame.at kind code.handlers) (code_of world frame.method)
+-- that of a method at an offset
+abbrev pub handler_at : World → MethodId → ℕ → ExactType → Option ℕ
+handler_at world method at kind =
+    option_and_then (λ (code : MethodCode). handler_among world (class_number world method) at kind code.handlers) (code_of world method)
 
--- An object of the heap is thrown through these frames: the first that has a handler for it goes on there, with nothing but the
--- object on its stack. Where none has, the run ends.
-unfoldable pub unwinds : Setting → Config → Heap → ℕ → ExactType → List Frame → Outcome
-unwinds s c heap object kind [] = Ends (record { ending = Threw object; heap = heap })
-unwinds s c heap object kind (frame ∷ callers) =
-    option_map_or (λ target. goes_to s c frame callers target (Ref object ∷ []) heap) (handler_of s.world frame kind) (unwinds s c heap object kind callers)
+-- a frame's method and the offset at which it stands: a caller stands at its invoke
+abbrev pub Standpoint : Type 0
+Standpoint = MethodId × ℕ
 
--- an object of the heap is thrown
+abbrev pub standpoint : Frame → Standpoint
+standpoint frame = (frame.method, frame.at)
+
+-- The nearest handler on the way from a frame to its callers: how many frames are left on the way, and where it goes on.
+unfoldable pub nearest_handler : World → ExactType → List Standpoint → Option (ℕ × ℕ)
+nearest_handler world kind [] = None
+nearest_handler world kind (at ∷ others) =
+    option_map_or (λ target. Some (0, target)) (handler_at world at.0 at.1 kind) (option_map (λ (found : ℕ × ℕ). (suc found.0, found.1)) (nearest_handler world kind others))
+
+-- the first of these frames goes on at a target, with nothing but the object on its stack
+abbrev pub lands : Setting → Config → Heap → ℕ → ℕ → List Frame → Outcome
+lands s c heap object target [] = ill_typed s c
+lands s c heap object target (frame ∷ callers) = goes_to s c frame callers target (Ref object ∷ []) heap
+
+-- An object of the heap is thrown: the nearest handler takes it, and where there is none the run ends.
+unfoldable pub throws_in : Setting → Config → Heap → ℕ → ExactType → Outcome
+throws_in s c heap object kind =
+    option_map_or (λ (found : ℕ × ℕ). lands s c heap object found.1 (drop found.0 (c.frame ∷ c.callers)))
+    (nearest_handler s.world kind (map standpoint (c.frame ∷ c.callers)))
+    (Ends (record { ending = Threw object; heap = heap }))
+
+-- an object that is there
 abbrev pub throws_object : Setting → Config → ℕ → ExactType → Outcome
-throws_object s c object kind = unwinds s c c.heap object kind (c.frame ∷ c.callers)
+throws_object s c object kind = throws_in s c c.heap object kind
 
 -- A new object of the class is thrown.
-abbrev pub throws : Setting → Config → List ℕ → Outcome
-throws s c class =
-    unwinds s c (with_object c.heap (new_object s.world class)) (length c.heap.objects) (exact.Class class) (c.frame ∷ c.callers)
+unfoldable pub throws : Setting → Config → List ℕ → Outcome
+throws s c class = throws_in s c (with_object c.heap (new_object s.world class)) (length c.heap.objects) (exact.Class class)
 
 abbrev pub null_pointer : List ℕ
 null_pointer = codes "java/lang/NullPointerException"
@@ -137,9 +154,10 @@ negative_size = codes "java/lang/NegativeArraySizeException"
 -- ---- it calls and returns
 
 -- A method with code begins with these arguments, and `rest` is left on the caller's stack.
-abbrev pub enters : Setting → Config → MethodId → List Value → List Value → Outcome
+unfoldable pub enters : Setting → Config → MethodId → List Value → List Value → Outcome
 enters s c method arguments rest =
-    if nat_lt (suc (length c.callers)) s.bounds.depth then carries_out c (first_frame s.world method arguments) (record c.frame { stack = rest } ∷ c.callers) c.heap
+    if nat_lt (suc (length c.callers)) s.bounds.depth
+    then carries_out c (first_frame s.world method arguments) (record c.frame { stack = rest } ∷ c.callers) c.heap
     else past c Depth
 
 -- a result on a stack: none of void
@@ -147,20 +165,23 @@ abbrev pub pushed : Option Value → List Value → List Value
 pushed None stack = stack
 pushed (Some v) stack = v ∷ stack
 
--- The method's result is handed to the caller's stack, which must be allowed, and the caller goes on behind its invoke; with no
--- caller the run ends.
-abbrev pub hands_over : Setting → Config → List Frame → Option Value → Outcome
-hands_over s c [] result = ends c (Returned result)
-hands_over s c (caller ∷ more) result =
-    if may_have s.world caller (pushed result caller.stack)
-    then carries_out c (record caller { at = behind s.world caller; stack = pushed result caller.stack }) more c.heap
+abbrev pub hands_to : Setting → Config → List Frame → Option Value → Outcome
+hands_to s c [] result = ends c (Returned result)
+hands_to s c (caller ∷ more) result =
+    if has_room s.world caller.method (length (pushed result caller.stack))
+    then carries_out c (record caller { at = behind s.world caller.method caller.at; stack = pushed result caller.stack }) more c.heap
     else ill_typed s c
 
--- the method returns a value, which must be one that its result type keeps
-abbrev pub returns_value : Setting → Config → Value → Outcome
-returns_value s c value =
-    option_map_or (λ v. hands_over s c c.callers (Some v)) (option_and_then (λ type. kept type value) (result_of s.world c.frame.method)) (ill_typed s c)
+-- The method's result is handed to the caller's stack, which must have room, and the caller goes on behind its invoke; with no
+-- caller the run ends.
+unfoldable pub hands_over : Setting → Config → Option Value → Outcome
+hands_over s c result = hands_to s c c.callers result
 
--- the method returns nothing, which it must be declared to
-abbrev pub returns_nothing : Setting → Config → Outcome
-returns_nothing s c = if is_some (result_of s.world c.frame.method) then ill_typed s c else hands_over s c c.callers None
+-- The method returns a value, which must be one that its result type keeps.
+unfoldable pub returns_value : Setting → Config → Value → Outcome
+returns_value s c value =
+    option_map_or (λ v. hands_over s c (Some v)) (option_and_then (λ type. kept type value) (result_of s.world c.frame.method)) (ill_typed s c)
+
+-- The method returns nothing, which it must be declared to.
+unfoldable pub returns_nothing : Setting → Config → Outcome
+returns_nothing s c = if is_some (result_of s.world c.frame.method) then ill_typed s c else hands_over s c None
