@@ -38,8 +38,7 @@ class Assembler {
     private Assembler(List<String> lines) {
         String[] head = lines.get(0).split(" ");
         name = head[2];
-        String[] interfaces = lines.stream().filter(line -> line.startsWith("implements ")).map(line -> line.split(" ")[1]).toArray(String[]::new);
-        writer.visit(VERSION, Integer.parseInt(head[1], 16), name, null, head[3], interfaces);
+        writer.visit(VERSION, Integer.parseInt(head[1], 16), name, null, head[3], interfaces(lines));
         for (String line : lines.subList(1, lines.size())) {
             add(line.split(" "));
         }
@@ -70,6 +69,10 @@ class Assembler {
         return found;
     }
 
+    private static String[] interfaces(List<String> lines) {
+        return lines.stream().filter(line -> line.startsWith("implements ")).map(line -> line.split(" ")[1]).toArray(String[]::new);
+    }
+
     private static Map<String, Integer> opcodes() {
         Map<String, Integer> found = new HashMap<>();
         for (int opcode = 0; opcode < Printer.OPCODES.length; opcode++) {
@@ -85,7 +88,7 @@ class Assembler {
             case "field" -> writer.visitField(Integer.parseInt(words[1], 16), words[2], words[3], null, null).visitEnd();
             case "method" -> begin(words);
             case "end" -> code.visitEnd();
-            case "catch" -> code.visitTryCatchBlock(label(words[1]), label(words[2]), label(words[3]), words[4].equals("any") ? null : words[4]);
+            case "catch" -> handler(words);
             case "ldc", "ldc_w" -> load(words);
             case "tableswitch" -> table(words);
             case "lookupswitch" -> lookup(words);
@@ -100,6 +103,11 @@ class Assembler {
             code.visitCode();
             code.visitMaxs(Integer.parseInt(words[4]), Integer.parseInt(words[5]));
         }
+    }
+
+    private void handler(String[] words) {
+        String type = words[4].equals("any") ? null : words[4];
+        code.visitTryCatchBlock(label(words[1]), label(words[2]), label(words[3]), type);
     }
 
     private Label label(String named) {

@@ -89,9 +89,20 @@ class Calls {
         return acts.act(a);
     }
 
+    // the method is declared in the interface alone, and called in the class between
+    static int byClassBetween(int a) {
+        Between between = new Ends();
+        return between.act(a);
+    }
+
     static int byAbstract(int which, int a) {
         Part part = which == 0 ? null : which == 1 ? new Whole() : new Half();
         return part.total(a);
+    }
+
+    // the method of the superclass is declared above that
+    static int farSuper(int a) {
+        return new Lowest().far(a);
     }
 
     // the method above returns Upper: its bridge is called
@@ -161,6 +172,10 @@ class Lowest extends Lower {
         return super.up(a) + super.open(a);
     }
 
+    int far(int a) {
+        return super.callsHidden(a);
+    }
+
     Lowest itself() {
         return new Lowest();
     }
@@ -193,6 +208,15 @@ class HasAct {
 
 // the method comes from the class above, which does not implement the interface
 class Inherits extends HasAct implements Does {
+}
+
+abstract class Between implements Acts {
+}
+
+class Ends extends Between {
+    public int act(int a) {
+        return a + 7;
+    }
 }
 
 abstract class Part {

@@ -85,7 +85,8 @@ class Objects {
         Object other = "two";
         Object elsewhere = Money.one();
         Object far = Money.two();
-        return (first == same ? 1 : 0) + (first == other ? 2 : 0) + (first == elsewhere ? 4 : 0) + (other == far ? 8 : 0) + ("".equals("") ? 16 : 0);
+        int here = (first == same ? 1 : 0) + (first == other ? 2 : 0);
+        return here + (first == elsewhere ? 4 : 0) + (other == far ? 8 : 0) + ("".equals("") ? 16 : 0);
     }
 
     static boolean literalEquals() {

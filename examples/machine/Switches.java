@@ -63,6 +63,25 @@ class Switches {
         }
     }
 
+    // and begin at the least one
+    static int least(int a) {
+        switch (a) {
+            case -2147483648:
+                return 1;
+            case -2147483647:
+                return 2;
+            default:
+                return 0;
+        }
+    }
+
+    static int none(int a) {
+        switch (a) {
+            default:
+                return a + 1;
+        }
+    }
+
     // cases go on into the next one
     static int through(int a) {
         int sum = 0;
