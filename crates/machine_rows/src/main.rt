@@ -10,7 +10,6 @@ mod classes;
 mod endings;
 mod rows;
 
-ghost use Rattle.kb_semantics.specs.Inputs.{IsTypeCorrect};
 ghost use Rattle.kb_world.specs.Reach.{IsAccepted};
 
 use classes::world_of;
@@ -111,8 +110,7 @@ fn run_row(
     method: MethodId,
     row: &TableRow,
 ) -> io::Result<(Ending, Heap)>
-    requires accepted { IsAccepted world.now method }
-    requires fits { IsTypeCorrect world.now method row.now.input }
+    requires { IsAccepted world.now method }
 {
     for _ in 1..row.times {
         run_once(alloc, world, method, row)?;
@@ -126,8 +124,7 @@ fn run_once(
     method: MethodId,
     row: &TableRow,
 ) -> io::Result<(Ending, Heap)>
-    requires accepted { IsAccepted world.now method }
-    requires fits { IsTypeCorrect world.now method row.now.input }
+    requires { IsAccepted world.now method }
 {
     match run(alloc, world, method, &row.input, &row.bounds) {
         Ok(ended) => Ok(ended),
