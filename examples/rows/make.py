@@ -352,6 +352,7 @@ def main():
     shapes = same_names("Shape", "Base", "Square", "H", "S") | {"A": "below_s.class", "B": "beside.class"}
     files = compiled("Shapes.java", shapes)
     files |= compiled("Reached.java", same_names("Reached", "Ready", "Heir", "Gone", "Pair", "Sized"))
+    files |= compiled("Bridge.java", same_names("Bridge", "Source", "Ints"))
     files |= compiled("WithoutMembers.java", {"Gone": "without.class"})
     files |= compiled("Turned.java", {"Gone": "turned.class"})
     files |= compiled("Abstract.java", {"Gone": "abstract.class"})
