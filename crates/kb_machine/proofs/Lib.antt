@@ -1,4 +1,9 @@
-pub mod Locals
-pub mod Steps
+pub mod CallLaws
+pub mod LandingLaws
+pub mod ListingLaws
+pub mod LocalLaws
 pub mod RunLaws
-pub mod Methods
+pub mod Stacks
+pub mod Steps
+pub mod SwitchLaws
+pub mod ArrayLaws
