@@ -1,4 +1,5 @@
 pub mod Queries
 pub mod AnswerLaws
+pub mod SearchLaws
 pub mod ToldLaws
 pub mod Larger

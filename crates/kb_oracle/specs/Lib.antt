@@ -1,3 +1,4 @@
 pub mod Answers
+pub mod Search
 pub mod States
 pub mod Laws

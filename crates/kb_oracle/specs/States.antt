@@ -1,13 +1,16 @@
 -- What the oracles of this crate are to their callers.
-use Rattle.std.specs.Prelude.{◌≡◌, ℕ, ◌≤◌, ◌==◌, List, [], ◌∷◌, ◌++◌, length, find, Option, Some, None, Result, Ok, Err}
+use Rattle.std.specs.Prelude.{◌≡◌, ◌⊎◌, ℕ, ◌==◌, List, [], ◌∷◌, ◌++◌, find, Option, Some, None, Result, Ok, Err}
 use Rattle.std.specs.Option.{option_map}
 use Rattle.kb_outside.specs.Outside.{next_count}
+use Rattle.kb_chain.specs.declared.log.Log.{Log}
+use Rattle.kb_blast.specs.Query.{Query}
 use Rattle.kb_oracle.specs.declared.answer.Answer.{Answer}
+use Rattle.kb_oracle.specs.declared.answer.Answer.TheVariants.{Undecided}
 use Rattle.kb_oracle.specs.declared.answer.OracleStop.{OracleStop}
 use Rattle.kb_oracle.specs.declared.answer.OracleStop.TheVariants.{Bad, NoMemory}
 use Rattle.kb_oracle.specs.declared.told_oracle.Told.{Told}
 use Rattle.kb_oracle.specs.declared.told_oracle.Told.TheVariants.{Bad as ToldBad, Undecided as ToldUndecided, NoMemory as ToldNoMemory}
-use Rattle.kb_oracle.specs.Answers.{IfRefuted, IsDecided, unsure_after}
+use Rattle.kb_oracle.specs.Answers.{LeavesOpen, IsDecided, unsure_after}
 
 -- the solver as an oracle: its budget, and how many answers were undecided
 pub record SolverState : Type 0 where
@@ -35,13 +38,17 @@ ForAnswer P (Ok answer) = P answer
 ForAnswer P (Err (Bad i)) = ⊥
 ForAnswer P (Err NoMemory) = Unit {0}
 
--- what a call does by what it is told: it stops as it is told; or it searches within the budget, so that a refutation has no
--- more entries; and where it is told nothing it decides
-abbrev pub DoesAsTold : ℕ → Option Told → Result Answer OracleStop → Type 0
-DoesAsTold budget (Some (ToldBad i)) result = result ≡ Err (Bad i)
-DoesAsTold budget (Some ToldNoMemory) result = result ≡ Err NoMemory
-DoesAsTold budget (Some ToldUndecided) result = ForAnswer (IfRefuted (λ log. length log.entries ≤ budget)) result
-DoesAsTold budget None result = ForAnswer IsDecided result
+-- the answer is this log where it leaves the query open, and else the query is decided
+abbrev pub IsHandedOn : Query → ℕ → Log → Answer → Type 0
+IsHandedOn q budget log answer =
+    (LeavesOpen q budget log × (answer ≡ Undecided log)) ⊎ ((LeavesOpen q budget log → ⊥) × IsDecided answer)
+
+-- what a call does by what it is told: it stops as it is told; or it hands on the log; and where it is told nothing it decides
+abbrev pub DoesAsTold : Query → ℕ → Option Told → Result Answer OracleStop → Type 0
+DoesAsTold q budget (Some (ToldBad i)) result = result ≡ Err (Bad i)
+DoesAsTold q budget (Some ToldNoMemory) result = result ≡ Err NoMemory
+DoesAsTold q budget (Some (ToldUndecided log)) result = ForAnswer (IsHandedOn q budget log) result
+DoesAsTold q budget None result = ForAnswer IsDecided result
 
 -- some call is told to stop with this number
 abbrev pub IsToldBad : List (ℕ × Told) → ℕ → Type 0

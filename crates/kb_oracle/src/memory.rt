@@ -23,6 +23,12 @@ impl From<kb_blast::NoMemory> for NoMemory {
     }
 }
 
+impl From<kb_chain::NoMemory> for NoMemory {
+    fn from(_error: kb_chain::NoMemory) -> NoMemory {
+        NoMemory
+    }
+}
+
 impl From<kb_sat::NoMemory> for NoMemory {
     fn from(_error: kb_sat::NoMemory) -> NoMemory {
         NoMemory

@@ -1,10 +1,14 @@
-//! A search for the answer to a query. It sees the query and the budget, and nothing that was asked before.
+//! A search for the answer to a query. It sees the query's formula, the words of its variables and the budget, and nothing that
+//! was asked before.
 ghost use Rattle.std.specs.Prelude.{◌≡◌, ◌<◌, ◌≤◌, ℕ, pos, length, IfOk};
 ghost use Rattle.kb_chain.specs.Clause.{assignment_of};
+ghost use Rattle.kb_chain.specs.Propagation.{UnitRefutes};
 ghost use Rattle.kb_terms.specs.Terms.{int_at};
 ghost use Rattle.kb_blast.specs.Query.{query_of, AreConditions};
+ghost use Rattle.kb_blast.specs.Conditions.{formula_of};
 ghost use Rattle.kb_blast.specs.Meaning.{AreMetInPool, AreReadable, Reads, IsElsewhere};
-ghost use Rattle.kb_oracle.specs.Answers.{IsAnswerTo, IfModel, IfRefuted, IsDecided};
+ghost use Rattle.kb_oracle.specs.Answers.{IsAnswerTo, IfModel, IfRefuted, OnUndecided, IsDecided};
+ghost use Rattle.kb_oracle.specs.Search.{IsFound};
 
 use crate::answer::Answer;
 use crate::memory::NoMemory;
@@ -14,8 +18,8 @@ use kb_sat::{Solved, solve};
 use kb_terms::{Pool, TermId};
 use std::alloc::Global;
 
-/// What the solver says of the conditions' formula within a budget.
-pub(crate) fn search(
+/// What the solver says of conditions within a budget.
+pub(crate) fn answer_within(
     alloc: Global,
     budget: u32,
     pool: &Pool,
@@ -26,11 +30,21 @@ pub(crate) fn search(
     ensures answers { IfOk result (IsAnswerTo (query_of pool.now when.now) budget) }
     ensures met { IfOk result (IfModel (λ values. AreMetInPool pool.now values when.now)) }
     ensures within { IfOk result (IfRefuted (λ log. length log.entries ≤ budget)) }
+    ensures unrefuted { IfOk result (OnUndecided (UnitRefutes (formula_of (query_of pool.now when.now)).clauses → ⊥)) }
 {
     let blasted = blast(alloc, pool, when)?;
+    search(alloc, budget, &blasted, pool.variables())
+}
+
+/// What the solver says of a query's formula within a budget. The query has so many variables.
+fn search(alloc: Global, budget: u32, blasted: &Blasted, variables: u32) -> Result<Answer, NoMemory>
+    requires readable { AreReadable blasted.now.formula.vars variables blasted.now.vars }
+    requires budget { 0 < budget }
+    ensures { IfOk result (IsFound blasted.now.vars blasted.now.formula variables budget) }
+{
     match solve(alloc, &blasted.formula, budget)? {
         Solved::Sat(bits) => {
-            let values = values_of(alloc, &blasted, bits.as_slice(), pool.variables())?;
+            let values = values_of(alloc, blasted, bits.as_slice(), variables)?;
             Ok(Answer::Model(values))
         }
         Solved::Unsat(log) => Ok(Answer::Refuted(log)),
@@ -67,7 +81,7 @@ pub(crate) fn decide(
     ensures met { IfOk result (IfModel (λ values. AreMetInPool pool.now values when.now)) }
     ensures decided { IfOk result IsDecided }
 {
-    match search(alloc, u32::MAX, pool, when)? {
+    match answer_within(alloc, u32::MAX, pool, when)? {
         Answer::Model(values) => Ok(Answer::Model(values)),
         Answer::Refuted(log) => Ok(Answer::Refuted(log)),
         Answer::Undecided(_) => Err(NoMemory),

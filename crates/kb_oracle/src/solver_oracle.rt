@@ -1,13 +1,15 @@
 //! The solver as an oracle.
 ghost use Rattle.std.specs.Prelude.{◌≡◌, ℕ, ◌<◌, ◌≤◌, ◌↔◌, length, IfOk, IfErr, OnErr};
 ghost use Rattle.kb_outside.specs.Outside.{Rose};
+ghost use Rattle.kb_chain.specs.Propagation.{UnitRefutes};
 ghost use Rattle.kb_blast.specs.Query.{Query, query_of, AreConditions};
+ghost use Rattle.kb_blast.specs.Conditions.{formula_of};
 ghost use Rattle.kb_blast.specs.Meaning.{AreMetInPool};
 ghost use Rattle.kb_oracle.specs.Answers.{IsAnswerTo, IfModel, IfRefuted, OnUndecided, IfBad, Gains, untold, unsure_after};
 
 use crate::answer::{Answer, OracleStop, unsure_after};
 use crate::oracle::Oracle;
-use crate::search::search;
+use crate::search::answer_within;
 use kb_terms::{Pool, TermId};
 use std::alloc::Global;
 use std::marker::Model;
@@ -84,12 +86,14 @@ impl Oracle for SolverOracle {
         ensures later_bad { 0 ≤ 0 }
         ensures later_unsure { self.old.unsure ≤ self.new.unsure }
 
-        // It counts each undecided answer once, and nothing else; a refutation keeps to the budget.
+        // It counts each undecided answer once, and nothing else; a refutation keeps to the budget, and no answer is undecided
+        // where unit propagation alone refutes.
         ensures ok { IfOk result (λ answer. self.new ≡ record self.old { unsure = unsure_after self.old.unsure answer }) }
         ensures err { OnErr result (self.new ≡ self.old) }
         ensures within { IfOk result (IfRefuted (λ log. length log.entries ≤ self.old.budget)) }
+        ensures unrefuted { IfOk result (OnUndecided (UnitRefutes (formula_of (query_of pool.now when.now)).clauses → ⊥)) }
     {
-        let answer = search(alloc, self.budget, pool, when)?;
+        let answer = answer_within(alloc, self.budget, pool, when)?;
         self.unsure = unsure_after(self.unsure, &answer);
         Ok(answer)
     }

@@ -126,12 +126,21 @@ fn crowded_cycle(pool: &mut Pool) -> Result<[(TermId, bool); 3], kb_terms::NoMem
 }
 
 /// Whether the logs have the same chains.
-fn are_same(left: &Log, right: &Log) -> bool {
+fn are_same_logs(left: &Log, right: &Log) -> bool {
     let left = left.entries.as_slice();
     let right = right.entries.as_slice();
     left.len() == right.len()
         && left.iter().zip(right).all(|(a, b)| a.start == b.start
             && a.steps.as_slice() == b.steps.as_slice())
+}
+
+fn are_same(left: &Answer, right: &Answer) -> bool {
+    match (left, right) {
+        (Answer::Model(left), Answer::Model(right)) => left.as_slice() == right.as_slice(),
+        (Answer::Refuted(left), Answer::Refuted(right)) => are_same_logs(left, right),
+        (Answer::Undecided(left), Answer::Undecided(right)) => are_same_logs(left, right),
+        _ => false,
+    }
 }
 
 #[test]
@@ -142,14 +151,18 @@ fn a_query_has_one_answer_in_two_pools(rt: HostRuntime) -> Result<(), Fail> {
     let again = crowded_cycle(&mut large)?;
     assert!(rt; when != again);
     let mut oracle = SolverOracle::new(20_000);
-    let first = refutation(asked(&rt, &mut oracle, &small, &when)?);
-    let between = asked(&rt, &mut oracle, &small, &when[1..])?;
-    assert!(rt; matches!(between, Answer::Model(_)));
-    let second = refutation(asked(&rt, &mut oracle, &large, &again)?);
-    match (first, second) {
-        (Some(first), Some(second)) => assert!(rt; are_same(&first, &second)),
-        _ => assert!(rt; false),
-    }
+    let refuted = asked(&rt, &mut oracle, &small, &when)?;
+    let model = asked(&rt, &mut oracle, &small, &when[1..])?;
+    let undecided = asked(&rt, &mut SolverOracle::new(1), &small, &when)?;
+    assert!(rt; matches!(refuted, Answer::Refuted(_)));
+    assert!(rt; matches!(model, Answer::Model(_)));
+    assert!(rt; matches!(undecided, Answer::Undecided(_)));
+    let refuted_again = asked(&rt, &mut oracle, &large, &again)?;
+    assert!(rt; are_same(&refuted, &refuted_again));
+    let model_again = asked(&rt, &mut oracle, &large, &again[1..])?;
+    assert!(rt; are_same(&model, &model_again));
+    let undecided_again = asked(&rt, &mut SolverOracle::new(1), &large, &again)?;
+    assert!(rt; are_same(&undecided, &undecided_again));
     Ok(())
 }
 
@@ -157,8 +170,14 @@ fn a_query_has_one_answer_in_two_pools(rt: HostRuntime) -> Result<(), Fail> {
 fn a_told_oracle_does_as_it_is_told(rt: HostRuntime) -> Result<(), Fail> {
     let mut pool = Pool::new(rt.alloc());
     let when = cycle(&mut pool)?;
+    let undecided = asked(&rt, &mut SolverOracle::new(1), &pool, &when)?;
+    let Answer::Undecided(log) = &undecided else {
+        assert!(rt; false);
+        return Ok(());
+    };
     let told = vec![in rt.alloc();
-        (3, Told::Undecided),
+        (3, Told::Undecided(log.clone()?)),
+        (4, Told::Undecided(log.clone()?)),
         (1, Told::Bad(7)),
         (1, Told::NoMemory),
         (2, Told::NoMemory),
@@ -170,10 +189,11 @@ fn a_told_oracle_does_as_it_is_told(rt: HostRuntime) -> Result<(), Fail> {
     assert!(rt; matches!(bad, Err(OracleStop::Bad(7))));
     let forgotten = asked(&rt, &mut oracle, &pool, &when);
     assert!(rt; matches!(forgotten, Err(OracleStop::NoMemory)));
-    let open = open_log(asked(&rt, &mut oracle, &pool, &when)?);
-    assert!(rt; open.is_some());
-    let model = asked(&rt, &mut oracle, &pool, &when[1..])?;
-    assert!(rt; matches!(model, Answer::Model(_)));
+    let handed_on = asked(&rt, &mut oracle, &pool, &when)?;
+    assert!(rt; are_same(&handed_on, &undecided));
+    // The log is one for the whole cycle.
+    let left_aside = asked(&rt, &mut oracle, &pool, &when[1..])?;
+    assert!(rt; matches!(left_aside, Answer::Model(_)));
     assert!(rt; oracle.calls() == 5 && oracle.bad() == 1 && oracle.unsure() == 1);
     assert!(rt; oracle.budget() == 1 && oracle.given().len() == 3);
     Ok(())

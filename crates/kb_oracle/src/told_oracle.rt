@@ -1,26 +1,31 @@
 //! An oracle for tests, which does at some calls what it is told.
-ghost use Rattle.std.specs.Prelude.{◌≡◌, ℕ, ◌<◌, ◌≤◌, ◌↔◌, Some, [], IfOk, IfErr, OnErr};
+ghost use Rattle.std.specs.Prelude.{◌≡◌, ℕ, ◌≤◌, ◌↔◌, Some, [], IfOk, IfErr, OnErr};
+ghost use Rattle.std.specs.Bool.{OnTrue, OnFalse};
+ghost use Rattle.std.specs.Option.{option_copied};
 ghost use Rattle.kb_outside.specs.Outside.{Rose};
 ghost use Rattle.kb_blast.specs.Query.{Query, query_of, AreConditions};
 ghost use Rattle.kb_blast.specs.Meaning.{AreMetInPool};
-ghost use Rattle.kb_oracle.specs.Answers.{IsAnswerTo, IfModel, OnUndecided, IfBad, Gains};
-ghost use Rattle.kb_oracle.specs.States.{told_at, DoesAsTold, IsToldBad, told_after};
+ghost use Rattle.kb_oracle.specs.Answers.{IsAnswerTo, LeavesOpen, IfModel, OnUndecided, IfBad, Gains};
+ghost use Rattle.kb_oracle.specs.States.{told_at, IsHandedOn, DoesAsTold, IsToldBad, told_after};
 
 use crate::answer::{Answer, OracleStop, bad_after, copy_of, unsure_after};
+use crate::memory::NoMemory;
 use crate::oracle::Oracle;
-use crate::search::{decide, search};
+use crate::search::decide;
+use kb_blast::blast;
+use kb_chain::{Log, Verdict, check_fresh};
 use kb_terms::{Pool, TermId};
 use std::alloc::Global;
 use std::marker::Model;
 
 /// What a call of a [`ToldOracle`] is told to do.
-#[derive(Clone, Copy, Debug, PartialEq, Eq)]
+#[derive(Clone, Debug, Drop)]
 pub enum Told {
     /// Stop with `Bad` of this number.
     Bad(u32),
-    /// Search within the oracle's budget: the answer is undecided unless that decides. No oracle can do more, since there
-    /// are queries without an undecided answer, as those that unit propagation refutes.
-    Undecided,
+    /// Answer that the query is undecided, with this log. A log that is no such answer to the query within the oracle's budget
+    /// is left aside: the solver decides, as at a call that is told nothing.
+    Undecided(Log),
     /// Stop for want of memory.
     NoMemory,
 }
@@ -38,7 +43,6 @@ pub struct ToldOracle {
 }
 
 impl Model for ToldOracle {
-    ghost use Rattle.std.specs.Prelude.{◌<◌};
     ghost use Rattle.kb_oracle.specs.States.{ToldState};
 
     ghost Value = { ToldState };
@@ -51,14 +55,11 @@ impl Model for ToldOracle {
       unsure = s.unsure;
       given = s.given.items;
     } };
-
-    ghost invariant = { λ s. 0 < s.budget };
 }
 
 impl ToldOracle {
     /// An oracle that was never asked. Of two things that one call is told it does the first.
     pub fn new(alloc: Global, budget: u32, told: Vec<(u64, Told)>) -> ToldOracle
-        requires { 0 < budget }
         ensures { result ≡ record { budget = budget; told = told.items; calls = 0; bad = 0; unsure = 0; given = [] } }
     {
         ToldOracle {
@@ -137,7 +138,7 @@ impl Oracle for ToldOracle {
         ensures later_unsure { self.old.unsure ≤ self.new.unsure }
 
         // What it is told for this call it does, and it counts calls, bad stops and undecided answers.
-        ensures told { DoesAsTold self.old.budget (told_at self.old.told self.old.calls) result }
+        ensures told { DoesAsTold (query_of pool.now when.now) self.old.budget (told_at self.old.told self.old.calls) result }
         ensures after { self.new ≡ told_after self.old result }
     {
         let call = self.calls;
@@ -158,30 +159,71 @@ impl Oracle for ToldOracle {
 }
 
 /// What the call of that number is told.
-fn told_at(told: &[(u64, Told)], call: u64) -> Option<Told>
-    ensures { result ≡ told_at told.now call }
+fn told_at(told: &[(u64, Told)], call: u64) -> Option<&Told>
+    ensures { option_copied result ≡ told_at told.now call }
 {
-    told.iter().find(|t| t.0 == call).map(|t| t.1)
+    told.iter().find(|t| t.0 == call).map(|t| &t.1)
 }
 
 /// What a call that is told this answers, where the counts are left aside.
 fn answer_told(
     alloc: Global,
-    told: Option<Told>,
+    told: Option<&Told>,
     budget: u32,
     pool: &Pool,
     when: &[(TermId, bool)],
 ) -> Result<Answer, OracleStop>
-    requires conditions { AreConditions pool.now when.now }
-    requires budget { 0 < budget }
+    requires { AreConditions pool.now when.now }
     ensures answers { IfOk result (IsAnswerTo (query_of pool.now when.now) budget) }
     ensures met { IfOk result (IfModel (λ values. AreMetInPool pool.now values when.now)) }
-    ensures told { DoesAsTold budget told result }
+    ensures told { DoesAsTold (query_of pool.now when.now) budget (option_copied told.entry) result }
 {
     match told {
-        Some(Told::Bad(number)) => Err(OracleStop::Bad(number)),
+        Some(Told::Bad(number)) => Err(OracleStop::Bad(*number)),
         Some(Told::NoMemory) => Err(OracleStop::NoMemory),
-        Some(Told::Undecided) => Ok(search(alloc, budget, pool, when)?),
+        Some(Told::Undecided(log)) => Ok(hand_on(alloc, log, budget, pool, when)?),
         None => Ok(decide(alloc, pool, when)?),
+    }
+}
+
+/// The log, where it leaves the conditions open; else what the solver decides.
+fn hand_on(
+    alloc: Global,
+    log: &Log,
+    budget: u32,
+    pool: &Pool,
+    when: &[(TermId, bool)],
+) -> Result<Answer, NoMemory>
+    requires { AreConditions pool.now when.now }
+    ensures answers { IfOk result (IsAnswerTo (query_of pool.now when.now) budget) }
+    ensures met { IfOk result (IfModel (λ values. AreMetInPool pool.now values when.now)) }
+    ensures handed { IfOk result (IsHandedOn (query_of pool.now when.now) budget log.now) }
+{
+    if leaves_open(alloc, log, budget, pool, when)? {
+        let copy = log.clone()?;
+        return Ok(Answer::Undecided(copy));
+    }
+    decide(alloc, pool, when)
+}
+
+/// Whether the log has as many entries as the budget, all new to unit propagation on the conditions' formula.
+fn leaves_open(
+    alloc: Global,
+    log: &Log,
+    budget: u32,
+    pool: &Pool,
+    when: &[(TermId, bool)],
+) -> Result<bool, NoMemory>
+    requires { AreConditions pool.now when.now }
+    ensures yes { IfOk result (λ left. OnTrue left (LeavesOpen (query_of pool.now when.now) budget log.now)) }
+    ensures no { IfOk result (λ left. OnFalse left (LeavesOpen (query_of pool.now when.now) budget log.now → ⊥)) }
+{
+    if log.entries.as_slice().len() != budget as usize {
+        return Ok(false);
+    }
+    let blasted = blast(alloc, pool, when)?;
+    match check_fresh(alloc, &blasted.formula, log)? {
+        Verdict::Good => Ok(true),
+        Verdict::Bad(_) => Ok(false),
     }
 }

@@ -1,17 +1,23 @@
-use Rattle.std.proofs.Common.{rules, ◌≡◌, ◌∙◌, sym, ap, subst, Some, Err, [], ◌∷◌, ◌++◌}
+use Rattle.std.proofs.Common.{rules, ◌≡◌, ◌∙◌, ap, subst, Err, [], ◌∷◌, ◌++◌}
+use Rattle.std.specs.Option.{option_copied}
 use Rattle.kb_outside.specs.Outside.{next_count}
-use Rattle.kb_oracle.specs.declared.told_oracle.Told.TheVariants.{Bad as ToldBad}
+use Rattle.kb_blast.specs.Query.{query_of}
 use Rattle.kb_oracle.specs.Answers.{unsure_after}
 use Rattle.kb_oracle.specs.States.{ToldState, told_at, DoesAsTold}
-use Rattle.kb_oracle.proofs.ToldLaws.{unserved}
+use Rattle.kb_oracle.proofs.ToldLaws.{unserved, unfit-kept}
 use Rattle.kb_oracle.proofs.told_oracle.ToldOracleOracle.ask.Goals as goal
 
 pub returns-in_ok-push-in-Ok-clause-same_unfit : goal.returns-in_ok-push-in-Ok-clause-same_unfit
-returns-in_ok-push-in-Ok-clause-same_unfit c = λ i q.
-    let told : c.self.inside.told.items ≡ c.args.self.now.told = ap (λ (s : ToldState). s.told) c.self.view_is in (
-      λ h. (h.0, subst (λ ts. told_at ts h.0 ≡ Some (ToldBad i)) told h.1),
-      λ h. (h.0, subst (λ ts. told_at ts h.0 ≡ Some (ToldBad i)) (sym told) h.1),
-    )
+returns-in_ok-push-in-Ok-clause-same_unfit c = unfit-kept c.args.self.now.told c.self.inside.told.items (ap (λ (s : ToldState). s.told) c.self.view_is)
+
+pub returns-in_err-copy-in-Ok-clause-same_unfit : goal.returns-in_err-copy-in-Ok-clause-same_unfit
+returns-in_err-copy-in-Ok-clause-same_unfit c = unfit-kept c.args.self.now.told c.self.inside.told.items (ap (λ (s : ToldState). s.told) c.self.view_is)
+
+pub returns-in_err-push-in-Ok-clause-same_unfit : goal.returns-in_err-push-in-Ok-clause-same_unfit
+returns-in_err-push-in-Ok-clause-same_unfit c = unfit-kept c.args.self.now.told c.self.inside.told.items (ap (λ (s : ToldState). s.told) c.self.view_is)
+
+pub returns-in-Err-clause-same_unfit : goal.returns-in-Err-clause-same_unfit
+returns-in-Err-clause-same_unfit c = unfit-kept c.args.self.now.told c.self.inside.told.items (ap (λ (s : ToldState). s.told) c.self.view_is)
 
 pub returns-in_ok-push-in-Ok-clause-after : goal.returns-in_ok-push-in-Ok-clause-after
 returns-in_ok-push-in-Ok-clause-after c =
@@ -27,6 +33,7 @@ returns-in_ok-push-in-Ok-clause-after c =
 pub returns-in-Err-clause-unserved : goal.returns-in-Err-clause-unserved
 returns-in-Err-clause-unserved c =
     let all : c.deref.result.now ≡ c.args.self.now.told = c.deref.ensures.value ∙ ap (λ (s : ToldState). s.told) c.self.view_is in
-    let told : c.told_at.result ≡ told_at c.args.self.now.told c.self.inside.calls = c.told_at.ensures ∙ ap (λ ts. told_at ts c.self.inside.calls) all in
-    unserved c.self.inside.budget c.args.self.now.told c.self.inside.calls c.in-Err.stop
-    (subst (λ t. DoesAsTold c.self.inside.budget t (Err c.in-Err.stop)) told c.in-Err.ensures.told)
+    let told : option_copied c.told_at.result ≡ told_at c.args.self.now.told c.self.inside.calls = c.told_at.ensures ∙ ap (λ ts. told_at ts c.self.inside.calls) all in
+    let q = query_of c.args.pool.now c.args.when.now in
+    unserved q c.self.inside.budget c.args.self.now.told c.self.inside.calls c.in-Err.stop
+    (subst (λ t. DoesAsTold q c.self.inside.budget t (Err c.in-Err.stop)) told c.in-Err.ensures.told)
