@@ -1,0 +1,8 @@
+pub mod WordLaws
+pub mod MadeLaws
+pub mod HeadLaws
+pub mod EachLaws
+pub mod TokenLaws
+pub mod SwitchLaws
+pub mod SameLines
+pub mod TextLaws

@@ -1,0 +1,4 @@
+use Rattle.kb_asm_text.proofs.operands.method.Goals as goal
+
+pub returns-in-None : goal.returns-in-None
+returns-in-None c = λ value h. (rw c.in-None.is at c.in_ok-of.ensures) h.0 h.2

@@ -1,0 +1,11 @@
+use Rattle.std.proofs.Common.{subst, ℤ, FitsSigned, OkIff}
+use Rattle.std.proofs.lemmas.Int.{to_z-of_z}
+use mir.Syntax.{w8, w16, w32}
+use Rattle.kb_asm_text.proofs.TokenLaws.{short_read}
+use Rattle.kb_asm_text.proofs.tokens.read_short_int.Goals as goal
+
+pub returns : goal.returns
+returns c =
+    let number = c.in_ok-read_int.field-0 in
+    rw c.ok.ensures.value (short_read number c.args.word.now c.try_from.result c.in_ok-read_int.ensures
+    (subst (λ (z : ℤ). OkIff c.try_from.result (FitsSigned w16 z) z) (to_z-of_z w32 number c.in_ok-read_int.ensures.0) c.try_from.ensures))
