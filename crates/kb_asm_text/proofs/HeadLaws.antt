@@ -1,5 +1,5 @@
 -- The lines of methods, and opcodes by their mnemonics.
-use Rattle.std.proofs.Common.{◌≡◌, ℕ, ◌<◌, ◌≤◌, Bool, true, false, ltb, List, [], ◌∷◌, Option, None, Some, Result, Ok, Err, IfOk, MatchOption, refl, sym, ◌∙◌, ap, arith, subst}
+use Rattle.std.proofs.Common.{◌≡◌, ℕ, ◌<◌, ◌≤◌, Bool, true, false, ltb, List, [], ◌∷◌, Option, None, Some, Result, Ok, Err, IfOk, MatchOption, refl, sym, ◌∙◌, arith}
 use Rattle.std.proofs.lemmas.Bool.{le-ltb, ltb-false, ltb-true}
 use Rattle.kb_code.specs.Names.{name_of}
 use Rattle.kb_asm_text.specs.declared.line.Sizes.{Sizes}

@@ -1,5 +1,4 @@
 pub mod WordLaws
-pub mod MadeLaws
 pub mod HeadLaws
 pub mod EachLaws
 pub mod TokenLaws

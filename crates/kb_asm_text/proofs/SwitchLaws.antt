@@ -1,5 +1,5 @@
 -- Switches whose ints may not stand so.
-use Rattle.std.proofs.Common.{◌≡◌, ℕ, Bool, true, false, List, [], ◌∷◌, length, refl, sym, ◌∙◌, ap, subst}
+use Rattle.std.proofs.Common.{◌≡◌, ℕ, Bool, true, false, List, ◌∷◌, length, sym, ◌∙◌, ap, subst}
 use Rattle.std.specs.Prelude.{ℤ, IsTrue}
 use Rattle.kb_grammar.specs.Numbers.{SpellsInt}
 use Rattle.kb_asm_text.specs.declared.line.Case.{Case}

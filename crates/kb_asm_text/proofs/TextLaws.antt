@@ -2,9 +2,9 @@
 use Rattle.std.proofs.Common.{◌≡◌, ◌↔◌, ℕ, List, [], ◌∷◌, ◌++◌, Option, None, Some, Bool, true, false, Result, Ok, Err, IfOk, length, ◌==◌, ne_eqb, arith, refl, sym, ◌∙◌, ap, subst}
 use Rattle.std.specs.Option.{option_and_then}
 use Rattle.std.specs.Prelude.{IsTrue}
-use Rattle.kb_grammar.specs.Lines.{Lacks, AreLines, lines_text, IsRead}
+use Rattle.kb_grammar.specs.Lines.{Lacks, IsRead}
 use Rattle.kb_grammar.proofs.WordLaws.{same_cut, not_lacking}
-use Rattle.kb_grammar.proofs.LineLaws.{lines_text-++, AreLines-++, one_more}
+use Rattle.kb_grammar.proofs.LineLaws.{AreLines-++, one_more}
 use Rattle.kb_asm_text.specs.declared.keyword.Keyword.{Keyword}
 use Rattle.kb_asm_text.specs.declared.line.Line.{Line}
 use Rattle.kb_asm_text.specs.declared.place.Place.{Place}

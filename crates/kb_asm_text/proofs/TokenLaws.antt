@@ -1,5 +1,5 @@
 -- A word spells one thing.
-use Rattle.std.proofs.Common.{◌≡◌, ◌≢◌, ℕ, ◌+◌, ◌*◌, ◌<◌, ◌^◌, Bool, true, false, if◌then◌else◌, List, [], ◌∷◌, ◌++◌, Option, None, Some, refl, sym, ◌∙◌, ap, arith, subst, Result, Ok, Err, OkIff, get_or}
+use Rattle.std.proofs.Common.{◌≡◌, ℕ, ◌<◌, ◌^◌, List, [], ◌∷◌, sym, ◌∙◌, ap, arith, subst, Result, Ok, Err, OkIff, get_or}
 use Rattle.std.specs.Prelude.{ℤ}
 use Rattle.std.specs.Result.{result_ok}
 use Rattle.std.specs.Int.RustNames.{FitsSigned}
@@ -9,7 +9,6 @@ use Rattle.std.proofs.lemmas.Fmt.{signed_decimal_injective, decimal_injective}
 use Rattle.kb_grammar.specs.Numbers.{SpellsInt, SpellsWithin}
 use Rattle.kb_grammar.proofs.NumberLaws.{int_mag}
 use Rattle.kb_grammar.proofs.WordLaws.{same_cut}
-use Rattle.kb_names.specs.Escapes.{SpellsName}
 use Rattle.kb_names.specs.Descriptors.{SpellsType, SpellsMethod}
 use Rattle.kb_names.specs.declared.class_names.Spelling.TheVariants.{Escaped}
 use Rattle.kb_names.specs.declared.types.JType.{JType}
@@ -18,7 +17,7 @@ use Rattle.kb_names.proofs.NameReader.{name_reader}
 use Rattle.kb_names.proofs.TypeReader.{type_reader}
 use Rattle.kb_names.proofs.MethodReader.{method_reader}
 use Rattle.kb_asm_text.specs.declared.line.Case.{Case}
-use Rattle.kb_asm_text.specs.Tokens.{low_digit, IsDigit, IsPair, SpellsByteHex, IsFlags, SpellsFlags, SpellsLabel, SpellsText, SpellsByteInt, SpellsShortInt}
+use Rattle.kb_asm_text.specs.Tokens.{IsPair, SpellsFlags, SpellsLabel, SpellsText, SpellsByteInt, SpellsShortInt}
 use Rattle.kb_asm_text.specs.Lines.{SpellsCase}
 
 pub same_int : (a b : ℤ) (word : List ℕ) → SpellsInt a word → SpellsInt b word → a ≡ b

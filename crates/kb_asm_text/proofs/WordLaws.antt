@@ -2,7 +2,7 @@
 use Rattle.std.proofs.Common.{◌≡◌, ◌≢◌, ℕ, List, [], ◌∷◌, ◌++◌, refl, sym, ◌∙◌, ap, append_assoc, subst}
 use Rattle.kb_grammar.specs.Lines.{Lacks}
 use Rattle.kb_grammar.proofs.WordLaws.{same_cut, not_lacking}
-use Rattle.kb_asm_text.specs.Words.{joined, AreWords, IsOfWords, OneWord, TwoWords, ThreeWords, FourWords, FiveWords, FirstWord}
+use Rattle.kb_asm_text.specs.Words.{joined, AreWords, IsOfWords, ThreeWords}
 
 -- each word with a space behind it
 abbrev pub led : List (List ℕ) → List ℕ
@@ -69,38 +69,9 @@ same_words ws vs line p q = same_joined ws vs p.are_words q.are_words p.some q.s
 
 -- ---- lists of another length
 
-pub not_one : (S : List ℕ → Type 0) (words : List (List ℕ)) → ((a : List ℕ) → words ≡ a ∷ [] → ⊥) → OneWord S words → ⊥
-not_one S [] none h = h
-not_one S (a ∷ []) none h = none a refl
-not_one S (a ∷ b ∷ words) none h = h
-
-pub not_two : (S : List ℕ → List ℕ → Type 0) (words : List (List ℕ)) → ((a b : List ℕ) → words ≡ a ∷ b ∷ [] → ⊥) → TwoWords S words → ⊥
-not_two S [] none h = h
-not_two S (a ∷ []) none h = h
-not_two S (a ∷ b ∷ []) none h = none a b refl
-not_two S (a ∷ b ∷ c ∷ words) none h = h
-
 pub not_three : (S : List ℕ → List ℕ → List ℕ → Type 0) (words : List (List ℕ)) → ((a b c : List ℕ) → words ≡ a ∷ b ∷ c ∷ [] → ⊥) → ThreeWords S words → ⊥
 not_three S [] none h = h
 not_three S (a ∷ []) none h = h
 not_three S (a ∷ b ∷ []) none h = h
 not_three S (a ∷ b ∷ c ∷ []) none h = none a b c refl
 not_three S (a ∷ b ∷ c ∷ d ∷ words) none h = h
-
-pub not_four : (S : List ℕ → List ℕ → List ℕ → List ℕ → Type 0) (words : List (List ℕ)) → ((a b c d : List ℕ) → words ≡ a ∷ b ∷ c ∷ d ∷ [] → ⊥) → FourWords S words → ⊥
-not_four S [] none h = h
-not_four S (a ∷ []) none h = h
-not_four S (a ∷ b ∷ []) none h = h
-not_four S (a ∷ b ∷ c ∷ []) none h = h
-not_four S (a ∷ b ∷ c ∷ d ∷ []) none h = none a b c d refl
-not_four S (a ∷ b ∷ c ∷ d ∷ e ∷ words) none h = h
-
-pub not_five : (S : List ℕ → List ℕ → List ℕ → List ℕ → List ℕ → Type 0) (words : List (List ℕ)) → ((a b c d e : List ℕ) → words ≡ a ∷ b ∷ c ∷ d ∷ e ∷ [] → ⊥)
-    → FiveWords S words → ⊥
-not_five S [] none h = h
-not_five S (a ∷ []) none h = h
-not_five S (a ∷ b ∷ []) none h = h
-not_five S (a ∷ b ∷ c ∷ []) none h = h
-not_five S (a ∷ b ∷ c ∷ d ∷ []) none h = h
-not_five S (a ∷ b ∷ c ∷ d ∷ e ∷ []) none h = none a b c d e refl
-not_five S (a ∷ b ∷ c ∷ d ∷ e ∷ f ∷ words) none h = h

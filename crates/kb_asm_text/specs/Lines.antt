@@ -18,12 +18,10 @@ use Rattle.kb_asm_text.specs.declared.line.MethodHead.{MethodHead}
 use Rattle.kb_asm_text.specs.declared.line.Constant.{Constant}
 use Rattle.kb_asm_text.specs.declared.line.Constant.TheVariants as constants
 use Rattle.kb_asm_text.specs.declared.line.FieldName.{FieldName}
-use Rattle.kb_asm_text.specs.declared.line.ClassRef.{ClassRef}
 use Rattle.kb_asm_text.specs.declared.line.Case.{Case}
 use Rattle.kb_asm_text.specs.declared.line.Operand.{Operand}
 use Rattle.kb_asm_text.specs.declared.line.Operand.TheVariants as operands
 use Rattle.kb_asm_text.specs.declared.line.Catch.{Catch}
-use Rattle.kb_asm_text.specs.declared.line.BodyLine.{BodyLine}
 use Rattle.kb_asm_text.specs.declared.line.BodyLine.TheVariants as bodies
 use Rattle.kb_asm_text.specs.declared.line.Line.{Line}
 use Rattle.kb_asm_text.specs.declared.line.Line.TheVariants as lines

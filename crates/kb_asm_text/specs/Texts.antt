@@ -1,5 +1,5 @@
 -- Assembler texts: which line may stand behind which, and how much of a text is lines that may.
-use Rattle.std.specs.Prelude.{◌≡◌, ◌↔◌, ℕ, Bool, IsTrue, List, [], ◌∷◌, ◌++◌, Option, None, Some}
+use Rattle.std.specs.Prelude.{◌≡◌, ◌↔◌, ℕ, IsTrue, List, [], ◌∷◌, ◌++◌, Option, None, Some}
 use Rattle.std.specs.Option.{option_and_then}
 use Rattle.kb_grammar.specs.Lines.{Lacks, AreLines, lines_text}
 use Rattle.kb_asm_text.specs.declared.line.Sizes.{Sizes}

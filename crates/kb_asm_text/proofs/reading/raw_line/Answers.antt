@@ -1,4 +1,4 @@
-use Rattle.std.proofs.Common.{subst, List, ℕ}
+use Rattle.std.proofs.Common.{subst}
 use Rattle.kb_asm_text.specs.Words.{OneWord}
 use Rattle.kb_asm_text.specs.Tokens.{SpellsByteHex}
 use Rattle.kb_asm_text.proofs.reading.raw_line.Goals as goal

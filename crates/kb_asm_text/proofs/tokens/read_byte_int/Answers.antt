@@ -1,6 +1,6 @@
 use Rattle.std.proofs.Common.{subst, ℤ, FitsSigned, OkIff}
 use Rattle.std.proofs.lemmas.Int.{to_z-of_z}
-use mir.Syntax.{w8, w16, w32}
+use mir.Syntax.{w8, w32}
 use Rattle.kb_asm_text.proofs.TokenLaws.{byte_read}
 use Rattle.kb_asm_text.proofs.tokens.read_byte_int.Goals as goal
 
