@@ -1,0 +1,4 @@
+pub mod Texts
+pub mod Says
+pub mod Items
+pub mod Needs
