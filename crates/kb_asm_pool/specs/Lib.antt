@@ -2,3 +2,4 @@ pub mod Texts
 pub mod Says
 pub mod Items
 pub mod Needs
+pub mod Entries

@@ -1,14 +1,17 @@
 //! The entries of a constant pool, each once.
 
-ghost use Rattle.std.specs.Prelude.{◌≡◌, [], ◌∷◌, length, Some, slice_get, IfOk, OnOk};
+ghost use Rattle.std.specs.Prelude.{◌≡◌, ◌<◌, [], ◌∷◌, length, Some, slice_get, IfOk, OnOk};
 ghost use Rattle.kb_asm_pool.specs.Texts.{Keeps};
 ghost use Rattle.kb_asm_pool.specs.Says.{text as says_text, int as says_int, class as says_class, string as says_string, member as says_member, added, all_added};
 ghost use Rattle.kb_asm_pool.specs.Items.{IsPlace, IsWithin, said};
 ghost use Rattle.kb_asm_pool.specs.Needs.{class_needs, member_needs};
+ghost use Rattle.kb_asm_pool.specs.Entries.{number_in, member_entry, entry_of, entries_of};
 
 use crate::memory::NoMemory;
 use crate::texts::Texts;
 use indexmap::IndexSet;
+use kb_classfile::PoolEntry;
+use kb_rows::Row;
 use std::alloc::Global;
 use std::marker::Model;
 
@@ -176,5 +179,82 @@ impl Items {
         let (kind, _) = self.add_text(alloc, kind)?;
         self.add(Item::NameType(name, kind))?;
         self.add(Item::Member(of, class, name, kind))
+    }
+
+    /// The number of an item, from 1, or 0 where it is not there.
+    fn number(&self, item: Item) -> u16
+        requires within { IsWithin self.now.texts item }
+        requires few { length self.now.says < 65535 }
+        ensures { result ≡ number_in self.now.says (said self.now.texts item) }
+    {
+        match self.set.get_index_of(&item) {
+            Some(place) => (place + 1) as u16,
+            None => 0,
+        }
+    }
+
+    /// The entry that says what the item says.
+    fn entry(&self, alloc: Global, item: Item) -> Result<PoolEntry, NoMemory>
+        requires within { IsWithin self.now.texts item }
+        requires few { length self.now.says < 65535 }
+        ensures { IfOk result (λ entry. entry ≡ entry_of self.now.says (said self.now.texts item)) }
+    {
+        match item {
+            Item::Text(place) => match self.table.get(place) {
+                Some(bytes) => Ok(PoolEntry::Utf8(copied(alloc, bytes)?)),
+                None => Err(NoMemory),
+            },
+            Item::Int(number) => Ok(PoolEntry::Integer(number)),
+            Item::Class(name) => Ok(PoolEntry::Class(self.number(Item::Text(name)))),
+            Item::Str(of) => Ok(PoolEntry::Str(self.number(Item::Text(of)))),
+            Item::NameType(name, kind) => {
+                let name = self.number(Item::Text(name));
+                let kind = self.number(Item::Text(kind));
+                Ok(PoolEntry::NameType(name, kind))
+            }
+            Item::Member(of, owner, name, kind) => {
+                let owner = self.number(Item::Class(owner));
+                let of_type = self.number(Item::NameType(name, kind));
+                Ok(of.entry(owner, of_type))
+            }
+        }
+    }
+
+    /// The entries by their numbers.
+    pub fn entries(&self, alloc: Global) -> Result<Row<PoolEntry>, NoMemory>
+        requires { length self.now.says < 65535 }
+        ensures { IfOk result (λ entries. entries ≡ entries_of self.now.says) }
+    {
+        let mut entries = Row::new(alloc);
+        entries.push(PoolEntry::Skipped)?;
+        for place in 0..self.set.len() {
+            if let Some(item) = self.set.get_index(place) {
+                entries.push(self.entry(alloc, *item)?)?;
+            }
+        }
+        Ok(entries)
+    }
+}
+
+impl MemberKind {
+    /// The entry of such a member.
+    fn entry(self, owner: u16, of_type: u16) -> PoolEntry
+        ensures { result ≡ member_entry self owner of_type }
+    {
+        match self {
+            MemberKind::Field => PoolEntry::Field(owner, of_type),
+            MemberKind::Method => PoolEntry::Method(owner, of_type),
+            MemberKind::InterfaceMethod => PoolEntry::InterfaceMethod(owner, of_type),
+        }
+    }
+}
+
+/// The bytes, copied.
+fn copied(alloc: Global, bytes: &[u8]) -> Result<Row<u8>, NoMemory>
+    ensures { IfOk result (λ row. row ≡ bytes.now) }
+{
+    match bytes.to_vec(alloc) {
+        Ok(bytes) => Ok(Row::from_vec(bytes)),
+        Err(_) => Err(NoMemory),
     }
 }
