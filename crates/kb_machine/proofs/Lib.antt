@@ -1,4 +1,7 @@
-pub mod Locals
-pub mod Steps
+pub mod LandingLaws
+pub mod ListingLaws
+pub mod LocalLaws
 pub mod RunLaws
-pub mod Methods
+pub mod Stacks
+pub mod Steps
+pub mod SwitchLaws

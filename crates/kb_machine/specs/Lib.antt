@@ -1,1 +1,6 @@
-pub mod Frames
+pub mod Unwritten
+pub mod Turns
+pub mod Landings
+pub mod Arrays
+pub mod Listings
+pub mod Callees

@@ -1,278 +1,268 @@
-//! The frame of a method that is run (JVMS 8 section 2.6).
+//! Frames (JVMS 8 section 2.6).
 
-ghost use Rattle.std.specs.Prelude.{◌≡◌, ◌-◌, ◌++◌, [], length, map, replicate, Some, None, OnOk, OnErr, IfOk, IsTrue};
-ghost use Rattle.kb_semantics.specs.Machine.{effect, first_locals, int_of, is_built, top_of};
-ghost use Rattle.kb_machine.specs.Frames.{IsSound, Keeps, Follows, local_value, locals_of, popped, pushing, setting};
+ghost use Rattle.std.specs.Prelude.{◌≡◌, IsTrue, [], ◌∷◌, ◌++◌, suc, length, drop, nat_le, reverse, take, false, Some, None, OnOk, OnSome, IfOk, IfSome, IfNone};
+ghost use Rattle.std.specs.Option.{option_copied};
+ghost use Rattle.kb_semantics.specs.Config.{class_number, code_of, first_frame, local_of, max_locals_of, max_stack_of, has_room, with_local};
+ghost use Rattle.kb_semantics.specs.Operands.{top_of};
+ghost use Rattle.kb_semantics.specs.Ways.{counted, pushed};
+ghost use Rattle.kb_world.specs.Lookup.{only_where};
 
 use crate::NoMemory;
-use crate::arithmetic::{int2_value, narrowed};
+use crate::locals::Locals;
 use crate::value_stack::ValueStack;
-use kb_code::{Instr, IntCut, IntOp};
-use kb_heap::Value;
+use kb_class::{ClassId, MethodCode, MethodId};
+use kb_heap::{Row, RunBounds, Value};
+use kb_world::World;
 use std::alloc::Global;
+use std::marker::Model;
 
-// The limits of a frame (JVMS 8 section 4.7.3).
-#[derive(Clone, Copy, Debug, PartialEq, Eq)]
-pub(crate) struct Limits {
-    pub(crate) stack: u16,
-    pub(crate) locals: u16,
-}
-
-// What an instruction comes to.
-#[derive(Clone, Copy, Debug, PartialEq, Eq)]
-pub(crate) enum Step {
-    Goes,
-    Returned(Value),
-    IllTyped,
-}
-
-// The locals up to the highest that was written, of which those that were never written are None, and the operand stack.
-// After an instruction that is ill-typed they are of no use.
+/// A frame. Contracts see it as the definitions have it.
 #[derive(Drop)]
 pub(crate) struct Frame {
-    pub(crate) locals: Vec<Option<Value>>,
-    pub(crate) stack: ValueStack,
-    pub(crate) limits: Limits,
+    method: MethodId,
+    at: u32,
+    locals: Locals,
+    stack: ValueStack,
+    transfers: u32,
+}
+
+impl Model for Frame {
+    ghost use Rattle.kb_semantics.specs.Config.{Frame as PlainFrame};
+
+    ghost Value = { PlainFrame };
+
+    ghost view = { λ f. record { method = f.method; at = f.at; locals = f.locals; stack = f.stack; transfers = f.transfers } };
 }
 
 impl Frame {
-    // The frame of a method that begins with these arguments. It holds them all, also where they are more than the limit.
-    #[tactic(auto, using(crate::proofs::Locals::same_first))]
-    pub(crate) fn begin(alloc: Global, args: &[Value], limits: Limits) -> Result<Frame, NoMemory>
-        ensures sound { IfOk result IsSound }
-        ensures limits { IfOk result (λ f. f.limits ≡ limits) }
-        ensures locals { IfOk result (λ f. locals_of f ≡ first_locals args.now limits.locals) }
-        ensures stack { IfOk result (λ f. f.stack ≡ []) }
+    /// The frame of a method that begins with these arguments.
+    pub(crate) fn begin(
+        alloc: Global,
+        world: &World,
+        method: MethodId,
+        args: &[Value],
+    ) -> Result<Frame, NoMemory>
+        ensures { IfOk result (λ f. f ≡ first_frame world.now method args.now) }
     {
+        let locals = Locals::begin(alloc, args, usize::from(max_locals(world, method)))?;
         Ok(Frame {
-            locals: arguments(alloc, args)?,
+            method,
+            at: 0,
+            locals,
             stack: ValueStack::new(alloc),
-            limits,
+            transfers: 0,
         })
     }
 
-    // The int of a local, where it lies below the limit and holds one.
-    fn local_int(&self, local: u16) -> Option<i32>
-        ensures { result ≡ int_of (local_value self.now local) }
+    pub(crate) fn method(&self) -> MethodId
+        ensures { result ≡ self.now.method }
     {
-        if local >= self.limits.locals {
+        self.method
+    }
+
+    /// The offset of the instruction.
+    pub(crate) fn at(&self) -> u32
+        ensures { result ≡ self.now.at }
+    {
+        self.at
+    }
+
+    /// The class that declares the method.
+    pub(crate) fn class(&self, world: &World) -> ClassId
+        ensures { result.0 ≡ class_number world.now self.now.method }
+    {
+        class_of_method(world, self.method)
+    }
+
+    /// Whether the method may have the frame's stack.
+    pub(crate) fn is_allowed(&self, world: &World) -> bool
+        ensures { result ≡ has_room world.now self.now.method (length self.now.stack) }
+    {
+        self.stack.len() <= usize::from(max_stack(world, self.method))
+    }
+
+    /// Whether it may have a stack with one value more.
+    pub(crate) fn has_room(&self, world: &World) -> bool
+        ensures { result ≡ has_room world.now self.now.method (suc (length self.now.stack)) }
+    {
+        self.stack.len() < usize::from(max_stack(world, self.method))
+    }
+
+    /// Whether the method may have a stack of one value.
+    pub(crate) fn may_have_one(&self, world: &World) -> bool
+        ensures { result ≡ has_room world.now self.now.method 1 }
+    {
+        max_stack(world, self.method) > 0
+    }
+
+    /// The value of a local, where it lies below the limit and was written.
+    pub(crate) fn local(&self, world: &World, local: u16) -> Option<Value>
+        ensures { result ≡ local_of world.now self.now local }
+    {
+        if local >= max_locals(world, self.method) {
             return None;
         }
-        match self.locals.get(usize::from(local)) {
-            Some(Some(Value::Int(value))) => Some(*value),
-            _ => None,
+        self.locals.get(usize::from(local))
+    }
+
+    /// Writes a local, where it lies below the limit: false where it does not.
+    pub(crate) fn set_local(
+        &mut self,
+        world: &World,
+        local: u16,
+        value: Value,
+    ) -> Result<bool, NoMemory>
+        ensures locals { IfOk result (λ set. with_local world.now self.old local value ≡ only_where set self.new.locals) }
+        ensures frame { OnOk result (self.new ≡ record self.old { locals = self.new.locals }) }
+    {
+        if local >= max_locals(world, self.method) {
+            return Ok(false);
+        }
+        self.locals.set(usize::from(local), value)?;
+        Ok(true)
+    }
+
+    /// Puts a value on the stack.
+    pub(crate) fn push(&mut self, value: Value) -> Result<(), NoMemory>
+        ensures { OnOk result (self.new ≡ record self.old { stack = value ∷ self.old.stack }) }
+    {
+        self.stack.push(value)
+    }
+
+    /// Puts values on the stack, the first one first.
+    pub(crate) fn put(&mut self, values: &[Value]) -> Result<(), NoMemory>
+        ensures { OnOk result (self.new ≡ record self.old { stack = reverse values.now ++ self.old.stack }) }
+    {
+        self.stack.put(values)
+    }
+
+    /// Its stack has that value and no other.
+    pub(crate) fn hold(&mut self, value: Value) -> Result<(), NoMemory>
+        ensures { OnOk result (self.new ≡ record self.old { stack = value ∷ [] }) }
+    {
+        self.stack.clear();
+        self.stack.push(value)
+    }
+
+    /// Takes so many values off the top of the stack, and gives them from the lowest one on. None where there are fewer.
+    pub(crate) fn take_top(
+        &mut self,
+        alloc: Global,
+        count: usize,
+    ) -> Result<Option<Row<Value>>, NoMemory>
+        ensures top { IfOk result (λ top. top ≡ only_where (nat_le count (length self.old.stack)) (reverse (take count self.old.stack))) }
+        ensures rest { IfOk result (λ top. OnSome top (self.new ≡ record self.old { stack = drop count self.old.stack })) }
+        ensures frame { OnOk result (self.new ≡ record self.old { stack = self.new.stack }) }
+    {
+        self.stack.take_top(alloc, count)
+    }
+
+    /// Puts a result on the stack: none of void.
+    pub(crate) fn give(&mut self, value: Option<Value>) -> Result<(), NoMemory>
+        ensures { OnOk result (self.new ≡ record self.old { stack = pushed value self.old.stack }) }
+    {
+        match value {
+            Some(value) => self.stack.push(value),
+            None => Ok(()),
         }
     }
 
-    // Takes the value off the top, and gives its int, where it is one.
-    fn take_int(&mut self) -> Option<i32>
-        requires { IsSound self.old }
-        ensures keeps { Keeps self.old self.new }
-        ensures int { result ≡ int_of (top_of self.old.stack) }
-        ensures rest { self.new ≡ popped self.old }
+    /// The value on the top of the stack.
+    pub(crate) fn top(&self) -> Option<Value>
+        ensures { result ≡ top_of self.now.stack }
     {
-        match self.stack.pop() {
-            Some(Value::Int(value)) => Some(value),
-            _ => None,
+        self.stack.top()
+    }
+
+    /// Takes the value off the top of the stack.
+    pub(crate) fn pop(&mut self) -> Option<Value>
+        ensures top { result ≡ top_of self.old.stack }
+        ensures frame { self.new ≡ record self.old { stack = drop 1 self.old.stack } }
+    {
+        self.stack.pop()
+    }
+
+    /// Takes the two values off the top, the top first.
+    pub(crate) fn top_two(&mut self) -> Option<(Value, Value)>
+        ensures some { IfSome result (λ top. self.old ≡ record self.new { stack = top.0 ∷ top.1 ∷ self.new.stack }) }
+        ensures none { IfNone result (nat_le 2 (length self.old.stack) ≡ false) }
+        ensures frame { self.new ≡ record self.old { stack = self.new.stack } }
+    {
+        let first = self.pop()?;
+        let second = self.pop()?;
+        Some((first, second))
+    }
+
+    /// Takes the three values off the top, the top first.
+    pub(crate) fn top_three(&mut self) -> Option<(Value, Value, Value)>
+        ensures some { IfSome result (λ top. self.old ≡ record self.new { stack = top.0 ∷ top.1 ∷ top.2 ∷ self.new.stack }) }
+        ensures none { IfNone result (nat_le 3 (length self.old.stack) ≡ false) }
+        ensures frame { self.new ≡ record self.old { stack = self.new.stack } }
+    {
+        let (first, second) = self.top_two()?;
+        let third = self.pop()?;
+        Some((first, second, third))
+    }
+
+    /// Takes the four values off the top, the top first.
+    pub(crate) fn top_four(&mut self) -> Option<(Value, Value, Value, Value)>
+        ensures some { IfSome result (λ top. self.old ≡ record self.new { stack = top.0 ∷ top.1 ∷ top.2 ∷ top.3 ∷ self.new.stack }) }
+        ensures none { IfNone result (nat_le 4 (length self.old.stack) ≡ false) }
+        ensures frame { self.new ≡ record self.old { stack = self.new.stack } }
+    {
+        let (first, second) = self.top_two()?;
+        let (third, fourth) = self.top_two()?;
+        Some((first, second, third, fourth))
+    }
+
+    /// It goes on at an offset.
+    pub(crate) fn go(&mut self, at: u32)
+        ensures { self.new ≡ record self.old { at = at } }
+    {
+        self.at = at;
+    }
+
+    /// Control is transferred to an offset: false where that would be one transfer back too many.
+    pub(crate) fn transfer(&mut self, bounds: &RunBounds, target: u32) -> bool
+        ensures count { counted bounds.now self.old.at target self.old.transfers ≡ only_where result self.new.transfers }
+        ensures frame { IsTrue result → self.new ≡ record self.old { at = target; transfers = self.new.transfers } }
+    {
+        if target > self.at {
+            self.at = target;
+            return true;
         }
-    }
-
-    // Pushes a value, where the stack is below its limit.
-    fn push(&mut self, value: Value) -> Result<Step, NoMemory>
-        requires { IsSound self.old }
-        ensures keeps { Keeps self.old self.new }
-        ensures step { IfOk result (λ step. Follows step self.old self.new (pushing value)) }
-    {
-        if self.stack.len() >= usize::from(self.limits.stack) {
-            return Ok(Step::IllTyped);
+        if self.transfers >= bounds.loops {
+            return false;
         }
-        self.stack.push(value)?;
-        Ok(Step::Goes)
-    }
-
-    // Writes a value into a local, where it lies below the limit.
-    fn set_local(&mut self, local: u16, value: Value) -> Result<Step, NoMemory>
-        requires { IsSound self.old }
-        ensures keeps { Keeps self.old self.new }
-        ensures step { IfOk result (λ step. Follows step self.old self.new (setting local value)) }
-    {
-        if local >= self.limits.locals {
-            return Ok(Step::IllTyped);
-        }
-        let place = usize::from(local);
-        grow_to(&mut self.locals, place + 1)?;
-        self.locals[place] = Some(value);
-        Ok(Step::Goes)
-    }
-
-    #[tactic(auto, unfolding(kb_semantics::specs::Machine::effect))]
-    fn nop(&mut self) -> Step
-        requires { IsSound self.old }
-        ensures keeps { Keeps self.old self.new }
-        ensures step { Follows result self.old self.new (effect Instr.Nop) }
-    {
-        Step::Goes
-    }
-
-    #[tactic(auto, unfolding(kb_semantics::specs::Machine::effect))]
-    fn push_int(&mut self, value: i32) -> Result<Step, NoMemory>
-        requires { IsSound self.old }
-        ensures keeps { Keeps self.old self.new }
-        ensures step { IfOk result (λ step. Follows step self.old self.new (effect (Instr.PushInt value))) }
-    {
-        self.push(Value::Int(value))
-    }
-
-    fn load(&mut self, local: u16) -> Result<Step, NoMemory>
-        requires { IsSound self.old }
-        ensures keeps { Keeps self.old self.new }
-        ensures step { IfOk result (λ step. Follows step self.old self.new (effect (Instr.LoadInt local))) }
-    {
-        match self.local_int(local) {
-            Some(value) => self.push(Value::Int(value)),
-            None => Ok(Step::IllTyped),
-        }
-    }
-
-    fn store(&mut self, local: u16) -> Result<Step, NoMemory>
-        requires { IsSound self.old }
-        ensures keeps { Keeps self.old self.new }
-        ensures step { IfOk result (λ step. Follows step self.old self.new (effect (Instr.StoreInt local))) }
-    {
-        match self.take_int() {
-            Some(value) => self.set_local(local, Value::Int(value)),
-            None => Ok(Step::IllTyped),
-        }
-    }
-
-    fn pop(&mut self) -> Step
-        requires { IsSound self.old }
-        ensures keeps { Keeps self.old self.new }
-        ensures step { Follows result self.old self.new (effect Instr.Pop) }
-    {
-        match self.stack.pop() {
-            Some(_) => Step::Goes,
-            None => Step::IllTyped,
-        }
-    }
-
-    fn duplicate(&mut self) -> Result<Step, NoMemory>
-        requires { IsSound self.old }
-        ensures keeps { Keeps self.old self.new }
-        ensures step { IfOk result (λ step. Follows step self.old self.new (effect Instr.Dup)) }
-    {
-        match self.stack.top() {
-            Some(value) => self.push(value),
-            None => Ok(Step::IllTyped),
-        }
-    }
-
-    // An operation on the two ints on the top.
-    fn apply_two(&mut self, op: IntOp) -> Result<Step, NoMemory>
-        requires { IsSound self.old }
-        ensures keeps { Keeps self.old self.new }
-        ensures step { IfOk result (λ step. Follows step self.old self.new (effect (Instr.Int2 op))) }
-    {
-        let Some(right) = self.take_int() else {
-            return Ok(Step::IllTyped);
-        };
-        let Some(left) = self.take_int() else {
-            return Ok(Step::IllTyped);
-        };
-        self.push(Value::Int(int2_value(op, left, right)))
-    }
-
-    fn negate(&mut self) -> Result<Step, NoMemory>
-        requires { IsSound self.old }
-        ensures keeps { Keeps self.old self.new }
-        ensures step { IfOk result (λ step. Follows step self.old self.new (effect Instr.Neg)) }
-    {
-        match self.take_int() {
-            Some(value) => self.push(Value::Int(kb_arith::neg(value))),
-            None => Ok(Step::IllTyped),
-        }
-    }
-
-    fn narrow(&mut self, cut: IntCut) -> Result<Step, NoMemory>
-        requires { IsSound self.old }
-        ensures keeps { Keeps self.old self.new }
-        ensures step { IfOk result (λ step. Follows step self.old self.new (effect (Instr.Narrow cut))) }
-    {
-        match self.take_int() {
-            Some(value) => self.push(Value::Int(narrowed(cut, value))),
-            None => Ok(Step::IllTyped),
-        }
-    }
-
-    // Adds a constant to a local.
-    fn increase(&mut self, local: u16, by: i32) -> Result<Step, NoMemory>
-        requires { IsSound self.old }
-        ensures keeps { Keeps self.old self.new }
-        ensures step { IfOk result (λ step. Follows step self.old self.new (effect (Instr.Inc local by))) }
-    {
-        match self.local_int(local) {
-            Some(value) => self.set_local(local, Value::Int(kb_arith::add(value, by))),
-            None => Ok(Step::IllTyped),
-        }
-    }
-
-    fn return_int(&mut self) -> Step
-        requires { IsSound self.old }
-        ensures keeps { Keeps self.old self.new }
-        ensures step { Follows result self.old self.new (effect Instr.ReturnInt) }
-    {
-        match self.take_int() {
-            Some(value) => Step::Returned(Value::Int(value)),
-            None => Step::IllTyped,
-        }
-    }
-
-    // Takes up an instruction that is built.
-    pub(crate) fn take(&mut self, instr: &Instr) -> Result<Step, NoMemory>
-        requires sound { IsSound self.old }
-        requires built { IsTrue (is_built instr.now) }
-        ensures keeps { Keeps self.old self.new }
-        ensures step { IfOk result (λ step. Follows step self.old self.new (effect instr.now)) }
-    {
-        match instr {
-            Instr::Nop => Ok(self.nop()),
-            Instr::PushInt(value) => self.push_int(*value),
-            Instr::LoadInt(local) => self.load(*local),
-            Instr::StoreInt(local) => self.store(*local),
-            Instr::Pop => Ok(self.pop()),
-            Instr::Dup => self.duplicate(),
-            Instr::Int2(op) => self.apply_two(*op),
-            Instr::Neg => self.negate(),
-            Instr::Inc(local, by) => self.increase(*local, *by),
-            Instr::Narrow(cut) => self.narrow(*cut),
-            Instr::ReturnInt => Ok(self.return_int()),
-            _ => unreachable!(),
-        }
+        self.at = target;
+        self.transfers += 1;
+        true
     }
 }
 
-// Adds locals that were never written, up to that many.
-fn grow_to(locals: &mut Vec<Option<Value>>, count: usize) -> Result<(), NoMemory>
-    ensures ok { OnOk result (locals.new.items ≡ locals.old.items ++ replicate (count - length locals.old.items) None) }
-    ensures err { OnErr result (locals.new.items ≡ locals.old.items) }
+fn class_of_method(world: &World, method: MethodId) -> ClassId
+    ensures { result.0 ≡ class_number world.now method }
 {
-    if locals.len() < count {
-        let Ok(()) = locals.resize(count, None) else {
-            return Err(NoMemory);
-        };
+    match world.find_method(method) {
+        Some(info) => info.class,
+        None => ClassId(0),
     }
-    Ok(())
 }
 
-// The locals that the arguments are.
-fn arguments(alloc: Global, args: &[Value]) -> Result<Vec<Option<Value>>, NoMemory>
-    ensures { IfOk result (λ locals. locals.items ≡ map (λ v. Some v) args.now) }
+fn max_stack(world: &World, method: MethodId) -> u16
+    ensures { result ≡ max_stack_of world.now method }
 {
-    let mut locals = Vec::new(alloc);
-    for value in args {
-        let Ok(()) = locals.push(Some(*value)) else {
-            return Err(NoMemory);
-        };
+    match world.find_code(method) {
+        Some(code) => code.max_stack,
+        None => 0,
     }
-    Ok(locals)
+}
+
+fn max_locals(world: &World, method: MethodId) -> u16
+    ensures { result ≡ max_locals_of world.now method }
+{
+    match world.find_code(method) {
+        Some(code) => code.max_locals,
+        None => 0,
+    }
 }

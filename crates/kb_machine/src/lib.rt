@@ -1,21 +1,58 @@
 //! The concrete machine: runs of methods over inputs, one instruction after the other.
 //!
-//! `specs/Machine.antt` and `specs/Types.antt` of kb_semantics say what a run is, and which inputs are type-correct.
+//! `specs/` of kb_semantics says what a run is, and which inputs are type-correct.
 #![tactic(auto)]
 
 mod arithmetic;
-mod built;
+mod arrays;
+mod branching;
+mod calls;
+mod constants;
+mod fields;
 mod fits;
 mod frame;
+mod instructions;
+mod ints;
+mod kinds;
+mod locals;
 mod machine;
+mod operands;
+mod pool;
+mod rearranging;
+mod returns;
+mod state;
 #[cfg(test)]
 mod tests;
+mod throwing;
+mod turn;
+mod types;
+mod unwinding;
 mod value_stack;
+mod variables;
+mod ways;
 
-pub use built::are_built;
 pub use fits::fits_types;
 pub use machine::run;
+use std::alloc::AllocError;
 
 /// Memory ran out.
 #[derive(Clone, Copy, Debug, PartialEq, Eq)]
 pub struct NoMemory;
+
+impl From<AllocError> for NoMemory {
+    fn from(_error: AllocError) -> NoMemory {
+        NoMemory
+    }
+}
+
+impl From<kb_names::NoMemory> for NoMemory {
+    fn from(_error: kb_names::NoMemory) -> NoMemory {
+        NoMemory
+    }
+}
+
+impl From<kb_heap::NoMemory> for NoMemory {
+    fn from(_error: kb_heap::NoMemory) -> NoMemory {
+        NoMemory
+    }
+}

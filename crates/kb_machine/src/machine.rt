@@ -1,46 +1,30 @@
 //! Runs of methods.
 
-ghost use Rattle.std.specs.Prelude.{◌≡◌, IfOk};
-ghost use Rattle.kb_code.specs.Listing.{IsLaidOut};
-ghost use Rattle.kb_heap.specs.declared.heap.Heap.{Heap};
-ghost use Rattle.kb_semantics.specs.Machine.{AreBuilt, Method, run, run_of, start_of};
-ghost use Rattle.kb_semantics.specs.Types.{IsMethod};
+ghost use Rattle.std.specs.Prelude.{◌≡◌, suc, IfOk};
+ghost use Rattle.kb_semantics.specs.Config.{no_target, target_of};
+ghost use Rattle.kb_semantics.specs.Step.{first_heap, run, run_of};
+ghost use Rattle.kb_semantics.specs.Values.{literal};
 ghost use Rattle.kb_world.specs.Reach.{IsAccepted};
-ghost use Rattle.kb_machine.specs.Frames.{HasMethodCode, ended_of};
+ghost use Rattle.kb_machine.specs.Turns.{begun, ending_told};
 
 use crate::NoMemory;
-use crate::frame::{Frame, Limits, Step};
-use kb_class::{MethodId, MethodInfo};
-use kb_code::Instr;
-use kb_heap::{Bound, Ending, Heap, Input, Place, RunBounds, Value};
-use kb_names::{Name, Target};
+use crate::frame::Frame;
+use crate::instructions::instruction_at;
+use crate::state::{Callers, State};
+use crate::turn::{Step, Turn};
+use kb_class::MethodId;
+use kb_heap::{Bound, Ending, Heap, Input, Object, Place, Row, RunBounds};
+use kb_names::{ExactType, MethodType, Name, Target};
 use kb_world::World;
 use std::alloc::Global;
 
-// The code of a method: its limits, its instructions by offset, and its length in bytes.
-#[derive(Clone, Copy, Debug)]
-pub(crate) struct MethodCode<'a> {
-    pub(crate) limits: Limits,
-    pub(crate) listing: &'a [(u32, Instr)],
-    pub(crate) size: u32,
-}
-
-// How a run of straight code ends.
-#[derive(Clone, Copy, Debug, PartialEq, Eq)]
-pub(crate) enum RunEnd {
-    Returned(Value),
-    // At the instruction of that offset, or at the end of the code.
-    IllTyped(u32),
-    Past(Bound),
-}
-
 /// The run of the method over the input within the bounds: how it ends, and the heap then.
 ///
-/// By now only methods are run whose instructions are all built, and `steps` is the one bound that a run meets. An operand of
-/// another kind than the instruction takes, an operand stack or a local beyond its limit, and code that runs off its end are
-/// ill-typed.
+/// The heap has the objects of the input, then one object for each string literal of the world, then those that the run makes.
+/// An operand of another kind than the instruction takes, an operand stack or a local beyond its limit, and code that runs off
+/// its end are ill-typed.
 ///
-/// Source: JVMS 8 sections 2.6, 2.11 and 6.5.
+/// Source: JVMS 8 sections 2.6, 2.10, 2.11 and 6.5.
 pub fn run(
     alloc: Global,
     world: &World,
@@ -48,87 +32,118 @@ pub fn run(
     input: &Input,
     bounds: &RunBounds,
 ) -> Result<(Ending, Heap), NoMemory>
-    requires runs { (method : Method) × IsMethod world.now target method × AreBuilt method.listing }
-    requires accepted { IsAccepted world.now target }
-    ensures { IfOk result (λ ended. (method : Method) → IsMethod world.now target method → run_of bounds.now method input.now ≡ record { ending = ended.0; heap = ended.1 }) }
+    requires { IsAccepted world.now target }
+    ensures { IfOk result (λ ended. run_of (record { world = world.now; bounds = bounds.now }) target input.now ≡ record { ending = ended.0; heap = ended.1 }) }
 {
-    let info = world.method_of(target);
-    let Some(code) = &info.code else {
-        unreachable!()
-    };
-    let code = MethodCode {
-        limits: Limits {
-            stack: code.max_stack,
-            locals: code.max_locals,
-        },
-        listing: code.listing.items.as_slice(),
-        size: code.size,
-    };
-    let Ok(heap) = input.heap.copied(alloc) else {
+    let Ok(inputs) = u32::try_from(input.heap.objects.as_slice().len()) else {
         return Err(NoMemory);
     };
-    let stop = run_code(alloc, &code, input.args.as_slice(), bounds.steps)?;
-    Ok((
-        ending_of(alloc, stop, world.name_of(info.class), info)?,
-        heap,
-    ))
+    let state = State {
+        frame: Frame::begin(alloc, world, target, input.args.as_slice())?,
+        callers: Callers::new(alloc),
+        heap: first_heap(alloc, world, &input.heap)?,
+    };
+    run_from(alloc, world, bounds, inputs, state)
 }
 
-// The run of code over arguments, up to so many instructions.
-pub(crate) fn run_code(
+// The run from the state on, where nothing was carried out before.
+fn run_from(
     alloc: Global,
-    code: &MethodCode<'_>,
-    args: &[Value],
-    steps: u32,
-) -> Result<RunEnd, NoMemory>
-    requires laid_out { IsLaidOut code.now.listing.now code.now.size }
-    requires built { AreBuilt code.now.listing.now }
-    ensures { IfOk result (λ stop. (method : Method) (heap : Heap) → HasMethodCode method code.now → run steps (start_of method (record { heap = heap; args = args.now })) ≡ ended_of stop method.target heap) }
+    world: &World,
+    bounds: &RunBounds,
+    inputs: u32,
+    state: State,
+) -> Result<(Ending, Heap), NoMemory>
+    ensures { IfOk result (λ ended. run (suc bounds.now.steps) (record { world = world.now; bounds = bounds.now }) (begun inputs state) ≡ record { ending = ended.0; heap = ended.1 }) }
 {
-    let mut frame = Frame::begin(alloc, args, code.limits)?;
-    let mut index = 0;
-    for _ in 0..steps {
-        let Some((at, instr)) = code.listing.get(index) else {
-            return Ok(RunEnd::IllTyped(code.size));
+    let mut state = state;
+    for carried in 0..bounds.steps {
+        let Some(found) = instruction_at(world, &state.frame) else {
+            let place = ending_of(alloc, world, state.ill_typed())?;
+            return Ok((place, state.heap));
         };
-        match frame.take(instr)? {
-            Step::Goes => {}
-            Step::Returned(value) => return Ok(RunEnd::Returned(value)),
-            Step::IllTyped => return Ok(RunEnd::IllTyped(*at)),
+        let turn = Turn {
+            alloc,
+            world,
+            bounds: *bounds,
+            inputs,
+            carried,
+            next: found.next,
+        };
+        let step = state.take(&turn, found.instr)?;
+        if step != Step::Goes {
+            let ending = ending_of(alloc, world, step)?;
+            return Ok((ending, state.heap));
         }
-        index += 1;
     }
-    Ok(RunEnd::Past(Bound::Steps))
+    Ok((Ending::Past(Bound::Steps), state.heap))
 }
 
-// The ending of a run of that method, in the class of that name.
-fn ending_of(
-    alloc: Global,
-    stop: RunEnd,
-    class: &Name,
-    method: &MethodInfo,
-) -> Result<Ending, NoMemory>
-    ensures { IfOk result (λ ending. (target : Target) (heap : Heap) → target.class ≡ class.now → target.name ≡ method.now.name → target.kind ≡ method.now.kind → ended_of stop target heap ≡ record { ending = ending; heap = heap }) }
+// How the run ends, where a step ends it.
+fn ending_of(alloc: Global, world: &World, step: Step) -> Result<Ending, NoMemory>
+    ensures { IfOk result (λ ending. ending ≡ ending_told world.now step) }
 {
-    match stop {
-        RunEnd::Returned(value) => Ok(Ending::Returned(Some(value))),
-        RunEnd::IllTyped(at) => match target_of(alloc, class, method) {
-            Ok(method) => Ok(Ending::IllTyped(Place { method, at })),
-            Err(_) => Err(NoMemory),
-        },
-        RunEnd::Past(bound) => Ok(Ending::Past(bound)),
+    match step {
+        Step::Goes => Ok(Ending::Past(Bound::Steps)),
+        Step::Returned(value) => Ok(Ending::Returned(value)),
+        Step::Threw(object) => Ok(Ending::Threw(object)),
+        Step::IllTyped(method, at) => {
+            let method = target_of(alloc, world, method)?;
+            Ok(Ending::IllTyped(Place { method, at }))
+        }
+        Step::Past(bound) => Ok(Ending::Past(bound)),
     }
 }
 
-// The target of that method, in the class of that name.
-fn target_of(alloc: Global, class: &Name, method: &MethodInfo) -> Result<Target, kb_names::NoMemory>
-    ensures class { IfOk result (λ target. target.class ≡ class.now) }
-    ensures name { IfOk result (λ target. target.name ≡ method.now.name) }
-    ensures kind { IfOk result (λ target. target.kind ≡ method.now.kind) }
+// The method by its class's name, its name and its type.
+fn target_of(alloc: Global, world: &World, method: MethodId) -> Result<Target, NoMemory>
+    ensures { IfOk result (λ target. target ≡ target_of world.now method) }
 {
+    let Some(info) = world.find_method(method) else {
+        return Ok(no_target(alloc));
+    };
     Ok(Target {
-        class: class.copied(alloc)?,
-        name: method.name.copied(alloc)?,
-        kind: method.kind.copied(alloc)?,
+        class: Name::from_slice(alloc, world.find_name(info.class))?,
+        name: info.name.copied(alloc)?,
+        kind: info.kind.copied(alloc)?,
+    })
+}
+
+// What stands for a method that is none.
+fn no_target(alloc: Global) -> Target
+    ensures { result ≡ no_target }
+{
+    Target {
+        class: Name::new(alloc),
+        name: Name::new(alloc),
+        kind: MethodType {
+            params: Row::new(alloc),
+            result: None,
+        },
+    }
+}
+
+// The first heap of a run.
+fn first_heap(alloc: Global, world: &World, heap: &Heap) -> Result<Heap, NoMemory>
+    ensures { IfOk result (λ first. first ≡ first_heap world.now heap.now) }
+{
+    let mut first = heap.copied(alloc)?;
+    for _ in 0..world.literals() {
+        let literal = literal(alloc)?;
+        let Ok(_) = first.add(literal) else {
+            return Err(NoMemory);
+        };
+    }
+    Ok(first)
+}
+
+// The object of a string literal.
+fn literal(alloc: Global) -> Result<Object, NoMemory>
+    ensures { IfOk result (λ object. object ≡ literal) }
+{
+    let name = Name::from_slice(alloc, b"java/lang/String".as_slice())?;
+    Ok(Object {
+        kind: ExactType::Class(name),
+        values: Row::new(alloc),
     })
 }

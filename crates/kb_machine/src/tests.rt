@@ -1,140 +1,120 @@
-//! Code is spelled as `javap -c` shows it; expected values are those of the JVM (JVMS 8 section 6.5).
+//! Runs of a method that adds two ints, spelled byte by byte; what is expected follows from JVMS 8 section 6.5.
 
-use crate::built::are_built;
-use crate::fits::are_values_of;
-use crate::frame::Limits;
-use crate::machine::{MethodCode, RunEnd, run_code};
-use kb_code::decode;
-use kb_heap::{Bound, Value};
-use kb_names::JType;
+ghost use Rattle.std.specs.Prelude.{[], ◌∷◌, IfOk, IfSome};
+ghost use Rattle.kb_class.specs.Given.{AreListings, IsGiven, AreGiven};
+
+use crate::{fits_types, run};
+use kb_class::{GivenClass, MethodId, handlers_of};
+use kb_classfile::{ClassFile, Method, read_class};
+use kb_code::{CodeRefusal, Listing, decode};
+use kb_heap::{Bound, Ending, Heap, Input, Row, RunBounds, Value};
+use kb_names::read_target;
+use kb_samples::CLASS_A;
+use kb_world::{World, link};
 use std::alloc::Global;
 use std::test::Fail;
 
-const LIMITS: Limits = Limits {
-    stack: 2,
-    locals: 2,
+const BOUNDS: RunBounds = RunBounds {
+    alloc: 16,
+    loops: 10,
+    depth: 16,
+    steps: 4,
 };
 
-// None where the bytes have no listing, or an instruction that is not built, or for want of memory.
-fn run_bytes(alloc: Global, bytes: &[u8], args: &[Value], steps: u32) -> Option<RunEnd> {
-    let Ok(size) = u32::try_from(bytes.len()) else {
-        return None;
+fn listing_of(alloc: Global, method: &Method) -> Result<Option<Listing>, CodeRefusal>
+    ensures { IfOk result (λ listing. AreListings (method.now ∷ []) (listing ∷ [])) }
+{
+    let Some(code) = &method.code else {
+        return Ok(None);
     };
-    let Ok(listing) = decode(alloc, bytes, &[]) else {
-        return None;
+    let Ok(handlers) = handlers_of(alloc, code) else {
+        return Err(CodeRefusal::NoMemory);
     };
-    if !are_built(listing.items.as_slice()) {
-        return None;
+    match decode(alloc, code.bytes.as_slice(), handlers.as_slice()) {
+        Ok(listing) => Ok(Some(listing)),
+        Err(refusal) => Err(refusal),
     }
-    let code = MethodCode {
-        limits: LIMITS,
-        listing: listing.items.as_slice(),
-        size,
-    };
-    run_code(alloc, &code, args, steps).ok()
 }
 
-fn returned(value: i32) -> Option<RunEnd> {
-    Some(RunEnd::Returned(Value::Int(value)))
+fn listings_of(alloc: Global, file: &ClassFile) -> Result<Vec<Option<Listing>>, CodeRefusal>
+    ensures { IfOk result (λ listings. AreListings file.now.methods listings.items) }
+{
+    let mut listings = Vec::new(alloc);
+    for method in file.methods.as_slice() {
+        let listing = listing_of(alloc, method)?;
+        let Ok(()) = listings.push(listing) else {
+            return Err(CodeRefusal::NoMemory);
+        };
+    }
+    Ok(listings)
+}
+
+fn given_class(alloc: Global, bytes: &[u8]) -> Option<GivenClass>
+    ensures { IfSome result IsGiven }
+{
+    let Ok(file) = read_class(alloc, bytes) else {
+        return None;
+    };
+    let Ok(listings) = listings_of(alloc, &file) else {
+        return None;
+    };
+    Some(GivenClass {
+        file,
+        listings: Row::from_vec(listings),
+    })
+}
+
+// The world of the class alone.
+fn world(alloc: Global) -> Option<World> {
+    let class = given_class(alloc, &CLASS_A)?;
+    let mut classes = Vec::new(alloc);
+    let Ok(()) = classes.push(class) else {
+        return None;
+    };
+    link(alloc, classes).ok()
+}
+
+// Two ints as arguments, with no objects.
+fn input(alloc: Global, first: i32, second: i32) -> Result<Input, Fail> {
+    Ok(Input {
+        heap: Heap::new(alloc),
+        args: Row::from_vec(vec![in alloc; Value::Int(first), Value::Int(second)]?),
+    })
+}
+
+// How the run of A.f ends.
+fn ending(alloc: Global, world: &World, input: &Input, bounds: &RunBounds) -> Option<Ending> {
+    let Ok(target) = read_target(alloc, b"A.f(II)I") else {
+        return None;
+    };
+    let id = world.find_target(&target)?;
+    let (ending, _) = run(alloc, world, id, input, bounds).ok()?;
+    Some(ending)
 }
 
 #[test]
-fn ints_are_computed(rt: HostRuntime) {
+fn a_run_adds_and_keeps_its_bound(rt: HostRuntime) -> Result<(), Fail> {
     let alloc = rt.alloc();
-    let cases: [(&[u8], i32, i32, i32); 8] = [
-        // iload_0, iload_1, iadd, ireturn
-        (&[0x1a, 0x1b, 0x60, 0xac], i32::MAX, 1, i32::MIN),
-        // iload_0, iload_1, isub, ireturn
-        (&[0x1a, 0x1b, 0x64, 0xac], 3, 10, -7),
-        // iload_0, iload_1, ishl, ireturn
-        (&[0x1a, 0x1b, 0x78, 0xac], 1, 33, 2),
-        // iload_0, i2b, ireturn
-        (&[0x1a, 0x91, 0xac], 128, 0, -128),
-        // iload_0, ineg, ireturn
-        (&[0x1a, 0x74, 0xac], i32::MIN, 0, i32::MIN),
-        // iinc 1 -3, iload_1, ireturn
-        (&[0x84, 1, 0xfd, 0x1b, 0xac], 0, 2, -1),
-        // iload_0, istore_1, nop, iload_1, dup, imul, ireturn
-        (&[0x1a, 0x3c, 0, 0x1b, 0x59, 0x68, 0xac], 7, 0, 49),
-        // bipush 9, iload_0, pop, ireturn
-        (&[0x10, 9, 0x1a, 0x57, 0xac], 5, 0, 9),
-    ];
-    for (bytes, first, second, want) in cases {
-        let args = [Value::Int(first), Value::Int(second)];
-        assert_eq!(rt;
-            run_bytes(alloc, bytes, &args, 2000),
-            returned(want),
-            "{want}"
-        );
-    }
-}
-
-#[test]
-fn a_run_keeps_its_bound(rt: HostRuntime) {
-    // iload_0, iload_1, iadd, ireturn
-    let sum = [0x1a, 0x1b, 0x60, 0xac];
-    let args = [Value::Int(2), Value::Int(3)];
-    assert_eq!(rt;
-        run_bytes(rt.alloc(), &sum, &args, 3),
-        Some(RunEnd::Past(Bound::Steps))
-    );
-    assert_eq!(rt; run_bytes(rt.alloc(), &sum, &args, 4), returned(5));
-    assert_eq!(rt;
-        run_bytes(rt.alloc(), &sum, &args, 0),
-        Some(RunEnd::Past(Bound::Steps))
-    );
-}
-
-#[test]
-fn code_that_does_not_fit_its_values_is_ill_typed(rt: HostRuntime) {
-    let alloc = rt.alloc();
-    let args = [Value::Int(1), Value::Null];
-    let cases: [(&[u8], u32); 7] = [
-        // nop, ireturn: the stack is empty
-        (&[0, 0xac], 1),
-        // iload_1: it holds null
-        (&[0x1b, 0xac], 0),
-        // iload 2: there is no such local
-        (&[0x15, 2, 0xac], 0),
-        // iload_0, istore 2
-        (&[0x1a, 0x36, 2, 0xac], 1),
-        // iload_0, dup, dup: the stack holds two
-        (&[0x1a, 0x59, 0x59, 0xac], 2),
-        // iload_0, iadd: there is one int
-        (&[0x1a, 0x60, 0xac], 1),
-        // iload_0: the code runs off its end
-        (&[0x15, 0], 2),
-    ];
-    for (bytes, at) in cases {
-        assert_eq!(rt;
-            run_bytes(alloc, bytes, &args, 2000),
-            Some(RunEnd::IllTyped(at)),
-            "{at}"
-        );
-    }
-}
-
-#[test]
-fn arguments_are_values_of_parameters_types(rt: HostRuntime) -> Result<(), Fail> {
-    let types = vec![in rt.alloc(); JType::Int, JType::Bool]?;
-    assert!(rt; are_values_of(&types, &[Value::Int(7), Value::Int(1)]));
-    assert!(rt; !are_values_of(&types, &[Value::Int(7), Value::Int(2)]));
-    assert!(rt; !are_values_of(&types, &[Value::Null, Value::Int(1)]));
-    assert!(rt; !are_values_of(&types, &[Value::Int(7)]));
-    assert!(rt; !are_values_of(&types, &[Value::Int(7), Value::Int(1), Value::Int(0)]));
+    let world = world(alloc).expect(&rt, "a world");
+    let large = input(alloc, i32::MAX, 1)?;
+    let returned = ending(alloc, &world, &large, &BOUNDS);
+    assert!(rt; matches!(returned, Some(Ending::Returned(Some(Value::Int(i32::MIN))))));
+    let short = RunBounds { steps: 3, ..BOUNDS };
+    let past = ending(alloc, &world, &large, &short);
+    assert!(rt; matches!(past, Some(Ending::Past(Bound::Steps))));
     Ok(())
 }
 
 #[test]
-fn locals_above_the_arguments_are_written_and_read(rt: HostRuntime) {
+fn inputs_fit_the_types_of_parameters(rt: HostRuntime) -> Result<(), Fail> {
     let alloc = rt.alloc();
-    // bipush 9, istore_1, iload_1, ireturn
-    let written = [0x10, 9, 0x3c, 0x1b, 0xac];
-    assert_eq!(rt; run_bytes(alloc, &written, &[], 2000), returned(9));
-    // iload_1: it was never written
-    let unwritten = [0x1b, 0xac];
-    assert_eq!(rt;
-        run_bytes(alloc, &unwritten, &[], 2000),
-        Some(RunEnd::IllTyped(0))
-    );
+    let world = world(alloc).expect(&rt, "a world");
+    let two = input(alloc, 2, 3)?;
+    assert!(rt; fits_types(&world, MethodId(0), &two));
+    let none = Input {
+        heap: Heap::new(alloc),
+        args: Row::new(alloc),
+    };
+    assert!(rt; !fits_types(&world, MethodId(0), &none));
+    Ok(())
 }

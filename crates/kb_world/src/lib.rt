@@ -19,6 +19,7 @@ mod mentions;
 mod methods;
 mod reach;
 mod resolving;
+mod running;
 mod special;
 mod tables;
 mod world;

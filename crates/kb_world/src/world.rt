@@ -2,7 +2,7 @@
 ghost use Rattle.std.specs.Prelude.{◌≡◌, ◌<◌, length, Some, slice_get, option_map, IfSome, IfNone, IfOk};
 ghost use Rattle.std.specs.Option.{option_copied, option_and_then};
 ghost use Rattle.kb_class.specs.Class.{Class};
-ghost use Rattle.kb_link.specs.World.{World as PlainWorld, method_at, methods_in, number_in, type_entry_of, int_entry_of, literal_entry_of};
+ghost use Rattle.kb_link.specs.World.{World as PlainWorld, chain_of, method_at, methods_in, number_in, type_entry_of, int_entry_of, literal_entry_of};
 ghost use Rattle.kb_link.specs.Links.{IsLinked};
 ghost use Rattle.kb_link.specs.Placing.{place_in};
 ghost use Rattle.kb_link.specs.Slots.{slots_of};
@@ -10,6 +10,7 @@ ghost use Rattle.kb_link.specs.Subtypes.{fits};
 ghost use Rattle.kb_link.specs.Targets.{IsTargetOf};
 ghost use Rattle.kb_world.specs.Tables.{IsResolved};
 
+use crate::chains::{chain_at, slots_at};
 use crate::resolving::{Resolved, resolved_at, rows_of};
 use kb_class::{ClassId, MethodId, MethodInfo};
 use kb_classfile::ClassFile;
@@ -64,6 +65,20 @@ impl World {
         ensures { result.now ≡ self.now }
     {
         &self.linked
+    }
+
+    /// The numbers of a class and of its superclasses; none where no class has the number.
+    pub(crate) fn chain_at(&self, number: u32) -> &[u32]
+        ensures { result.now ≡ chain_of self.now number }
+    {
+        chain_at(&self.linked, number)
+    }
+
+    /// The slots of the objects of a class; none where no class has the number.
+    pub(crate) fn slots_at(&self, number: u32) -> &[FieldSlot]
+        ensures { result.now ≡ slots_of self.now number }
+    {
+        slots_at(&self.linked, number)
     }
 
     /// The class of that name.

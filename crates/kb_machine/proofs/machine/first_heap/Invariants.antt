@@ -1,0 +1,6 @@
+use Rattle.std.proofs.Common.{◌≡◌, ◌++◌, replicate}
+use Rattle.kb_semantics.specs.Values.{literal}
+use Rattle.kb_machine.proofs.machine.first_heap.Given as goal
+
+abbrev pub invariant-loop : goal.invariant-loop
+invariant-loop l = l.first.objects ≡ l.heap.objects ++ replicate l.counter literal

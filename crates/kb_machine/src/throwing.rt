@@ -1,0 +1,142 @@
+//! Instructions that throw (JVMS 8 sections 2.10 and 6.5).
+
+ghost use Rattle.std.specs.Prelude.{◌≡◌, [], ◌∷◌, length, map, IfOk, OnOk, if◌then◌else◌};
+ghost use Rattle.kb_link.specs.declared.slots.FieldSlot.{FieldSlot as PlainSlot};
+ghost use Rattle.kb_names.specs.declared.types.JType.TheVariants as types;
+ghost use Rattle.kb_class.specs.Platform.{throwable};
+ghost use Rattle.kb_heap.specs.declared.heap.Object.{Object as PlainObject};
+ghost use Rattle.kb_heap.specs.declared.heap.Value.TheVariants.{Ref};
+ghost use Rattle.kb_heap.specs.Heap.{object_at, with_object};
+ghost use Rattle.kb_link.specs.Subtypes.{fits};
+ghost use Rattle.kb_semantics.specs.Instructions.{throw, with};
+ghost use Rattle.kb_semantics.specs.Values.{default_of, new_object};
+ghost use Rattle.kb_semantics.specs.Ways.{ill_typed, throws, throws_object};
+ghost use Rattle.kb_machine.specs.declared.turn.Step.TheVariants as steps;
+ghost use Rattle.kb_machine.specs.Turns.{setting_of, config_of, told};
+
+use crate::NoMemory;
+use crate::state::State;
+use crate::turn::{Step, Turn};
+use crate::unwinding::{Landing, unwind};
+use kb_heap::{Bound, Object, Row, Value};
+use kb_names::{ExactType, JType, Name};
+use kb_world::{FieldSlot, World};
+use std::alloc::Global;
+
+/// The exceptions that the machine throws itself.
+pub(crate) const NULL_POINTER: &[u8] = b"java/lang/NullPointerException";
+pub(crate) const ARITHMETIC: &[u8] = b"java/lang/ArithmeticException";
+pub(crate) const INDEX_OUTSIDE: &[u8] = b"java/lang/ArrayIndexOutOfBoundsException";
+pub(crate) const ARRAY_STORE: &[u8] = b"java/lang/ArrayStoreException";
+pub(crate) const CLASS_CAST: &[u8] = b"java/lang/ClassCastException";
+pub(crate) const NEGATIVE_SIZE: &[u8] = b"java/lang/NegativeArraySizeException";
+
+const THROWABLE: &[u8] = b"java/lang/Throwable";
+
+impl State {
+    /// Adds an object to the heap, and gives its number.
+    pub(crate) fn add(&mut self, object: Object) -> Result<u32, NoMemory>
+        ensures number { IfOk result (λ number. number ≡ length self.old.heap.objects) }
+        ensures state { OnOk result (self.new ≡ record self.old { heap = with_object self.old.heap object }) }
+    {
+        match self.heap.add(object) {
+            Ok(number) => Ok(number),
+            Err(_) => Err(NoMemory),
+        }
+    }
+
+    /// A new object of the class is thrown.
+    pub(crate) fn throws(&mut self, turn: &Turn<'_>, class: &[u8]) -> Result<Step, NoMemory>
+        ensures { IfOk result (λ step. told turn.now step self.new ≡ throws (setting_of turn.now) (config_of turn.now self.old) class.now) }
+    {
+        let object = new_object(turn.alloc, turn.world, class)?;
+        let place = self.ill_typed();
+        match unwind(turn, &mut self.frame, &mut self.callers, &object.kind) {
+            Landing::Caught => {
+                let number = self.add(object)?;
+                self.catches(number)
+            }
+            Landing::Uncaught => {
+                let number = self.add(object)?;
+                Ok(Step::Threw(number))
+            }
+            Landing::IllTyped => Ok(place),
+            Landing::PastLoops => Ok(Step::Past(Bound::Loops)),
+        }
+    }
+
+    // The frame that has come to its handler has the object on its stack.
+    fn catches(&mut self, object: u32) -> Result<Step, NoMemory>
+        ensures step { IfOk result (λ step. step ≡ steps.Goes) }
+        ensures state { OnOk result (self.new ≡ record self.old { frame = record self.old.frame { stack = Ref object ∷ [] } }) }
+    {
+        self.frame.hold(Value::Ref(object))?;
+        Ok(Step::Goes)
+    }
+
+    /// An object of the heap is thrown.
+    fn throws_object(&mut self, turn: &Turn<'_>, object: u32) -> Result<Step, NoMemory>
+        ensures { IfOk result (λ step. told turn.now step self.new ≡ with (setting_of turn.now) (config_of turn.now self.old) (object_at self.old.heap object) (λ (of : PlainObject). if fits turn.now.world.now of.kind (types.Class throwable) then throws_object (setting_of turn.now) (config_of turn.now self.old) object of.kind else ill_typed (setting_of turn.now) (config_of turn.now self.old))) }
+    {
+        let place = self.ill_typed();
+        let Some(of) = self.heap.objects.as_slice().get(object as usize) else {
+            return Ok(place);
+        };
+        if !turn.world.is_of_class(&of.kind, THROWABLE) {
+            return Ok(place);
+        }
+        match unwind(turn, &mut self.frame, &mut self.callers, &of.kind) {
+            Landing::Caught => self.catches(object),
+            Landing::Uncaught => Ok(Step::Threw(object)),
+            Landing::IllTyped => Ok(place),
+            Landing::PastLoops => Ok(Step::Past(Bound::Loops)),
+        }
+    }
+
+    /// athrow
+    #[tactic(auto, unfolding(kb_semantics::specs::Instructions::throw, kb_semantics::specs::Ways::goes_on), using(crate::proofs::Steps::throws_cleared, crate::proofs::Steps::throws_object_cleared))]
+    pub(crate) fn throw(&mut self, turn: &Turn<'_>) -> Result<Step, NoMemory>
+        ensures { IfOk result (λ step. told turn.now step self.new ≡ throw (setting_of turn.now) turn.now.next (config_of turn.now self.old)) }
+    {
+        match self.frame.a_reference() {
+            Some(Some(object)) => self.throws_object(turn, object),
+            Some(None) => self.throws(turn, NULL_POINTER),
+            None => Ok(self.ill_typed()),
+        }
+    }
+}
+
+/// A new object of the class.
+pub(crate) fn new_object(alloc: Global, world: &World, class: &[u8]) -> Result<Object, NoMemory>
+    ensures { IfOk result (λ object. object ≡ new_object world.now class.now) }
+{
+    let Ok(name) = Name::from_slice(alloc, class) else {
+        return Err(NoMemory);
+    };
+    let values = default_values(alloc, world.slots_named(&name))?;
+    Ok(Object {
+        kind: ExactType::Class(name),
+        values,
+    })
+}
+
+// The default value of each slot.
+fn default_values(alloc: Global, slots: &[FieldSlot]) -> Result<Row<Value>, NoMemory>
+    ensures { IfOk result (λ values. values ≡ map (λ (slot : PlainSlot). default_of slot.kind) slots.now) }
+{
+    let mut values = Row::new(alloc);
+    for slot in slots {
+        values.push(default_of(&slot.kind))?;
+    }
+    Ok(values)
+}
+
+/// The default value of a slot or an element of the type.
+pub(crate) fn default_of(of: &JType) -> Value
+    ensures { result ≡ default_of of.now }
+{
+    match of {
+        JType::Class(_) | JType::Array(_) => Value::Null,
+        _ => Value::Int(0),
+    }
+}
