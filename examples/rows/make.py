@@ -358,6 +358,7 @@ def main():
     files |= compiled("Abstract.java", {"Gone": "abstract.class"})
     files |= compiled("Interface.java", {"Gone": "gone_interface.class"})
     files |= compiled("Called.java", same_names("Called", "Upper", "Lower", "Fine", "Low", "Top", "Started", "Below"))
+    files |= compiled("Literals.java", same_names("Literals"))
     files |= compiled("First.java", {"P": "p.class"})
     files |= compiled("Second.java", {"Q": "q.class"})
     files |= faults_of_files() | faults_of_code() | with_handlers() | by_hand()

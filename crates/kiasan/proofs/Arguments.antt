@@ -15,7 +15,7 @@ use Rattle.kb_terms.specs.Terms.{Extends, value_of, int_at, is_variable, variabl
 use Rattle.kiasan.proofs.Stepping.{grown_locals, term_grown}
 use Rattle.kb_heap.specs.declared.heap.Value.{Value}
 use Rattle.kb_heap.specs.declared.heap.Value.TheVariants.{Int}
-use Rattle.kb_semantics.specs.Machine.{first_locals}
+use Rattle.kb_semantics.specs.Config.{first_locals}
 use Rattle.kiasan.specs.Symbolic.{IsLocalTerm, local_values}
 
 -- The first locals hold the variables of so many arguments.

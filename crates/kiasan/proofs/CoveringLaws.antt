@@ -1,5 +1,5 @@
 -- The one path of a straight method covers its inputs.
-use Rattle.std.proofs.Common.{◌≡◌, ℕ, ◌+◌, ◌<◌, ◌≤◌, ◌&&◌, ℤ, pos, List, [], ◌∷◌, ◌++◌, length, map, take, replicate, get_or, slice_get, Option, Some, Bool, true, false, refl, sym, ◌∙◌, ap, subst, inl, arith, rules, zero, suc}
+use Rattle.std.proofs.Common.{◌≡◌, ℕ, ◌+◌, ◌<◌, ◌≤◌, ℤ, pos, List, [], ◌∷◌, ◌++◌, length, map, take, replicate, get_or, slice_get, cond, Option, Some, Bool, true, false, refl, sym, ◌∙◌, ap, subst, inl, arith, rules, zero, suc}
 use Rattle.std.specs.List.{filter_map, list_all}
 use Rattle.std.specs.Option.{option_map_or}
 use Rattle.std.proofs.lemmas.List.{map-append, take_all, length-map, length-replicate}
@@ -11,13 +11,17 @@ use Rattle.kb_heap.specs.declared.heap.Heap.{Heap}
 use Rattle.kb_heap.specs.declared.heap.Input.{Input}
 use Rattle.kb_heap.specs.declared.ending.Ending.TheVariants.{Returned as RunReturned}
 use Rattle.kb_names.specs.declared.types.JType.{JType}
-use Rattle.kb_names.specs.declared.types.JType.TheVariants.{Bool as BoolType, Byte, Char, Short, Int, Long, Float, Double, Class, Array}
+use Rattle.kb_names.specs.declared.types.JType.TheVariants.{Class as ClassType}
 use Rattle.kb_names.specs.declared.types.Target.{Target}
-use Rattle.kb_semantics.specs.Machine.{Method, Ended, int_of, run_of}
-use Rattle.kb_semantics.specs.Types.{AreArgumentsFor, AreValuesOf, IsMethod, IsTypeCorrect, IsValueOf}
+use Rattle.kb_semantics.specs.Config.{Ended, class_name}
+use Rattle.kb_semantics.specs.Operands.{int_of}
+use Rattle.kb_semantics.specs.Step.{first_heap, run_of}
+use Rattle.kb_semantics.specs.Inputs.{HasReceiver, IsTypeCorrect, argument_types}
+use Rattle.kb_semantics.specs.Values.{AreValuesOf, IsValueOf}
 use Rattle.kb_terms.specs.declared.node.VarKind.{VarKind}
 use Rattle.kb_terms.specs.declared.node.VarKind.TheVariants.{Int as IntKind}
-use Rattle.kb_semantics.proofs.Methods.{code_is, same_method}
+use Rattle.kb_semantics.proofs.Methods.{same_method}
+use Rattle.kiasan.proofs.StraightMethods.{both, code_is, is_int_type}
 use Rattle.kb_link.specs.World.{World}
 use Rattle.kb_class.specs.declared.ids.MethodId.{MethodId}
 use Rattle.kb_class.specs.declared.members.MethodCode.{MethodCode}
@@ -34,7 +38,7 @@ use Rattle.kiasan.specs.declared.path.Seen.{Seen}
 use Rattle.kiasan.specs.declared.path.Seen.TheVariants.{Int as SeenInt}
 use Rattle.kiasan.specs.declared.report.Report.{Report}
 use Rattle.kiasan.specs.declared.words.Job.{Job}
-use Rattle.kiasan.specs.Covering.{Covers, IsReportOf, tests_of}
+use Rattle.kiasan.specs.Covering.{Covers, IsReportOf, setting_of, tests_of}
 use Rattle.std.specs.Int.RustNames.{FitsSigned}
 use mir.Syntax.{w32}
 use Rattle.kb_names.specs.Targets.{IsTarget}
@@ -42,13 +46,15 @@ use Rattle.kb_test.specs.Texts.{AreIntValues, AreTests, IsRunBounds}
 use Rattle.kb_terms.specs.Terms.{value_of}
 use Rattle.kb_arith.specs.Word.{AreInts}
 use Rattle.kb_terms.proofs.Ranges.{value_of-fits}
-use Rattle.kiasan.specs.Tests.{no_literals}
+use Rattle.kiasan.specs.Tests.{literals_in}
 use Rattle.kiasan.specs.Explored.{IsExplored}
 use Rattle.kiasan.specs.Path.{path_value}
 use Rattle.kiasan.specs.Paths.{HoldEach, slot_value, variable_value, variable_values, IsInstance, AreThere, AreInOrder, slots_of, argument_slots, IsPicture, kind_for, seen_kind, seen_kinds}
 use Rattle.kiasan.specs.Straight.{IsStraight, ints_input}
 use Rattle.kiasan.specs.StraightPath.{IsExplorable, arguments_seen, zero_input, straight_path, straight_report, StatesResult}
+use Rattle.kiasan.specs.StraightMachine.{IsMethod, Method, run, start_of}
 use Rattle.kiasan.proofs.StraightLaws.{zeros_fit}
+use Rattle.kiasan.proofs.StraightRun.{straight_run}
 use Rattle.kiasan.specs.Target.{is_int, params_of}
 
 -- ---- an input of ints
@@ -87,23 +93,6 @@ pub record AreIntArgs (args : List Value) (n : ℕ) : Type 0 where
   pub count : length ints ≡ n
   pub fit : AreInts ints
 
-both : (a b : Bool) → (a && b) ≡ true → (a ≡ true) × (b ≡ true)
-both true true h = (refl, refl)
-both true false h = cc
-both false b h = cc
-
-is_int_type : (type : JType) → is_int type ≡ true → type ≡ Int
-is_int_type Int h = refl
-is_int_type BoolType h = cc
-is_int_type Byte h = cc
-is_int_type Char h = cc
-is_int_type Short h = cc
-is_int_type Long h = cc
-is_int_type Float h = cc
-is_int_type Double h = cc
-is_int_type (Class name) h = cc
-is_int_type (Array component) h = cc
-
 one_more_int : (v : Value) (args : List Value) (n : ℕ) (z : ℤ) → v ≡ IntValue z → FitsSigned w32 z → AreIntArgs args n → AreIntArgs (v ∷ args) (suc n)
 one_more_int v args n z e fits rest = record {
   ints = z ∷ rest.ints;
@@ -112,30 +101,30 @@ one_more_int v args n z e fits rest = record {
   fit = (fits, rest.fit);
 }
 
-int_args : (types : List JType) (args : List Value) → list_all is_int types ≡ true → AreValuesOf types args → AreIntArgs args (length types)
-int_args [] [] all agree = record { ints = []; args_are = refl; count = refl; fit = tt }
-int_args [] (v ∷ args) all agree = absurd agree
-int_args (type ∷ types) [] all agree = absurd agree
-int_args (type ∷ types) (IntValue z ∷ args) all agree =
+int_args : (world : World) (heap : Heap) (types : List JType) (args : List Value) → list_all is_int types ≡ true → AreValuesOf world heap types args → AreIntArgs args (length types)
+int_args world heap [] [] all agree = record { ints = []; args_are = refl; count = refl; fit = tt }
+int_args world heap [] (v ∷ args) all agree = absurd agree
+int_args world heap (type ∷ types) [] all agree = absurd agree
+int_args world heap (type ∷ types) (IntValue z ∷ args) all agree =
     let parts = both (is_int type) (list_all is_int types) all in
-    one_more_int (IntValue z) args (length types) z refl (subst (λ t. IsValueOf t (IntValue z)) (is_int_type type parts.0) agree.0) (int_args types args parts.1 agree.1)
-int_args (type ∷ types) (Null ∷ args) all agree =
-    let wrong = subst (λ t. AreValuesOf (t ∷ types) (Null ∷ args)) (is_int_type type (both (is_int type) (list_all is_int types) all).0) agree in absurd wrong.0
-int_args (type ∷ types) (Ref o ∷ args) all agree =
-    let wrong = subst (λ t. AreValuesOf (t ∷ types) (Ref o ∷ args)) (is_int_type type (both (is_int type) (list_all is_int types) all).0) agree in absurd wrong.0
+    one_more_int (IntValue z) args (length types) z refl (subst (λ t. IsValueOf world heap t (IntValue z)) (is_int_type type parts.0) agree.0) (int_args world heap types args parts.1 agree.1)
+int_args world heap (type ∷ types) (Null ∷ args) all agree =
+    let wrong = subst (λ t. AreValuesOf world heap (t ∷ types) (Null ∷ args)) (is_int_type type (both (is_int type) (list_all is_int types) all).0) agree in absurd wrong.0
+int_args world heap (type ∷ types) (Ref o ∷ args) all agree =
+    let wrong = subst (λ t. AreValuesOf world heap (t ∷ types) (Ref o ∷ args)) (is_int_type type (both (is_int type) (list_all is_int types) all).0) agree in absurd wrong.0
 
-zeros_agree : (types : List JType) → list_all is_int types ≡ true → AreValuesOf types (replicate (length types) (IntValue (pos 0)))
-zeros_agree [] all = tt
-zeros_agree (type ∷ types) all =
+zeros_agree : (world : World) (heap : Heap) (types : List JType) → list_all is_int types ≡ true → AreValuesOf world heap types (replicate (length types) (IntValue (pos 0)))
+zeros_agree world heap [] all = tt
+zeros_agree world heap (type ∷ types) all =
     let parts = both (is_int type) (list_all is_int types) all in
-    subst (λ t. AreValuesOf (t ∷ types) (IntValue (pos 0) ∷ replicate (length types) (IntValue (pos 0)))) (sym (is_int_type type parts.0)) (search rules, zeros_agree types parts.1)
+    subst (λ t. AreValuesOf world heap (t ∷ types) (IntValue (pos 0) ∷ replicate (length types) (IntValue (pos 0)))) (sym (is_int_type type parts.0)) (search rules, zeros_agree world heap types parts.1)
 
 all_ints : (world : World) (target : Target) (id : MethodId) (method : Method) → IsStraight world target id method → list_all is_int target.kind.params ≡ true
 all_ints world target id method s = (both (list_all is_int target.kind.params) _ s.ints).0
 
-agree_args : (b : Bool) (types : List JType) (args : List Value) → b ≡ true → AreArgumentsFor b types args → AreValuesOf types args
-agree_args true types args e h = h
-agree_args false types args e h = absurd h
+-- a static method's arguments are those of its parameters
+static_types : (world : World) (info : MethodInfo) → is_static info.access ≡ true → argument_types world info ≡ info.kind.params
+static_types world info static = ap (λ (b : Bool). cond b info.kind.params (ClassType (class_name world info.class.0) ∷ info.kind.params)) static
 
 correct_ints : (world : World) (target : Target) (id : MethodId) (method : Method) (input : Input) → IsStraight world target id method → IsTypeCorrect world id input →
     AreIntArgs input.args (params_of target)
@@ -144,12 +133,8 @@ correct_ints world target id method input s is =
     let runs : is.method ≡ s.runs.declared.method = same_method world id is.method s.runs.declared.method is.method_is s.runs.declared.method_is in
     let params : is.method.kind.params ≡ target.kind.params = ap (λ (i : MethodInfo). i.kind.params) found ∙ ap (λ (k : MethodType). k.params) s.found.declared.kind in
     let static : is_static is.method.access ≡ true = ap (λ (i : MethodInfo). is_static i.access) runs ∙ s.static in
-    let agree : AreValuesOf is.method.kind.params input.args = agree_args (is_static is.method.access) is.method.kind.params input.args static is.arguments in
-    int_args target.kind.params input.args (all_ints world target id method s) (subst (λ (ts : List JType). AreValuesOf ts input.args) params agree)
-
-with_args : (b : Bool) (types : List JType) (args : List Value) → b ≡ true → AreValuesOf types args → AreArgumentsFor b types args
-with_args true types args e h = h
-with_args false types args e h = cc
+    let types : argument_types world is.method ≡ target.kind.params = static_types world is.method static ∙ params in
+    int_args world input.heap target.kind.params input.args (all_ints world target id method s) (subst (λ (ts : List JType). AreValuesOf world input.heap ts input.args) types is.arguments)
 
 zeros_correct : (world : World) (target : Target) (id : MethodId) (method : Method) → IsStraight world target id method → IsTypeCorrect world id (zero_input (params_of target))
 zeros_correct world target id method s =
@@ -157,13 +142,15 @@ zeros_correct world target id method s =
     same_method world id s.found.declared.method s.runs.declared.method s.found.declared.method_is s.runs.declared.method_is in
     let static : is_static s.found.declared.method.access ≡ true = ap (λ (i : MethodInfo). is_static i.access) runs ∙ s.static in
     let params : s.found.declared.method.kind.params ≡ target.kind.params = ap (λ (k : MethodType). k.params) s.found.declared.kind in
+    let types : argument_types world s.found.declared.method ≡ target.kind.params = static_types world s.found.declared.method static ∙ params in
     let zeros : List Value = replicate (params_of target) (IntValue (pos 0)) in
+    let none : Heap = record { objects = [] } in
     record {
       method = s.found.declared.method;
       method_is = s.found.declared.method_is;
-      objects = refl;
-      arguments = with_args (is_static s.found.declared.method.access) s.found.declared.method.kind.params zeros static
-          (subst (λ (ts : List JType). AreValuesOf ts zeros) (sym params) (zeros_agree target.kind.params (all_ints world target id method s)));
+      objects = tt;
+      arguments = subst (λ (ts : List JType). AreValuesOf world none ts zeros) (sym types) (zeros_agree world none target.kind.params (all_ints world target id method s));
+      receiver = subst (λ (b : Bool). HasReceiver b zeros) (sym static) tt;
     }
 
 -- ---- what a straight path sees
@@ -282,23 +269,30 @@ values_are params input ints =
     ap (λ (i : Input). variable_values i (arguments_seen params)) same ∙ values_seen input.heap ints.ints params (omega (arith, ints.count))
     ∙ take_all params ints.ints (omega (arith, ints.count))
 
+-- The machine's run of the method over ints is the straight machine's, which returns what was explored.
+machine_returns : (world : World) (id : MethodId) (job : Job) (explored : Explored) (is : IsExplored world job.target id explored) → explored.instructions ≤ job.bounds.run.steps →
+    (input : Input) (ints : AreIntArgs input.args (params_of job.target)) →
+    run_of (setting_of world job.bounds.run) id input ≡ returned_value (first_heap world input.heap) (value_of explored.pool explored.result ints.ints)
+machine_returns world id job explored is within input ints =
+    let enough : length is.method.listing ≤ job.bounds.run.steps = omega (arith, is.count, within) in
+    straight_run (setting_of world job.bounds.run) job.target id is.method input is.straight
+    ∙ ap (λ (args : List Value). run job.bounds.run.steps (start_of is.method (record { heap = first_heap world input.heap; args = args }))) ints.args_are
+    ∙ is.returns job.bounds.run.steps (first_heap world input.heap) ints.ints enough ints.count ints.fit
+
 pub covers_straight : (world : World) (id : MethodId) (job : Job) (explored : Explored) (path : Path) (is : IsExplored world job.target id explored) →
-    StatesResult explored (params_of job.target) path → explored.instructions ≤ job.bounds.run.steps → 1 ≤ job.paths → Covers world id is.method (straight_report job path)
+    StatesResult explored (params_of job.target) path → explored.instructions ≤ job.bounds.run.steps → 1 ≤ job.paths → Covers world id (straight_report job path)
 unfolding path_value
 covers_straight world id job explored path is states within listed =
     let target : Target = job.target in
     let params : ℕ = params_of target in
     let is_path = states.path_is in
-    subst (λ (p : Path). Covers world id is.method (straight_report job p)) (sym is_path) (record {
+    subst (λ (p : Path). Covers world id (straight_report job p)) (sym is_path) (record {
       exactly_one = λ input correct. inl (takes_path params states.terms states.operand input (correct_ints world target id is.method input is.straight correct), tt);
       holds = λ input correct. (
         λ taken.
             let ints = correct_ints world target id is.method input is.straight correct in
-            let same : input ≡ ints_input input.heap ints.ints = ap (λ args. let i : Input = record { heap = input.heap; args = args } in i) ints.args_are in
-            let enough : length is.method.listing ≤ job.bounds.run.steps = omega (arith, is.count, within) in
-            ap (run_of job.bounds.run is.method) same
-            ∙ is.returns job.bounds.run.steps input.heap ints.ints enough ints.count ints.fit
-            ∙ ap (returned_value input.heap) (sym (states.value ints.ints) ∙ ap (path_value states.terms states.operand) (sym (values_are params input ints))),
+            machine_returns world id job explored is within input ints
+            ∙ ap (returned_value (first_heap world input.heap)) (sym (states.value ints.ints) ∙ ap (path_value states.terms states.operand) (sym (values_are params input ints))),
         tt,
       );
       carries = ((zeros_correct world target id is.method is.straight, takes_path params states.terms states.operand (zero_input params) (zero_ints params)), tt);
@@ -333,8 +327,6 @@ report_straight world id job explored path report is states within listed e =
       head = record { target = refl; init = refl; bounds = refl; paths = refl; budget = refl };
       id = id;
       found = is.straight.found;
-      method = is.method;
-      runs = is.straight.runs;
       covers = covers_straight world id job explored path is states within listed;
     })
 
@@ -344,17 +336,17 @@ zeros_are_ints : (n : ℕ) → AreIntValues (replicate n (IntValue (pos 0)))
 zeros_are_ints zero = tt
 zeros_are_ints (suc n) = (search rules, zeros_are_ints n)
 
-pub straight_tests : (job : Job) (explored : Explored) (path : Path) (report : Report) → StatesResult explored (params_of job.target) path → report ≡ straight_report job path →
-    IsTarget job.target → IsRunBounds job.bounds.run → AreTests no_literals (tests_of report)
+pub straight_tests : (world : World) (job : Job) (explored : Explored) (path : Path) (report : Report) → StatesResult explored (params_of job.target) path → report ≡ straight_report job path →
+    IsTarget job.target → IsRunBounds job.bounds.run → AreTests (literals_in world) (tests_of world report)
 unfolding path_value zero_ints
-straight_tests job explored path report states e target bounds =
+straight_tests world job explored path report states e target bounds =
     let params : ℕ = params_of job.target in
     let zeros : List ℤ = replicate params (pos 0) in
     let value : ℤ = path_value states.terms states.operand (variable_values (zero_input params) (arguments_seen params)) in
     let is : value ≡ value_of explored.pool explored.result zeros =
     ap (path_value states.terms states.operand) (values_are params (zero_input params) (zero_ints params)) ∙ states.value zeros in
     let fits : FitsSigned w32 value = subst (FitsSigned w32) (sym is) (value_of-fits explored.pool explored.result zeros states.pool (zeros_fit params)) in
-    subst (λ (r : Report). AreTests no_literals (tests_of r)) (sym (e ∙ ap (straight_report job) states.path_is)) (
+    subst (λ (r : Report). AreTests (literals_in world) (tests_of world r)) (sym (e ∙ ap (straight_report job) states.path_is)) (
       record {
         target = target;
         bounds = bounds;

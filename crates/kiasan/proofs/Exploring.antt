@@ -13,11 +13,11 @@ use Rattle.kb_code.specs.declared.instruction.Instr.{Instr}
 use Rattle.kb_code.specs.declared.instruction.Instr.TheVariants.{ReturnInt}
 use Rattle.kiasan.specs.declared.explore.StraightCode.{StraightCode}
 use Rattle.kb_code.specs.Listing.{offset_of, IsLaidOut}
-use Rattle.kb_semantics.proofs.Runs.{StandsAt, step_at, run_on}
+use Rattle.kiasan.proofs.StraightRuns.{StandsAt, step_at, run_on}
 use Rattle.kb_heap.specs.declared.heap.Heap.{Heap}
 use Rattle.kb_heap.specs.declared.heap.Value.TheVariants.{Int}
 use Rattle.kb_heap.specs.declared.ending.Ending.TheVariants.{Returned}
-use Rattle.kb_semantics.specs.Machine.{Method, Outcome, Goes, Ends, effect, step, follow, run, start_of, ill_typed}
+use Rattle.kiasan.specs.StraightMachine.{Method, Outcome, Goes, Ends, effect, step, follow, run, start_of, ill_typed}
 use Rattle.kiasan.specs.Straight.{ints_input, run_over}
 use Rattle.kiasan.specs.Straight.{HasCode, IsIllTyped, is_return, ends_by_return}
 use Rattle.kiasan.specs.Symbolic.{config_of, IsSound, Keeps, HasLimits, Follows, Returns, ReturnsNone}

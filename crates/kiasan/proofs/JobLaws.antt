@@ -2,8 +2,7 @@
 use Rattle.std.proofs.Common.{◌≡◌, List, [], ◌∷◌, ◌++◌, ℕ, true, Err, refl, sym, subst, inl}
 use Rattle.std.specs.List.{AllByRecursion, list_all}
 use Rattle.kb_heap.specs.declared.heap.Input.{Input}
-use Rattle.kb_semantics.specs.Machine.{Method}
-use Rattle.kb_semantics.specs.Types.{IsTypeCorrect}
+use Rattle.kb_semantics.specs.Inputs.{IsTypeCorrect}
 use Rattle.kb_test.specs.Texts.{SpellsTests}
 use Rattle.kb_link.specs.World.{World}
 use Rattle.kb_class.specs.declared.ids.MethodId.{MethodId}
@@ -19,12 +18,12 @@ use Rattle.kiasan.specs.declared.refusals.Stop.TheVariants.{Refused, ReadFault, 
 use Rattle.kiasan.specs.declared.report.Report.{Report}
 use Rattle.kiasan.specs.declared.status.Status.TheVariants.{Complete}
 use Rattle.kiasan.specs.declared.words.Job.{Job}
-use Rattle.kiasan.specs.Answers.{ends, Carries, IsTestsTextOf, IsWrittenReport, RepliesJob}
-use Rattle.kiasan.specs.Covering.{CarriesInstance, EachPath, HoldsOf, IsReportOf, IsStatusOf, is_told, path_tests, tests_of}
+use Rattle.kiasan.specs.Answers.{ends, Carries, IsTestsTextOf, IsWrittenReport, RepliesJob, TextOf}
+use Rattle.kiasan.specs.Covering.{CarriesInstance, EachPath, HoldsOf, IsReportOf, IsStatusOf, is_told, path_tests, setting_of, tests_of}
 use Rattle.kiasan.specs.Paths.{IsInstance}
 use Rattle.kiasan.specs.Reach.{TargetRefuses}
 use Rattle.kiasan.specs.Refusals.{Gives, link_refusal}
-use Rattle.kiasan.specs.Tests.{EndsAsStated, no_literals}
+use Rattle.kiasan.specs.Tests.{EndsAsStated, literals_in}
 use Rattle.kiasan.specs.Unbuilt.{IsBuiltFor}
 use Rattle.kiasan.proofs.TestTexts.{tests_on}
 
@@ -53,15 +52,15 @@ reach_stops Built world target (links.Circle name) Passes is = absurd is
 reach_stops Built world target (links.BadSuper name) Passes is = absurd is
 reach_stops Built world target (links.SplitPackage name method) Passes is = absurd is
 
-pub job_stops : (IsTextOf : Method → Report → List ℕ → Type 0) (world : World) (job : Job) (stop : Stop) →
+pub job_stops : (IsTextOf : TextOf) (world : World) (job : Job) (stop : Stop) →
     Gives {A = Report} ⊥ (TargetRefuses (IsBuiltFor world job) world job.target) (IsWrittenReport world job) (Err stop) → Carries ⊥ (RepliesJob IsTextOf world job) (Err stop)
 unfolding RepliesJob
 job_stops IsTextOf world job (Refused refusal) given = inl given
 job_stops IsTextOf world job ReadFault given = given
 job_stops IsTextOf world job NoMemory given = tt
 
-pub job_ends : (IsTextOf : Method → Report → List ℕ → Type 0) (world : World) (job : Job) (report : Report) (text : List ℕ) (written : IsWrittenReport world job report) →
-    IsTextOf written.reported.method report text → RepliesJob IsTextOf world job (ends Complete text)
+pub job_ends : (IsTextOf : TextOf) (world : World) (job : Job) (report : Report) (text : List ℕ) (written : IsWrittenReport world job report) →
+    IsTextOf world written.reported.id report text → RepliesJob IsTextOf world job (ends Complete text)
 unfolding RepliesJob
 job_ends IsTextOf world job report text written is =
     (written.id, (written.built.1.straight.found, written.built), record { report = report; reported = written.reported; has_status = subst (λ told. IsStatusOf told Complete) (sym (all_told report.leaves)) refl; text_is = is })
@@ -73,23 +72,23 @@ both_all P [] ys front back = back
 both_all P (x ∷ xs) ys front back = (front.0, both_all P xs ys front.1 back)
 
 -- the input that a path carries is an instance, so that what the path's leaf says holds of its run
-path_ends : (world : World) (id : MethodId) (method : Method) (report : Report) (path : Path) (leaf : Leaf) → CarriesInstance world id path leaf →
-    ((input : Input) → IsTypeCorrect world id input → IsInstance path input → HoldsOf report.bounds.run method path leaf input) →
-    AllByRecursion (EndsAsStated method) (path_tests report path leaf)
-path_ends world id method report path (EndedLeaf ended) carries holds = (holds ended.input carries.0 carries.1, tt)
+path_ends : (world : World) (id : MethodId) (report : Report) (path : Path) (leaf : Leaf) → CarriesInstance world id path leaf →
+    ((input : Input) → IsTypeCorrect world id input → IsInstance path input → HoldsOf (setting_of world report.bounds.run) id path leaf input) →
+    AllByRecursion (EndsAsStated world id) (path_tests world report path leaf)
+path_ends world id report path (EndedLeaf ended) carries holds = (holds ended.input carries.0 carries.1, tt)
 
-paths_end : (world : World) (id : MethodId) (method : Method) (report : Report) (paths : List Path) → EachPath (λ path. CarriesInstance world id path path.leaf) paths →
-    ((input : Input) → IsTypeCorrect world id input → EachPath (λ path. IsInstance path input → HoldsOf report.bounds.run method path path.leaf input) paths) →
-    AllByRecursion (EndsAsStated method) (tests_on report paths)
-paths_end world id method report [] carry hold = tt
-paths_end world id method report (path ∷ paths) carry hold =
-    both_all (EndsAsStated method) (path_tests report path path.leaf) (tests_on report paths)
-    (path_ends world id method report path path.leaf carry.0 (λ input correct. (hold input correct).0))
-    (paths_end world id method report paths carry.1 (λ input correct. (hold input correct).1))
+paths_end : (world : World) (id : MethodId) (report : Report) (paths : List Path) → EachPath (λ path. CarriesInstance world id path path.leaf) paths →
+    ((input : Input) → IsTypeCorrect world id input → EachPath (λ path. IsInstance path input → HoldsOf (setting_of world report.bounds.run) id path path.leaf input) paths) →
+    AllByRecursion (EndsAsStated world id) (tests_on world report paths)
+paths_end world id report [] carry hold = tt
+paths_end world id report (path ∷ paths) carry hold =
+    both_all (EndsAsStated world id) (path_tests world report path path.leaf) (tests_on world report paths)
+    (path_ends world id report path path.leaf carry.0 (λ input correct. (hold input correct).0))
+    (paths_end world id report paths carry.1 (λ input correct. (hold input correct).1))
 
-pub tests_written : (world : World) (job : Job) (report : Report) (text : List ℕ) (reported : IsReportOf world job report) → SpellsTests no_literals (tests_of report) text →
-    IsTestsTextOf reported.method report text
+pub tests_written : (world : World) (job : Job) (report : Report) (text : List ℕ) (reported : IsReportOf world job report) →
+    SpellsTests (literals_in world) (tests_of world report) text → IsTestsTextOf world reported.id report text
 tests_written world job report text reported spelled = record {
   spelled = spelled;
-  end_as_stated = paths_end world reported.id reported.method report report.leaves reported.covers.carries reported.covers.holds;
+  end_as_stated = paths_end world reported.id report report.leaves reported.covers.carries reported.covers.holds;
 }

@@ -12,6 +12,9 @@ pub mod ReplayLaws
 pub mod StageLaws
 pub mod Stepping
 pub mod StraightLaws
+pub mod StraightMethods
+pub mod StraightRun
+pub mod StraightRuns
 pub mod TestTexts
 pub mod TopLaws
 pub mod WordsLaws

@@ -4,7 +4,6 @@ use Rattle.std.specs.List.{AllByRecursion}
 use Rattle.std.proofs.lemmas.Option.{none-some, same_Some}
 use Rattle.kb_class.specs.declared.given.GivenClass.{GivenClass}
 use Rattle.kb_class.specs.declared.ids.MethodId.{MethodId}
-use Rattle.kb_class.specs.declared.members.MethodCode.{MethodCode}
 use Rattle.kb_class.specs.Given.{AreListings}
 use Rattle.kb_classfile.specs.declared.file.ClassFile.{ClassFile}
 use Rattle.kb_classfile.specs.declared.file.Method.{Method as ClassMethod}
@@ -17,9 +16,8 @@ use Rattle.kb_grammar.specs.Lines.{Lacks, AreLines, IsFirstBadLine, lines_text}
 use Rattle.kb_grammar.proofs.LineLaws.{lines_beyond, no_lines}
 use Rattle.kb_grammar.proofs.WordLaws.{same_cut}
 use Rattle.kb_names.specs.declared.types.Target.{Target}
-use Rattle.kb_semantics.specs.Machine.{Method, Ended}
-use Rattle.kb_semantics.specs.Types.{IsMethod, IsTypeCorrect}
-use Rattle.kb_semantics.proofs.Methods.{code_is}
+use Rattle.kb_semantics.specs.Config.{Ended}
+use Rattle.kb_semantics.specs.Inputs.{IsTypeCorrect}
 use Rattle.kb_test.specs.declared.test_case.Test.{Test}
 use Rattle.kb_test.specs.Texts.{IsTestsText, SpellsTests, tests_lines}
 use Rattle.kb_test.proofs.SameTests.{same_tests}
@@ -48,12 +46,12 @@ use Rattle.kiasan.specs.declared.words.Job.{Job}
 use Rattle.kiasan.specs.declared.words.Order.{Order}
 use Rattle.kiasan.specs.declared.words.Order.TheVariants.{Explore, Tests, Diagrams, Replay, Assemble, Sample}
 use Rattle.kiasan.specs.declared.words.WordFault.{WordFault}
-use Rattle.kiasan.specs.Answers.{Reply, refuses, ends, Last, RefusesNothing, Replies, RepliesTo, RepliesOn, RepliesIn, RepliesJob, RepliesReplay, WordsRefuse, IsRead, AreRead, IsContents, RefusesClasses, ClassRefuses, FileRefuses, AreClasses, IsClassOf, WorldRefuses, TextRefuses, AreTestsOf, EndsReplay, EndsJob, AreTold, IsReplay, IsSameReply, class_limit, text_limit}
+use Rattle.kiasan.specs.Answers.{Reply, refuses, ends, Last, RefusesNothing, Replies, RepliesTo, RepliesOn, RepliesIn, RepliesJob, RepliesReplay, WordsRefuse, IsRead, AreRead, IsContents, RefusesClasses, ClassRefuses, FileRefuses, AreClasses, IsClassOf, WorldRefuses, TextRefuses, TextOf, AreTestsOf, EndsReplay, EndsJob, AreTold, IsReplay, IsSameReply, class_limit, text_limit}
 use Rattle.kiasan.specs.Orders.{Orders, files_of, texts_of, classes_of}
 use Rattle.kiasan.specs.Reach.{ReachRefuses, TargetRefuses}
 use Rattle.kiasan.specs.CodeFaults.{MethodsRefuse, methods_fault}
 use Rattle.kiasan.specs.Refusals.{class_refusal, code_refusal, link_refusal, word_refusal}
-use Rattle.kiasan.specs.Tests.{AreRunnable, AreVerdicts, IsRunnable, IsVerdict, RefusesTest, RefusesTests, no_literals, replay_status}
+use Rattle.kiasan.specs.Tests.{AreRunnable, AreVerdicts, IsRunnable, IsVerdict, RefusesTest, RefusesTests, literals_in, replay_status}
 use Rattle.kiasan.specs.Unbuilt.{IsBuiltFor, IsBuiltMethod}
 use Rattle.kiasan.proofs.ClassLaws.{no_faults}
 use Rattle.kiasan.proofs.OneListing.{listings_one}
@@ -235,7 +233,7 @@ target_apart Built world target given found r id (inl (f, p, e)) built =
 target_apart Built world target given found r id (inr a) built =
     a.1.none (subst Built (ids_one world target given id a.1.id (found id built).0 a.1.found) built)
 
-job_one : (Same : Status → List ℕ → Status → List ℕ → Type 0) (IsTextOf : Method → Report → List ℕ → Type 0) (world : World) (job : Job) → IsLinked world →
+job_one : (Same : Status → List ℕ → Status → List ℕ → Type 0) (IsTextOf : TextOf) (world : World) (job : Job) → IsLinked world →
     ((s u : Status) (t v : List ℕ) → Same s t u v) → HasOne Same (RepliesJob IsTextOf world job)
 unfolding RepliesJob
 job_one Same IsTextOf world job given any =
@@ -285,28 +283,28 @@ one_line IsText text m n a b = a.number_is ∙ ap (λ (k : ℕ). k + 1) (one_len
     one_length (suc i) (suc j) a b = ap suc (one_length i j (λ few. a (omega (arith, few))) (λ few. b (omega (arith, few))))
 
 -- a text is that of one list of tests
-one_tests : (one other : List Test) (text : List ℕ) → SpellsTests no_literals one text → SpellsTests no_literals other text → one ≡ other
-one_tests one other text p q =
-    let beyond = lines_beyond (tests_lines one) (tests_lines other) [] (tests_are_lines no_literals one p.0) (tests_are_lines no_literals other q.0)
+one_tests : (literals : ℕ) (one other : List Test) (text : List ℕ) → SpellsTests literals one text → SpellsTests literals other text → one ≡ other
+one_tests literals one other text p q =
+    let beyond = lines_beyond (tests_lines one) (tests_lines other) [] (tests_are_lines literals one p.0) (tests_are_lines literals other q.0)
     (append-nil (lines_text (tests_lines one)) ∙ sym p.1 ∙ q.1) in
     let none = no_lines [] beyond.0 tt beyond.2 in
     let same : tests_lines other ≡ tests_lines one = beyond.1 ∙ ap (λ (lines : List (List ℕ)). tests_lines one ++ lines) none.0 ∙ append-nil (tests_lines one) in
-    same_tests no_literals one other p.0 q.0 (sym same)
+    same_tests literals one other p.0 q.0 (sym same)
 
-text_refusal : (bytes : List ℕ) (r s : Refusal) → TextRefuses bytes r → TextRefuses bytes s → r ≡ s
-text_refusal bytes r s (inl a) (inl b) = a.0 ∙ sym b.0
-text_refusal bytes r s (inl a) (inr b) = absurd (omega (arith, a.1, b.2))
-text_refusal bytes r s (inr a) (inl b) = absurd (omega (arith, b.1, a.2))
-text_refusal bytes r s (inr a) (inr b) = a.1 ∙ ap refusals.TestLine (one_line (IsTestsText no_literals) bytes a.0 b.0 a.3 b.3) ∙ sym b.1
+text_refusal : (literals : ℕ) (bytes : List ℕ) (r s : Refusal) → TextRefuses literals bytes r → TextRefuses literals bytes s → r ≡ s
+text_refusal literals bytes r s (inl a) (inl b) = a.0 ∙ sym b.0
+text_refusal literals bytes r s (inl a) (inr b) = absurd (omega (arith, a.1, b.2))
+text_refusal literals bytes r s (inr a) (inl b) = absurd (omega (arith, b.1, a.2))
+text_refusal literals bytes r s (inr a) (inr b) = a.1 ∙ ap refusals.TestLine (one_line (IsTestsText literals) bytes a.0 b.0 a.3 b.3) ∙ sym b.1
 
-text_apart : (bytes : List ℕ) (r : Refusal) (tests : List Test) → TextRefuses bytes r → AreTestsOf bytes tests → ⊥
-text_apart bytes r tests (inl a) are = omega (arith, a.1, are.0)
-text_apart bytes r tests (inr a) are = a.3.no_text (tests, are.1)
+text_apart : (literals : ℕ) (bytes : List ℕ) (r : Refusal) (tests : List Test) → TextRefuses literals bytes r → AreTestsOf literals bytes tests → ⊥
+text_apart literals bytes r tests (inl a) are = omega (arith, a.1, are.0)
+text_apart literals bytes r tests (inr a) are = a.3.no_text (tests, are.1)
 
 -- ---- tests
 
 abbrev IsFine : World → Test → Type 0
-IsFine world test = (id : MethodId) × (method : Method) × IsRunnable world test id method
+IsFine world test = (id : MethodId) × IsRunnable world test id
 
 abbrev IsBadTest : World → Test → Type 0
 IsBadTest world test = (number : ℕ) × (refusal : Refusal) × RefusesTest world number test refusal
@@ -315,15 +313,15 @@ built_found : (world : World) (target : Target) (id : MethodId) → IsBuiltMetho
 built_found world target id built = (built.1.found, built.1.accepted)
 
 test_apart : (world : World) → IsLinked world → (test : Test) → IsFine world test → IsBadTest world test → ⊥
-test_apart world given test (id, method, run) (number, refusal, inl bad) = bad.1 id run.straight.found
-test_apart world given test (id, method, run) (number, refusal, inr (inl bad)) =
-    bad.3 (subst (λ (i : MethodId). IsTypeCorrect world i test.input) (ids_one world test.target given id bad.1 run.straight.found bad.2) run.correct)
-test_apart world given test (id, method, run) (number, refusal, inr (inr bad)) =
-    target_apart (IsBuiltMethod world test.target) world test.target given (built_found world test.target) refusal id bad.2 (method, run.straight)
+test_apart world given test (id, run) (number, refusal, inl bad) = bad.1 id run.built.1.found
+test_apart world given test (id, run) (number, refusal, inr (inl bad)) =
+    bad.3 (subst (λ (i : MethodId). IsTypeCorrect world i test.input) (ids_one world test.target given id bad.1 run.built.1.found bad.2) run.correct)
+test_apart world given test (id, run) (number, refusal, inr (inr bad)) =
+    target_apart (IsBuiltMethod world test.target) world test.target given (built_found world test.target) refusal id bad.2 run.built
 
 each_fine : (world : World) (tests : List Test) (ids : List MethodId) → AreRunnable world tests ids → AllByRecursion (IsFine world) tests
 each_fine world [] [] are = tt
-each_fine world (t ∷ tests) (i ∷ ids) are = ((i, are.0.0, are.0.1), each_fine world tests ids are.1)
+each_fine world (t ∷ tests) (i ∷ ids) are = ((i, are.0), each_fine world tests ids are.1)
 each_fine world [] (i ∷ ids) are = absurd are
 each_fine world (t ∷ tests) [] are = absurd are
 
@@ -359,27 +357,17 @@ one_ids world given [] [] (y ∷ ys) a b = absurd b
 one_ids world given (t ∷ tests) [] ys a b = absurd a
 one_ids world given (t ∷ tests) (x ∷ xs) [] a b = absurd b
 one_ids world given (t ∷ tests) (x ∷ xs) (y ∷ ys) a b =
-    let first : x ≡ y = ids_one world t.target given x y a.0.1.straight.found b.0.1.straight.found in
+    let first : x ≡ y = ids_one world t.target given x y a.0.built.1.found b.0.built.1.found in
     let rest : xs ≡ ys = one_ids world given tests xs ys a.1 b.1 in
     rw (first, rest) refl
 
 -- ---- runs
 
-same_machine : (m n : Method) → m.target ≡ n.target → m.max_stack ≡ n.max_stack → m.max_locals ≡ n.max_locals → m.listing ≡ n.listing → m.size ≡ n.size → m ≡ n
-same_machine m n t s l i z = λ k. record { target = t k; max_stack = s k; max_locals = l k; listing = i k; size = z k }
-
-one_machine : (world : World) (id : MethodId) (m n : Method) → m.target ≡ n.target → IsMethod world id m → IsMethod world id n → m ≡ n
-one_machine world id m n targets a b =
-    let code : b.code ≡ a.code = code_is world id a.declared.method a.code n a.declared.method_is a.has_code b in
-    same_machine m n targets
-    (a.max_stack ∙ ap (λ (c : MethodCode). c.max_stack) (sym code) ∙ sym b.max_stack) (a.max_locals ∙ ap (λ (c : MethodCode). c.max_locals) (sym code) ∙ sym b.max_locals)
-    (a.items ∙ ap (λ (c : MethodCode). c.listing.items) (sym code) ∙ sym b.items) (a.size ∙ ap (λ (c : MethodCode). c.size) (sym code) ∙ sym b.size)
-
-one_verdict : (method : Method) (test : Test) (x y : Replayed) → IsVerdict method test x → IsVerdict method test y → x ≡ y
-one_verdict method test Passes Passes a b = refl
-one_verdict method test Passes (Differs ending heap) a b = absurd (b.1 a)
-one_verdict method test (Differs ending heap) Passes a b = absurd (a.1 b)
-one_verdict method test (Differs ending heap) (Differs other last) a b =
+one_verdict : (world : World) (id : MethodId) (test : Test) (x y : Replayed) → IsVerdict world id test x → IsVerdict world id test y → x ≡ y
+one_verdict world id test Passes Passes a b = refl
+one_verdict world id test Passes (Differs ending heap) a b = absurd (b.1 a)
+one_verdict world id test (Differs ending heap) Passes a b = absurd (a.1 b)
+one_verdict world id test (Differs ending heap) (Differs other last) a b =
     let same = sym a.0 ∙ b.0 in
     let endings : ending ≡ other = ap (λ (e : Ended). e.ending) same in
     let heaps : heap ≡ last = ap (λ (e : Ended). e.heap) same in
@@ -392,12 +380,8 @@ one_verdicts world given [] [] (y ∷ ys) a b = absurd b
 one_verdicts world given (t ∷ tests) [] ys a b = absurd a
 one_verdicts world given (t ∷ tests) (x ∷ xs) [] a b = absurd b
 one_verdicts world given (t ∷ tests) (x ∷ xs) (y ∷ ys) a b =
-    let p = a.0.2 in
-    let q = b.0.2 in
-    let ids : a.0.0 ≡ b.0.0 = ids_one world t.target given a.0.0 b.0.0 p.straight.found q.straight.found in
-    let runs : IsMethod world b.0.0 a.0.1 = subst (λ (i : MethodId). IsMethod world i a.0.1) ids p.straight.runs in
-    let machine : a.0.1 ≡ b.0.1 = one_machine world b.0.0 a.0.1 b.0.1 (p.straight.named ∙ sym q.straight.named) runs q.straight.runs in
-    let first : x ≡ y = one_verdict b.0.1 t x y (subst (λ (m : Method). IsVerdict m t x) machine a.0.3) b.0.3 in
+    let ids : a.0.0 ≡ b.0.0 = ids_one world t.target given a.0.0 b.0.0 a.0.1.built.1.found b.0.1.built.1.found in
+    let first : x ≡ y = one_verdict world b.0.0 t x y (subst (λ (i : MethodId). IsVerdict world i t x) ids a.0.2) b.0.2 in
     let rest : xs ≡ ys = one_verdicts world given tests xs ys a.1 b.1 in
     rw (first, rest) refl
 
@@ -405,7 +389,9 @@ replay_one : (Same : Status → List ℕ → Status → List ℕ → Type 0) (by
     ((a b : Status) (t u : List ℕ) → a ≡ b → t ≡ u → Same a t b u) → HasOne Same (RepliesReplay bytes world)
 unfolding RepliesReplay
 replay_one Same bytes world given same =
-    stage_one Same (TextRefuses bytes) (AreTestsOf bytes) _ (text_refusal bytes) (text_apart bytes) (λ a b p q. one_tests a b bytes p.1 q.1) (λ tests are.
+    let literals : ℕ = literals_in world in
+    stage_one Same (TextRefuses literals bytes) (AreTestsOf literals bytes) _ (text_refusal literals bytes) (text_apart literals bytes)
+    (λ a b p q. one_tests literals a b bytes p.1 q.1) (λ tests are.
     stage_one Same (RefusesTests world tests) (AreRunnable world tests) _ (tests_refusal_one world given tests) (tests_apart world given tests) (one_ids world given tests) (λ ids fit. last tests))
   where
     last : (tests : List Test) → HasOne Same (Last (EndsReplay world tests))
@@ -413,7 +399,7 @@ replay_one Same bytes world given same =
     last tests (ends s t) (refuses r) a b = absurd b
     last tests (ends s t) (ends u v) a b =
         let verdicts : a.verdicts ≡ b.verdicts = one_verdicts world given tests a.verdicts b.verdicts a.verdicts_are b.verdicts_are in
-        same s u t v (a.status_is ∙ ap (λ vs. replay_status vs) verdicts ∙ sym b.status_is) (a.text_is ∙ ap (λ vs. replay_text tests vs) verdicts ∙ sym b.text_is)
+        same s u t v (a.status_is ∙ ap (λ vs. replay_status vs) verdicts ∙ sym b.status_is) (a.text_is ∙ ap (λ vs. replay_text (literals_in world) tests vs) verdicts ∙ sym b.text_is)
 
 -- ---- words
 

@@ -4,8 +4,7 @@ use Rattle.std.specs.Prelude.{slice_index_or}
 use Rattle.std.proofs.lemmas.List.{take_all, take-append-drop}
 use Rattle.std.proofs.Math.Seq.{take-suc}
 use Rattle.kb_names.specs.declared.types.Target.{Target}
-use Rattle.kb_semantics.specs.Machine.{Method}
-use Rattle.kb_semantics.specs.Types.{IsTypeCorrect}
+use Rattle.kb_semantics.specs.Inputs.{IsTypeCorrect}
 use Rattle.kb_test.specs.declared.test_case.Test.{Test}
 use Rattle.kb_link.specs.World.{World}
 use Rattle.kb_class.specs.declared.ids.MethodId.{MethodId}
@@ -23,7 +22,7 @@ use Rattle.kiasan.proofs.StageLaws.{gives_by}
 -- ---- the tests are found fit
 
 pub runnable_more : (world : World) (tests : List Test) (ids : List MethodId) (test : Test) (id : MethodId) → AreRunnable world tests ids →
-    (method : Method) × IsRunnable world test id method → AreRunnable world (tests ++ test ∷ []) (ids ++ id ∷ [])
+    IsRunnable world test id → AreRunnable world (tests ++ test ∷ []) (ids ++ id ∷ [])
 runnable_more world [] [] test id are is = (is, tt)
 runnable_more world (x ∷ tests) (i ∷ ids) test id are is = (are.0, runnable_more world tests ids test id are.1 is)
 runnable_more world [] (i ∷ ids) test id are is = absurd are
@@ -36,16 +35,16 @@ as_many world [] (i ∷ ids) are = absurd are
 as_many world (x ∷ tests) [] are = absurd are
 
 pub runnable_next : (world : World) (tests : List Test) (ids : List MethodId) (i : ℕ) (test : Test) (id : MethodId) → i < length tests → test ≡ get_or tests i test →
-    AreRunnable world (take i tests) ids → (method : Method) × IsRunnable world test id method → AreRunnable world (take (i + 1) tests) (ids ++ id ∷ [])
+    AreRunnable world (take i tests) ids → IsRunnable world test id → AreRunnable world (take (i + 1) tests) (ids ++ id ∷ [])
 runnable_next world tests ids i test id inside at are is =
     let next : i + 1 ≡ suc i = omega arith in
     rw (next, take-suc tests i test inside, ← at) (runnable_more world (take i tests) ids test id are is)
 
 pub first_fault : (world : World) (tests : List Test) (ids : List MethodId) (i : ℕ) (test : Test) (number : ℕ) (stop : Stop) → i < length tests → test ≡ get_or tests i test →
-    AreRunnable world (take i tests) ids → number ≡ length ids → Gives {A = MethodId} ⊥ (RefusesTest world number test) (λ id. (method : Method) × IsRunnable world test id method) (Err stop) →
+    AreRunnable world (take i tests) ids → number ≡ length ids → Gives {A = MethodId} ⊥ (RefusesTest world number test) (IsRunnable world test) (Err stop) →
     {A : Type 0} (Fine : A → Type 0) → Gives {A = A} ⊥ (RefusesTests world tests) Fine (Err stop)
 first_fault world tests ids i test number stop inside at are n given Fine =
-    gives_by ⊥ ⊥ (RefusesTest world number test) (RefusesTests world tests) (λ id. (method : Method) × IsRunnable world test id method) Fine stop (λ wrong. wrong) more given
+    gives_by ⊥ ⊥ (RefusesTest world number test) (RefusesTests world tests) (IsRunnable world test) Fine stop (λ wrong. wrong) more given
   where
     more : (refusal : Refusal) → RefusesTest world number test refusal → RefusesTests world tests refusal
     more refusal bad =
@@ -65,14 +64,14 @@ first_fault world tests ids i test number stop inside at are n given Fine =
 
 -- a method that is built for some target is so for the target of the test
 pub built_among : (world : World) (ids : List MethodId) (id : MethodId) (test : Test) → AreBuilt world ids → IsAmong id ids → IsTargetOf world test.target id →
-    IsTypeCorrect world id test.input → (method : Method) × IsRunnable world test id method
+    IsTypeCorrect world id test.input → IsRunnable world test id
 built_among world [] id test are among found correct = absurd among
 built_among world (other ∷ others) id test are (inl same) found correct =
     let built = are.0.1 in
     let here : IsBuiltMethod world are.0.0 id = subst (λ (i : MethodId). IsBuiltMethod world are.0.0 i) same built in
     let targets : are.0.0 ≡ test.target = same_target world id are.0.0 test.target here.1.found.declared found.declared in
     let known : IsBuiltMethod world test.target id = subst (λ (t : Target). IsBuiltMethod world t id) targets here in
-    (known.0, record { straight = known.1; correct = correct })
+    record { built = known; correct = correct }
 built_among world (other ∷ others) id test are (inr among) found correct = built_among world others id test are.1 among found correct
 
 pub built_more : (world : World) (ids now : List MethodId) (id : MethodId) (target : Target) → AreBuilt world ids → IsBuiltMethod world target id → now ≡ ids ++ id ∷ [] → AreBuilt world now
@@ -86,21 +85,21 @@ built_more world ids now id target are built e = subst (AreBuilt world) (sym e) 
 
 -- the test of an index is run by the method of that index
 runnable_at : (world : World) (tests : List Test) (ids : List MethodId) (i : ℕ) (test : Test) (d : MethodId) → AreRunnable world tests ids → i < length tests →
-    test ≡ get_or tests i test → (method : Method) × IsRunnable world test (slice_index_or ids i d) method
+    test ≡ get_or tests i test → IsRunnable world test (slice_index_or ids i d)
 runnable_at world [] ids i test d are inside at = absurd (omega (arith, inside))
 runnable_at world (x ∷ tests) [] i test d are inside at = absurd are
-runnable_at world (x ∷ tests) (y ∷ ids) zero test d are inside at = subst (λ t. (method : Method) × IsRunnable world t y method) (sym at) are.0
+runnable_at world (x ∷ tests) (y ∷ ids) zero test d are inside at = subst (λ t. IsRunnable world t y) (sym at) are.0
 runnable_at world (x ∷ tests) (y ∷ ids) (suc i) test d are inside at = runnable_at world tests ids i test d are.1 (omega arith) at
 
 pub runnable_named : (world : World) (tests : List Test) (ids : List MethodId) (i n : ℕ) (test : Test) (d : MethodId) → AreRunnable world tests ids → i < length tests →
-    test ≡ get_or tests i test → n ≡ i → (method : Method) × IsRunnable world test (slice_index_or ids n d) method
+    test ≡ get_or tests i test → n ≡ i → IsRunnable world test (slice_index_or ids n d)
 runnable_named world tests ids i n test d are inside at e = rw e (runnable_at world tests ids i test d are inside at)
 
 pub method_there : (world : World) (tests : List Test) (ids : List MethodId) (i : ℕ) → AreRunnable world tests ids → i < length tests → i < length ids
 method_there world tests ids i are inside = omega (arith, as_many world tests ids are)
 
 verdicts_more : (world : World) (tests : List Test) (verdicts : List Replayed) (test : Test) (verdict : Replayed) → AreVerdicts world tests verdicts →
-    (id : MethodId) × (method : Method) × IsRunnable world test id method × IsVerdict method test verdict → AreVerdicts world (tests ++ test ∷ []) (verdicts ++ verdict ∷ [])
+    (id : MethodId) × IsRunnable world test id × IsVerdict world id test verdict → AreVerdicts world (tests ++ test ∷ []) (verdicts ++ verdict ∷ [])
 verdicts_more world [] [] test verdict are is = (is, tt)
 verdicts_more world (x ∷ tests) (v ∷ verdicts) test verdict are is = (are.0, verdicts_more world tests verdicts test verdict are.1 is)
 verdicts_more world [] (v ∷ verdicts) test verdict are is = absurd are
@@ -112,13 +111,13 @@ pub record AreRun (world : World) (tests : List Test) (i : ℕ) (verdicts : List
   pub verdicts_are : AreVerdicts world (take i tests) verdicts
 
 pub one_run : (world : World) (tests : List Test) (ids : List MethodId) (i : ℕ) (test : Test) (id : MethodId) (verdicts now : List Replayed) (verdict : Replayed) →
-    AreRun world tests i verdicts → i < length tests → test ≡ get_or tests i test → (method : Method) × IsRunnable world test id method →
-    ((method : Method) → IsRunnable world test id method → IsVerdict method test verdict) → now ≡ verdicts ++ verdict ∷ [] → AreRun world tests (i + 1) now
+    AreRun world tests i verdicts → i < length tests → test ≡ get_or tests i test → IsRunnable world test id →
+    IsVerdict world id test verdict → now ≡ verdicts ++ verdict ∷ [] → AreRun world tests (i + 1) now
 one_run world tests ids i test id verdicts now verdict run inside at runs is e =
     let next : i + 1 ≡ suc i = omega arith in
     let more : AreVerdicts world (take (i + 1) tests) (verdicts ++ verdict ∷ []) =
     rw (next, take-suc tests i test inside, ← at)
-    (verdicts_more world (take i tests) verdicts test verdict run.verdicts_are (id, runs.0, runs.1, is runs.0 runs.1)) in
+    (verdicts_more world (take i tests) verdicts test verdict run.verdicts_are (id, runs, is)) in
     record {
       count = ap length e ∙ length-append verdicts (verdict ∷ []) ∙ ap (λ (n : ℕ). n + 1) run.count;
       verdicts_are = subst (λ vs. AreVerdicts world (take (i + 1) tests) vs) (sym e) more;

@@ -32,7 +32,7 @@ use Rattle.kiasan.specs.Operations.{term_op_of, narrowing_op_of}
 use Rattle.kb_terms.specs.declared.op.Op.TheVariants.{Neg as TermNeg}
 use Rattle.kb_code.specs.declared.instruction.Instr.TheVariants.{PushInt, StoreInt, Dup, Int2, Neg, Inc, Narrow}
 use Rattle.kb_heap.specs.declared.heap.Heap.{Heap}
-use Rattle.kb_semantics.specs.Machine.{Method, effect}
+use Rattle.kiasan.specs.StraightMachine.{Method, effect}
 use Rattle.kiasan.specs.Symbolic.{int_value, config_of, IsLocalTerm, IsSound, HasLimits, Effect, Follows, Returns, ReturnsNone, popped, local_term, pushing, setting, computing_one, computing_two}
 
 -- a term that stands on the top

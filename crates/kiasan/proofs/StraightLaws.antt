@@ -8,9 +8,10 @@ use Rattle.kb_class.specs.declared.members.MethodInfo.{MethodInfo}
 use Rattle.kb_code.specs.Listing.{IsLaidOut}
 use Rattle.kb_heap.specs.declared.heap.Heap.{Heap}
 use Rattle.kb_names.specs.declared.types.Target.{Target}
-use Rattle.kb_semantics.specs.Machine.{AreBuilt, Method}
-use Rattle.kb_semantics.specs.Types.{IsMethod}
-use Rattle.kb_semantics.proofs.Methods.{code_is, declared_is, laid_out}
+use Rattle.kiasan.specs.StraightMachine.{AreBuilt, Method}
+use Rattle.kiasan.specs.StraightMachine.{IsMethod}
+use Rattle.kb_semantics.proofs.Methods.{declared_is, laid_out}
+use Rattle.kiasan.proofs.StraightMethods.{code_is}
 use Rattle.kb_link.specs.Links.{IsLinked}
 use Rattle.kb_world.specs.Reach.{IsAccepted}
 use Rattle.kb_link.specs.Targets.{IsTargetOf}

@@ -4,7 +4,7 @@ use Rattle.std.proofs.lemmas.List.{take_all}
 use Rattle.kiasan.specs.declared.path.Path.{Path}
 use Rattle.kiasan.specs.declared.report.Report.{Report}
 use Rattle.kiasan.specs.Covering.{path_tests}
-use Rattle.kiasan.specs.Tests.{no_literals}
+use Rattle.kb_link.specs.World.{World}
 use Rattle.std.specs.List.{flat_map}
 use Rattle.kb_grammar.proofs.LineLaws.{lines_text-++}
 use Rattle.kb_grammar.specs.Lines.{lines_text}
@@ -31,17 +31,17 @@ one_path_more literals xs ys text new all are e n = (
 )
 
 -- the tests of some paths of a report
-abbrev pub tests_on : Report → List Path → List Test
-tests_on report paths = flat_map (λ path. path_tests report path path.leaf) paths
+abbrev pub tests_on : World → Report → List Path → List Test
+tests_on world report paths = flat_map (λ path. path_tests world report path path.leaf) paths
 
-pub first_path_more : (report : Report) (rest : List Path) (path : Path) (text new all : List ℕ) → 1 ≤ length rest → path ≡ get_or rest 0 path →
-    AreTests no_literals (tests_on report rest) → text ++ tests_text (tests_on report rest) ≡ all → new ≡ text ++ tests_text (path_tests report path path.leaf) →
-    AreTests no_literals (tests_on report (take (length rest - 1) (drop 1 rest))) × (new ++ tests_text (tests_on report (take (length rest - 1) (drop 1 rest))) ≡ all)
-first_path_more report [] path text new all some at are e n = absurd (omega (arith, some))
-first_path_more report (x ∷ others) path text new all some at are e n =
+pub first_path_more : (literals : ℕ) (world : World) (report : Report) (rest : List Path) (path : Path) (text new all : List ℕ) → 1 ≤ length rest → path ≡ get_or rest 0 path →
+    AreTests literals (tests_on world report rest) → text ++ tests_text (tests_on world report rest) ≡ all → new ≡ text ++ tests_text (path_tests world report path path.leaf) →
+    AreTests literals (tests_on world report (take (length rest - 1) (drop 1 rest))) × (new ++ tests_text (tests_on world report (take (length rest - 1) (drop 1 rest))) ≡ all)
+first_path_more literals world report [] path text new all some at are e n = absurd (omega (arith, some))
+first_path_more literals world report (x ∷ others) path text new all some at are e n =
     let long : length others ≤ length (x ∷ others) - 1 = omega arith in
     let same : take (length (x ∷ others) - 1) others ≡ others = take_all (length (x ∷ others) - 1) others long in
     let is : path ≡ x = at in
-    let n2 : new ≡ text ++ tests_text (path_tests report x x.leaf) = n ∙ ap (λ (p : Path). text ++ tests_text (path_tests report p p.leaf)) is in
-    subst (λ (ps : List Path). AreTests no_literals (tests_on report ps) × (new ++ tests_text (tests_on report ps) ≡ all)) (sym same)
-    (one_path_more no_literals (path_tests report x x.leaf) (tests_on report others) text new all are e n2)
+    let n2 : new ≡ text ++ tests_text (path_tests world report x x.leaf) = n ∙ ap (λ (p : Path). text ++ tests_text (path_tests world report p p.leaf)) is in
+    subst (λ (ps : List Path). AreTests literals (tests_on world report ps) × (new ++ tests_text (tests_on world report ps) ≡ all)) (sym same)
+    (one_path_more literals (path_tests world report x x.leaf) (tests_on world report others) text new all are e n2)

@@ -2,7 +2,6 @@
 use Rattle.std.proofs.Common.{◌≡◌, ℕ, List, [], ◌∷◌, Option, Ok, refl, sym, ◌∙◌, ap, subst, inl, inr, nat_eq, Bool, true, false, cond}
 use Rattle.std.specs.List.{list_all}
 use Rattle.kb_outside.specs.Outside.{Rose, Grows, GrowsByPart}
-use Rattle.kb_semantics.specs.Machine.{Method}
 use Rattle.kb_link.specs.World.{World}
 use Rattle.kiasan.specs.declared.refusals.Answer.{Answer}
 use Rattle.kiasan.specs.declared.refusals.Refusal.{Refusal}
@@ -14,7 +13,7 @@ use Rattle.kiasan.specs.declared.words.Order.{Order}
 use Rattle.kiasan.specs.declared.words.Order.TheVariants.{Explore, Tests, Diagrams, Replay, Assemble, Sample}
 use Rattle.kiasan.specs.declared.status.Status.{Status}
 use Rattle.kiasan.specs.declared.status.Status.TheVariants.{Complete, Words, Class, Link, Outside, ReadFault, WriteFault, Memory, Text, Differs}
-use Rattle.kiasan.specs.Answers.{Reply, refuses, ends, Replies, RepliesTo, RepliesOn, RepliesIn, RepliesJob, RepliesReplay, Answers, IsAnswer, IsDone, IsOfVerdicts, IsReplay, IsSameReply, EndsAs, Owes, SomeUnsound, WritesNothing, reply_status}
+use Rattle.kiasan.specs.Answers.{Reply, refuses, ends, Replies, RepliesTo, RepliesOn, RepliesIn, RepliesJob, RepliesReplay, Answers, IsAnswer, IsDone, IsOfVerdicts, IsReplay, IsSameReply, EndsAs, Owes, SomeUnsound, TextOf, WritesNothing, reply_status}
 use Rattle.kiasan.specs.Covering.{IsStatusOf, is_told}
 use Rattle.kiasan.specs.Orders.{Orders}
 use Rattle.kiasan.specs.Refusals.{refusal_status, refusal_line}
@@ -72,7 +71,7 @@ told_status : (told : Bool) (status : Status) → IsStatusOf told status → sta
 told_status true status is = is
 told_status false status none = absurd none
 
-job_answers : (IsTextOf : Method → Report → List ℕ → Type 0) (world : World) (job : Job) (status : Status) (text : List ℕ) → RepliesJob IsTextOf world job (ends status text) → IsAnswer status
+job_answers : (IsTextOf : TextOf) (world : World) (job : Job) (status : Status) (text : List ℕ) → RepliesJob IsTextOf world job (ends status text) → IsAnswer status
 unfolding RepliesJob
 job_answers IsTextOf world job status text (id, built, end) = rw (told_status (list_all (λ path. is_told path.leaf) end.report.leaves) status end.has_status) tt
 
@@ -111,7 +110,7 @@ refused words holds refusal status text replied is line =
 abbrev IsStatusFor : List (List ℕ) → Status → Type 0
 IsStatusFor words status = (IsReplay words → IsOfVerdicts status) × ((IsReplay words → ⊥) → IsDone status)
 
-job_status : (IsTextOf : Method → Report → List ℕ → Type 0) (words : List (List ℕ)) (world : World) (job : Job) (status : Status) (text : List ℕ) →
+job_status : (IsTextOf : TextOf) (words : List (List ℕ)) (world : World) (job : Job) (status : Status) (text : List ℕ) →
     RepliesJob IsTextOf world job (ends status text) → IsStatusFor words status
 unfolding RepliesJob
 job_status IsTextOf words world job status text (id, built, end) = rw (told_status (list_all (λ path. is_told path.leaf) end.report.leaves) status end.has_status) ((λ replay. tt), (λ none. tt))

@@ -10,7 +10,6 @@ use Rattle.kb_classfile.specs.declared.refusal.ClassRefusal.{ClassRefusal}
 use Rattle.kb_classfile.specs.Reading.{first_fault}
 use Rattle.kb_classfile.specs.Spelling.{IsClassFile}
 use Rattle.kb_outside.specs.Outside.{Rose, Grows, GrowsByPart}
-use Rattle.kb_semantics.specs.Machine.{Method}
 use Rattle.kb_test.specs.declared.test_case.Test.{Test}
 use Rattle.kb_grammar.specs.Lines.{IsFirstBadLine}
 use Rattle.kb_names.specs.Targets.{IsTarget}
@@ -40,7 +39,7 @@ use Rattle.kiasan.specs.Refusals.{Gives, class_refusal, link_refusal, refusal_st
 use Rattle.kiasan.specs.Report.{report_text}
 use Rattle.kiasan.specs.Reach.{TargetRefuses}
 use Rattle.kiasan.specs.Covering.{IsReportOf, HasStatus, tests_of}
-use Rattle.kiasan.specs.Tests.{AreRunnable, AreVerdicts, EndsAsStated, RefusesTests, no_literals, replay_status}
+use Rattle.kiasan.specs.Tests.{AreRunnable, AreVerdicts, EndsAsStated, RefusesTests, literals_in, replay_status}
 use Rattle.kiasan.specs.Unbuilt.{IsBuiltFor}
 use Rattle.kiasan.specs.Verdicts.{replay_text}
 
@@ -89,33 +88,37 @@ pub record IsWrittenReport (world : World) (job : Job) (report : Report) : Type 
   pub reported : IsReportOf world job report
   pub id : MethodId
   pub built : IsBuiltFor world job id
-  pub tests : IsWritable job → AreTests no_literals (tests_of report)
+  pub tests : IsWritable job → AreTests (literals_in world) (tests_of world report)
+
+-- what a task's text is of a world, the number of a method and its report
+abbrev pub TextOf : Type 1
+TextOf = World → MethodId → Report → List ℕ → Type 0
 
 -- the end of a job: there is a report of the world for it, and the text is that of the task on it and on its method
-pub record EndsJob (IsTextOf : Method → Report → List ℕ → Type 0) (world : World) (job : Job) (status : Status) (text : List ℕ) : Type 0 where
+pub record EndsJob (IsTextOf : TextOf) (world : World) (job : Job) (status : Status) (text : List ℕ) : Type 0 where
   pub report : Report
   pub reported : IsReportOf world job report
   pub has_status : HasStatus report status
-  pub text_is : IsTextOf reported.method report text
+  pub text_is : IsTextOf world reported.id report text
 
 -- the text of the command `explore`
-abbrev pub IsReportText : Method → Report → List ℕ → Type 0
-IsReportText method report text = text ≡ report_text report
+abbrev pub IsReportText : TextOf
+IsReportText world id report text = text ≡ report_text report
 
 -- The text of the command `tests`: that of the report's tests. Each ends as it states, where the machine runs the method.
-pub record IsTestsTextOf (method : Method) (report : Report) (text : List ℕ) : Type 0 where
-  pub spelled : SpellsTests no_literals (tests_of report) text
-  pub end_as_stated : AllByRecursion (EndsAsStated method) (tests_of report)
+pub record IsTestsTextOf (world : World) (id : MethodId) (report : Report) (text : List ℕ) : Type 0 where
+  pub spelled : SpellsTests (literals_in world) (tests_of world report) text
+  pub end_as_stated : AllByRecursion (EndsAsStated world id) (tests_of world report)
 
 -- the end of a replay: the verdicts on the tests, in order
 pub record EndsReplay (world : World) (tests : List Test) (status : Status) (text : List ℕ) : Type 0 where
   pub verdicts : List Replayed
   pub verdicts_are : AreVerdicts world tests verdicts
   pub status_is : status ≡ replay_status verdicts
-  pub text_is : text ≡ replay_text tests verdicts
+  pub text_is : text ≡ replay_text (literals_in world) tests verdicts
 
 -- a job, behind its classes' world: reach, and the exploration; what is reached is built by now
-unfoldable pub RepliesJob : (Method → Report → List ℕ → Type 0) → World → Job → Reply → Type 0
+unfoldable pub RepliesJob : TextOf → World → Job → Reply → Type 0
 RepliesJob IsTextOf world job =
     Stage (TargetRefuses (IsBuiltFor world job) world job.target) (λ id. IsTargetOf world job.target id × IsBuiltFor world job id) (λ id.
     Last (EndsJob IsTextOf world job))
@@ -129,18 +132,18 @@ class_limit = 1048576
 abbrev pub text_limit : ℕ
 text_limit = 67108864
 
--- the bytes are no text of tests: they are too many, or no such text goes on at a line
-abbrev pub TextRefuses : List ℕ → Refusal → Type 0
-TextRefuses bytes refusal =
+-- the bytes are no text of tests for a world of so many literals: they are too many, or no such text goes on at a line
+abbrev pub TextRefuses : ℕ → List ℕ → Refusal → Type 0
+TextRefuses literals bytes refusal =
     ((refusal ≡ LongText) × (text_limit < length bytes))
-    ⊎ ((number : ℕ) × (refusal ≡ TestLine number) × (length bytes ≤ text_limit) × IsFirstBadLine (IsTestsText no_literals) bytes number)
+    ⊎ ((number : ℕ) × (refusal ≡ TestLine number) × (length bytes ≤ text_limit) × IsFirstBadLine (IsTestsText literals) bytes number)
 
-abbrev pub AreTestsOf : List ℕ → List Test → Type 0
-AreTestsOf bytes tests = (length bytes ≤ text_limit) × SpellsTests no_literals tests bytes
+abbrev pub AreTestsOf : ℕ → List ℕ → List Test → Type 0
+AreTestsOf literals bytes tests = (length bytes ≤ text_limit) × SpellsTests literals tests bytes
 
 unfoldable pub RepliesReplay : List ℕ → World → Reply → Type 0
 RepliesReplay bytes world =
-    Stage (TextRefuses bytes) (AreTestsOf bytes) (λ tests.
+    Stage (TextRefuses (literals_in world) bytes) (AreTestsOf (literals_in world) bytes) (λ tests.
     Stage (RefusesTests world tests) (AreRunnable world tests) (λ ids.
     Last (EndsReplay world tests)))
 

@@ -3,8 +3,9 @@ use Rattle.std.specs.Prelude.{◌≡◌, ℕ, ◌+◌, ◌<◌, ◌≤◌, ◌�
 use Rattle.std.specs.List.{flat_map, list_all}
 use Rattle.kb_heap.specs.declared.bounds.RunBounds.{RunBounds}
 use Rattle.kb_heap.specs.declared.heap.Input.{Input}
-use Rattle.kb_semantics.specs.Machine.{Method, run_of}
-use Rattle.kb_semantics.specs.Types.{IsMethod, IsTypeCorrect}
+use Rattle.kb_semantics.specs.Config.{Setting}
+use Rattle.kb_semantics.specs.Step.{run_of}
+use Rattle.kb_semantics.specs.Inputs.{IsTypeCorrect}
 use Rattle.kb_test.specs.declared.test_case.Test.{Test}
 use Rattle.kb_class.specs.declared.ids.MethodId.{MethodId}
 use Rattle.kb_link.specs.Targets.{IsTargetOf}
@@ -35,10 +36,15 @@ abbrev pub EachPath : (Path → Type 0) → List Path → Type 0
 EachPath P [] = Unit {0}
 EachPath P (path ∷ paths) = P path × EachPath P paths
 
--- What a leaf says of the run over an instance of its path: an ended path states the ending and the heap that the run leaves.
-abbrev pub HoldsOf : RunBounds → Method → Path → Leaf → Input → Type 0
-HoldsOf bounds method path (EndedLeaf ended) input =
-    run_of bounds method input ≡ record { ending = ending_of path ended input; heap = final_heap_of path ended input }
+-- the setting of a world's runs within these bounds
+abbrev pub setting_of : World → RunBounds → Setting
+setting_of world bounds = record { world = world; bounds = bounds }
+
+-- What a leaf says of the method's run over an instance of its path: an ended path states the ending and the heap that the run
+-- leaves.
+abbrev pub HoldsOf : Setting → MethodId → Path → Leaf → Input → Type 0
+HoldsOf setting id path (EndedLeaf ended) input =
+    run_of setting id input ≡ record { ending = ending_of path ended input; heap = final_heap_of setting.world path ended input }
 
 -- The input that a path carries is type-correct, and an instance of it.
 abbrev pub CarriesInstance : World → MethodId → Path → Leaf → Type 0
@@ -55,15 +61,16 @@ abbrev pub Rise : List Path → Type 0
 Rise [] = Unit {0}
 Rise (path ∷ paths) = EachPath (λ other. IsBelow path.decisions other.decisions) paths × Rise paths
 
--- The conditions are comparisons that the runs of the path's instances make. No instruction that is built compares.
-abbrev pub AreCompared : Method → List (ℕ × Bool) → Type 0
-AreCompared method [] = Unit {0}
-AreCompared method (condition ∷ conditions) = ⊥
+-- The conditions are comparisons that the runs of the path's instances make. No instruction of a method that is explored by now
+-- compares.
+abbrev pub AreCompared : List (ℕ × Bool) → Type 0
+AreCompared [] = Unit {0}
+AreCompared (condition ∷ conditions) = ⊥
 
--- The decisions are choices that the runs of the path's instances meet. Nothing that is built chooses.
-abbrev pub AreChosen : Method → List ℕ → Type 0
-AreChosen method [] = Unit {0}
-AreChosen method (number ∷ numbers) = ⊥
+-- The decisions are choices that the runs of the path's instances meet. Nothing in a method that is explored by now chooses.
+abbrev pub AreChosen : List ℕ → Type 0
+AreChosen [] = Unit {0}
+AreChosen (number ∷ numbers) = ⊥
 
 -- whether a leaf was left for want of paths that may be listed; by now none is
 abbrev pub is_open : Leaf → Bool
@@ -75,12 +82,12 @@ count_closed [] = 0
 count_closed (path ∷ paths) = cond (is_open path.leaf) 0 1 + count_closed paths
 
 -- The paths of a report cover the method's inputs.
-pub record Covers (world : World) (id : MethodId) (method : Method) (report : Report) : Type 0 where
+pub record Covers (world : World) (id : MethodId) (report : Report) : Type 0 where
   -- each type-correct input is an instance of exactly one path
   pub exactly_one : (input : Input) → IsTypeCorrect world id input → OfExactlyOne input report.leaves
   -- what a path's leaf says holds of each of its instances
   pub holds : (input : Input) → IsTypeCorrect world id input →
-      EachPath (λ path. IsInstance path input → HoldsOf report.bounds.run method path path.leaf input) report.leaves
+      EachPath (λ path. IsInstance path input → HoldsOf (setting_of world report.bounds.run) id path path.leaf input) report.leaves
   -- each path carries an instance
   pub carries : EachPath (λ path. CarriesInstance world id path path.leaf) report.leaves
   -- each path is well-formed
@@ -90,8 +97,8 @@ pub record Covers (world : World) (id : MethodId) (method : Method) (report : Re
   -- at most so many paths are not open as may be listed
   pub few : count_closed report.leaves ≤ report.paths
   -- no path splits inputs by a comparison of its own, or by a choice of its own
-  pub compared : EachPath (λ path. AreCompared method path.when) report.leaves
-  pub chosen : EachPath (λ path. AreChosen method path.decisions) report.leaves
+  pub compared : EachPath (λ path. AreCompared path.when) report.leaves
+  pub chosen : EachPath (λ path. AreChosen path.decisions) report.leaves
 
 -- ---- reports
 
@@ -108,9 +115,7 @@ pub record IsReportOf (world : World) (job : Job) (report : Report) : Type 0 whe
   pub head : HasHead job report
   pub id : MethodId
   pub found : IsTargetOf world job.target id
-  pub method : Method
-  pub runs : IsMethod world id method
-  pub covers : Covers world id method report
+  pub covers : Covers world id report
 
 -- whether a leaf says how every instance's run ends
 abbrev pub is_told : Leaf → Bool
@@ -127,20 +132,20 @@ HasStatus report status = IsStatusOf (list_all (λ path. is_told path.leaf) repo
 
 -- ---- tests
 
--- the test of an ended path: its input, and the ending and the heap that it states for that input
-abbrev pub test_of : Report → Path → Ended → Test
-test_of report path ended = record {
+-- the test of an ended path in its world: its input, and the ending and the heap that it states for that input
+abbrev pub test_of : World → Report → Path → Ended → Test
+test_of world report path ended = record {
   target = report.target;
   bounds = report.bounds.run;
   input = ended.input;
   ending = ending_of path ended ended.input;
-  heap = final_heap_of path ended ended.input;
+  heap = final_heap_of world path ended ended.input;
 }
 
 -- the tests of a path: one, where it has ended
-abbrev pub path_tests : Report → Path → Leaf → List Test
-path_tests report path (EndedLeaf ended) = test_of report path ended ∷ []
+abbrev pub path_tests : World → Report → Path → Leaf → List Test
+path_tests world report path (EndedLeaf ended) = test_of world report path ended ∷ []
 
 -- the tests of a report: that of each ended path, in order
-abbrev pub tests_of : Report → List Test
-tests_of report = flat_map (λ path. path_tests report path path.leaf) report.leaves
+abbrev pub tests_of : World → Report → List Test
+tests_of world report = flat_map (λ path. path_tests world report path path.leaf) report.leaves

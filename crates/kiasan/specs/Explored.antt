@@ -8,7 +8,7 @@ use Rattle.kb_heap.specs.declared.heap.Value.TheVariants.{Int}
 use Rattle.kb_heap.specs.declared.heap.Heap.{Heap}
 use Rattle.kb_heap.specs.declared.ending.Ending.TheVariants.{Returned}
 use Rattle.kb_names.specs.declared.types.Target.{Target}
-use Rattle.kb_semantics.specs.Machine.{AreBuilt, Method}
+use Rattle.kiasan.specs.StraightMachine.{AreBuilt, Method}
 use Rattle.kb_terms.specs.Terms.{IsTerm, value_of}
 use Rattle.kb_terms.specs.declared.node.VarKind.TheVariants.{Int as IntKind}
 use Rattle.kiasan.specs.Paths.{variable_kinds}

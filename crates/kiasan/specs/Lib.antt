@@ -12,6 +12,7 @@ pub mod Report
 pub mod ReportExample
 pub mod StatusNumber
 pub mod Straight
+pub mod StraightMachine
 pub mod StraightPath
 pub mod Symbolic
 pub mod Target

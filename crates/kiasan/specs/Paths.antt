@@ -11,7 +11,9 @@ use Rattle.kb_heap.specs.declared.ending.Ending.TheVariants.{Returned as RunRetu
 use Rattle.kb_names.specs.declared.types.JType.{JType}
 use Rattle.kb_names.specs.declared.types.JType.TheVariants.{Bool as BoolType}
 use Rattle.kb_names.specs.declared.types.Target.{Target}
-use Rattle.kb_semantics.specs.Machine.{int_of}
+use Rattle.kb_link.specs.World.{World}
+use Rattle.kb_semantics.specs.Operands.{int_of}
+use Rattle.kb_semantics.specs.Step.{first_heap}
 use Rattle.kb_terms.specs.declared.op.Op.{Op}
 use Rattle.kb_terms.specs.declared.op.Op.TheVariants.{Eq, Lt, Ult}
 use Rattle.kb_terms.specs.declared.node.TermId.{TermId}
@@ -93,10 +95,10 @@ ending_at variables terms (Returned out) = RunReturned (option_map (out_value va
 abbrev pub ending_of : Path → Ended → Input → Ending
 ending_of path ended input = ending_at (variable_values input path.picture.seen) (stated_values path input) ended.ending
 
--- The heap that an ended path states for an instance: the first heap, with what the run wrote, and behind it the literals and
--- what the run made. By now nothing is written or made, and there are no literals.
-abbrev pub final_heap_of : Path → Ended → Input → Heap
-final_heap_of path ended input = input.heap
+-- The heap that an ended path states for an instance: the first heap of the run, that is the input's objects and the literals
+-- of the world behind them, with what the run wrote, and behind it what the run made. By now nothing is written or made.
+abbrev pub final_heap_of : World → Path → Ended → Input → Heap
+final_heap_of world path ended input = first_heap world input.heap
 
 -- ---- well-formed paths
 

@@ -11,8 +11,8 @@ use Rattle.kb_heap.specs.declared.heap.Input.{Input}
 use Rattle.kb_heap.specs.declared.ending.Ending.{Ending}
 use Rattle.kb_heap.specs.declared.ending.Ending.TheVariants.{Returned, Threw, IllTyped, Past}
 use Rattle.kb_names.specs.declared.types.Target.{Target}
-use Rattle.kb_semantics.specs.Machine.{AreBuilt, Method, Ended, run, start_of}
-use Rattle.kb_semantics.specs.Types.{IsMethod}
+use Rattle.kb_semantics.specs.Config.{Ended}
+use Rattle.kiasan.specs.StraightMachine.{AreBuilt, IsMethod, Method, run, start_of}
 use Rattle.kb_link.specs.Slots.{is_static}
 use Rattle.kb_link.specs.Targets.{IsTargetOf}
 use Rattle.kb_link.specs.World.{World}
@@ -67,7 +67,7 @@ abbrev pub has_wide : List (ℕ × Instr) → ℕ → Bool
 has_wide [] size = false
 has_wide (item ∷ rest) size = if is_wide item.1 (offset_of rest size - item.0) then true else has_wide rest size
 
--- The target names a straight method of the world, which the machine runs as this method: it takes ints alone and gives an
+-- The target names a straight method of the world, which the straight machine runs as this method: it takes ints alone and gives an
 -- int, is static, can be carried out with all that it reaches, has code without handlers, not too many instructions, all of them built
 -- and none in its wide form, a return at the end alone, and no run over ints of 32 bits that is ill-typed. So its opcodes are among 00, 02 to 08, 10, 11, 15, 1a to
 -- 1d, 36, 3b to 3e, 57, 59, 60, 64, 68, 74, 78, 7a, 7c, 7e, 80, 82, 84, 91 to 93 and ac.

@@ -2,7 +2,7 @@
 use Rattle.std.specs.Prelude.{◌≡◌, ℕ, zero, suc, ◌≤◌, ℤ, pos, List, [], ◌∷◌, ◌++◌, length, replicate, Some}
 use Rattle.kb_heap.specs.declared.heap.Value.TheVariants.{Int as IntValue}
 use Rattle.kb_heap.specs.declared.heap.Input.{Input}
-use Rattle.kb_semantics.specs.Machine.{Method}
+use Rattle.kiasan.specs.StraightMachine.{Method}
 use Rattle.kb_class.specs.declared.ids.MethodId.{MethodId}
 use Rattle.kb_link.specs.World.{World}
 use Rattle.kiasan.specs.declared.path.Operand.{Operand}

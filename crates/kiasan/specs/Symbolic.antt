@@ -14,7 +14,7 @@ use Rattle.kb_heap.specs.declared.heap.Value.{Value}
 use Rattle.kb_heap.specs.declared.heap.Heap.{Heap}
 use Rattle.kb_heap.specs.declared.heap.Value.TheVariants.{Int}
 use Rattle.kb_heap.specs.declared.ending.Ending.TheVariants.{Returned}
-use Rattle.kb_semantics.specs.Machine.{Method, Config, Outcome, Goes, Ends, ill_typed, goes_on, with_local, pops_int, effect}
+use Rattle.kiasan.specs.StraightMachine.{Method, Config, Outcome, Goes, Ends, ill_typed, goes_on, with_local, pops_int, effect}
 use Rattle.kb_code.specs.declared.instruction.Instr.TheVariants.{ReturnInt}
 
 -- the int that a term stands for
@@ -34,9 +34,7 @@ config_of method at carried heap inputs s =
         at = at;
         locals = local_values s.pool inputs s.locals.items;
         stack = map (int_value s.pool inputs) s.stack;
-        transfers = 0;
       };
-      callers = [];
       heap = heap;
       carried = carried;
     }

@@ -1,8 +1,8 @@
 -- The tests of a replay: what refuses one, and what the machine's run says of it.
 use Rattle.std.specs.Prelude.{◌≡◌, ◌⊎◌, ℕ, ◌+◌, Bool, true, false, cond, nat_eq, List, [], ◌∷◌, ◌++◌, length}
 use Rattle.kb_names.specs.declared.types.Target.{Target}
-use Rattle.kb_semantics.specs.Machine.{Method, run_of}
-use Rattle.kb_semantics.specs.Types.{IsTypeCorrect}
+use Rattle.kb_semantics.specs.Step.{run_of}
+use Rattle.kb_semantics.specs.Inputs.{IsTypeCorrect}
 use Rattle.kb_test.specs.declared.test_case.Test.{Test}
 use Rattle.kb_class.specs.declared.ids.MethodId.{MethodId}
 use Rattle.kb_link.specs.Targets.{IsTargetOf}
@@ -13,13 +13,13 @@ use Rattle.kiasan.specs.declared.replay.Replayed.{Replayed}
 use Rattle.kiasan.specs.declared.replay.Replayed.TheVariants.{Passes, Differs}
 use Rattle.kiasan.specs.declared.status.Status.{Status}
 use Rattle.kiasan.specs.declared.status.Status.TheVariants as statuses
+use Rattle.kiasan.specs.Covering.{setting_of}
 use Rattle.kiasan.specs.Reach.{TargetRefuses}
-use Rattle.kiasan.specs.Straight.{IsStraight}
 use Rattle.kiasan.specs.Unbuilt.{IsBuiltMethod}
 
--- the literals that the heaps of tests hold by now: none, as no instruction is built that reads one
-abbrev pub no_literals : ℕ
-no_literals = 0
+-- how many string literals a world has
+abbrev pub literals_in : World → ℕ
+literals_in world = length world.literals
 
 -- ---- what refuses a test
 
@@ -36,14 +36,14 @@ RefusesTest world number test refusal =
     ⊎ ((refusal ≡ IllTypedTest number) × (id : MethodId) × IsTargetOf world test.target id × (IsTypeCorrect world id test.input → ⊥))
     ⊎ ((id : MethodId) × IsFit world test id × TargetRefuses (IsBuiltMethod world test.target) world test.target refusal)
 
--- The test is run, by this method.
-pub record IsRunnable (world : World) (test : Test) (id : MethodId) (method : Method) : Type 0 where
-  pub straight : IsStraight world test.target id method
+-- The test is run, by the method of that number.
+pub record IsRunnable (world : World) (test : Test) (id : MethodId) : Type 0 where
+  pub built : IsBuiltMethod world test.target id
   pub correct : IsTypeCorrect world id test.input
 
 abbrev pub AreRunnable : World → List Test → List MethodId → Type 0
 AreRunnable world [] [] = Unit {0}
-AreRunnable world (test ∷ tests) (id ∷ ids) = ((method : Method) × IsRunnable world test id method) × AreRunnable world tests ids
+AreRunnable world (test ∷ tests) (id ∷ ids) = IsRunnable world test id × AreRunnable world tests ids
 AreRunnable world [] (id ∷ ids) = ⊥
 AreRunnable world (test ∷ tests) [] = ⊥
 
@@ -69,20 +69,20 @@ AreBuilt world (id ∷ ids) = ((target : Target) × IsBuiltMethod world target i
 
 -- ---- verdicts
 
--- The test ends as it says, where the machine runs it.
-abbrev pub EndsAsStated : Method → Test → Type 0
-EndsAsStated method test = run_of test.bounds method test.input ≡ record { ending = test.ending; heap = test.heap }
+-- The test ends as it says, where the machine runs that method.
+abbrev pub EndsAsStated : World → MethodId → Test → Type 0
+EndsAsStated world id test = run_of (setting_of world test.bounds) id test.input ≡ record { ending = test.ending; heap = test.heap }
 
 -- What the machine's run says of a test: it passes where the run ends as the test says, and leaves the heap that it says.
-abbrev pub IsVerdict : Method → Test → Replayed → Type 0
-IsVerdict method test Passes = EndsAsStated method test
-IsVerdict method test (Differs ending heap) =
-    (run_of test.bounds method test.input ≡ record { ending = ending; heap = heap }) × (EndsAsStated method test → ⊥)
+abbrev pub IsVerdict : World → MethodId → Test → Replayed → Type 0
+IsVerdict world id test Passes = EndsAsStated world id test
+IsVerdict world id test (Differs ending heap) =
+    (run_of (setting_of world test.bounds) id test.input ≡ record { ending = ending; heap = heap }) × (EndsAsStated world id test → ⊥)
 
 abbrev pub AreVerdicts : World → List Test → List Replayed → Type 0
 AreVerdicts world [] [] = Unit {0}
 AreVerdicts world (test ∷ tests) (verdict ∷ verdicts) =
-    ((id : MethodId) × (method : Method) × IsRunnable world test id method × IsVerdict method test verdict) × AreVerdicts world tests verdicts
+    ((id : MethodId) × IsRunnable world test id × IsVerdict world id test verdict) × AreVerdicts world tests verdicts
 AreVerdicts world [] (verdict ∷ verdicts) = ⊥
 AreVerdicts world (test ∷ tests) [] = ⊥
 

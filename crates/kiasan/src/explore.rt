@@ -7,7 +7,7 @@ ghost use Rattle.kb_code.specs.Listing.{IsLaidOut};
 ghost use Rattle.kb_heap.specs.declared.heap.Heap.{Heap};
 ghost use Rattle.kb_heap.specs.declared.heap.Value.TheVariants.{Int};
 ghost use Rattle.kb_heap.specs.declared.ending.Ending.TheVariants.{Returned};
-ghost use Rattle.kb_semantics.specs.Machine.{AreBuilt, Method};
+ghost use Rattle.kiasan.specs.StraightMachine.{AreBuilt, Method};
 ghost use Rattle.kiasan.specs.Straight.{run_over};
 ghost use Rattle.kb_terms.specs.declared.node.VarKind.TheVariants.{Int as IntKind};
 ghost use Rattle.kiasan.specs.Paths.{variable_kinds};

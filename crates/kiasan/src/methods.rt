@@ -34,7 +34,7 @@ pub fn answer_tests(alloc: Global, world: &World, job: &Job) -> Result<Answer, S
     ensures { Carries ⊥ (RepliesJob IsTestsTextOf world.now job.now) result }
 {
     let report = explore_job(alloc, world, job)?;
-    let text = tests_text(alloc, &report)?;
+    let text = tests_text(alloc, world, &report)?;
     Ok(Answer {
         status: Status::Complete,
         text,

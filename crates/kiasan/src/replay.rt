@@ -1,7 +1,6 @@
 //! The replay of tests: each is run, and its run is held against what it says.
 
 ghost use Rattle.std.specs.Prelude.{◌≡◌, ◌+◌, length, IfOk, IsTrue};
-ghost use Rattle.kb_semantics.specs.Machine.{Method};
 ghost use Rattle.kiasan.specs.Answers.{AreTestsOf, Carries, RepliesReplay, TextRefuses};
 ghost use Rattle.kiasan.specs.Reach.{TargetRefuses};
 ghost use Rattle.kiasan.specs.Refusals.{Gives};
@@ -11,7 +10,6 @@ ghost use Rattle.kiasan.specs.Unbuilt.{IsBuiltMethod};
 use crate::answer::TEXT_LIMIT;
 use crate::memory::NoMemory;
 use crate::refusals::{Answer, Refusal, Stop};
-use crate::reports::NO_LITERALS;
 use crate::status::Status;
 use crate::unbuilt::check_built;
 use crate::verdicts::replay_text;
@@ -37,22 +35,27 @@ pub enum Replayed {
 pub fn replay(alloc: Global, world: &World, bytes: &[u8]) -> Result<Answer, Stop>
     ensures { Carries ⊥ (RepliesReplay bytes.now world.now) result }
 {
-    let tests = read_text(alloc, bytes)?;
+    let tests = read_text(alloc, world.literals(), bytes)?;
     let methods = find_methods(alloc, world, tests.as_slice())?;
     let replayed = run_tests(alloc, world, tests.as_slice(), methods.as_slice())?;
-    let text = replay_text(alloc, tests.as_slice(), replayed.as_slice())?;
+    let text = replay_text(
+        alloc,
+        world.literals(),
+        tests.as_slice(),
+        replayed.as_slice(),
+    )?;
     let status = replay_status(replayed.as_slice());
     Ok(Answer { status, text })
 }
 
-/// The tests of a file, where these are its bytes.
-fn read_text(alloc: Global, bytes: &[u8]) -> Result<Row<Test>, Stop>
-    ensures { Gives ⊥ (TextRefuses bytes.now) (AreTestsOf bytes.now) result }
+/// The tests of a file, where these are its bytes, for a world of so many literals.
+fn read_text(alloc: Global, literals: u32, bytes: &[u8]) -> Result<Row<Test>, Stop>
+    ensures { Gives ⊥ (TextRefuses literals bytes.now) (AreTestsOf literals bytes.now) result }
 {
     if bytes.len() > TEXT_LIMIT {
         return Err(Stop::Refused(Refusal::LongText));
     }
-    Ok(read_tests(alloc, bytes, NO_LITERALS)?)
+    Ok(read_tests(alloc, bytes, literals)?)
 }
 
 /// Looks at each test, in order, whether it is fit to be run.
@@ -77,7 +80,7 @@ fn find_method(
     built: &mut Vec<MethodId>,
 ) -> Result<MethodId, Stop>
     requires { AreBuilt world.now built.old.items }
-    ensures method { Gives ⊥ (RefusesTest world.now number test.now) (λ id. (method : Method) × IsRunnable world.now test.now id method) result }
+    ensures method { Gives ⊥ (RefusesTest world.now number test.now) (IsRunnable world.now test.now) result }
     ensures built { AreBuilt world.now built.new.items }
 {
     let Some(id) = world.find_target(&test.target) else {
@@ -138,8 +141,8 @@ fn run_tests(
 
 /// Runs a test by its method, and holds the run against what the test says.
 fn run_test(alloc: Global, world: &World, test: &Test, id: MethodId) -> Result<Replayed, NoMemory>
-    requires { (method : Method) × IsRunnable world.now test.now id method }
-    ensures { IfOk result (λ verdict. (method : Method) → IsRunnable world.now test.now id method → IsVerdict method test.now verdict) }
+    requires { IsRunnable world.now test.now id }
+    ensures { IfOk result (IsVerdict world.now id test.now) }
 {
     let (ending, heap) = run(alloc, world, id, &test.input, &test.bounds)?;
     if !ending.is_same(&test.ending) {

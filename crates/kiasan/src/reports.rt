@@ -2,7 +2,9 @@
 
 ghost use Rattle.std.specs.Prelude.{◌≡◌, ◌≤◌, List, ◌++◌, IfOk, IfSome, IfNone, OnOk};
 ghost use Rattle.kb_names.specs.Targets.{IsTarget};
-ghost use Rattle.kb_semantics.specs.Machine.{Method};
+ghost use Rattle.kiasan.specs.StraightMachine.{Method};
+ghost use Rattle.kb_semantics.specs.Step.{first_heap};
+ghost use Rattle.kb_semantics.specs.Values.{literal};
 ghost use Rattle.kb_terms.specs.Terms.{IsTerm};
 ghost use Rattle.kb_test.specs.Texts.{AreTests, IsRunBounds, SpellsTests, tests_text};
 ghost use Rattle.kb_link.specs.Targets.{IsTargetOf};
@@ -12,7 +14,7 @@ ghost use Rattle.kb_class.specs.declared.ids.MethodId.{MethodId};
 ghost use Rattle.kiasan.specs.Covering.{IsReportOf, path_tests, test_of, tests_of};
 ghost use Rattle.kiasan.specs.Explored.{IsExplored};
 ghost use Rattle.kiasan.specs.StraightPath.{IsExplorable, StatesResult, arguments_seen, zero_input};
-ghost use Rattle.kiasan.specs.Tests.{no_literals};
+ghost use Rattle.kiasan.specs.Tests.{literals_in};
 
 use crate::explore::Explored;
 use crate::memory::NoMemory;
@@ -23,14 +25,12 @@ use crate::report::Report;
 use crate::straight::explore_method;
 use crate::words::Job;
 use kb_class::MethodId;
-use kb_heap::{Heap, Input, Value};
+use kb_heap::{Heap, Input, Object, Value};
+use kb_names::{ExactType, Name};
 use kb_rows::Row;
 use kb_test::{Test, write_test};
 use kb_world::World;
 use std::alloc::Global;
-
-/// How many literals stand in the heaps of tests: by now none, as no instruction is built that reads one.
-pub const NO_LITERALS: u32 = 0;
 
 /// The report of the job's method. There is none where the method is not straight, or may have more instructions than the
 /// job's bounds allow, or where no path may be listed. Refused for want of memory alone.
@@ -45,7 +45,7 @@ pub fn report_of(
     ensures report { IfOk result (λ r. IfSome r (IsReportOf world.now job.now)) }
     ensures explorable { IfOk result (λ r. IfSome r (λ _. (method : Method) × IsExplorable world.now job.now id method)) }
     ensures none { IfOk result (λ r. IfNone r ((method : Method) → IsExplorable world.now job.now id method → ⊥)) }
-    ensures tests { IfOk result (λ r. IfSome r (λ report. IsTarget job.now.target → IsRunBounds job.now.bounds.run → AreTests no_literals (tests_of report))) }
+    ensures tests { IfOk result (λ r. IfSome r (λ report. IsTarget job.now.target → IsRunBounds job.now.bounds.run → AreTests (literals_in world.now) (tests_of world.now report))) }
 {
     if job.paths == 0 {
         return Ok(None);
@@ -63,7 +63,7 @@ pub fn report_of(
 fn straight_report(alloc: Global, job: &Job, explored: &Explored) -> Result<Report, NoMemory>
     requires { IsTerm explored.now.pool explored.now.result }
     ensures report { IfOk result (λ r. (world : World) (id : MethodId) → IsExplored world job.now.target id explored.now → explored.now.instructions ≤ job.now.bounds.run.steps → 1 ≤ job.now.paths → IsReportOf world job.now r) }
-    ensures tests { IfOk result (λ r. IsTarget job.now.target → IsRunBounds job.now.bounds.run → AreTests no_literals (tests_of r)) }
+    ensures tests { IfOk result (λ r. (world : World) → IsTarget job.now.target → IsRunBounds job.now.bounds.run → AreTests (literals_in world) (tests_of world r)) }
 {
     let path = straight_path(alloc, job.target.kind.params.as_slice().len(), explored)?;
     let mut leaves = Row::new(alloc);
@@ -121,15 +121,15 @@ fn zero_input(alloc: Global, params: usize) -> Result<Input, NoMemory>
     })
 }
 
-/// The text of the tests of a report: that of each ended path, in order. Refused for want of memory alone.
-pub fn tests_text(alloc: Global, report: &Report) -> Result<Vec<u8>, NoMemory>
-    requires { AreTests no_literals (tests_of report.now) }
-    ensures { IfOk result (λ text. SpellsTests no_literals (tests_of report.now) text.items) }
+/// The text of the tests of a report in its world: that of each ended path, in order. Refused for want of memory alone.
+pub fn tests_text(alloc: Global, world: &World, report: &Report) -> Result<Vec<u8>, NoMemory>
+    requires { AreTests (literals_in world.now) (tests_of world.now report.now) }
+    ensures { IfOk result (λ text. SpellsTests (literals_in world.now) (tests_of world.now report.now) text.items) }
 {
     let mut text = Vec::new(alloc);
     let mut rest = report.leaves.as_slice();
     while let [path, others @ ..] = rest {
-        write_path_tests(alloc, report, path, &mut text)?;
+        write_path_tests(alloc, world, report, path, &mut text)?;
         rest = others;
     }
     Ok(text)
@@ -138,25 +138,32 @@ pub fn tests_text(alloc: Global, report: &Report) -> Result<Vec<u8>, NoMemory>
 /// Appends the test of a path, where it has ended.
 fn write_path_tests(
     alloc: Global,
+    world: &World,
     report: &Report,
     path: &Path,
     text: &mut Vec<u8>,
 ) -> Result<(), NoMemory>
-    requires { AreTests no_literals (path_tests report.now path.now path.now.leaf) }
-    ensures { OnOk result (text.new.items ≡ text.old.items ++ tests_text (path_tests report.now path.now path.now.leaf)) }
+    requires { AreTests (literals_in world.now) (path_tests world.now report.now path.now path.now.leaf) }
+    ensures { OnOk result (text.new.items ≡ text.old.items ++ tests_text (path_tests world.now report.now path.now path.now.leaf)) }
 {
     match &path.leaf {
         Leaf::Ended(ended) => {
-            let test = test_of(alloc, report, path, ended)?;
-            write_test(alloc, &test, NO_LITERALS, text)?;
+            let test = test_of(alloc, world, report, path, ended)?;
+            write_test(alloc, &test, world.literals(), text)?;
             Ok(())
         }
     }
 }
 
 /// The test of an ended path.
-fn test_of(alloc: Global, report: &Report, path: &Path, ended: &Ended) -> Result<Test, NoMemory>
-    ensures { IfOk result (λ test. test ≡ test_of report.now path.now ended.now) }
+fn test_of(
+    alloc: Global,
+    world: &World,
+    report: &Report,
+    path: &Path,
+    ended: &Ended,
+) -> Result<Test, NoMemory>
+    ensures { IfOk result (λ test. test ≡ test_of world.now report.now path.now ended.now) }
 {
     let ending = ending_of(alloc, path, ended)?;
     Ok(Test {
@@ -164,6 +171,28 @@ fn test_of(alloc: Global, report: &Report, path: &Path, ended: &Ended) -> Result
         bounds: report.bounds.run,
         input: ended.input.copied(alloc)?,
         ending,
-        heap: ended.input.heap.copied(alloc)?,
+        heap: first_heap(alloc, world, &ended.input.heap)?,
+    })
+}
+
+/// The first heap of a run: the objects of the input, and behind them one for each literal of the world.
+fn first_heap(alloc: Global, world: &World, input: &Heap) -> Result<Heap, NoMemory>
+    ensures { IfOk result (λ heap. heap ≡ first_heap world.now input.now) }
+{
+    let mut heap = input.copied(alloc)?;
+    for _literal in 0..world.literals() {
+        heap.objects.push(literal(alloc)?)?;
+    }
+    Ok(heap)
+}
+
+/// The object of a string literal, which has no slots.
+fn literal(alloc: Global) -> Result<Object, NoMemory>
+    ensures { IfOk result (λ object. object ≡ literal) }
+{
+    let name = Name::from_slice(alloc, b"java/lang/String")?;
+    Ok(Object {
+        kind: ExactType::Class(name),
+        values: Row::new(alloc),
     })
 }

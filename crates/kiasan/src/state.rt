@@ -5,7 +5,7 @@ ghost use Rattle.kb_terms.specs.Op.{is_binary, op_value};
 ghost use Rattle.kb_terms.specs.Terms.{IsTerm, AreOperands, Extends, value_of, operand_value};
 ghost use Rattle.kb_heap.specs.declared.heap.Heap.{Heap};
 ghost use Rattle.kb_heap.specs.declared.heap.Value.TheVariants.{Int};
-ghost use Rattle.kb_semantics.specs.Machine.{effect, is_built, Method, start_of};
+ghost use Rattle.kiasan.specs.StraightMachine.{effect, is_built, Method, start_of};
 ghost use Rattle.kb_terms.specs.declared.node.VarKind.TheVariants.{Int as IntKind};
 ghost use Rattle.kiasan.specs.Paths.{variable_kinds};
 ghost use Rattle.kiasan.specs.Straight.{ints_input};
@@ -41,11 +41,11 @@ pub struct State {
     pub limits: Limits,
 }
 
-#[tactic(auto, unfolding(kb_semantics::specs::Machine::effect))]
+#[tactic(auto, unfolding(crate::specs::StraightMachine::effect))]
 impl State {
     /// The beginning of a method that takes so many ints: the arguments are variables, and hold the first locals,
     /// also where they are more than the limit.
-    #[tactic(auto, unfolding(kb_semantics::specs::Machine::effect))]
+    #[tactic(auto, unfolding(crate::specs::StraightMachine::effect))]
     pub fn start(alloc: Global, params: usize, limits: Limits) -> Result<State, NoMemory>
         ensures sound { IfOk result IsSound }
         ensures limits { IfOk result (λ s. s.limits ≡ limits) }

@@ -2,12 +2,13 @@
 
 ghost use Rattle.std.specs.Prelude.{◌≡◌, IfOk, IfSome, IfNone};
 ghost use Rattle.kb_code.specs.Listing.{IsLaidOut, offset_of};
-ghost use Rattle.kb_semantics.specs.Machine.{AreBuilt, Method};
+ghost use Rattle.kiasan.specs.StraightMachine.{AreBuilt, Method};
 ghost use Rattle.kb_link.specs.Targets.{IsTargetOf};
 ghost use Rattle.kb_world.specs.Reach.{IsAccepted};
 ghost use Rattle.kiasan.specs.Straight.{IsStraight, has_wide, is_wide};
 ghost use Rattle.kiasan.specs.Explored.{IsExplored, IsCarriedOut, IsStraightRun, IsCodeOf, HasNoCode};
 
+use crate::built::are_built;
 use crate::explore::{Explored, StraightCode, ends_by_return, explore};
 use crate::memory::NoMemory;
 use crate::state::Limits;
@@ -15,7 +16,6 @@ use crate::target::takes_ints;
 use kb_class::{MethodId, MethodInfo};
 use kb_classfile::STATIC;
 use kb_code::Instr;
-use kb_machine::are_built;
 use kb_names::Target;
 use kb_world::World;
 use std::alloc::Global;

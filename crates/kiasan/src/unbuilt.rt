@@ -9,7 +9,7 @@ ghost use Rattle.kiasan.specs.Answers.{IsWrittenReport};
 ghost use Rattle.kiasan.specs.Covering.{IsReportOf, tests_of};
 ghost use Rattle.kiasan.specs.Reach.{TargetRefuses};
 ghost use Rattle.kiasan.specs.Refusals.{Gives};
-ghost use Rattle.kiasan.specs.Tests.{no_literals};
+ghost use Rattle.kiasan.specs.Tests.{literals_in};
 ghost use Rattle.kiasan.specs.Unbuilt.{IsBuiltFor, IsBuiltMethod};
 
 use crate::refusals::{Refusal, Stop};

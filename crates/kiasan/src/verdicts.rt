@@ -5,23 +5,31 @@ ghost use Rattle.kiasan.specs.Verdicts.{object_text, value_text, values_text, ex
 
 use crate::memory::NoMemory;
 use crate::replay::{Replayed, count_differs};
-use crate::reports::NO_LITERALS;
 use kb_heap::{Heap, Object, Value};
 use kb_names::{ExactType, Spelling, write_name, write_type};
 use kb_test::{Test, ending_text};
 use std::alloc::Global;
 
-/// The text of a replay.
+/// The parts of a run's heap: how many objects of the input come first, and how many literals behind them. What the run made
+/// is behind both.
+#[derive(Clone, Copy, Debug)]
+pub struct HeapParts {
+    pub inputs: usize,
+    pub literals: usize,
+}
+
+/// The text of a replay in a world of so many literals.
 #[tactic(auto, unfolding(crate::specs::Verdicts::replay_text))]
 pub fn replay_text(
     alloc: Global,
+    literals: u32,
     tests: &[Test],
     replayed: &[Replayed],
 ) -> Result<Vec<u8>, NoMemory>
-    ensures { IfOk result (λ text. text.items ≡ replay_text tests.now replayed.now) }
+    ensures { IfOk result (λ text. text.items ≡ replay_text literals tests.now replayed.now) }
 {
     let mut text = Vec::new(alloc);
-    write_verdicts(alloc, tests, replayed, &mut text)?;
+    write_verdicts(alloc, literals, tests, replayed, &mut text)?;
     write_total(alloc, replayed, &mut text)?;
     Ok(text)
 }
@@ -29,11 +37,12 @@ pub fn replay_text(
 #[tactic(auto, unfolding(crate::specs::Verdicts::verdicts_text))]
 fn write_verdicts(
     alloc: Global,
+    literals: u32,
     tests: &[Test],
     replayed: &[Replayed],
     text: &mut Vec<u8>,
 ) -> Result<(), NoMemory>
-    ensures { OnOk result (text.new.items ≡ text.old.items ++ verdicts_text 0 replayed.now tests.now) }
+    ensures { OnOk result (text.new.items ≡ text.old.items ++ verdicts_text literals 0 replayed.now tests.now) }
 {
     let mut number: usize = 0;
     let mut rest = replayed;
@@ -42,7 +51,7 @@ fn write_verdicts(
         let [test, other_tests @ ..] = tests else {
             return Ok(());
         };
-        write_verdict(alloc, number, test, verdict, text)?;
+        write_verdict(alloc, literals, number, test, verdict, text)?;
         number += 1;
         tests = other_tests;
         rest = others;
@@ -53,12 +62,13 @@ fn write_verdicts(
 #[tactic(auto, unfolding(crate::specs::Verdicts::verdict_text))]
 fn write_verdict(
     alloc: Global,
+    literals: u32,
     number: usize,
     test: &Test,
     verdict: &Replayed,
     text: &mut Vec<u8>,
 ) -> Result<(), NoMemory>
-    ensures { OnOk result (text.new.items ≡ text.old.items ++ verdict_text number test.now verdict.now) }
+    ensures { OnOk result (text.new.items ≡ text.old.items ++ verdict_text literals number test.now verdict.now) }
 {
     match verdict {
         Replayed::Passes => {
@@ -72,20 +82,29 @@ fn write_verdict(
             let line = ending_text(alloc, ending)?;
             text.extend_from_slice(line.as_slice())?;
             text.push(b'\n')?;
-            write_heap(alloc, test.input.heap.objects.as_slice().len(), heap, text)
+            let parts = HeapParts {
+                inputs: test.input.heap.objects.as_slice().len(),
+                literals: literals as usize,
+            };
+            write_heap(alloc, parts, heap, text)
         }
     }
 }
 
-/// The heap that a run left over an input of so many objects: what these hold, and behind the literals what was made.
+/// The heap that a run left: what the objects of the input hold, and behind the literals what was made.
 #[tactic(auto, unfolding(crate::specs::Verdicts::heap_lines))]
-fn write_heap(alloc: Global, inputs: usize, heap: &Heap, text: &mut Vec<u8>) -> Result<(), NoMemory>
-    ensures { OnOk result (text.new.items ≡ text.old.items ++ heap_lines inputs heap.now) }
+fn write_heap(
+    alloc: Global,
+    parts: HeapParts,
+    heap: &Heap,
+    text: &mut Vec<u8>,
+) -> Result<(), NoMemory>
+    ensures { OnOk result (text.new.items ≡ text.old.items ++ heap_lines parts heap.now) }
 {
     let objects = heap.objects.as_slice();
-    write_changed(alloc, inputs, front(objects, inputs), text)?;
-    let made = behind(behind(objects, inputs), NO_LITERALS as usize);
-    write_made(alloc, inputs, made, text)
+    write_changed(alloc, parts, front(objects, parts.inputs), text)?;
+    let made = behind(behind(objects, parts.inputs), parts.literals);
+    write_made(alloc, parts, made, text)
 }
 
 /// The first objects, so many of them or all.
@@ -111,16 +130,16 @@ fn behind(objects: &[Object], count: usize) -> &[Object]
 #[tactic(auto, unfolding(crate::specs::Verdicts::out_lines))]
 fn write_changed(
     alloc: Global,
-    inputs: usize,
+    parts: HeapParts,
     objects: &[Object],
     text: &mut Vec<u8>,
 ) -> Result<(), NoMemory>
-    ensures { OnOk result (text.new.items ≡ text.old.items ++ out_lines inputs 0 objects.now) }
+    ensures { OnOk result (text.new.items ≡ text.old.items ++ out_lines parts 0 objects.now) }
 {
     let mut number: usize = 0;
     let mut rest = objects;
     while let [object, others @ ..] = rest {
-        write_out_line(alloc, inputs, number, object, text)?;
+        write_out_line(alloc, parts, number, object, text)?;
         number += 1;
         rest = others;
     }
@@ -130,16 +149,16 @@ fn write_changed(
 #[tactic(auto, unfolding(crate::specs::Verdicts::new_lines))]
 fn write_made(
     alloc: Global,
-    inputs: usize,
+    parts: HeapParts,
     objects: &[Object],
     text: &mut Vec<u8>,
 ) -> Result<(), NoMemory>
-    ensures { OnOk result (text.new.items ≡ text.old.items ++ new_lines inputs 0 objects.now) }
+    ensures { OnOk result (text.new.items ≡ text.old.items ++ new_lines parts 0 objects.now) }
 {
     let mut number: usize = 0;
     let mut rest = objects;
     while let [object, others @ ..] = rest {
-        write_new_line(alloc, inputs, number, object, text)?;
+        write_new_line(alloc, parts, number, object, text)?;
         number += 1;
         rest = others;
     }
@@ -149,16 +168,16 @@ fn write_made(
 #[tactic(auto, unfolding(crate::specs::Verdicts::out_line))]
 fn write_out_line(
     alloc: Global,
-    inputs: usize,
+    parts: HeapParts,
     number: usize,
     object: &Object,
     text: &mut Vec<u8>,
 ) -> Result<(), NoMemory>
-    ensures { OnOk result (text.new.items ≡ text.old.items ++ out_line inputs number object.now) }
+    ensures { OnOk result (text.new.items ≡ text.old.items ++ out_line parts number object.now) }
 {
     let line = format!(in alloc; "out i{number}")?;
     text.extend_from_slice(line.as_bytes())?;
-    write_values(alloc, inputs, object.values.as_slice(), text)?;
+    write_values(alloc, parts, object.values.as_slice(), text)?;
     text.push(b'\n')?;
     Ok(())
 }
@@ -166,17 +185,17 @@ fn write_out_line(
 #[tactic(auto, unfolding(crate::specs::Verdicts::new_line))]
 fn write_new_line(
     alloc: Global,
-    inputs: usize,
+    parts: HeapParts,
     number: usize,
     object: &Object,
     text: &mut Vec<u8>,
 ) -> Result<(), NoMemory>
-    ensures { OnOk result (text.new.items ≡ text.old.items ++ new_line inputs number object.now) }
+    ensures { OnOk result (text.new.items ≡ text.old.items ++ new_line parts number object.now) }
 {
     let line = format!(in alloc; "new n{number} ")?;
     text.extend_from_slice(line.as_bytes())?;
     write_exact(&object.kind, text)?;
-    write_values(alloc, inputs, object.values.as_slice(), text)?;
+    write_values(alloc, parts, object.values.as_slice(), text)?;
     text.push(b'\n')?;
     Ok(())
 }
@@ -199,16 +218,16 @@ fn write_exact(kind: &ExactType, text: &mut Vec<u8>) -> Result<(), NoMemory>
 #[tactic(auto, unfolding(crate::specs::Verdicts::values_text))]
 fn write_values(
     alloc: Global,
-    inputs: usize,
+    parts: HeapParts,
     values: &[Value],
     text: &mut Vec<u8>,
 ) -> Result<(), NoMemory>
-    ensures { OnOk result (text.new.items ≡ text.old.items ++ values_text inputs values.now) }
+    ensures { OnOk result (text.new.items ≡ text.old.items ++ values_text parts values.now) }
 {
     let mut rest = values;
     while let [value, others @ ..] = rest {
         text.push(b' ')?;
-        write_value(alloc, inputs, *value, text)?;
+        write_value(alloc, parts, *value, text)?;
         rest = others;
     }
     Ok(())
@@ -217,16 +236,16 @@ fn write_values(
 #[tactic(auto, unfolding(crate::specs::Verdicts::value_text, crate::specs::Verdicts::object_text))]
 fn write_value(
     alloc: Global,
-    inputs: usize,
+    parts: HeapParts,
     value: Value,
     text: &mut Vec<u8>,
 ) -> Result<(), NoMemory>
-    ensures { OnOk result (text.new.items ≡ text.old.items ++ value_text inputs value) }
+    ensures { OnOk result (text.new.items ≡ text.old.items ++ value_text parts value) }
 {
     let word = match value {
         Value::Int(number) => format!(in alloc; "{number}")?,
         Value::Null => String::from_str(alloc, "null")?,
-        Value::Ref(object) => object_text(alloc, inputs, object as usize)?,
+        Value::Ref(object) => object_text(alloc, parts, object as usize)?,
     };
     text.extend_from_slice(word.as_bytes())?;
     Ok(())
@@ -234,18 +253,17 @@ fn write_value(
 
 /// An object of the input, a literal behind these, or an object of the run behind both.
 #[tactic(auto, unfolding(crate::specs::Verdicts::object_text))]
-fn object_text(alloc: Global, inputs: usize, object: usize) -> Result<String, NoMemory>
-    ensures { IfOk result (λ text. string_bytes text ≡ object_text inputs object) }
+fn object_text(alloc: Global, parts: HeapParts, object: usize) -> Result<String, NoMemory>
+    ensures { IfOk result (λ text. string_bytes text ≡ object_text parts object) }
 {
-    if object < inputs {
+    if object < parts.inputs {
         return Ok(format!(in alloc; "i{object}")?);
     }
-    let behind = object - inputs;
-    let literals = NO_LITERALS as usize;
-    if behind < literals {
+    let behind = object - parts.inputs;
+    if behind < parts.literals {
         return Ok(format!(in alloc; "s{behind}")?);
     }
-    let made = behind - literals;
+    let made = behind - parts.literals;
     Ok(format!(in alloc; "n{made}")?)
 }
 

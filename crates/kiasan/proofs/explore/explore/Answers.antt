@@ -1,5 +1,5 @@
 use Rattle.kiasan.proofs.Exploring.{run_begins, run_goes_on, run_is_ill_typed, return_some, return_variables, return_none, ends_later, never_ends}
-use Rattle.kb_semantics.proofs.Runs.{built_at}
+use Rattle.kiasan.proofs.StraightRuns.{built_at}
 use Rattle.kiasan.proofs.explore.explore.Goals as goal
 
 pub take-requires-clause-built : goal.take-requires-clause-built

@@ -1,5 +1,5 @@
 use Rattle.std.proofs.Common.{inr, refl, rules}
-use Rattle.kb_semantics.specs.Machine.{Method}
+use Rattle.kiasan.specs.StraightMachine.{Method}
 use Rattle.kiasan.specs.Straight.{IsStraight}
 use Rattle.kiasan.proofs.unbuilt.check_built.Goals as goal
 

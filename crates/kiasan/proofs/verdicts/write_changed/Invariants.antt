@@ -4,7 +4,7 @@ use Rattle.kiasan.proofs.verdicts.write_changed.Given as goal
 
 abbrev pub invariant-loop-rest : goal.invariant-loop-rest
 invariant-loop-rest l =
-    (l.text.items ++ out_lines l.inputs l.number l.rest ≡ l.fn.text.items ++ out_lines l.inputs 0 l.objects) × (l.number + length l.rest ≡ length l.objects)
+    (l.text.items ++ out_lines l.parts l.number l.rest ≡ l.fn.text.items ++ out_lines l.parts 0 l.objects) × (l.number + length l.rest ≡ length l.objects)
 
 abbrev pub decreases-loop-rest : goal.decreases-loop-rest
 decreases-loop-rest l = length l.rest
