@@ -1,5 +1,5 @@
 -- What the world says of the method of a straight run.
-use Rattle.std.proofs.Common.{◌≡◌, ◌&&◌, ℕ, List, Option, Some, None, Bool, true, false, refl, sym, ◌∙◌, ap, slice_get}
+use Rattle.std.proofs.Common.{◌≡◌, ◌&&◌, ℕ, List, [], Option, Some, None, Bool, true, false, refl, sym, ◌∙◌, ap, slice_get}
 use Rattle.std.specs.Option.{option_and_then, option_map_or}
 use Rattle.std.specs.List.{list_all}
 use Rattle.std.proofs.lemmas.Option.{same_Some}

@@ -4,7 +4,7 @@ use Rattle.std.specs.Prelude.{slice_set}
 use Rattle.std.specs.Option.{option_map, option_and_then, option_map_or}
 use Rattle.std.proofs.lemmas.Bool.{le-leb, lt-leb}
 use Rattle.std.proofs.lemmas.Option.{same_Some}
-use Rattle.kb_arith.specs.Word.{word_add}
+use Rattle.kb_arith.specs.Word.{word_add, word_sub, word_mul, word_shl, word_shr, word_ushr, word_and, word_or, word_xor, word_neg}
 use Rattle.kb_class.specs.declared.ids.MethodId.{MethodId}
 use Rattle.kb_code.specs.Listing.{offset_of}
 use Rattle.kb_code.specs.declared.instruction.Instr.{Instr}
@@ -12,7 +12,7 @@ use Rattle.kb_code.specs.declared.instruction.Instr.TheVariants.{Nop, PushInt, L
 use Rattle.kb_code.specs.declared.instruction.IntOp.{IntOp}
 use Rattle.kb_code.specs.declared.instruction.IntOp.TheVariants.{Add, Sub, Mul, Div, Rem, Shl, Shr, Ushr, And, Or, Xor}
 use Rattle.kb_heap.specs.declared.bounds.Bound.TheVariants.{Steps}
-use Rattle.kb_heap.specs.declared.ending.Ending.TheVariants.{IllTyped}
+use Rattle.kb_heap.specs.declared.ending.Ending.TheVariants.{IllTyped, Returned}
 use Rattle.kb_heap.specs.declared.heap.Input.{Input}
 use Rattle.kb_heap.specs.declared.heap.Value.{Value}
 use Rattle.kb_heap.specs.declared.heap.Value.TheVariants.{Int as IntValue}
@@ -21,11 +21,11 @@ use Rattle.kb_names.specs.declared.types.Target.{Target}
 use Rattle.kb_link.specs.World.{World}
 use Rattle.kb_semantics.specs.Config.{Setting, Ended, first_locals, instruction_at, instruction_in, max_locals_of, Config as MachineConfig, Outcome as MachineOutcome, local_of as machine_local, with_local as machine_with_local}
 use Rattle.kb_semantics.specs.Values.{kept}
-use Rattle.kb_semantics.specs.Operands.{Taken, an_int, two_ints, int_of, taken, top_of}
+use Rattle.kb_semantics.specs.Operands.{Taken, an_int, behind_it, two_ints, int_of, taken, top_of}
 use Rattle.kb_semantics.specs.Ways.{carries_out, goes_on as machine_goes_on, hands_over, hands_to, ill_typed as machine_ill_typed, past, returns_value}
-use Rattle.kb_semantics.specs.Instructions.{with, nop, push_int, load_int, store_int, increase, sets_local, rearrange, without, copied_below, apply_two, negate, narrow, return_int}
+use Rattle.kb_semantics.specs.Instructions.{with, nop, push_int, load_int, store_int, increase, sets_local, rearrange, without, copied_below, apply_two, negate, narrow, narrowed, return_int}
 use Rattle.kb_semantics.specs.Step.{effect as machine_effect, step as machine_step, run as machine_run, follow as machine_follow, first_heap, run_of}
-use Rattle.kiasan.specs.StraightMachine.{Method, Config, Outcome, Goes, AreBuilt, effect, goes_on, ill_typed, is_built, local_of, with_local, with_int, pops_int, step, follow, run, start_of}
+use Rattle.kiasan.specs.StraightMachine.{Method, Config, Outcome, Goes, Ends, AreBuilt, effect, goes_on, ill_typed, is_built, local_of, with_local, with_int, pops_int, step, follow, run, start_of}
 use Rattle.kiasan.specs.Straight.{IsStraight}
 use Rattle.kiasan.specs.Target.{takes_ints}
 use Rattle.kiasan.proofs.StraightMethods.{IsLookedUp, looked_up}
@@ -100,20 +100,20 @@ module _ (s : Setting) (id : MethodId) (inputs : ℕ) (c : Config) (is : IsLooke
   two_alike : (stack : List Value) (p : Taken (ℤ × ℤ) → MachineOutcome) (q : ℤ → ℤ → List Value → Outcome) →
       ((a b : ℤ) → Alike id inputs c (p (record { it = (a, b); rest = drop 1 (drop 1 stack) })) (q a b (drop 1 (drop 1 stack)))) →
       Alike id inputs c (with s (lifted id inputs c) (two_ints stack) p) (pops_int c stack (λ b below. pops_int c below (λ a rest. q a b rest)))
-  two_alike stack p q each = go (int_of (top_of stack)) (int_of (top_of (drop 1 stack)))
+  two_alike stack p q each = go (int_of (top_of stack))
     where
-      pair : ℤ → Taken ℤ → Taken (ℤ × ℤ)
-      pair b t = record { it = (t.it, b); rest = t.rest }
-
-      go : (o : Option ℤ) (under : Option ℤ) →
+      below : (b : ℤ) (o : Option ℤ) →
           Alike id inputs c
-          (with s (lifted id inputs c)
-          (option_and_then (λ (top : Taken ℤ). option_map (λ (t : Taken ℤ). let both : Taken (ℤ × ℤ) = record { it = (t.it, top.it); rest = t.rest } in both)
-          (option_map (taken (drop 1 stack)) under)) (option_map (taken stack) o)) p)
-          (with_int c o (λ b. with_int c under (λ a. q a b (drop 1 (drop 1 stack)))))
-      go None under = ill_alike
-      go (Some b) None = ill_alike
-      go (Some b) (Some a) = each a b
+          (with s (lifted id inputs c) (option_map (λ (t : Taken ℤ). let both : Taken (ℤ × ℤ) = record { it = (t.it, b); rest = t.rest } in both) (option_map (taken (drop 1 stack)) o)) p)
+          (with_int c o (λ a. q a b (drop 1 (drop 1 stack))))
+      below b None = ill_alike
+      below b (Some a) = each a b
+
+      go : (o : Option ℤ) →
+          Alike id inputs c (with s (lifted id inputs c) (option_and_then (behind_it an_int) (option_map (taken stack) o)) p)
+          (with_int c o (λ b. with_int c (int_of (top_of (drop 1 stack))) (λ a. q a b (drop 1 (drop 1 stack)))))
+      go None = ill_alike
+      go (Some b) = below b (int_of (top_of (drop 1 stack)))
 
   -- the int of a local
   local_alike : (k : ℕ) (p : ℤ → MachineOutcome) (q : ℤ → Outcome) → ((z : ℤ) → Alike id inputs c (p z) (q z)) →
@@ -143,7 +143,11 @@ module _ (s : Setting) (id : MethodId) (inputs : ℕ) (c : Config) (is : IsLooke
           Alike id inputs c (with s (lifted id inputs c) (without 1 stack) (λ rest. machine_goes_on s (lifted id inputs c) next c.frame.locals rest c.heap))
           (option_map_or (λ v. goes_on c next c.frame.locals (drop 1 stack)) (top_of stack) (ill_typed c))
       go [] = ill_alike
-      go (v ∷ rest) = goes_alike next c.frame.locals rest
+      go (v ∷ rest) =
+          let some : nat_le 1 (length (v ∷ rest)) ≡ true = le-leb 1 (length (v ∷ rest)) (omega arith) in
+          subst (λ (b : Bool). Alike id inputs c
+          (with s (lifted id inputs c) (cond b (Some rest) None) (λ more. machine_goes_on s (lifted id inputs c) next c.frame.locals more c.heap)) (goes_on c next c.frame.locals rest))
+          (sym some) (goes_alike next c.frame.locals rest)
 
   dup_alike : (next : ℕ) → Alike id inputs c (rearrange (copied_below 1 1) s next (lifted id inputs c)) (effect Dup next c)
   unfolding rearrange effect
@@ -153,25 +157,48 @@ module _ (s : Setting) (id : MethodId) (inputs : ℕ) (c : Config) (is : IsLooke
           Alike id inputs c (with s (lifted id inputs c) (copied_below 1 1 stack) (λ more. machine_goes_on s (lifted id inputs c) next c.frame.locals more c.heap))
           (option_map_or (λ v. goes_on c next c.frame.locals (v ∷ stack)) (top_of stack) (ill_typed c))
       go [] = ill_alike
-      go (v ∷ rest) = goes_alike next c.frame.locals (v ∷ v ∷ rest)
+      go (v ∷ rest) =
+          let some : nat_le 1 (length (v ∷ rest)) ≡ true = le-leb 1 (length (v ∷ rest)) (omega arith) in
+          subst (λ (b : Bool). Alike id inputs c
+          (with s (lifted id inputs c) (cond b (Some (v ∷ v ∷ rest)) None) (λ more. machine_goes_on s (lifted id inputs c) next c.frame.locals more c.heap))
+          (goes_on c next c.frame.locals (v ∷ v ∷ rest)))
+          (sym some) (goes_alike next c.frame.locals (v ∷ v ∷ rest))
+
+  -- an operation on the int on the top, and on the two ints on the top
+  one_value_alike : (f : ℤ → ℤ) (next : ℕ) →
+      Alike id inputs c
+      (with s (lifted id inputs c) (an_int c.frame.stack) (λ a. machine_goes_on s (lifted id inputs c) next c.frame.locals (IntValue (f a.it) ∷ a.rest) c.heap))
+      (pops_int c c.frame.stack (λ a rest. goes_on c next c.frame.locals (IntValue (f a) ∷ rest)))
+  one_value_alike f next =
+      top_alike c.frame.stack (λ a. machine_goes_on s (lifted id inputs c) next c.frame.locals (IntValue (f a.it) ∷ a.rest) c.heap)
+      (λ a rest. goes_on c next c.frame.locals (IntValue (f a) ∷ rest)) (λ a. goes_alike next c.frame.locals (IntValue (f a) ∷ drop 1 c.frame.stack))
+
+  two_value_alike : (f : ℤ → ℤ → ℤ) (next : ℕ) →
+      Alike id inputs c
+      (with s (lifted id inputs c) (two_ints c.frame.stack) (λ t. machine_goes_on s (lifted id inputs c) next c.frame.locals (IntValue (f t.it.0 t.it.1) ∷ t.rest) c.heap))
+      (pops_int c c.frame.stack (λ b below. pops_int c below (λ a rest. goes_on c next c.frame.locals (IntValue (f a b) ∷ rest))))
+  two_value_alike f next =
+      two_alike c.frame.stack (λ t. machine_goes_on s (lifted id inputs c) next c.frame.locals (IntValue (f t.it.0 t.it.1) ∷ t.rest) c.heap)
+      (λ a b rest. goes_on c next c.frame.locals (IntValue (f a b) ∷ rest)) (λ a b. goes_alike next c.frame.locals (IntValue (f a b) ∷ drop 1 (drop 1 c.frame.stack)))
 
   two_ints_alike : (op : IntOp) → IsTrue (is_built (Int2 op)) → (next : ℕ) → Alike id inputs c (apply_two op s next (lifted id inputs c)) (effect (Int2 op) next c)
   unfolding apply_two effect
-  two_ints_alike Add built next = two_alike c.frame.stack _ _ (λ a b. goes_alike next c.frame.locals _)
-  two_ints_alike Sub built next = two_alike c.frame.stack _ _ (λ a b. goes_alike next c.frame.locals _)
-  two_ints_alike Mul built next = two_alike c.frame.stack _ _ (λ a b. goes_alike next c.frame.locals _)
+  two_ints_alike Add built next = two_value_alike word_add next
+  two_ints_alike Sub built next = two_value_alike word_sub next
+  two_ints_alike Mul built next = two_value_alike word_mul next
   two_ints_alike Div built next = cc
   two_ints_alike Rem built next = cc
-  two_ints_alike Shl built next = two_alike c.frame.stack _ _ (λ a b. goes_alike next c.frame.locals _)
-  two_ints_alike Shr built next = two_alike c.frame.stack _ _ (λ a b. goes_alike next c.frame.locals _)
-  two_ints_alike Ushr built next = two_alike c.frame.stack _ _ (λ a b. goes_alike next c.frame.locals _)
-  two_ints_alike And built next = two_alike c.frame.stack _ _ (λ a b. goes_alike next c.frame.locals _)
-  two_ints_alike Or built next = two_alike c.frame.stack _ _ (λ a b. goes_alike next c.frame.locals _)
-  two_ints_alike Xor built next = two_alike c.frame.stack _ _ (λ a b. goes_alike next c.frame.locals _)
+  two_ints_alike Shl built next = two_value_alike word_shl next
+  two_ints_alike Shr built next = two_value_alike word_shr next
+  two_ints_alike Ushr built next = two_value_alike word_ushr next
+  two_ints_alike And built next = two_value_alike word_and next
+  two_ints_alike Or built next = two_value_alike word_or next
+  two_ints_alike Xor built next = two_value_alike word_xor next
 
   return_alike : (next : ℕ) → Alike id inputs c (return_int s next (lifted id inputs c)) (effect ReturnInt next c)
   unfolding return_int returns_value hands_over effect
-  return_alike next = top_alike c.frame.stack _ _ (λ z f g same.
+  return_alike next =
+      top_alike c.frame.stack (λ a. returns_value s (lifted id inputs c) (IntValue a.it)) (λ a rest. Ends (record { ending = Returned (Some (IntValue a)); heap = c.heap })) (λ z f g same.
       ap (λ (o : Option JType). machine_follow
       (option_map_or (λ v. hands_to s (lifted id inputs c) [] (Some v)) (option_and_then (λ type. kept type (IntValue z)) o) (machine_ill_typed s (lifted id inputs c))) f)
       is.result)
@@ -180,14 +207,21 @@ module _ (s : Setting) (id : MethodId) (inputs : ℕ) (c : Config) (is : IsLooke
   unfolding machine_effect effect nop push_int load_int store_int increase negate narrow
   effect_alike Nop built next = goes_alike next c.frame.locals c.frame.stack
   effect_alike (PushInt z) built next = goes_alike next c.frame.locals (IntValue z ∷ c.frame.stack)
-  effect_alike (LoadInt k) built next = local_alike k _ _ (λ z. goes_alike next c.frame.locals (IntValue z ∷ c.frame.stack))
-  effect_alike (StoreInt k) built next = top_alike c.frame.stack _ _ (λ z. set_alike k (IntValue z) next (drop 1 c.frame.stack))
+  effect_alike (LoadInt k) built next =
+      local_alike k (λ z. machine_goes_on s (lifted id inputs c) next c.frame.locals (IntValue z ∷ c.frame.stack) c.heap)
+      (λ z. goes_on c next c.frame.locals (IntValue z ∷ c.frame.stack)) (λ z. goes_alike next c.frame.locals (IntValue z ∷ c.frame.stack))
+  effect_alike (StoreInt k) built next =
+      top_alike c.frame.stack (λ z. sets_local s next (lifted id inputs c) k (IntValue z.it) z.rest)
+      (λ z rest. option_map_or (λ locals. goes_on c next locals rest) (with_local c.frame k (IntValue z)) (ill_typed c)) (λ z. set_alike k (IntValue z) next (drop 1 c.frame.stack))
   effect_alike Pop built next = pop_alike next
   effect_alike Dup built next = dup_alike next
   effect_alike (Int2 op) built next = two_ints_alike op built next
-  effect_alike Neg built next = top_alike c.frame.stack _ _ (λ z. goes_alike next c.frame.locals _)
-  effect_alike (Inc k by) built next = local_alike k _ _ (λ z. set_alike k (IntValue (word_add z by)) next c.frame.stack)
-  effect_alike (Narrow cut) built next = top_alike c.frame.stack _ _ (λ z. goes_alike next c.frame.locals _)
+  effect_alike Neg built next = one_value_alike word_neg next
+  effect_alike (Inc k by) built next =
+      local_alike k (λ z. sets_local s next (lifted id inputs c) k (IntValue (word_add z by)) c.frame.stack)
+      (λ z. option_map_or (λ locals. goes_on c next locals c.frame.stack) (with_local c.frame k (IntValue (word_add z by))) (ill_typed c))
+      (λ z. set_alike k (IntValue (word_add z by)) next c.frame.stack)
+  effect_alike (Narrow cut) built next = one_value_alike (narrowed cut) next
   effect_alike ReturnInt built next = return_alike next
   effect_alike _ built next = cc
 
@@ -196,11 +230,14 @@ module _ (s : Setting) (id : MethodId) (inputs : ℕ) (c : Config) (is : IsLooke
 -- what is found in a built listing is built
 found_built : (listing : List (ℕ × Instr)) (size at : ℕ) (found : Instr × ℕ) → AreBuilt listing → instruction_in listing size at ≡ Some found → IsTrue (is_built found.0)
 found_built [] size at found built e = cc
-found_built (item ∷ rest) size at found built e = go (nat_eq item.0 at) e
+found_built (item ∷ rest) size at found built e = go (found_built rest size at found built.1) (nat_eq item.0 at) e
   where
-    go : (b : Bool) → cond b (Some (item.1, offset_of rest size)) (instruction_in rest size at) ≡ Some found → IsTrue (is_built found.0)
-    go true e = let first : item.1 ≡ found.0 = ap (λ (f : Instr × ℕ). f.0) (same_Some (item.1, offset_of rest size) found e) in subst (λ (i : Instr). IsTrue (is_built i)) first built.0
-    go false e = found_built rest size at found built.1 e
+    go : (instruction_in rest size at ≡ Some found → IsTrue (is_built found.0)) → (b : Bool) →
+        cond b (Some (item.1, offset_of rest size)) (instruction_in rest size at) ≡ Some found → IsTrue (is_built found.0)
+    go later true e =
+        let first : item.1 ≡ found.0 = ap (λ (f : Instr × ℕ). f.0) (same_Some (item.1, offset_of rest size) found e) in
+        subst (λ (i : Instr). IsTrue (is_built i)) first built.0
+    go later false e = later e
 
 step_alike : (s : Setting) (id : MethodId) (inputs : ℕ) (c : Config) → IsLookedUp s.world id c.frame.method → AreBuilt c.frame.method.listing → c.carried < s.bounds.steps →
     Alike id inputs c (machine_step s (lifted id inputs c)) (step c)
