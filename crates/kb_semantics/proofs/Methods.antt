@@ -9,8 +9,6 @@ use Rattle.kb_class.specs.declared.members.MethodInfo.{MethodInfo}
 use Rattle.kb_class.specs.Loading.{IsWhole}
 use Rattle.kb_code.specs.Listing.{IsLaidOut}
 use Rattle.kb_names.specs.declared.types.Target.{Target}
-use Rattle.kb_semantics.specs.Machine.{Method}
-use Rattle.kb_semantics.specs.Types.{IsMethod}
 use Rattle.kb_link.specs.Links.{IsLinked}
 use Rattle.kb_link.specs.Rules.{HasWholeCode}
 use Rattle.kb_link.specs.Targets.{Declares}
@@ -43,11 +41,6 @@ module _ (world : World) (id : MethodId) where
   pub class_within : (info : MethodInfo) (target : Target) → method_at world id.0 ≡ Some info → Declares world id target → info.class.0 < length world.classes
   class_within info target at d =
       subst (λ (m : MethodInfo). m.class.0 < length world.classes) (declared_is info target at d) (slice_get_within world.classes d.method.class.0 d.class d.class_is)
-
-  -- the code that is told of a method is that of the machine's
-  pub code_is : (info : MethodInfo) (code : MethodCode) (method : Method) → method_at world id.0 ≡ Some info → info.code ≡ Some code → (m : IsMethod world id method) → m.code ≡ code
-  code_is info code method at told m =
-      same_Some m.code code (sym m.has_code ∙ ap (λ (i : MethodInfo). i.code) (declared_is info method.target at m.declared) ∙ told)
 
 -- ---- code
 

@@ -3,9 +3,7 @@ pub mod Config
 pub mod Inputs
 pub mod Instructions
 pub mod Looks
-pub mod Machine
 pub mod Operands
 pub mod Step
-pub mod Types
 pub mod Values
 pub mod Ways
