@@ -6,7 +6,7 @@ ghost use Rattle.kb_semantics.specs.Instructions.{cast, component_of_entry, inst
 ghost use Rattle.kb_arith.specs.Word.{truth};
 ghost use Rattle.kb_semantics.specs.Config.{class_number};
 ghost use Rattle.kb_link.specs.Subtypes.{type_of_exact};
-ghost use Rattle.kb_semantics.specs.Values.{component_of_code};
+ghost use Rattle.kb_world.specs.Faults.{component_of_code};
 ghost use Rattle.kb_machine.specs.Turns.{setting_of, config_of, told};
 
 use crate::NoMemory;
@@ -15,7 +15,7 @@ use crate::throwing::CLASS_CAST;
 use crate::turn::{Step, Turn};
 use kb_heap::{Heap, Value};
 use kb_names::{Component, ExactType, JType};
-use kb_world::World;
+use kb_world::{World, component_of_code};
 use std::alloc::Global;
 
 impl State {
@@ -113,16 +113,5 @@ fn type_of_exact(alloc: Global, of: &ExactType) -> Result<JType, NoMemory>
             let component = component.copied(alloc)?;
             Ok(JType::Array(Component::new(alloc, component)?))
         }
-    }
-}
-
-// The component of an array that newarray makes.
-fn component_of_code(code: u8) -> Option<JType>
-    ensures { result ≡ component_of_code code }
-{
-    match code {
-        4 => Some(JType::Bool),
-        10 => Some(JType::Int),
-        _ => None,
     }
 }

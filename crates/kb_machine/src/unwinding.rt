@@ -98,13 +98,7 @@ fn handler_among(
 }
 
 // Whether the handler covers the offset and takes an object of the exact type.
-fn is_taken_by(
-    world: &World,
-    class: ClassId,
-    at: u32,
-    kind: &ExactType,
-    handler: &Handler,
-) -> bool
+fn is_taken_by(world: &World, class: ClassId, at: u32, kind: &ExactType, handler: &Handler) -> bool
     ensures { result ≡ is_taken_by world.now class.0 at kind.now handler.now }
 {
     if at < u32::from(handler.start) {

@@ -58,7 +58,12 @@ impl State {
 
     /// iinc
     #[tactic(auto, unfolding(kb_semantics::specs::Instructions::increase))]
-    pub(crate) fn increase(&mut self, turn: &Turn<'_>, local: u16, by: i32) -> Result<Step, NoMemory>
+    pub(crate) fn increase(
+        &mut self,
+        turn: &Turn<'_>,
+        local: u16,
+        by: i32,
+    ) -> Result<Step, NoMemory>
         ensures { IfOk result (λ step. told turn.now step self.new ≡ increase local by (setting_of turn.now) turn.now.next (config_of turn.now self.old)) }
     {
         match self.frame.local(turn.world, local) {

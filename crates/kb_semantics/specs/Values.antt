@@ -1,6 +1,6 @@
 -- Types and their values: which values a slot, an element or a result of a type has, and how it keeps one (JVMS 8 sections 2.3,
 -- 2.4, 2.7 and 6.5). A further type of ints joins as a further case of each definition here.
-use Rattle.std.specs.Prelude.{◌≡◌, ◌⊎◌, ℕ, pos, Bool, true, false, List, [], ◌∷◌, map, codes, ◌==◌, is_some, Option, Some, None, if◌then◌else◌}
+use Rattle.std.specs.Prelude.{◌≡◌, ◌⊎◌, ℕ, pos, Bool, true, false, List, [], ◌∷◌, map, codes, is_some, Option, Some, None}
 use Rattle.std.specs.Int.{w32}
 use Rattle.std.specs.Int.RustNames.{FitsSigned}
 use Rattle.std.specs.Option.{option_map_or}
@@ -50,10 +50,6 @@ takes_component elems.Byte types.Bool = true
 takes_component elems.Ref (types.Class name) = true
 takes_component elems.Ref (types.Array component) = true
 takes_component _ _ = false
-
--- the component of an array that newarray makes for a code (table 6.5.newarray-A): T_BOOLEAN and T_INT
-abbrev pub component_of_code : ℕ → Option JType
-component_of_code code = if code == 4 then Some types.Bool else if code == 10 then Some types.Int else None
 
 -- ---- values in a heap
 

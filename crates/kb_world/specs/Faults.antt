@@ -1,5 +1,5 @@
 -- What is wrong with an instruction that is no call (own rules over JVMS 8 sections 5.4.3, 5.5 and 6.5).
-use Rattle.std.specs.Prelude.{ℕ, Bool, true, false, ◌==◌, ◌||◌, not, nat_le, is_some, List, Option, Some, None, slice_get}
+use Rattle.std.specs.Prelude.{ℕ, Bool, true, false, ◌==◌, ◌||◌, not, nat_le, is_some, List, Option, Some, None, slice_get, if◌then◌else◌}
 use Rattle.std.specs.List.{list_any}
 use Rattle.std.specs.Option.{option_and_then, option_map_or}
 use Rattle.kb_names.specs.Shape.{Base, class_base}
@@ -143,6 +143,10 @@ fault_of_array world (Some type) = or_else (missing_class world type) (only_wher
 abbrev pub array_fault : World → ℕ → ℕ → Option Fault
 array_fault world class entry = fault_of_array world (type_entry_of world class entry)
 
--- newarray: T_BOOLEAN and T_INT (table 6.5.newarray-A) are built
+-- the component of an array that newarray makes for a code (table 6.5.newarray-A): T_BOOLEAN and T_INT are built
+abbrev pub component_of_code : ℕ → Option JType
+component_of_code code = if code == 4 then Some types.Bool else if code == 10 then Some types.Int else None
+
+-- newarray
 abbrev pub primitive_fault : ℕ → Option Fault
-primitive_fault code = only_where (not (code == 4 || code == 10)) (Outside whats.Kind)
+primitive_fault code = only_where (not (is_some (component_of_code code))) (Outside whats.Kind)

@@ -5,7 +5,7 @@ ghost use Rattle.std.specs.Option.{option_copied};
 ghost use Rattle.kb_names.specs.Types.{shape_of};
 ghost use Rattle.kb_link.specs.Universe.{is_concrete};
 ghost use Rattle.kb_world.specs.Lookup.{resolved_field_class, resolved_field};
-ghost use Rattle.kb_world.specs.Faults.{told, is_left_out, has_left_out, name_of_base, class_in_type, missing_class, entry_at, constant_fault, fault_of_slot, field_fault, cast_fault, fault_of_initialiser, fault_of_object, fault_of_new_type, new_fault, is_deepest, array_fault, primitive_fault};
+ghost use Rattle.kb_world.specs.Faults.{told, is_left_out, has_left_out, name_of_base, class_in_type, missing_class, entry_at, constant_fault, fault_of_slot, field_fault, cast_fault, fault_of_initialiser, fault_of_object, fault_of_new_type, new_fault, is_deepest, array_fault, component_of_code, primitive_fault};
 
 use crate::world::World;
 use kb_class::{ClassId, LoadedClass, ReferenceKind};
@@ -171,13 +171,22 @@ impl World {
 pub(crate) fn primitive_fault(code: u8) -> Option<Fault<'static>>
     ensures { option_map told result ≡ primitive_fault code }
 {
-    if code == BOOLEANS {
-        return None;
+    match component_of_code(code) {
+        Some(_) => None,
+        None => Some(Fault::Outside(What::Kind)),
     }
-    if code == INTS {
-        return None;
+}
+
+/// The component of an array that newarray makes for a code: boolean or int, None of any other code (JVMS 8 table
+/// 6.5.newarray-A).
+pub fn component_of_code(code: u8) -> Option<JType>
+    ensures { result ≡ component_of_code code }
+{
+    match code {
+        BOOLEANS => Some(JType::Bool),
+        INTS => Some(JType::Int),
+        _ => None,
     }
-    Some(Fault::Outside(What::Kind))
 }
 
 /// Whether a parameter or the result is of a type that is left out: byte, char, short, long, float or double.

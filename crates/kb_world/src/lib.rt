@@ -24,6 +24,7 @@ mod special;
 mod tables;
 mod world;
 
+pub use faults::component_of_code;
 pub use kb_link::{FieldSlot, LinkRefusal, What};
 pub use laws::{one_answer, one_reached};
 pub use linking::link;
