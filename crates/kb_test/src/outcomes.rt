@@ -1,0 +1,105 @@
+//! How a run ends, as the text of a test writes it.
+ghost use Rattle.std.specs.Prelude.{◌≡◌, IfOk};
+ghost use Rattle.kb_grammar.specs.Lines.{IsRead};
+ghost use Rattle.kb_test.specs.Lines.{SpellsOutcome, SpellsPlainOutcome, SpellsPlace, SpellsBound, outcome_below};
+
+use crate::NoMemory;
+use crate::words::{Limits, Reference, Word, first_word, read_reference, read_word};
+use kb_grammar::{behind, is_line, read_number};
+use kb_heap::Place;
+use kb_names::{TargetRefusal, read_target};
+use std::alloc::Global;
+
+// A bound of a run.
+#[derive(Clone, Copy, Debug, PartialEq, Eq)]
+pub(crate) enum RunBound {
+    Alloc,
+    Loops,
+    Depth,
+    Steps,
+}
+
+// How a run ends.
+#[derive(Debug, Drop)]
+pub(crate) enum Outcome {
+    Returns(Option<Word>),
+    Throws(Reference),
+    IllTyped(Place),
+    Past(RunBound),
+}
+
+impl Limits {
+    pub(crate) fn has_outcome(self, outcome: &Outcome) -> bool
+        ensures { result ≡ outcome_below self outcome.now }
+    {
+        match outcome {
+            Outcome::Returns(Some(word)) => self.has_word(*word),
+            Outcome::Throws(reference) => self.has_reference(*reference),
+            Outcome::Returns(None) | Outcome::IllTyped(_) | Outcome::Past(_) => true,
+        }
+    }
+}
+
+// A method and an offset behind it.
+fn read_place(alloc: Global, text: &[u8]) -> Result<Option<Place>, NoMemory>
+    ensures { IfOk result (IsRead SpellsPlace text.now) }
+{
+    let (word, rest) = first_word(text);
+    let Some(digits) = behind(rest, b" ") else {
+        return Ok(None);
+    };
+    let Some(at) = read_number(digits) else {
+        return Ok(None);
+    };
+    match read_target(alloc, word) {
+        Ok(method) => Ok(Some(Place { method, at })),
+        Err(TargetRefusal::BadTarget(_)) => Ok(None),
+        Err(TargetRefusal::NoMemory) => Err(NoMemory),
+    }
+}
+
+fn read_bound(word: &[u8]) -> Option<RunBound>
+    ensures { IsRead SpellsBound word.now result }
+{
+    if is_line(word, b"alloc") {
+        return Some(RunBound::Alloc);
+    }
+    if is_line(word, b"loops") {
+        return Some(RunBound::Loops);
+    }
+    if is_line(word, b"depth") {
+        return Some(RunBound::Depth);
+    }
+    if is_line(word, b"steps") {
+        return Some(RunBound::Steps);
+    }
+    None
+}
+
+// An ending that names no method.
+fn read_plain_outcome(line: &[u8]) -> Option<Outcome>
+    ensures { IsRead SpellsPlainOutcome line.now result }
+{
+    if is_line(line, b"returns") {
+        return Some(Outcome::Returns(None));
+    }
+    if let Some(word) = behind(line, b"returns ") {
+        return Some(Outcome::Returns(Some(read_word(word)?)));
+    }
+    if let Some(word) = behind(line, b"throws ") {
+        return Some(Outcome::Throws(read_reference(word)?));
+    }
+    Some(Outcome::Past(read_bound(behind(line, b"past ")?)?))
+}
+
+pub(crate) fn read_outcome(alloc: Global, line: &[u8]) -> Result<Option<Outcome>, NoMemory>
+    ensures { IfOk result (IsRead SpellsOutcome line.now) }
+{
+    let Some(text) = behind(line, b"illtyped ") else {
+        return Ok(read_plain_outcome(line));
+    };
+    match read_place(alloc, text)? {
+        Some(place) => Ok(Some(Outcome::IllTyped(place))),
+        None => Ok(None),
+    }
+}
