@@ -1,5 +1,5 @@
 -- Where a reader of tests stands after some lines, and which line goes on from there.
-use Rattle.std.specs.Prelude.{ℕ, ◌≤◌, ◌^◌, ◌×◌, ◌⊎◌, ◌≡◌, IsTrue, map, Bool, ◌==◌, ◌&&◌, nat_lt, if◌then◌else◌, IsSome, Option, None, Some, List, [], ◌∷◌, ◌++◌, length}
+use Rattle.std.specs.Prelude.{ℕ, ◌≤◌, ◌^◌, ◌⊎◌, ◌≡◌, IsTrue, map, Bool, ◌==◌, ◌&&◌, nat_lt, if◌then◌else◌, IsSome, Option, None, Some, List, [], ◌∷◌, ◌++◌, length}
 use Rattle.std.specs.List.{list_all}
 use Rattle.kb_names.specs.Targets.{IsTarget}
 use Rattle.kb_names.specs.declared.types.Target.{Target}
@@ -11,7 +11,7 @@ use Rattle.kb_test.specs.Tests.{test_of, tests_of}
 use Rattle.kb_test.specs.declared.words.Word.{Word}
 use Rattle.kb_test.specs.declared.words.Limits.{Limits}
 use Rattle.kb_test.specs.declared.lines.Listed.{Listed}
-use Rattle.kb_test.specs.declared.lines.Outcome.{Outcome}
+use Rattle.kb_test.specs.declared.outcomes.Outcome.{Outcome}
 use Rattle.kb_test.specs.declared.lines.Line.{Line}
 use Rattle.kb_test.specs.declared.lines.Line.TheVariants.{Method, Limit, Arg, In, Ends, Out, New, End}
 use Rattle.kb_test.specs.declared.script.Script.{Script}

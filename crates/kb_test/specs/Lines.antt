@@ -1,5 +1,5 @@
 -- The lines of a test, one by one.
-use Rattle.std.specs.Prelude.{ℕ, ◌<◌, ◌≤◌, ◌^◌, ◌×◌, ◌≡◌, Bool, true, Option, None, Some, List, [], ◌∷◌, ◌++◌, codes}
+use Rattle.std.specs.Prelude.{ℕ, ◌<◌, ◌≤◌, ◌^◌, ◌≡◌, Bool, true, Option, None, Some, List, [], ◌∷◌, ◌++◌, codes}
 use Rattle.std.specs.List.{list_all}
 use Rattle.std.specs.Fmt.{decimal}
 use Rattle.kb_names.specs.Types.{shape_of}
@@ -18,10 +18,10 @@ use Rattle.kb_test.specs.Words.{reference_text, word_text, words_text, IsReferen
 use Rattle.kb_test.specs.declared.words.Word.{Word}
 use Rattle.kb_test.specs.declared.words.Limits.{Limits}
 use Rattle.kb_test.specs.declared.lines.Listed.{Listed}
-use Rattle.kb_test.specs.declared.lines.RunBound.{RunBound}
-use Rattle.kb_test.specs.declared.lines.RunBound.TheVariants.{Alloc, Loops, Depth, Steps}
-use Rattle.kb_test.specs.declared.lines.Outcome.{Outcome}
-use Rattle.kb_test.specs.declared.lines.Outcome.TheVariants.{Returns, Throws, IllTyped, Past}
+use Rattle.kb_test.specs.declared.outcomes.RunBound.{RunBound}
+use Rattle.kb_test.specs.declared.outcomes.RunBound.TheVariants.{Alloc, Loops, Depth, Steps}
+use Rattle.kb_test.specs.declared.outcomes.Outcome.{Outcome}
+use Rattle.kb_test.specs.declared.outcomes.Outcome.TheVariants.{Returns, Throws, IllTyped, Past}
 use Rattle.kb_test.specs.declared.lines.Line.{Line}
 use Rattle.kb_test.specs.declared.lines.Line.TheVariants.{Method, Limit, Arg, In, Ends, Out, New, End}
 
@@ -107,14 +107,17 @@ IsPlace place = IsTarget place.method × (place.at < 2 ^ 32)
 abbrev pub SpellsPlace : Place → List ℕ → Type 0
 SpellsPlace place text = IsPlace place × (text ≡ place_text place)
 
+abbrev pub SpellsPlaceLine : Place → List ℕ → Type 0
+SpellsPlaceLine place text = IsPlace place × (text ≡ codes "illtyped " ++ place_text place)
+
 unfoldable pub bound_text : RunBound → List ℕ
 bound_text Alloc = codes "alloc"
 bound_text Loops = codes "loops"
 bound_text Depth = codes "depth"
 bound_text Steps = codes "steps"
 
-abbrev pub SpellsBound : RunBound → List ℕ → Type 0
-SpellsBound bound text = text ≡ bound_text bound
+abbrev pub SpellsPastLine : RunBound → List ℕ → Type 0
+SpellsPastLine bound text = text ≡ codes "past " ++ bound_text bound
 
 -- how the run ends
 unfoldable pub outcome_text : Outcome → List ℕ

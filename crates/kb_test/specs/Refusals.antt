@@ -1,5 +1,5 @@
 -- What the reader of tests answers.
-use Rattle.std.specs.Prelude.{◌≡◌, ◌×◌, ℕ, List, [], ◌∷◌, ◌++◌, Result, Ok, Err}
+use Rattle.std.specs.Prelude.{◌≡◌, ℕ, List, [], ◌∷◌, ◌++◌, Result, Ok, Err}
 use Rattle.kb_grammar.specs.Lines.{IsFirstBadLine}
 use Rattle.kb_test.specs.Tests.{SpellsTests, IsTestsText}
 use Rattle.kb_test.specs.declared.test_case.Test.{Test}

@@ -1,5 +1,5 @@
 -- What the text of a test says, and its lines in their order.
-use Rattle.std.specs.Prelude.{ℕ, suc, ◌+◌, ◌≤◌, ◌^◌, ◌×◌, ◌≡◌, Bool, ◌&&◌, IsTrue, List, [], ◌∷◌, ◌++◌, length, map}
+use Rattle.std.specs.Prelude.{ℕ, suc, ◌+◌, ◌≤◌, ◌^◌, ◌≡◌, Bool, ◌&&◌, IsTrue, List, [], ◌∷◌, ◌++◌, length, map}
 use Rattle.std.specs.List.{flat_map, list_all}
 use Rattle.kb_names.specs.Targets.{IsTarget}
 use Rattle.kb_test.specs.Words.{AreWords, AreWordLists, words_below}

@@ -1,5 +1,5 @@
 -- Tests, and the texts that spell them.
-use Rattle.std.specs.Prelude.{ℕ, ◌+◌, ◌<◌, ◌≤◌, ◌^◌, ◌×◌, ◌≡◌, Option, None, Some, List, [], ◌∷◌, ◌++◌, length, map, take, drop, replicate, codes}
+use Rattle.std.specs.Prelude.{ℕ, ◌+◌, ◌<◌, ◌≤◌, ◌^◌, ◌≡◌, Option, None, Some, List, [], ◌∷◌, ◌++◌, length, map, take, drop, replicate, codes}
 use Rattle.std.specs.Int.RustNames.{FitsSigned}
 use mir.Syntax.{w32}
 use Rattle.kb_grammar.specs.Lines.{lines_text}
@@ -21,10 +21,10 @@ use Rattle.kb_test.specs.declared.words.Reference.TheVariants.{Input, Literal, M
 use Rattle.kb_test.specs.declared.words.Word.{Word}
 use Rattle.kb_test.specs.declared.words.Word.TheVariants.{Int as int_word, Null as null_word, Object as object_word}
 use Rattle.kb_test.specs.declared.lines.Listed.{Listed}
-use Rattle.kb_test.specs.declared.lines.RunBound.{RunBound}
-use Rattle.kb_test.specs.declared.lines.RunBound.TheVariants.{Alloc as alloc_bound, Loops as loops_bound, Depth as depth_bound, Steps as steps_bound}
-use Rattle.kb_test.specs.declared.lines.Outcome.{Outcome}
-use Rattle.kb_test.specs.declared.lines.Outcome.TheVariants.{Returns, Throws, IllTyped as ill_typed_at, Past as past_bound}
+use Rattle.kb_test.specs.declared.outcomes.RunBound.{RunBound}
+use Rattle.kb_test.specs.declared.outcomes.RunBound.TheVariants.{Alloc as alloc_bound, Loops as loops_bound, Depth as depth_bound, Steps as steps_bound}
+use Rattle.kb_test.specs.declared.outcomes.Outcome.{Outcome}
+use Rattle.kb_test.specs.declared.outcomes.Outcome.TheVariants.{Returns, Throws, IllTyped as ill_typed_at, Past as past_bound}
 use Rattle.kb_test.specs.declared.script.Script.{Script}
 use Rattle.kb_test.specs.declared.test_case.Test.{Test}
 

@@ -1,5 +1,5 @@
 -- How the text of a test writes a value: an int, null, or an object by its kind and its number among its kind.
-use Rattle.std.specs.Prelude.{ℕ, ◌<◌, ◌^◌, ◌×◌, ◌≡◌, Bool, true, nat_lt, List, [], ◌∷◌, ◌++◌, codes}
+use Rattle.std.specs.Prelude.{ℕ, ◌<◌, ◌^◌, ◌≡◌, Bool, true, nat_lt, List, [], ◌∷◌, ◌++◌, codes}
 use Rattle.std.specs.List.{flat_map, list_all}
 use Rattle.std.specs.Fmt.{decimal, signed_decimal}
 use Rattle.std.specs.Int.RustNames.{FitsSigned}
@@ -44,11 +44,20 @@ abbrev pub AreWordLists : List (List Word) → Type 0
 AreWordLists [] = Unit {0}
 AreWordLists (words ∷ lists) = AreWords words × AreWordLists lists
 
+abbrev pub SpellsNumberBehind : List ℕ → ℕ → List ℕ → Type 0
+SpellsNumberBehind front number text = (number < 2 ^ 32) × (text ≡ front ++ decimal number)
+
 abbrev pub SpellsReference : Reference → List ℕ → Type 0
 SpellsReference reference text = IsReference reference × (text ≡ reference_text reference)
 
 abbrev pub SpellsWord : Word → List ℕ → Type 0
 SpellsWord word text = IsWord word × (text ≡ word_text word)
+
+abbrev pub SpellsReferenceBehind : List ℕ → Reference → List ℕ → Type 0
+SpellsReferenceBehind front reference text = IsReference reference × (text ≡ front ++ reference_text reference)
+
+abbrev pub SpellsWordBehind : List ℕ → Word → List ℕ → Type 0
+SpellsWordBehind front word text = IsWord word × (text ≡ front ++ word_text word)
 
 abbrev pub SpellsWords : List Word → List ℕ → Type 0
 SpellsWords words text = AreWords words × (text ≡ words_text words)

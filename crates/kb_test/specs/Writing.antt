@@ -1,5 +1,5 @@
 -- What is written of a test: the text that says it.
-use Rattle.std.specs.Prelude.{ℕ, ◌×◌, ◌≡◌, ◌+◌, ◌-◌, nat_lt, if◌then◌else◌, Option, None, Some, List, [], ◌∷◌, ◌++◌, length, map, take, drop}
+use Rattle.std.specs.Prelude.{ℕ, ◌≡◌, ◌+◌, ◌-◌, nat_lt, if◌then◌else◌, Option, None, Some, List, [], ◌∷◌, ◌++◌, length, map, take, drop}
 use Rattle.kb_grammar.specs.Lines.{lines_text}
 use Rattle.kb_heap.specs.declared.heap.Value.{Value}
 use Rattle.kb_heap.specs.declared.heap.Value.TheVariants.{Int, Null, Ref}
@@ -13,9 +13,9 @@ use Rattle.kb_test.specs.declared.words.Reference.TheVariants.{Input, Literal, M
 use Rattle.kb_test.specs.declared.words.Word.{Word}
 use Rattle.kb_test.specs.declared.words.Word.TheVariants.{Int as int_word, Null as null_word, Object as object_word}
 use Rattle.kb_test.specs.declared.lines.Listed.{Listed}
-use Rattle.kb_test.specs.declared.lines.RunBound.TheVariants.{Alloc as alloc_bound, Loops as loops_bound, Depth as depth_bound, Steps as steps_bound}
-use Rattle.kb_test.specs.declared.lines.Outcome.{Outcome}
-use Rattle.kb_test.specs.declared.lines.Outcome.TheVariants.{Returns, Throws, IllTyped as ill_typed_at, Past as past_bound}
+use Rattle.kb_test.specs.declared.outcomes.RunBound.TheVariants.{Alloc as alloc_bound, Loops as loops_bound, Depth as depth_bound, Steps as steps_bound}
+use Rattle.kb_test.specs.declared.outcomes.Outcome.{Outcome}
+use Rattle.kb_test.specs.declared.outcomes.Outcome.TheVariants.{Returns, Throws, IllTyped as ill_typed_at, Past as past_bound}
 use Rattle.kb_test.specs.declared.lines.Line.{Line}
 use Rattle.kb_test.specs.declared.lines.Line.TheVariants.{Ends}
 use Rattle.kb_test.specs.declared.script.Script.{Script}

@@ -5,7 +5,7 @@ ghost use Rattle.kb_test.specs.Lines.{SpellsArray, SpellsClass, SpellsExact, Spe
 
 use crate::NoMemory;
 use crate::outcomes::{Outcome, read_outcome};
-use crate::words::{Word, first_word, read_word, read_words};
+use crate::words::{Word, first_word, read_words, word_behind};
 use kb_grammar::{behind, is_line, number_behind, read_number};
 use kb_heap::{Row, RunBounds};
 use kb_names::{
@@ -69,10 +69,10 @@ fn read_class(alloc: Global, word: &[u8]) -> Result<Option<ExactType>, NoMemory>
 fn read_exact(alloc: Global, word: &[u8]) -> Result<Option<ExactType>, NoMemory>
     ensures { IfOk result (IsRead SpellsExact word.now) }
 {
-    match word {
-        [b'[', ..] => read_array(alloc, word),
-        _ => read_class(alloc, word),
+    if let Some(array) = read_array(alloc, word)? {
+        return Ok(Some(array));
     }
+    read_class(alloc, word)
 }
 
 // An object: its exact type and its values.
@@ -89,6 +89,7 @@ fn read_listed(alloc: Global, text: &[u8]) -> Result<Option<Listed>, NoMemory>
     }
 }
 
+#[tactic(auto, unfolding(crate::specs::Lines::line_text))]
 fn read_method_line(alloc: Global, line: &[u8]) -> Result<Option<Target>, NoMemory>
     ensures { IfOk result (IsRead SpellsMethodLine line.now) }
 {
@@ -140,10 +141,11 @@ fn read_bounds(line: &[u8]) -> Option<RunBounds>
     Some(bounds)
 }
 
+#[tactic(auto, unfolding(crate::specs::Lines::line_text))]
 fn read_arg_line(line: &[u8]) -> Option<Word>
     ensures { IsRead SpellsArgLine line.now result }
 {
-    read_word(behind(line, b"arg ")?)
+    word_behind(line, b"arg ")
 }
 
 // A number behind that front, and an object behind the number.
@@ -164,6 +166,7 @@ fn read_object_line(
 }
 
 // The number of an input object and its last values.
+#[tactic(auto, unfolding(crate::specs::Lines::line_text))]
 fn read_out_line(alloc: Global, line: &[u8]) -> Result<Option<(u32, Row<Word>)>, NoMemory>
     ensures { IfOk result (IsRead SpellsOutLine line.now) }
 {
@@ -181,6 +184,7 @@ fn read_out_line(alloc: Global, line: &[u8]) -> Result<Option<(u32, Row<Word>)>,
 }
 
 // A line that lists an object or its last values.
+#[tactic(auto, unfolding(crate::specs::Lines::line_text))]
 fn read_heap_line(alloc: Global, line: &[u8]) -> Result<Option<Line>, NoMemory>
     ensures { IfOk result (IsRead SpellsHeapLine line.now) }
 {

@@ -1,10 +1,11 @@
 //! How a run ends, as the text of a test writes it.
 ghost use Rattle.std.specs.Prelude.{◌≡◌, IfOk};
 ghost use Rattle.kb_grammar.specs.Lines.{IsRead};
-ghost use Rattle.kb_test.specs.Lines.{SpellsOutcome, SpellsPlainOutcome, SpellsPlace, SpellsBound, outcome_below};
+ghost use Rattle.kb_test.specs.Words.{SpellsReferenceBehind};
+ghost use Rattle.kb_test.specs.Lines.{SpellsOutcome, SpellsPlainOutcome, SpellsPlace, SpellsPlaceLine, SpellsPastLine, outcome_below};
 
 use crate::NoMemory;
-use crate::words::{Limits, Reference, Word, first_word, read_reference, read_word};
+use crate::words::{Limits, Reference, Word, first_word, read_reference, word_behind};
 use kb_grammar::{behind, is_line, read_number};
 use kb_heap::Place;
 use kb_names::{TargetRefusal, read_target};
@@ -58,48 +59,64 @@ fn read_place(alloc: Global, text: &[u8]) -> Result<Option<Place>, NoMemory>
     }
 }
 
-fn read_bound(word: &[u8]) -> Option<RunBound>
-    ensures { IsRead SpellsBound word.now result }
+fn read_place_line(alloc: Global, line: &[u8]) -> Result<Option<Place>, NoMemory>
+    ensures { IfOk result (IsRead SpellsPlaceLine line.now) }
 {
-    if is_line(word, b"alloc") {
+    match behind(line, b"illtyped ") {
+        Some(text) => read_place(alloc, text),
+        None => Ok(None),
+    }
+}
+
+#[tactic(auto, unfolding(crate::specs::Lines::bound_text))]
+fn read_past_line(line: &[u8]) -> Option<RunBound>
+    ensures { IsRead SpellsPastLine line.now result }
+{
+    if is_line(line, b"past alloc") {
         return Some(RunBound::Alloc);
     }
-    if is_line(word, b"loops") {
+    if is_line(line, b"past loops") {
         return Some(RunBound::Loops);
     }
-    if is_line(word, b"depth") {
+    if is_line(line, b"past depth") {
         return Some(RunBound::Depth);
     }
-    if is_line(word, b"steps") {
+    if is_line(line, b"past steps") {
         return Some(RunBound::Steps);
     }
     None
 }
 
+// An object behind that front.
+fn reference_behind(line: &[u8], front: &[u8]) -> Option<Reference>
+    ensures { IsRead (SpellsReferenceBehind front.now) line.now result }
+{
+    read_reference(behind(line, front)?)
+}
+
 // An ending that names no method.
+#[tactic(auto, unfolding(crate::specs::Lines::outcome_text))]
 fn read_plain_outcome(line: &[u8]) -> Option<Outcome>
     ensures { IsRead SpellsPlainOutcome line.now result }
 {
     if is_line(line, b"returns") {
         return Some(Outcome::Returns(None));
     }
-    if let Some(word) = behind(line, b"returns ") {
-        return Some(Outcome::Returns(Some(read_word(word)?)));
+    if let Some(word) = word_behind(line, b"returns ") {
+        return Some(Outcome::Returns(Some(word)));
     }
-    if let Some(word) = behind(line, b"throws ") {
-        return Some(Outcome::Throws(read_reference(word)?));
+    if let Some(reference) = reference_behind(line, b"throws ") {
+        return Some(Outcome::Throws(reference));
     }
-    Some(Outcome::Past(read_bound(behind(line, b"past ")?)?))
+    Some(Outcome::Past(read_past_line(line)?))
 }
 
+#[tactic(auto, unfolding(crate::specs::Lines::outcome_text))]
 pub(crate) fn read_outcome(alloc: Global, line: &[u8]) -> Result<Option<Outcome>, NoMemory>
     ensures { IfOk result (IsRead SpellsOutcome line.now) }
 {
-    let Some(text) = behind(line, b"illtyped ") else {
-        return Ok(read_plain_outcome(line));
-    };
-    match read_place(alloc, text)? {
-        Some(place) => Ok(Some(Outcome::IllTyped(place))),
-        None => Ok(None),
+    if let Some(place) = read_place_line(alloc, line)? {
+        return Ok(Some(Outcome::IllTyped(place)));
     }
+    Ok(read_plain_outcome(line))
 }

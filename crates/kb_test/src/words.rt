@@ -1,10 +1,10 @@
 //! The words of a line, and the values that they spell.
-ghost use Rattle.std.specs.Prelude.{◌≡◌, ◌↔◌, IsTrue, IfOk, MatchOption};
+ghost use Rattle.std.specs.Prelude.{◌≡◌, ◌++◌, IfOk};
 ghost use Rattle.kb_grammar.specs.Lines.{IsRead, Lacks};
-ghost use Rattle.kb_test.specs.Words.{SpellsReference, SpellsWord, SpellsWords, is_below, word_below, words_below, IsTail};
+ghost use Rattle.kb_test.specs.Words.{SpellsNumberBehind, SpellsReference, SpellsWord, SpellsWordBehind, SpellsWords, is_below, word_below, words_below, IsTail};
 
 use crate::NoMemory;
-use kb_grammar::{cut, is_line, read_int, read_number};
+use kb_grammar::{behind, cut, is_line, read_int, read_number};
 use kb_heap::Row;
 use std::alloc::Global;
 
@@ -73,17 +73,27 @@ impl Limits {
     }
 }
 
+// The number that stands behind that front, up to the end.
+pub(crate) fn last_number(text: &[u8], front: &[u8]) -> Option<u32>
+    ensures { IsRead (SpellsNumberBehind front.now) text.now result }
+{
+    read_number(behind(text, front)?)
+}
+
+#[tactic(auto, unfolding(crate::specs::Words::reference_text))]
 pub(crate) fn read_reference(word: &[u8]) -> Option<Reference>
     ensures { IsRead SpellsReference word.now result }
 {
-    match word {
-        [b'i', digits @ ..] => Some(Reference::Input(read_number(digits)?)),
-        [b's', digits @ ..] => Some(Reference::Literal(read_number(digits)?)),
-        [b'n', digits @ ..] => Some(Reference::Made(read_number(digits)?)),
-        _ => None,
+    if let Some(number) = last_number(word, b"i") {
+        return Some(Reference::Input(number));
     }
+    if let Some(number) = last_number(word, b"s") {
+        return Some(Reference::Literal(number));
+    }
+    Some(Reference::Made(last_number(word, b"n")?))
 }
 
+#[tactic(auto, unfolding(crate::specs::Words::word_text))]
 pub(crate) fn read_word(word: &[u8]) -> Option<Word>
     ensures { IsRead SpellsWord word.now result }
 {
@@ -94,6 +104,13 @@ pub(crate) fn read_word(word: &[u8]) -> Option<Word>
         return Some(Word::Object(reference));
     }
     Some(Word::Int(read_int(word)?))
+}
+
+// A value behind that front.
+pub(crate) fn word_behind(text: &[u8], front: &[u8]) -> Option<Word>
+    ensures { IsRead (SpellsWordBehind front.now) text.now result }
+{
+    read_word(behind(text, front)?)
 }
 
 // The first word of a text, and what stands behind it, with the space before it.
