@@ -4,7 +4,7 @@ use Rattle.std.specs.List.{list_all}
 use Rattle.kb_names.specs.Targets.{IsTarget}
 use Rattle.kb_names.specs.declared.types.Target.{Target}
 use Rattle.kb_heap.specs.declared.bounds.RunBounds.{RunBounds}
-use Rattle.kb_test.specs.Words.{AreWords, AreWordLists, words_below}
+use Rattle.kb_test.specs.Words.{AreWords, AreWordLists, word_below, words_below}
 use Rattle.kb_test.specs.Lines.{IsRunBounds, AreListed, IsOutcome, SpellsLine, listed_below, outcome_below}
 use Rattle.kb_test.specs.Scripts.{in_lines, out_lines, new_lines, script_below, limits_of, AreScripts, scripts_lines, texts_of}
 use Rattle.kb_test.specs.Tests.{test_of, tests_of}
@@ -72,7 +72,7 @@ with_new script listed = record {
 
 -- an argument stands before all input objects
 abbrev pub may_have_arg : ℕ → Begun → Word → Bool
-may_have_arg literals begun word = length begun.inputs == 0 && words_below (open_limits literals) (word ∷ [])
+may_have_arg literals begun word = length begun.inputs == 0 && word_below (open_limits literals) word
 
 abbrev pub may_have_input : ℕ → Begun → ℕ → Listed → Bool
 may_have_input literals begun number listed = number == length begun.inputs && listed_below (open_limits literals) listed

@@ -141,11 +141,11 @@ IsEnding objects (Past Depth) = Unit {0}
 IsEnding objects (Past Steps) = Unit {0}
 
 -- The heap begins with that many input objects and goes on with that many literals. All its objects and the ending have texts.
-pub record IsFinal (inputs literals : ℕ) (ending : Ending) (heap : Heap) : Type 0 where
+pub record IsFinal (inputs literals : ℕ) (how : Ending) (heap : Heap) : Type 0 where
   pub inputs_there : inputs ≤ length heap.objects
   pub literals_there : take literals (drop inputs heap.objects) ≡ literal_objects literals
   pub objects : AreObjects (length heap.objects) heap.objects
-  pub ending : IsEnding (length heap.objects) ending
+  pub ending : IsEnding (length heap.objects) how
 
 -- a test that has a text in a world of so many literals
 pub record IsTest (literals : ℕ) (test : Test) : Type 0 where

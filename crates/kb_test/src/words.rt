@@ -131,16 +131,16 @@ pub(crate) fn read_words(alloc: Global, text: &[u8]) -> Result<Option<Row<Word>>
 {
     let mut words = Row::new(alloc);
     let mut rest = text;
-    while let [space, others @ ..] = rest {
-        if *space != b' ' {
-            return Ok(None);
-        }
-        let (word, behind) = first_word(others);
+    while let Some(others) = behind(rest, b" ") {
+        let (word, left) = first_word(others);
         let Some(value) = read_word(word) else {
             return Ok(None);
         };
         words.push(value)?;
-        rest = behind;
+        rest = left;
+    }
+    if !rest.is_empty() {
+        return Ok(None);
     }
     Ok(Some(words))
 }

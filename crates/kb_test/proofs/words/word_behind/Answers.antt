@@ -1,4 +1,3 @@
-use Rattle.kb_test.proofs.SameWords.{same_words}
 use Rattle.kb_test.specs.Words.{word_text, IsWord}
 use Rattle.kb_test.proofs.ReadLaws.{behind_read}
 use Rattle.kb_test.proofs.words.word_behind.Goals as goal
