@@ -26,12 +26,8 @@ use Rattle.kb_test.specs.Fronts.{open_limits, ended_limits, with_outcome, may_en
 use Rattle.kb_test.proofs.Texts.{AllLines, AllLines-++}
 use Rattle.kb_test.proofs.Steps.{and_both, IsWider, AreBelow, are_below, is_below_all, are_wider, steps, steps_then, front_of, args_run, inputs_run, ending_run, outs_run, news_run, end_run, head_run}
 
-begun_of : Script → Begun
+abbrev pub begun_of : Script → Begun
 begun_of script = record { target = script.target; bounds = script.bounds; args = script.args; inputs = script.inputs }
-
--- the lines up to the ending, and those up to the end
-head_lines : Script → List Line
-head_lines script = Method script.target ∷ Limit script.bounds ∷ (map Arg script.args ++ in_lines 0 script.inputs)
 
 -- ---- limits
 
@@ -63,7 +59,7 @@ module _ (literals : ℕ) where
       → steps literals (front_of tests (Started (begun_of script))) (Ends script.outcome ∷ (out_lines 0 script.outs ++ (new_lines 0 script.news ++ rest))) ≡ steps literals (front_of tests (Ended script)) rest
   last_run tests script rest few order are =
       ending_run literals tests (begun_of script) script.outcome (out_lines 0 script.outs ++ (new_lines 0 script.news ++ rest)) (may_end literals script are)
-      ∙ outs_run literals tests (begun_of script) script.outcome 0 [] script.outs (new_lines 0 script.news ++ rest) refl few are.outs
+      ∙ outs_run literals tests (begun_of script) script.outcome 0 [] script.outs (new_lines 0 script.news ++ rest) refl (omega (arith, few)) are.outs
       ∙ go order
     where
       with_news : List Listed → Open
@@ -156,7 +152,7 @@ news_lines number [] small are = tt
 news_lines number (listed ∷ others) small are = ((omega (arith, small), are.0), news_lines (suc number) others (omega (arith, small)) are.1)
 
 begun_are_lines : (literals : ℕ) (begun : Begun) → IsBegun literals begun → AllLines (begun_lines begun)
-begun_are_lines literals begun is = (is.target, (is.bounds, AllLines-++ (map Arg begun.args) (in_lines 0 begun.inputs) (args_lines begun.args is.args) (ins_lines 0 begun.inputs is.numbered_inputs is.inputs)))
+begun_are_lines literals begun is = (is.target, (is.bounds, AllLines-++ (map Arg begun.args) (in_lines 0 begun.inputs) (args_lines begun.args is.args) (ins_lines 0 begun.inputs (omega (arith, is.numbered_inputs)) is.inputs)))
 
 ended_are_lines : (literals : ℕ) (script : Script) → IsEnded literals script → AllLines (ended_lines script)
 ended_are_lines literals script is = (
@@ -164,8 +160,8 @@ ended_are_lines literals script is = (
   (
     is.bounds,
     AllLines-++ (map Arg script.args) _ (args_lines script.args is.args)
-        (AllLines-++ (in_lines 0 script.inputs) _ (ins_lines 0 script.inputs is.numbered_inputs is.inputs)
-        (is.outcome, AllLines-++ (out_lines 0 script.outs) (new_lines 0 script.news) (outs_lines 0 script.outs (omega (arith, is.not_more, is.numbered_inputs)) is.outs) (news_lines 0 script.news is.numbered_news is.news))),
+        (AllLines-++ (in_lines 0 script.inputs) _ (ins_lines 0 script.inputs (omega (arith, is.numbered_inputs)) is.inputs)
+        (is.outcome, AllLines-++ (out_lines 0 script.outs) (new_lines 0 script.news) (outs_lines 0 script.outs (omega (arith, is.not_more, is.numbered_inputs)) is.outs) (news_lines 0 script.news (omega (arith, is.numbered_news)) is.news))),
   ),
 )
 

@@ -5,3 +5,5 @@ pub mod WordLists
 pub mod BoundsLine
 pub mod SameLines
 pub mod Steps
+pub mod Accepts
+pub mod Parts

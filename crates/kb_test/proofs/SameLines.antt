@@ -85,7 +85,7 @@ same_listed a b p q e =
         ap (λ (kind : ExactType). (let listed : Listed = record { kind = kind; values = a.values } in listed)) k
         ∙ ap (λ (values : List Word). (let listed : Listed = record { kind = b.kind; values = values } in listed)) v
 
-digits : (number : ℕ) → number < 2 ^ 32 → Lacks 32 (decimal number)
+pub digits : (number : ℕ) → number < 2 ^ 32 → Lacks 32 (decimal number)
 digits number small = digits_lack 32 space number (omega (arith, small))
 
 -- the number and the rest behind one front

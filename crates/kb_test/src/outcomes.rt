@@ -5,8 +5,8 @@ ghost use Rattle.kb_test.specs.Words.{SpellsReferenceBehind};
 ghost use Rattle.kb_test.specs.Lines.{SpellsOutcome, SpellsPlainOutcome, SpellsPlace, SpellsPlaceLine, SpellsPastLine, outcome_below};
 
 use crate::NoMemory;
-use crate::words::{Limits, Reference, Word, first_word, read_reference, word_behind};
-use kb_grammar::{behind, is_line, read_number};
+use crate::words::{Limits, Reference, Word, read_reference, word_behind};
+use kb_grammar::{behind, cut, is_line, read_number};
 use kb_heap::Place;
 use kb_names::{TargetRefusal, read_target};
 use std::alloc::Global;
@@ -45,8 +45,7 @@ impl Limits {
 fn read_place(alloc: Global, text: &[u8]) -> Result<Option<Place>, NoMemory>
     ensures { IfOk result (IsRead SpellsPlace text.now) }
 {
-    let (word, rest) = first_word(text);
-    let Some(digits) = behind(rest, b" ") else {
+    let Some((word, digits)) = cut(text, b' ') else {
         return Ok(None);
     };
     let Some(at) = read_number(digits) else {
