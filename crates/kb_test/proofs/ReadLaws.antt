@@ -26,3 +26,8 @@ same_first (x ∷ xs) (y ∷ ys) us vs p q h k e =
     let head : x ≡ y = cc in
     let rest : (xs ≡ ys) × (us ≡ vs) = same_first xs ys us vs p.1 q.1 h k tails in
     (cc, rest.1)
+
+-- nothing was read
+pub none_read : {A : Type 0} (Spells : A → List ℕ → Type 0) (text : List ℕ) (read : Option A) → read ≡ None → IsRead Spells text read → (x : A) → Spells x text → ⊥
+none_read Spells text (Some x) e h = cc
+none_read Spells text None e h = h

@@ -1,4 +1,3 @@
-use Rattle.kb_test.proofs.Accepts.{front_run}
 use Rattle.kb_test.proofs.SameLines.{same_lines}
 use Rattle.kb_test.proofs.WordLists.{no_word, no_gap, whole, one_more}
 use Rattle.kb_test.proofs.words.read_words.Goals as goal
