@@ -7,3 +7,4 @@ pub mod SameLines
 pub mod Steps
 pub mod Accepts
 pub mod Parts
+pub mod Sound

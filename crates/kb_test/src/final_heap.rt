@@ -1,7 +1,7 @@
 //! The heap that a test states at the end of its run.
-ghost use Rattle.std.specs.Prelude.{◌≡◌, ◌↔◌, ◌++◌, IsTrue, List, Some, None, MatchOption, slice_get};
+ghost use Rattle.std.specs.Prelude.{◌≡◌, ◌↔◌, ◌++◌, IsTrue, IfOk, List, Some, None, MatchOption, slice_get};
 ghost use Rattle.kb_heap.specs.declared.heap.Object.{Object};
-ghost use Rattle.kb_test.specs.Tests.{literal_objects};
+ghost use Rattle.kb_test.specs.Tests.{string_object, literal_objects};
 
 use crate::NoMemory;
 use kb_heap::{Heap, Object, Row};
