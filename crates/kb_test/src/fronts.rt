@@ -95,8 +95,8 @@ fn may_have_input(literals: u32, begun: &Begun, number: u32, listed: &Listed) ->
 }
 
 // The test with nothing behind its ending, if all input objects are there that it names.
-fn ended_so(alloc: Global, literals: u32, begun: Begun, outcome: Outcome) -> Option<Script>
-    ensures { result ≡ if_may (may_end_so literals begun outcome) (with_outcome begun outcome) }
+fn ended_so(alloc: Global, literals: u32, begun: Begun, outcome: Outcome) -> Option<Open>
+    ensures { result ≡ if_may (may_end_so literals begun outcome) (Open.Ended (with_outcome begun outcome)) }
 {
     let script = Script {
         target: begun.target,
@@ -111,7 +111,7 @@ fn ended_so(alloc: Global, literals: u32, begun: Begun, outcome: Outcome) -> Opt
     if !script.is_within(limits) {
         return None;
     }
-    Some(script)
+    Some(Open::Ended(script))
 }
 
 #[tactic(auto, unfolding(crate::specs::Fronts::begun_step))]
@@ -139,10 +139,7 @@ fn after_bounds(
             begun.inputs.push(listed)?;
             Ok(Some(Open::Started(begun)))
         }
-        Line::Ends(outcome) => match ended_so(alloc, literals, begun, outcome) {
-            Some(script) => Ok(Some(Open::Ended(script))),
-            None => Ok(None),
-        },
+        Line::Ends(outcome) => Ok(ended_so(alloc, literals, begun, outcome)),
         _ => Ok(None),
     }
 }

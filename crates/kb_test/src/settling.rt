@@ -76,7 +76,10 @@ impl Numbering {
         let mut objects = Row::new(self.alloc);
         let mut kinds = inputs;
         let mut rest = outs;
-        while let ([listed, listeds @ ..], [words, others @ ..]) = (kinds, rest) {
+        while let [listed, listeds @ ..] = kinds {
+            let [words, others @ ..] = rest else {
+                return Ok(objects);
+            };
             let kind = listed.kind.copied(self.alloc)?;
             let values = self.values(words.as_slice())?;
             objects.push(Object { kind, values })?;
