@@ -8,3 +8,6 @@ pub mod Steps
 pub mod Accepts
 pub mod Parts
 pub mod Sound
+pub mod Endings
+pub mod Format
+pub mod Written

@@ -239,7 +239,7 @@ out_next literals script number words good is h = record {
   lines = more_outs script (words ∷ []) none ∙ ap (λ (n : ℕ). ended_lines script ++ Out n words ∷ []) (sym same);
 }
   where
-    abbrev limits : Limits
+    limits : Limits
     limits = ended_limits literals (length script.inputs)
     are : AreBelow limits script
     are = are_below limits script good.there
@@ -278,7 +278,7 @@ new_next literals script number listed good is h = record {
   lines = more_news script (listed ∷ []) ∙ ap (λ (n : ℕ). ended_lines script ++ New n listed ∷ []) (sym same);
 }
   where
-    abbrev limits : Limits
+    limits : Limits
     limits = ended_limits literals (length script.inputs)
     are : AreBelow limits script
     are = are_below limits script good.there

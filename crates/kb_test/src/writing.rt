@@ -1,5 +1,5 @@
 //! Tests are written.
-ghost use Rattle.std.specs.Prelude.{◌≡◌, ◌≤◌, ◌∷◌, [], ◌++◌, ◌+◌, length, map, take, drop, codes, ◌<◌, ◌^◌, IsSome, IfSome, OnOk, OnErr};
+ghost use Rattle.std.specs.Prelude.{◌≡◌, ◌≤◌, ◌∷◌, [], ◌++◌, ◌+◌, length, map, take, drop, codes, ◌<◌, ◌^◌, IsSome, IfSome, IsTrue, OnOk, OnErr};
 ghost use Rattle.std.specs.Fmt.{decimal};
 ghost use Rattle.kb_grammar.specs.Lines.{lines_text};
 ghost use Rattle.kb_test.specs.Words.{reference_text, word_text, words_text};
@@ -8,13 +8,16 @@ ghost use Rattle.kb_test.specs.Scripts.{in_lines, out_lines, new_lines, texts_of
 ghost use Rattle.kb_test.specs.Tests.{IsTest};
 ghost use Rattle.kb_test.specs.Refusals.{Appends};
 ghost use Rattle.kb_test.specs.Writing.{reference_of, word_of, words_of, listed_of, listeds_of, outs_of, news_of, outcome_of, run_lines, test_text, AppendsRun};
-ghost use Rattle.kb_test.specs.declared.lines.Line.TheVariants.{Method, Limit, Arg, Out};
+ghost use Rattle.kb_test.specs.declared.lines.Line.TheVariants.{Method, Limit, Arg, In, Out, New};
 
 use crate::words::Reference;
-use crate::{NoMemory, Objects, Test};
+use crate::{FinalHeap, NoMemory, Objects, Test};
 use kb_heap::{Bound, Ending, Object, Place, RunBounds, Value};
 use kb_names::{ExactType, Spelling, Target, write_name, write_target, write_type};
 use std::alloc::Global;
+
+// The last number of 32 bits.
+const LAST_NUMBER: usize = 4_294_967_295;
 
 // How many input objects and how many literals stand in a heap before the objects of the run.
 #[derive(Clone, Copy)]
@@ -39,12 +42,25 @@ pub fn write_test(
     ensures ok { OnOk result (Appends literals test.now into.old.items into.new.items) }
     ensures err { OnErr result (into.new.items ≡ into.old.items) }
 {
+    if !is_numbered(&test.heap) {
+        return Err(NoMemory);
+    }
     let start = into.len();
     let written = append_test(alloc, test, literals, into);
     if written.is_err() {
         into.truncate(start);
     }
     written
+}
+
+// Whether each object has a number of 32 bits.
+fn is_numbered(heap: &FinalHeap) -> bool
+    ensures { IsTrue result → length heap.now.objects ≤ 2 ^ 32 }
+{
+    match heap.object(LAST_NUMBER) {
+        Some(_) => false,
+        None => true,
+    }
 }
 
 /// Appends the lines that say how a run has ended: its ending, the last values of the input objects, of which the heap
@@ -246,22 +262,46 @@ impl Counts {
         Ok(())
     }
 
-    // An object by its number, with its exact type and its values.
-    fn append_object_line(
+    // An object: its exact type and its values.
+    fn append_object(self, object: &Object, into: &mut Vec<u8>) -> Result<(), NoMemory>
+        ensures ok { OnOk result (into.new.items ≡ into.old.items ++ listed_text (listed_of self.inputs self.literals object.now)) }
+        ensures kept { take (length into.old.items) into.new.items ≡ into.old.items }
+    {
+        append_exact(&object.kind, into)?;
+        self.append_values(object.values.as_slice(), into)
+    }
+
+    #[tactic(auto, unfolding(crate::specs::Lines::line_text))]
+    fn append_in_line(
         self,
-        front: &[u8],
         number: u32,
         object: &Object,
         into: &mut Vec<u8>,
     ) -> Result<(), NoMemory>
-        ensures ok { OnOk result (into.new.items ≡ into.old.items ++ ((front.now ++ (decimal number ++ 32 ∷ listed_text (listed_of self.inputs self.literals object.now))) ++ 10 ∷ [])) }
+        ensures ok { OnOk result (into.new.items ≡ into.old.items ++ (line_text (In number (listed_of self.inputs self.literals object.now)) ++ 10 ∷ [])) }
         ensures kept { take (length into.old.items) into.new.items ≡ into.old.items }
     {
-        append(front, into)?;
+        append(b"in i", into)?;
         append_number(self.alloc, number, into)?;
         append(b" ", into)?;
-        append_exact(&object.kind, into)?;
-        self.append_values(object.values.as_slice(), into)?;
+        self.append_object(object, into)?;
+        append(b"\n", into)
+    }
+
+    #[tactic(auto, unfolding(crate::specs::Lines::line_text))]
+    fn append_new_line(
+        self,
+        number: u32,
+        object: &Object,
+        into: &mut Vec<u8>,
+    ) -> Result<(), NoMemory>
+        ensures ok { OnOk result (into.new.items ≡ into.old.items ++ (line_text (New number (listed_of self.inputs self.literals object.now)) ++ 10 ∷ [])) }
+        ensures kept { take (length into.old.items) into.new.items ≡ into.old.items }
+    {
+        append(b"new n", into)?;
+        append_number(self.alloc, number, into)?;
+        append(b" ", into)?;
+        self.append_object(object, into)?;
         append(b"\n", into)
     }
 
@@ -273,7 +313,7 @@ impl Counts {
         let mut number: u32 = 0;
         let mut rest = objects;
         while let [first, others @ ..] = rest {
-            self.append_object_line(b"in i", number, first, into)?;
+            self.append_in_line(number, first, into)?;
             rest = others;
             number += 1;
         }
@@ -347,11 +387,13 @@ impl Counts {
         ensures ok { OnOk result (into.new.items ≡ into.old.items ++ lines_text (texts_of (out_lines 0 (outs_of self.inputs self.literals (O.objects heap.now))))) }
         ensures kept { take (length into.old.items) into.new.items ≡ into.old.items }
     {
-        for number in 0..self.inputs {
+        let mut number: u32 = 0;
+        while number < self.inputs {
             let Some(object) = heap.object(number as usize) else {
                 unreachable!()
             };
             self.append_out_line(number, object.values.as_slice(), into)?;
+            number += 1;
         }
         Ok(())
     }
@@ -364,7 +406,7 @@ impl Counts {
         let before = self.inputs as usize + self.literals as usize;
         let mut number: u32 = 0;
         while let Some(object) = heap.object(before + number as usize) {
-            self.append_object_line(b"new n", number, object, into)?;
+            self.append_new_line(number, object, into)?;
             let Some(next) = number.checked_add(1) else {
                 return Err(NoMemory);
             };

@@ -1,0 +1,15 @@
+use Rattle.kb_test.proofs.Format.{is_line_format, spells_tests, by_lines, bad_line_of_tests}
+use Rattle.kb_test.proofs.reading.read_tests.Goals as goal
+
+pub returns-in-Ok-clause-found : goal.returns-in-Ok-clause-found
+returns-in-Ok-clause-found c = spells_tests c.args.literals c.in-Ok.tests c.args.text.now c.in-Ok.ensures.found
+
+pub returns-in-Ok-clause-only : goal.returns-in-Ok-clause-only
+returns-in-Ok-clause-only c = λ tests spells. c.in-Ok.ensures.only tests (by_lines c.args.literals tests c.args.text.now spells)
+
+pub read_lines-requires : goal.read_lines-requires
+read_lines-requires c = is_line_format c.args.literals
+
+pub returns-in-Err-BadLine-clause-bad : goal.returns-in-Err-BadLine-clause-bad
+returns-in-Err-BadLine-clause-bad c =
+    bad_line_of_tests c.args.literals c.args.text.now c.in-Err-BadLine.number (rw c.in-Err-BadLine.field-0-is at c.in-Err-BadLine.ensures.bad)
