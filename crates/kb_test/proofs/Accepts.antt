@@ -65,6 +65,7 @@ module _ (literals : ℕ) where
       with_news : List Listed → Open
       with_news news =
           Ended (record { target = script.target; bounds = script.bounds; args = script.args; inputs = script.inputs; outcome = script.outcome; outs = script.outs; news = news })
+
       go : script.news ≡ [] ⊎ (length script.outs ≡ length script.inputs)
           → steps literals (front_of tests (with_news [])) (new_lines 0 script.news ++ rest) ≡ steps literals (front_of tests (with_news script.news)) rest
       go (inl none) =

@@ -44,12 +44,12 @@ goes_back literals lines more longer e end = record {
 filler : Listed
 filler = record { kind = Class (65 ∷ []); values = [] }
 
+not_empty : (byte : ℕ) (bytes : List ℕ) → byte ∷ bytes ≢ []
+not_empty byte bytes e = cc
+
 is_filler : IsListed filler
 unfolding filler
-is_filler = ((not_empty, (omega arith, tt)), tt)
-  where
-    not_empty : (65 ∷ []) ≢ []
-    not_empty e = cc
+is_filler = ((not_empty 65 [], (omega arith, tt)), tt)
 
 fillers_listed : (count : ℕ) → AreListed (replicate count filler)
 fillers_listed zero = tt
@@ -115,10 +115,13 @@ module _ (literals : ℕ) where
         outs = script.outs;
         news = script.news ++ replicate count filler;
       }
+
       limits : Limits
       limits = ended_limits literals (length script.inputs)
+
       are : AreBelow limits script
       are = are_below limits script is.there
+
       is_longer : IsEnded literals longer
       is_longer = record {
         target = is.target;
@@ -156,10 +159,13 @@ module _ (literals : ℕ) where
         outs = script.outs ++ replicate count no_words;
         news = script.news;
       }
+
       limits : Limits
       limits = ended_limits literals (length script.inputs)
+
       are : AreBelow limits script
       are = are_below limits script is.there
+
       is_longer : IsEnded literals longer
       is_longer = record {
         target = is.target;
@@ -191,8 +197,10 @@ module _ (literals : ℕ) where
     where
       limits_with : ℕ → Limits
       limits_with inputs = record { inputs = inputs; literals = literals; made = 2 ^ 32 }
+
       below : script_below (open_limits literals) (with_outcome begun (Returns None)) ≡ true
       below = is_below_all (open_limits literals) (with_outcome begun (Returns None)) (record { args = is.args_there; inputs = is.inputs_there; outcome = refl; outs = refl; news = refl })
+
       is_script : IsEnded literals (with_outcome begun (Returns None))
       is_script = record {
         target = is.target;
@@ -216,6 +224,7 @@ module _ (literals : ℕ) where
     where
       longer : Begun
       longer = record { target = begun.target; bounds = begun.bounds; args = begun.args; inputs = begun.inputs ++ replicate count filler }
+
       is_longer : IsBegun literals longer
       is_longer = record {
         target = is.target;

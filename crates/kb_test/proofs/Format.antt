@@ -61,7 +61,7 @@ some_next literals front last line more h = go (step literals front line) h
   where
     go : (o : Option Front) → option_and_then (λ (next : Front). steps literals next more) o ≡ Some last → IsSome o
     go None e = cc
-    go (Some next) e = tt
+    go (Some next) e = refl
 
 module _ (literals : ℕ) where
   abbrev lines_behind : (front : Front) (texts : List (List ℕ)) → StandsBehind literals front texts → List Line
@@ -85,14 +85,14 @@ module _ (literals : ℕ) where
       let start = ap (λ (ls : List Line). steps literals (front_of [] Between) (ls ++ split.line ∷ split.more)) (sym same) in
       let whole = ap (steps literals (front_of [] Between)) (sym split.is) ∙ whole_run literals spells.scripts spells.are in
       let there = steps_then literals (front_of [] Between) front (lines_behind front texts at) (split.line ∷ split.more) (leads front texts at) in
-      (split.line, ((parts.1.0, split.text_is), some_next literals front (front_of (tests_of literals spells.scripts) Between) split.line split.more (sym there ∙ start ∙ whole)))
+      (split.line, (parts.1.0, split.text_is), some_next literals front (front_of (tests_of literals spells.scripts) Between) split.line split.more (sym there ∙ start ∙ whole))
 
   -- one line more
   pub next_stands_behind : (front next : Front) (texts : List (List ℕ)) (line : Line) (text : List ℕ) → StandsBehind literals front texts → SpellsLine line text → step literals front line ≡ Some next
       → StandsBehind literals next (texts ++ text ∷ [])
   next_stands_behind front next texts line text at spells e =
       let more = next_stands literals front.tests front.open_test line next (lines_behind front texts at)
-          (record { scripts = at.scripts; are = at.are; tests_are = at.tests_are; open_test = at.open_test; lines_are = refl }) spells.0 e in
+      (record { scripts = at.scripts; are = at.are; tests_are = at.tests_are; open_test = at.open_test; lines_are = refl }) spells.0 e in
       record {
         scripts = more.scripts;
         are = more.are;
@@ -117,10 +117,11 @@ module _ (literals : ℕ) where
   pub nothing_fits : (front : Front) (text : List ℕ) (line : Line) → SpellsLine line text → step literals front line ≡ None → FitsAt literals front text → ⊥
   nothing_fits front text line spells none fits =
       let same : fits.0 ≡ line = same_line fits.0 line fits.1.0 spells.0 (sym fits.1.1 ∙ spells.1) in
-      not_some (ap (step literals front) same ∙ none) fits.2
+      not_some (step literals front fits.0) (ap (step literals front) same ∙ none) fits.2
     where
-      not_some : {o : Option Front} → o ≡ None → IsSome o → ⊥
-      not_some {o} e h = subst IsSome e h
+      not_some : (o : Option Front) → o ≡ None → IsSome o → ⊥
+      not_some None e h = cc
+      not_some (Some next) e h = cc
 
   -- ---- the end
 
@@ -150,28 +151,24 @@ module _ (literals : ℕ) where
       go : (front.open_test ≡ Between) ⊎ Completes literals (open_lines front.open_test) → (after : List (List ℕ)) × (tests : List Test) × SpellsLines literals tests (before ++ after)
       go (inl between) = (
         [],
-        (
-          tests_of literals at.scripts,
-          record {
-            scripts = at.scripts;
-            are = at.are;
-            tests_are = refl;
-            texts_are = append-nil before ∙ at.texts_are ∙ ap (λ (o : Open). texts_of (scripts_lines at.scripts ++ open_lines o)) between ∙ ap texts_of (append-nil (scripts_lines at.scripts));
-          },
-        ),
+        tests_of literals at.scripts,
+        record {
+          scripts = at.scripts;
+          are = at.are;
+          tests_are = refl;
+          texts_are = append-nil before ∙ at.texts_are ∙ ap (λ (o : Open). texts_of (scripts_lines at.scripts ++ open_lines o)) between ∙ ap texts_of (append-nil (scripts_lines at.scripts));
+        },
       )
       go (inr end) = (
         texts_of end.more,
-        (
-          tests_of literals (at.scripts ++ end.script ∷ []),
-          record {
-            scripts = at.scripts ++ end.script ∷ [];
-            are = with_script literals at.scripts end.script at.are end.is;
-            tests_are = refl;
-            texts_are = ap (λ (ts : List (List ℕ)). ts ++ texts_of end.more) at.texts_are ∙ sym (texts_of-++ (lines_behind front before at) end.more)
-                ∙ ap texts_of (append_assoc (scripts_lines at.scripts) (open_lines front.open_test) end.more ∙ ap (λ (ls : List Line). scripts_lines at.scripts ++ ls) (sym end.lines_are) ∙ sym (one_script at.scripts end.script));
-          },
-        ),
+        tests_of literals (at.scripts ++ end.script ∷ []),
+        record {
+          scripts = at.scripts ++ end.script ∷ [];
+          are = with_script literals at.scripts end.script at.are end.is;
+          tests_are = refl;
+          texts_are = ap (λ (ts : List (List ℕ)). ts ++ texts_of end.more) at.texts_are ∙ sym (texts_of-++ (lines_behind front before at) end.more)
+              ∙ ap texts_of (append_assoc (scripts_lines at.scripts) (open_lines front.open_test) end.more ∙ ap (λ (ls : List Line). scripts_lines at.scripts ++ ls) (sym end.lines_are) ∙ sym (one_script at.scripts end.script));
+        },
       )
 
   spelled_are_lines : (tests : List Test) (texts : List (List ℕ)) → SpellsLines literals tests texts → AreLines texts
@@ -181,7 +178,7 @@ module _ (literals : ℕ) where
   spelled_once one other texts p q =
       let same = same_lines (scripts_lines p.scripts) (scripts_lines q.scripts) (scripts_are_lines literals p.scripts p.are) (scripts_are_lines literals q.scripts q.are) (sym p.texts_are ∙ q.texts_are) in
       let fronts : front_of (tests_of literals p.scripts) Between ≡ front_of (tests_of literals q.scripts) Between =
-          same_some _ _ (sym (whole_run literals p.scripts p.are) ∙ ap (steps literals (front_of [] Between)) same ∙ whole_run literals q.scripts q.are) in
+      same_some _ _ (sym (whole_run literals p.scripts p.are) ∙ ap (steps literals (front_of [] Between)) same ∙ whole_run literals q.scripts q.are) in
       p.tests_are ∙ ap (λ (f : Front). f.tests) fronts ∙ sym q.tests_are
     where
       same_some : (a b : Front) → (let one : Option Front = Some a in one ≡ Some b) → a ≡ b
@@ -205,3 +202,16 @@ module _ (literals : ℕ) where
   pub bad_line_of_tests : (text : List ℕ) (number : ℕ) → IsFirstBadLine (λ t. (tests : List Test) × SpellsByLines (SpellsLines literals) tests t) text number → IsFirstBadLine (IsTestsText literals) text number
   bad_line_of_tests text number =
       same_bad_line _ (IsTestsText literals) (λ t (tests, spells). (tests, spells_tests tests t spells)) (λ t (tests, spells). (tests, by_lines tests t spells)) text number
+
+  -- ---- a line by its text
+
+  takes : (front : Front) (text : List ℕ) (line : Line) (next : Option Front) → SpellsLine line text → next ≡ step literals front line → TakesText literals front text next
+  takes front text line (Some next) spells e = (line, spells, sym e)
+  takes front text line None spells e = nothing_fits front text line spells (sym e)
+
+  pub if_takes : {E : Type 0} (front : Front) (text : List ℕ) (line : Line) (r : Result (Option Front) E) → SpellsLine line text → IfOk r (λ next. next ≡ step literals front line) → IfOk r (TakesText literals front text)
+  if_takes front text line (Ok next) spells h = takes front text line next spells h
+  if_takes front text line (Err e) spells h = h
+
+  pub no_line : (front : Front) (text : List ℕ) → ((line : Line) → SpellsLine line text → ⊥) → FitsAt literals front text → ⊥
+  no_line front text none fits = none fits.0 fits.1

@@ -11,3 +11,4 @@ pub mod Sound
 pub mod Endings
 pub mod Format
 pub mod Written
+pub mod Appending

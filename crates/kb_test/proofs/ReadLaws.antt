@@ -1,5 +1,5 @@
 -- What a reader of a part of a text says of the whole.
-use Rattle.std.proofs.Common.{◌≡◌, ℕ, List, [], ◌∷◌, ◌++◌, Option, None, Some, Result, Ok, Err, IfOk, refl, sym, ◌∙◌, ap}
+use Rattle.std.proofs.Common.{◌≡◌, ℕ, List, [], ◌∷◌, ◌++◌, Option, None, Some, Result, Ok, Err, IfOk, refl, sym, ◌∙◌, ap, subst}
 use Rattle.kb_grammar.specs.Lines.{Lacks, IsRead}
 use Rattle.kb_grammar.proofs.WordLaws.{same_behind, same_cut, not_lacking}
 use Rattle.kb_test.specs.Words.{IsTail}
@@ -31,3 +31,8 @@ same_first (x ∷ xs) (y ∷ ys) us vs p q h k e =
 pub none_read : {A : Type 0} (Spells : A → List ℕ → Type 0) (text : List ℕ) (read : Option A) → read ≡ None → IsRead Spells text read → (x : A) → Spells x text → ⊥
 none_read Spells text (Some x) e h = cc
 none_read Spells text None e h = h
+
+-- that was read
+pub some_read : {A : Type 0} (Spells : A → List ℕ → Type 0) (text : List ℕ) (read : Option A) (x : A) → read ≡ Some x → IsRead Spells text read → Spells x text
+some_read {A} Spells text (Some y) x e h = let same : y ≡ x = cc in subst (λ (z : A). Spells z text) same h
+some_read Spells text None x e h = absurd cc

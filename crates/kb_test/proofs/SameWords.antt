@@ -35,6 +35,7 @@ no_letter number letter rest small none e =
     follow : Option ℕ → Option ℕ
     follow None = None
     follow (Some n) = with_digits 4294967295 n rest
+
     not_both : {o : Option ℕ} → o ≡ None → o ≡ Some number → ⊥
     not_both p q = cc
 

@@ -155,8 +155,10 @@ arg_next literals begun word good is h = record {
   where
     parts : ((length begun.inputs == 0) ≡ true) × (word_below (open_limits literals) word ≡ true)
     parts = both (length begun.inputs == 0) (word_below (open_limits literals) word) h
+
     none : begun.inputs ≡ []
     none = nil_from_length begun.inputs (eqb-true (length begun.inputs) 0 parts.0)
+
     with_none : (inputs : List Listed) → inputs ≡ [] → map Arg (begun.args ++ word ∷ []) ++ in_lines 0 inputs ≡ (map Arg begun.args ++ in_lines 0 inputs) ++ Arg word ∷ []
     with_none [] e = append-nil (map Arg (begun.args ++ word ∷ [])) ∙ args-++ begun.args (word ∷ []) ∙ ap (λ (ls : List Line). ls ++ Arg word ∷ []) (sym (append-nil (map Arg begun.args)))
     with_none (input ∷ inputs) e = absurd cc
@@ -178,6 +180,7 @@ input_next literals begun number listed good is h = record {
   where
     parts : ((number == length begun.inputs) ≡ true) × (listed_below (open_limits literals) listed ≡ true)
     parts = both (number == length begun.inputs) (listed_below (open_limits literals) listed) h
+
     same : number ≡ length begun.inputs
     same = eqb-true number (length begun.inputs) parts.0
 
@@ -241,19 +244,26 @@ out_next literals script number words good is h = record {
   where
     limits : Limits
     limits = ended_limits literals (length script.inputs)
+
     are : AreBelow limits script
     are = are_below limits script good.there
+
     parts : ((number == length script.outs) ≡ true) × ((nat_lt (length script.outs) (length script.inputs) && words_below limits words) ≡ true)
     parts = both (number == length script.outs) _ h
+
     rest : (nat_lt (length script.outs) (length script.inputs) ≡ true) × (words_below limits words ≡ true)
     rest = both (nat_lt (length script.outs) (length script.inputs)) (words_below limits words) parts.1
+
     same : number ≡ length script.outs
     same = eqb-true number (length script.outs) parts.0
+
     fewer : length script.outs < length script.inputs
     fewer = ltb-true (length script.outs) (length script.inputs) rest.0
+
     go : script.news ≡ [] ⊎ (length script.outs ≡ length script.inputs) → script.news ≡ []
     go (inl e) = e
     go (inr many) = absurd (omega (arith, many, fewer))
+
     none : script.news ≡ []
     none = go good.in_order
 
@@ -280,14 +290,19 @@ new_next literals script number listed good is h = record {
   where
     limits : Limits
     limits = ended_limits literals (length script.inputs)
+
     are : AreBelow limits script
     are = are_below limits script good.there
+
     parts : ((number == length script.news) ≡ true) × ((length script.outs == length script.inputs && listed_below limits listed) ≡ true)
     parts = both (number == length script.news) _ h
+
     rest : ((length script.outs == length script.inputs) ≡ true) × (listed_below limits listed ≡ true)
     rest = both (length script.outs == length script.inputs) (listed_below limits listed) parts.1
+
     same : number ≡ length script.news
     same = eqb-true number (length script.news) parts.0
+
     many : length script.outs ≡ length script.inputs
     many = eqb-true (length script.outs) (length script.inputs) rest.0
 

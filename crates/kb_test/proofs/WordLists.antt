@@ -39,6 +39,7 @@ no_gap read rest text empty gap is not so_far all spells = go (so_far.others all
     other : (more : List Word) → rest ≡ words_text more → ⊥
     other [] e = let here : (length rest == 0) ≡ true = ap (λ (l : List ℕ). length l == 0) e in cc
     other (word ∷ more) e = gap (word_text word ++ words_text more) e
+
     go : GoesOn read rest all → ⊥
     go on = other on.more on.rest_is
 

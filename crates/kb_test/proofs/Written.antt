@@ -1,10 +1,10 @@
 -- What is written of a test is a text of it.
 use Rattle.std.proofs.Common.{◌≡◌, ℕ, zero, suc, ◌+◌, ◌-◌, ◌<◌, ◌≤◌, ◌^◌, Bool, true, false, ◌&&◌, if◌then◌else◌, Option, None, Some, List, [], ◌∷◌, ◌++◌, length, length-append, map, take, drop, refl, sym, ◌∙◌, ap, arith, append_assoc, append-nil, subst}
-use Rattle.std.specs.Prelude.{nat_lt, slice_get, replicate, ℤ, IsTrue}
+use Rattle.std.specs.Prelude.{nat_lt, slice_get, replicate, ℤ, IsTrue, IsSome, IfSome}
 use Rattle.std.specs.List.{list_all, flat_map}
 use Rattle.std.proofs.lemmas.Bool.{ltb-true, lt-ltb}
 use Rattle.std.proofs.lemmas.Bool.Decides.{nat_tests}
-use Rattle.std.proofs.lemmas.List.{take-append-drop, length-map, length-take-le, length-drop}
+use Rattle.std.proofs.lemmas.List.{take-append-drop, length-map, length-take-le, length-drop, drop-drop}
 use Rattle.std.proofs.lemmas.Option.{slice_get-get_or}
 use Rattle.kb_grammar.specs.Lines.{lines_text}
 use Rattle.kb_names.specs.declared.types.ExactType.{ExactType}
@@ -35,21 +35,28 @@ use Rattle.kb_test.specs.Words.{IsReference, IsWord, AreWords, AreWordLists, is_
 use Rattle.kb_test.specs.Lines.{AreListed, IsOutcome, listed_below, outcome_below}
 use Rattle.kb_test.specs.Scripts.{script_lines, script_below, limits_of, IsScript, scripts_lines, texts_of}
 use Rattle.kb_test.specs.Tests.{number_of, value_of, values_of, object_of, objects_of, last_objects, ending_of, literal_objects, test_of, SpellsTests, IsValue, AreValues, AreObjects, kinds_of, IsEnding, IsFinal, IsTest}
-use Rattle.kb_test.specs.Writing.{reference_of, word_of, words_of, listed_of, listeds_of, outs_of, news_of, outcome_of, script_of, test_text}
+use Rattle.kb_test.specs.Writing.{reference_of, word_of, words_of, listed_of, listeds_of, outs_of, news_of, outcome_of, run_lines, script_of, test_text, AppendsRun}
 use Rattle.kb_test.specs.Refusals.{Appends}
+use Rattle.kb_grammar.proofs.LineLaws.{lines_text-++}
 use Rattle.kb_test.proofs.Steps.{and_both, is_below_all}
 
 -- ---- numbers, there and back
 
 module _ (inputs literals : ℕ) where
   number_back : (object : ℕ) → number_of inputs literals (reference_of inputs literals object) ≡ object
-  number_back object = go (nat_lt object inputs) refl (nat_lt (object - inputs) literals)
+  number_back object = go (nat_lt object inputs) refl (nat_lt (object - inputs) literals) refl
     where
-      go : (first : Bool) → nat_lt object inputs ≡ first → (second : Bool)
+      go : (first : Bool) → nat_lt object inputs ≡ first → (second : Bool) → nat_lt (object - inputs) literals ≡ second
           → number_of inputs literals (if first then input_object object else if second then Literal (object - inputs) else Made (object - inputs - literals)) ≡ object
-      go true e second = refl
-      go false e true = grind (arith, nat_tests)
-      go false e false = grind (arith, nat_tests)
+      go true e second f = refl
+      go false e true f = behind e
+        where
+          behind : nat_lt object inputs ≡ false → inputs + (object - inputs) ≡ object
+          behind h = grind (arith, nat_tests)
+      go false e false f = behind e f
+        where
+          behind : nat_lt object inputs ≡ false → nat_lt (object - inputs) literals ≡ false → inputs + literals + (object - inputs - literals) ≡ object
+          behind h k = grind (arith, nat_tests)
 
   value_back : (value : Value) → value_of inputs literals (word_of inputs literals value) ≡ value
   value_back (Int number) = refl
@@ -195,15 +202,8 @@ some_outcome inputs literals objects (Past Loops) h = (_, refl)
 some_outcome inputs literals objects (Past Depth) h = (_, refl)
 some_outcome inputs literals objects (Past Steps) h = (_, refl)
 
-drop_twice : (m n : ℕ) (xs : List Object) → drop n (drop m xs) ≡ drop (m + n) xs
-drop_twice zero n xs = ap (λ (k : ℕ). drop k xs) (omega arith)
-drop_twice (suc m) n [] = none n
-  where
-    none : (k : ℕ) → drop k [] ≡ []
-    none zero = refl
-    none (suc k) = refl
-drop_twice (suc m) n (x ∷ xs) = drop_twice m n xs ∙ ap (λ (k : ℕ). drop k (x ∷ xs)) (let e : suc (m + n) ≡ suc m + n = omega arith in e)
-
+drop_twice : (inputs literals : ℕ) (xs : List Object) → drop literals (drop inputs xs) ≡ drop (inputs + literals) xs
+drop_twice inputs literals xs = drop-drop literals inputs xs ∙ ap (λ (n : ℕ). drop n xs) (omega arith)
 
 -- the heap in its parts
 heap_parts : (inputs literals : ℕ) (objects : List Object) → take literals (drop inputs objects) ≡ literal_objects literals
@@ -230,8 +230,10 @@ module _ (literals : ℕ) (test : Test) (outcome : Outcome) (is : IsTest literal
       read inputs =
           test_from test.target test.bounds (objects_of inputs literals (listeds_of count literals test.input.heap.objects)) (values_of inputs literals (words_of count literals test.input.args)) (ending_of inputs literals outcome)
           (last_objects inputs literals (listeds_of count literals test.input.heap.objects) (outs_of count literals test.heap.objects) ++ (literal_objects literals ++ objects_of inputs literals (news_of count literals test.heap.objects)))
+
       same_count : {n : ℕ} → n ≡ count → read n ≡ read count
       same_count e = ap read e
+
       back : read count ≡ test
       back =
           ap (λ (os : List Object). test_from test.target test.bounds os (values_of count literals (words_of count literals test.input.args)) (ending_of count literals outcome)
@@ -263,20 +265,27 @@ module _ (literals : ℕ) (test : Test) (outcome : Outcome) (is : IsTest literal
     where
       all : ℕ
       all = length test.heap.objects
+
       firsts : AreObjects all (take count test.heap.objects)
       firsts = AreObjects-take all count test.heap.objects is.final.objects
+
       lasts : AreObjects all (drop (count + literals) test.heap.objects)
       lasts = AreObjects-drop all (count + literals) test.heap.objects is.final.objects
+
       end : IsOutcome outcome × (outcome_below (made_limits count literals all numbered) outcome ≡ true)
       end = outcome_is count literals all numbered test.ending outcome is.final.ending written
+
       many : length (listeds_of count literals test.input.heap.objects) ≡ count
       many = length-map test.input.heap.objects (listed_of count literals)
+
       made : length (news_of count literals test.heap.objects) ≡ all - (count + literals)
       made = length-map (drop (count + literals) test.heap.objects) (listed_of count literals) ∙ length-drop (count + literals) test.heap.objects
+
       limits_are : limits_of literals (script_of literals outcome test) ≡ made_limits count literals all numbered
       limits_are =
           ap (λ (n : ℕ). (let limits : Limits = record { inputs = n; literals = literals; made = length (news_of count literals test.heap.objects) } in limits)) many
           ∙ ap (λ (n : ℕ). (let limits : Limits = record { inputs = count; literals = literals; made = n } in limits)) made
+
       below : script_below (made_limits count literals all numbered) (script_of literals outcome test) ≡ true
       below = is_below_all (made_limits count literals all numbered) (script_of literals outcome test) (record {
         args = words_there count literals all numbered test.input.args is.args;
@@ -311,3 +320,48 @@ numbered objects none = go (nat_lt 4294967295 (length objects)) refl
         not_both : {o : Option Object} {x : Object} → o ≡ None → o ≡ Some x → ⊥
         not_both p q = cc
     go false e = grind (arith, nat_tests)
+
+-- what holds of an outcome that is there
+pub of_some : (P : Outcome → Type 0) (some : Option Outcome) (outcome : Outcome) → some ≡ Some outcome → IfSome some P → P outcome
+of_some P (Some other) outcome e h = let same : other ≡ outcome = cc in subst P same h
+of_some P None outcome e h = absurd cc
+
+pub with_some : (P Q : Outcome → Type 0) (some : Option Outcome) → ((outcome : Outcome) → P outcome → Q outcome) → IfSome some P → IfSome some Q
+with_some P Q (Some outcome) f h = f outcome h
+with_some P Q None f h = h
+
+pub appended : (literals : ℕ) (test : Test) → IsTest literals test → length test.heap.objects ≤ 2 ^ 32 → (old new : List ℕ)
+    → IfSome (outcome_of (length test.input.heap.objects) literals test.ending) (λ outcome. new ≡ old ++ test_text literals outcome test) → Appends literals test old new
+appended literals test is few old new h =
+    let some = some_outcome (length test.input.heap.objects) literals (length test.heap.objects) test.ending is.final.ending in
+    appends literals test some.0 is some.1 few old new
+    (of_some (λ (outcome : Outcome). new ≡ old ++ test_text literals outcome test) (outcome_of (length test.input.heap.objects) literals test.ending) some.0 some.1 h)
+
+pub has_outcome : (inputs literals objects : ℕ) (ending : Ending) → IsEnding objects ending → IsSome (outcome_of inputs literals ending)
+has_outcome inputs literals objects (Returned None) h = refl
+has_outcome inputs literals objects (Returned (Some value)) h = refl
+has_outcome inputs literals objects (Threw object) h = refl
+has_outcome inputs literals objects (IllTyped place) h = refl
+has_outcome inputs literals objects (Past K) h = absurd h
+has_outcome inputs literals objects (Past Array) h = absurd h
+has_outcome inputs literals objects (Past Alloc) h = refl
+has_outcome inputs literals objects (Past Loops) h = refl
+has_outcome inputs literals objects (Past Depth) h = refl
+has_outcome inputs literals objects (Past Steps) h = refl
+
+-- a run's text, where its ending has one
+pub run_appended : (inputs literals : ℕ) (ending : Ending) (objects : List Object) (old new : List ℕ) → IsSome (outcome_of inputs literals ending)
+    → IfSome (outcome_of inputs literals ending) (λ outcome. new ≡ old ++ lines_text (texts_of (run_lines inputs literals outcome objects))) → AppendsRun inputs literals ending objects old new
+run_appended inputs literals ending objects old new there h = go (outcome_of inputs literals ending) refl there h
+  where
+    go : (some : Option Outcome) → outcome_of inputs literals ending ≡ some → IsSome some
+        → IfSome some (λ outcome. new ≡ old ++ lines_text (texts_of (run_lines inputs literals outcome objects))) → AppendsRun inputs literals ending objects old new
+    go None e there h = absurd cc
+    go (Some outcome) e there h = record { text = lines_text (texts_of (run_lines inputs literals outcome objects)); spelled = (outcome, e, refl); is = h }
+
+-- the text of a test, line by line behind another
+pub text_of_parts : (old one two : List ℕ) (args ins run : List (List ℕ))
+    → (((((old ++ (one ++ 10 ∷ [])) ++ (two ++ 10 ∷ [])) ++ lines_text args) ++ lines_text ins) ++ lines_text run) ++ 101 ∷ 110 ∷ 100 ∷ 10 ∷ []
+    ≡ old ++ lines_text (one ∷ two ∷ (args ++ (ins ++ (run ++ (101 ∷ 110 ∷ 100 ∷ []) ∷ []))))
+text_of_parts old one two args ins run =
+    rw (lines_text-++ args (ins ++ (run ++ (101 ∷ 110 ∷ 100 ∷ []) ∷ [])), lines_text-++ ins (run ++ (101 ∷ 110 ∷ 100 ∷ []) ∷ []), lines_text-++ run ((101 ∷ 110 ∷ 100 ∷ []) ∷ [])) (simp append_assoc)

@@ -46,11 +46,13 @@ pub fn write_test(
         return Err(NoMemory);
     }
     let start = into.len();
-    let written = append_test(alloc, test, literals, into);
-    if written.is_err() {
-        into.truncate(start);
+    match append_test(alloc, test, literals, into) {
+        Ok(()) => Ok(()),
+        Err(NoMemory) => {
+            into.truncate(start);
+            Err(NoMemory)
+        }
     }
-    written
 }
 
 // Whether each object has a number of 32 bits.
@@ -84,11 +86,13 @@ pub fn write_run<O: Objects>(
         inputs,
         literals,
     };
-    let written = counts.append_run(ending, heap, into);
-    if written.is_err() {
-        into.truncate(start);
+    match counts.append_run(ending, heap, into) {
+        Ok(()) => Ok(()),
+        Err(NoMemory) => {
+            into.truncate(start);
+            Err(NoMemory)
+        }
     }
-    written
 }
 
 // The functions below leave, after an `Err`, a part of what they write.
