@@ -12,3 +12,4 @@ pub mod Endings
 pub mod Format
 pub mod Written
 pub mod Appending
+pub mod OneText

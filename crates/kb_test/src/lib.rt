@@ -19,4 +19,4 @@ pub use final_heap::{FinalHeap, Objects};
 pub use memory::NoMemory;
 pub use reading::{TestRefusal, read_tests};
 pub use test_case::Test;
-pub use writing::{write_run, write_test};
+pub use writing::{tests_have_one_text, write_run, write_test};

@@ -1,11 +1,12 @@
 //! Tests are written.
-ghost use Rattle.std.specs.Prelude.{◌≡◌, ◌≤◌, ◌∷◌, [], ◌++◌, ◌+◌, length, map, take, drop, codes, ◌<◌, ◌^◌, IsSome, IfSome, IsTrue, OnOk, OnErr};
+ghost use Rattle.std.specs.Prelude.{◌≡◌, ◌≤◌, ◌∷◌, [], ◌++◌, ◌+◌, length, map, take, drop, codes, ◌<◌, ◌^◌, ℕ, List, IsSome, IfSome, IsTrue, OnOk, OnErr};
 ghost use Rattle.std.specs.Fmt.{decimal};
 ghost use Rattle.kb_grammar.specs.Lines.{lines_text};
 ghost use Rattle.kb_test.specs.Words.{reference_text, word_text, words_text};
 ghost use Rattle.kb_test.specs.Lines.{exact_text, listed_text, place_text, outcome_text, line_text};
 ghost use Rattle.kb_test.specs.Scripts.{in_lines, out_lines, new_lines, texts_of};
-ghost use Rattle.kb_test.specs.Tests.{IsTest};
+ghost use Rattle.kb_test.specs.Tests.{IsTest, SpellsTests};
+ghost use Rattle.kb_test.specs.declared.test_case.Test.{Test};
 ghost use Rattle.kb_test.specs.Refusals.{Appends};
 ghost use Rattle.kb_test.specs.Writing.{reference_of, word_of, words_of, listed_of, listeds_of, outs_of, news_of, outcome_of, run_lines, test_text, AppendsRun};
 ghost use Rattle.kb_test.specs.declared.lines.Line.TheVariants.{Method, Limit, Arg, In, Out, New};
@@ -94,6 +95,11 @@ pub fn write_run<O: Objects>(
         }
     }
 }
+
+/// A list of tests has one text, so what is read is written as it was.
+pub fn tests_have_one_text()
+    ensures { (literals : ℕ) (tests : List Test) (text other : List ℕ) → SpellsTests literals tests text → SpellsTests literals tests other → text ≡ other }
+{}
 
 // The functions below leave, after an `Err`, a part of what they write.
 
