@@ -215,3 +215,6 @@ module _ (literals : ℕ) where
 
   pub no_line : (front : Front) (text : List ℕ) → ((line : Line) → SpellsLine line text → ⊥) → FitsAt literals front text → ⊥
   no_line front text none fits = none fits.0 fits.1
+
+  pub starts : (tests : List Test) → tests ≡ [] → StandsBehind literals (front_of tests Between) []
+  starts tests none = record { scripts = []; are = tt; tests_are = none; open_test = tt; texts_are = refl }
