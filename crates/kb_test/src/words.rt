@@ -34,7 +34,7 @@ pub(crate) struct Limits {
 }
 
 impl Limits {
-    fn is_below(self, reference: Reference) -> bool
+    pub(crate) fn has_reference(self, reference: Reference) -> bool
         ensures { result ≡ is_below self reference }
     {
         match reference {
@@ -44,18 +44,12 @@ impl Limits {
         }
     }
 
-    pub(crate) fn has_reference(self, reference: Reference) -> bool
-        ensures { result ≡ is_below self reference }
-    {
-        self.is_below(reference)
-    }
-
     pub(crate) fn has_word(self, word: Word) -> bool
         ensures { result ≡ word_below self word }
     {
         match word {
             Word::Int(_) | Word::Null => true,
-            Word::Object(reference) => self.is_below(reference),
+            Word::Object(reference) => self.has_reference(reference),
         }
     }
 
