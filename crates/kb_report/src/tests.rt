@@ -148,7 +148,7 @@ fn abs_has_its_report(rt: HostRuntime) -> Result<(), Fail> {
     };
     let leaves = vec![in alloc; first, second]?;
     let text = text_of(alloc, b"B.abs(I)I", Init::Lazy, leaves).expect(&rt, "a text");
-    assert_eq!(rt; text.as_slice(), ABS.as_slice());
+    assert_eq!(rt; text.as_slice(), ABS);
     Ok(())
 }
 
@@ -203,7 +203,7 @@ fn div_has_its_report(rt: HostRuntime) -> Result<(), Fail> {
     };
     let leaves = vec![in alloc; first, second]?;
     let text = text_of(alloc, b"D.div(II)I", Init::Lazy, leaves).expect(&rt, "a text");
-    assert_eq!(rt; text.as_slice(), DIV.as_slice());
+    assert_eq!(rt; text.as_slice(), DIV);
     Ok(())
 }
 
@@ -307,7 +307,7 @@ fn locations_and_writes_have_their_lines(rt: HostRuntime) -> Result<(), Fail> {
     let leaves = vec![in alloc; path]?;
     let text = text_of(alloc, b"Node.m(LNode;LNode;)I", Init::Lazier, leaves);
     let text = text.expect(&rt, "a text");
-    assert_eq!(rt; text.as_slice(), LOCATIONS.as_slice());
+    assert_eq!(rt; text.as_slice(), LOCATIONS);
     Ok(())
 }
 
@@ -368,7 +368,7 @@ fn names_are_escaped_and_namesakes_told_apart(rt: HostRuntime) -> Result<(), Fai
     };
     let leaves = vec![in alloc; path]?;
     let text = text_of(alloc, b"a%20b.f()V", Init::Lazy, leaves).expect(&rt, "a text");
-    assert_eq!(rt; text.as_slice(), NAMES.as_slice());
+    assert_eq!(rt; text.as_slice(), NAMES);
     Ok(())
 }
 
@@ -446,7 +446,7 @@ fn every_leaf_has_its_lines(rt: HostRuntime) -> Result<(), Fail> {
         path_with(alloc, 10, Leaf::Open)?
     ]?;
     let text = text_of(alloc, b"A.f([I)V", Init::Lazy, leaves).expect(&rt, "a text");
-    assert_eq!(rt; text.as_slice(), LEAVES.as_slice());
+    assert_eq!(rt; text.as_slice(), LEAVES);
     Ok(())
 }
 

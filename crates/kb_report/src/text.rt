@@ -15,6 +15,7 @@ use std::alloc::Global;
 use std::marker::Model;
 
 /// The bytes of a text. Each call appends; after want of memory the text is only dropped.
+#[derive(Drop)]
 pub(crate) struct Text {
     alloc: Global,
     bytes: Vec<u8>,
@@ -54,7 +55,7 @@ impl Text {
     pub(crate) fn end_line(&mut self) -> Result<(), NoMemory>
         ensures { OnOk result (self.new ≡ self.old ++ 10 ∷ []) }
     {
-        self.bytes.push(b'\n')?;
+        self.bytes.extend_from_slice(b"\n".as_slice())?;
         Ok(())
     }
 
