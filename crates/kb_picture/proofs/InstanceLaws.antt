@@ -17,7 +17,8 @@ pub instance_front : (path : Path) (count : ℕ) (input : Input) → IsInstance 
 unfolding term_values
 instance_front path count input instance_of = record {
   shape = instance_of.shape;
-  conditions = met_front (term_values path input instance_of.shape.places.objects) count path.when instance_of.conditions }
+  conditions = met_front (term_values path input instance_of.shape.places.objects) count path.when instance_of.conditions;
+}
 
 -- so it is a short instance for every number of conditions
 pub short_instance : (world : World) (id : MethodId) (path : Path) (count : ℕ) (input : Input) → IsTypeCorrect world id input → IsInstance path input

@@ -177,9 +177,7 @@ fn div_has_its_report(rt: HostRuntime) -> Result<(), Fail> {
     let zero = term(Op::Eq, Operand::Var(1), Some(Operand::Const(0)));
     let quotient = term(Op::Div, Operand::Var(0), Some(Operand::Var(1)));
     let arithmetic = Made {
-        kind: ExactType::Class(Name::from_vec(
-            b"java/lang/ArithmeticException".to_vec(alloc)?,
-        )),
+        kind: ExactType::Class(Name::from_vec(b"java/lang/ArithmeticException".to_vec(alloc)?)),
         values: Row::new(alloc),
     };
     let first = Path {
@@ -256,16 +254,25 @@ fn three_locations(alloc: Global) -> Result<Picture, Fail> {
     let seen = vec![in alloc;
         (Origin::Arg(0), Seen::Loc(0)),
         (Origin::Arg(1), Seen::Loc(1)),
-        (next, Seen::Loc(2))
+        (next, Seen::Loc(2)),
     ]?;
     let locs = vec![in alloc;
-        PicLoc { origin: Origin::Arg(0), standing: Standing::Obj(0) },
-        PicLoc { origin: Origin::Arg(1), standing: Standing::Obj(1) },
-        PicLoc { origin: next, standing: Standing::Open }
+        PicLoc {
+            origin: Origin::Arg(0),
+            standing: Standing::Obj(0)
+        },
+        PicLoc {
+            origin: Origin::Arg(1),
+            standing: Standing::Obj(1)
+        },
+        PicLoc {
+            origin: next,
+            standing: Standing::Open
+        },
     ]?;
     let objects = vec![in alloc;
         plain(alloc, b"Node", Origin::Arg(0))?,
-        plain(alloc, b"Node", Origin::Arg(1))?
+        plain(alloc, b"Node", Origin::Arg(1))?,
     ]?;
     Ok(Picture {
         seen: Row::from_vec(seen),
@@ -280,7 +287,7 @@ fn locations_and_writes_have_their_lines(rt: HostRuntime) -> Result<(), Fail> {
     let objects = vec![in alloc;
         node(alloc, Value::Null)?,
         node(alloc, Value::Ref(2))?,
-        node(alloc, Value::Null)?
+        node(alloc, Value::Null)?,
     ]?;
     let input = Input {
         heap: Heap {
@@ -341,7 +348,7 @@ fn array_seen(alloc: Global) -> Result<Picture, Fail> {
         (field, Seen::Obj(1)),
         (Origin::Element(1, 2), Seen::Beyond),
         (Origin::Field(0, 0), Seen::Int(0)),
-        (Origin::Arg(1), Seen::Null)
+        (Origin::Arg(1), Seen::Null),
     ]?;
     let array = PicObject {
         kind: ExactType::Array(JType::Class(Name::from_vec(b"a b".to_vec(alloc)?))),
@@ -430,7 +437,7 @@ fn every_leaf_has_its_lines(rt: HostRuntime) -> Result<(), Fail> {
         Out::New(0),
         Out::Obj(1),
         Out::Loc(3),
-        Out::Null
+        Out::Null,
     ]?;
     let made = Made {
         kind: ExactType::Array(JType::Int),
@@ -443,7 +450,7 @@ fn every_leaf_has_its_lines(rt: HostRuntime) -> Result<(), Fail> {
         path_with(alloc, 1, ended_with(alloc, nothing, vec![in alloc; made]?)?)?,
         path_with(alloc, 2, Leaf::Cut(Bound::Array, ints(alloc, &[5])?))?,
         path_with(alloc, 3, Leaf::Undecided(log(alloc)?))?,
-        path_with(alloc, 10, Leaf::Open)?
+        path_with(alloc, 10, Leaf::Open)?,
     ]?;
     let text = text_of(alloc, b"A.f([I)V", Init::Lazy, leaves).expect(&rt, "a text");
     assert_eq!(rt; text.as_slice(), LEAVES);
