@@ -18,6 +18,7 @@ use Rattle.kb_machine.specs.Landings.{landed, unwound}
 use Rattle.kb_machine.specs.Turns.{config_of, setting_of, told}
 use Rattle.kb_machine.specs.declared.NoMemory.{NoMemory}
 use Rattle.kb_machine.specs.declared.state.State.{State}
+use Rattle.kb_machine.specs.declared.turn.End.{End}
 use Rattle.kb_machine.specs.declared.turn.Step.{Step}
 use Rattle.kb_machine.specs.declared.turn.Step.TheVariants as steps
 use Rattle.kb_machine.specs.declared.turn.Turn.{Turn}
@@ -65,12 +66,12 @@ module _ (t : Turn) (old : State) (class : List ℕ) (object : Object) (is : obj
       same ∙ h
 
 -- a frame that has come to its handler goes on there
-pub caught : (t : Turn) (old new : State) (r : Result Step NoMemory) (o : Outcome) (frame : Frame) (callers : List Frame) (heap : Heap) (number : ℕ) →
+pub caught : (t : Turn) (old new : State) (r : Result Step NoMemory) (o : Outcome) (frame : Frame) (callers : List Frame) (heap : Heap) (number : ℕ) (end : End) →
     o ≡ landed t landings.Caught (config_of t old) heap number frame callers → IfOk r (λ step. step ≡ steps.Goes) →
-    OnOk r (new ≡ record { frame = record frame { stack = Ref number ∷ [] }; callers = callers; heap = heap }) →
+    OnOk r (new ≡ record { frame = record frame { stack = Ref number ∷ [] }; callers = callers; heap = heap; end = end }) →
     IfOk r (λ step. told t step new ≡ o)
-caught t old new (Ok step) o frame callers heap number e goes is = rw (goes, is) (sym e)
-caught t old new (Err x) o frame callers heap number e goes is = tt
+caught t old new (Ok step) o frame callers heap number end e goes is = rw (goes, is) (sym e)
+caught t old new (Err x) o frame callers heap number end e goes is = tt
 
 -- what an object of the heap that is thrown comes to
 pub thrown_there : (t : Turn) (old : State) (number : ℕ) (found : Option Object) (of : Object) (result : Landing) (frame : Frame) (callers : List Frame) → found ≡ Some of →

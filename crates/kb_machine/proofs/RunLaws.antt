@@ -10,7 +10,6 @@ use Rattle.kb_semantics.specs.Ways.{ill_typed, past}
 use Rattle.kb_machine.specs.Turns.{setting_of, config_of, config_at, told, ending_told}
 use Rattle.kb_machine.specs.declared.state.State.{State}
 use Rattle.kb_machine.specs.declared.turn.Turn.{Turn}
-use Rattle.kb_machine.specs.declared.turn.Step.{Step}
 use Rattle.kb_machine.specs.declared.turn.Step.TheVariants as steps
 
 -- ---- one step
@@ -45,18 +44,9 @@ module _ (t : Turn) (old new : State) (found : Instr × ℕ) (more : t.carried <
       ∙ ap (λ (n : ℕ). run n (setting_of t) (config_at t (t.carried + 1) new)) one_less
 
   -- the step ends it
-  pub ends : (step : Step) → (step ≡ steps.Goes → ⊥) → told t step new ≡ effect found.0 (setting_of t) found.1 (config_of t old) →
-      run (suc (t.bounds.steps - t.carried)) (setting_of t) (config_of t old) ≡ record { ending = ending_told t.world.now step; heap = new.heap }
-  ends step other is =
-      run_on (setting_of t) (config_of t old) (t.bounds.steps - t.carried) (told t step new) (step_taken (setting_of t) (config_of t old) found more at ∙ sym is)
-      ∙ ended_so step other
-    where
-      ended_so : (step : Step) → (step ≡ steps.Goes → ⊥) → follow (told t step new) (run (t.bounds.steps - t.carried) (setting_of t)) ≡ record { ending = ending_told t.world.now step; heap = new.heap }
-      ended_so steps.Goes other = absurd (other refl)
-      ended_so (steps.Returned value) other = refl
-      ended_so (steps.Threw object) other = refl
-      ended_so (steps.IllTyped method place) other = refl
-      ended_so (steps.Past bound) other = refl
+  pub ends : told t steps.Ends new ≡ effect found.0 (setting_of t) found.1 (config_of t old) →
+      run (suc (t.bounds.steps - t.carried)) (setting_of t) (config_of t old) ≡ record { ending = ending_told t.world.now new.end; heap = new.heap }
+  ends is = run_on (setting_of t) (config_of t old) (t.bounds.steps - t.carried) (told t steps.Ends new) (step_taken (setting_of t) (config_of t old) found more at ∙ sym is)
 
 -- ---- where there is no instruction, and where none may be carried out any more
 

@@ -2,7 +2,6 @@
 use Rattle.std.specs.Prelude.{ℕ, ◌+◌, List, Option, option_map}
 use Rattle.kb_heap.specs.declared.ending.Ending.TheVariants as endings
 use Rattle.kb_heap.specs.declared.ending.Ending.{Ending}
-use Rattle.kb_heap.specs.declared.bounds.Bound.TheVariants.{Steps}
 use Rattle.kb_link.specs.World.{World}
 use Rattle.kb_heap.specs.declared.heap.Value.{Value}
 use Rattle.kb_heap.specs.declared.heap.Heap.{Heap}
@@ -13,6 +12,8 @@ use Rattle.kb_machine.specs.declared.state.State.{State}
 use Rattle.kb_machine.specs.declared.turn.Turn.{Turn}
 use Rattle.kb_machine.specs.declared.turn.Call.{Call}
 use Rattle.kb_machine.specs.declared.turn.Call.TheVariants as found
+use Rattle.kb_machine.specs.declared.turn.End.{End}
+use Rattle.kb_machine.specs.declared.turn.End.TheVariants as ends
 use Rattle.kb_machine.specs.declared.turn.Step.{Step}
 use Rattle.kb_machine.specs.declared.turn.Step.TheVariants as steps
 
@@ -36,13 +37,17 @@ config_of t m = config_at t t.carried m
 abbrev pub ended : Ending → Heap → Outcome
 ended ending heap = Ends (record { ending = ending; heap = heap })
 
+-- how the run ends, where a step ends it so
+abbrev pub ending_told : World → End → Ending
+ending_told world (ends.Returned value) = endings.Returned value
+ending_told world (ends.Threw object) = endings.Threw object
+ending_told world (ends.IllTyped method at) = endings.IllTyped (place_in_code world method at)
+ending_told world (ends.Past bound) = endings.Past bound
+
 -- what a step comes to, which leaves the state
 abbrev pub told : Turn → Step → State → Outcome
 told t steps.Goes m = Goes (config_at t (t.carried + 1) m)
-told t (steps.Returned value) m = ended (endings.Returned value) m.heap
-told t (steps.Threw object) m = ended (endings.Threw object) m.heap
-told t (steps.IllTyped method at) m = ended (endings.IllTyped (place_in_code t.world.now method at)) m.heap
-told t (steps.Past bound) m = ended (endings.Past bound) m.heap
+told t steps.Ends m = ended (ending_told t.world.now m.end) m.heap
 
 -- what was taken, where something was, and what is left on the stack
 abbrev pub as_taken : {A : Type 0} → Option A → List Value → Option (Taken A)
@@ -52,11 +57,3 @@ abbrev pub kind_of : Call → CallKind
 kind_of found.BySelection = BySelection
 kind_of found.Special = Special
 kind_of found.Static = Static
-
--- how the run ends, where a step ends it
-abbrev pub ending_told : World → Step → Ending
-ending_told world steps.Goes = endings.Past Steps
-ending_told world (steps.Returned value) = endings.Returned value
-ending_told world (steps.Threw object) = endings.Threw object
-ending_told world (steps.IllTyped method at) = endings.IllTyped (place_in_code world method at)
-ending_told world (steps.Past bound) = endings.Past bound

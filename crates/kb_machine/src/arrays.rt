@@ -13,7 +13,7 @@ use crate::NoMemory;
 use crate::kinds::kept;
 use crate::state::State;
 use crate::throwing::{ARRAY_STORE, INDEX_OUTSIDE, NEGATIVE_SIZE, NULL_POINTER, default_of};
-use crate::turn::{Step, Turn};
+use crate::turn::{End, Step, Turn};
 use kb_code::Elem;
 use kb_heap::{Bound, Heap, Object, Row, Value};
 use kb_names::{ExactType, JType};
@@ -129,7 +129,7 @@ impl State {
             return self.throws(turn, NEGATIVE_SIZE);
         };
         if count > turn.bounds.alloc {
-            return Ok(Step::Past(Bound::Alloc));
+            return Ok(self.ends(End::Past(Bound::Alloc)));
         }
         let object = new_array(turn.alloc, of, count)?;
         self.makes(turn, object)

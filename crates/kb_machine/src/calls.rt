@@ -15,7 +15,7 @@ use crate::branching::same_reference;
 use crate::frame::Frame;
 use crate::state::State;
 use crate::throwing::NULL_POINTER;
-use crate::turn::{Call, Step, Turn};
+use crate::turn::{Call, End, Step, Turn};
 use crate::types::truth;
 use kb_class::{ClassId, MemberKind, MethodId, MethodInfo};
 use kb_heap::{Bound, Value};
@@ -148,7 +148,7 @@ impl State {
         ensures { IfOk result (λ step. told turn.now step self.new ≡ enters (setting_of turn.now) (config_of turn.now self.old) method args.now self.old.frame.stack) }
     {
         if (turn.bounds.depth as usize).saturating_sub(self.callers.len()) < 2 {
-            return Ok(Step::Past(Bound::Depth));
+            return Ok(self.ends(End::Past(Bound::Depth)));
         }
         let frame = Frame::begin(turn.alloc, turn.world, method, args)?;
         let caller = mem::replace(&mut self.frame, frame);

@@ -11,7 +11,7 @@ use crate::NoMemory;
 use crate::frame::Frame;
 use crate::instructions::instruction_at;
 use crate::state::{Callers, State};
-use crate::turn::{Step, Turn};
+use crate::turn::{End, Step, Turn};
 use kb_class::MethodId;
 use kb_heap::{Bound, Ending, Heap, Input, Object, Place, Row, RunBounds};
 use kb_names::{ExactType, MethodType, Name, Target};
@@ -42,6 +42,7 @@ pub fn run(
         frame: Frame::begin(alloc, world, target, input.args.as_slice())?,
         callers: Callers::new(alloc),
         heap: first_heap(alloc, world, &input.heap)?,
+        end: End::Past(Bound::Steps),
     };
     run_from(alloc, world, bounds, inputs, state)
 }
@@ -59,7 +60,7 @@ fn run_from(
     let mut state = state;
     for carried in 0..bounds.steps {
         let Some(found) = instruction_at(world, &state.frame) else {
-            let place = ending_of(alloc, world, state.ill_typed())?;
+            let place = ending_of(alloc, world, state.place())?;
             return Ok((place, state.heap));
         };
         let turn = Turn {
@@ -71,8 +72,8 @@ fn run_from(
             next: found.next,
         };
         let step = state.take(&turn, found.instr)?;
-        if step != Step::Goes {
-            let ending = ending_of(alloc, world, step)?;
+        if step == Step::Ends {
+            let ending = ending_of(alloc, world, state.end)?;
             return Ok((ending, state.heap));
         }
     }
@@ -80,18 +81,17 @@ fn run_from(
 }
 
 // How the run ends, where a step ends it.
-fn ending_of(alloc: Global, world: &World, step: Step) -> Result<Ending, NoMemory>
-    ensures { IfOk result (λ ending. ending ≡ ending_told world.now step) }
+fn ending_of(alloc: Global, world: &World, end: End) -> Result<Ending, NoMemory>
+    ensures { IfOk result (λ ending. ending ≡ ending_told world.now end) }
 {
-    match step {
-        Step::Goes => Ok(Ending::Past(Bound::Steps)),
-        Step::Returned(value) => Ok(Ending::Returned(value)),
-        Step::Threw(object) => Ok(Ending::Threw(object)),
-        Step::IllTyped(method, at) => {
+    match end {
+        End::Returned(value) => Ok(Ending::Returned(value)),
+        End::Threw(object) => Ok(Ending::Threw(object)),
+        End::IllTyped(method, at) => {
             let method = target_of(alloc, world, method)?;
             Ok(Ending::IllTyped(Place { method, at }))
         }
-        Step::Past(bound) => Ok(Ending::Past(bound)),
+        End::Past(bound) => Ok(Ending::Past(bound)),
     }
 }
 

@@ -13,7 +13,7 @@ use crate::instructions::behind;
 use crate::kinds::kept;
 use crate::operands::value_of;
 use crate::state::State;
-use crate::turn::{Step, Turn};
+use crate::turn::{End, Step, Turn};
 use kb_heap::Value;
 use kb_world::World;
 
@@ -88,13 +88,13 @@ impl State {
     fn hands_over(&mut self, turn: &Turn<'_>, value: Option<Value>) -> Result<Step, NoMemory>
         ensures { IfOk result (λ step. told turn.now step self.new ≡ hands_over (setting_of turn.now) (config_of turn.now self.old) value) }
     {
-        let place = self.ill_typed();
+        let place = self.place();
         let Some(caller) = self.callers.pop() else {
-            return Ok(Step::Returned(value));
+            return Ok(self.ends(End::Returned(value)));
         };
         self.frame = caller;
         if !self.frame.resumes(turn.world, value)? {
-            return Ok(place);
+            return Ok(self.ends(place));
         }
         Ok(Step::Goes)
     }

@@ -4,6 +4,7 @@ ghost use Rattle.std.specs.Prelude.{◌≡◌, ◌∷◌, [], length, IfNone, If
 
 use crate::NoMemory;
 use crate::frame::Frame;
+use crate::turn::End;
 use kb_heap::Heap;
 use std::alloc::Global;
 use std::marker::Model;
@@ -62,4 +63,6 @@ pub(crate) struct State {
     pub(crate) frame: Frame,
     pub(crate) callers: Callers,
     pub(crate) heap: Heap,
+    /// How the run ends, once a step has ended it.
+    pub(crate) end: End,
 }

@@ -16,7 +16,7 @@ ghost use Rattle.kb_machine.specs.Turns.{setting_of, config_of, told};
 
 use crate::NoMemory;
 use crate::state::State;
-use crate::turn::{Step, Turn};
+use crate::turn::{End, Step, Turn};
 use crate::unwinding::{Landing, unwind};
 use kb_heap::{Bound, Object, Row, Value};
 use kb_names::{ExactType, JType, Name};
@@ -55,7 +55,7 @@ impl State {
         ensures { IfOk result (λ step. told turn.now step self.new ≡ throws (setting_of turn.now) (config_of turn.now self.old) class.now) }
     {
         let object = new_object(turn.alloc, turn.world, class)?;
-        let place = self.ill_typed();
+        let place = self.place();
         match unwind(turn, &mut self.frame, &mut self.callers, &object.kind) {
             Landing::Caught => {
                 let number = self.add(object)?;
@@ -63,10 +63,10 @@ impl State {
             }
             Landing::Uncaught => {
                 let number = self.add(object)?;
-                Ok(Step::Threw(number))
+                Ok(self.ends(End::Threw(number)))
             }
-            Landing::IllTyped => Ok(place),
-            Landing::PastLoops => Ok(Step::Past(Bound::Loops)),
+            Landing::IllTyped => Ok(self.ends(place)),
+            Landing::PastLoops => Ok(self.ends(End::Past(Bound::Loops))),
         }
     }
 
@@ -83,18 +83,18 @@ impl State {
     fn throws_object(&mut self, turn: &Turn<'_>, object: u32) -> Result<Step, NoMemory>
         ensures { IfOk result (λ step. told turn.now step self.new ≡ with (setting_of turn.now) (config_of turn.now self.old) (object_at self.old.heap object) (λ (of : PlainObject). if fits turn.now.world.now of.kind (types.Class throwable) then throws_object (setting_of turn.now) (config_of turn.now self.old) object of.kind else ill_typed (setting_of turn.now) (config_of turn.now self.old))) }
     {
-        let place = self.ill_typed();
+        let place = self.place();
         let Some(of) = self.heap.objects.as_slice().get(object as usize) else {
-            return Ok(place);
+            return Ok(self.ends(place));
         };
         if !turn.world.is_of_class(&of.kind, THROWABLE) {
-            return Ok(place);
+            return Ok(self.ends(place));
         }
         match unwind(turn, &mut self.frame, &mut self.callers, &of.kind) {
             Landing::Caught => self.catches(object),
-            Landing::Uncaught => Ok(Step::Threw(object)),
-            Landing::IllTyped => Ok(place),
-            Landing::PastLoops => Ok(Step::Past(Bound::Loops)),
+            Landing::Uncaught => Ok(self.ends(End::Threw(object))),
+            Landing::IllTyped => Ok(self.ends(place)),
+            Landing::PastLoops => Ok(self.ends(End::Past(Bound::Loops))),
         }
     }
 

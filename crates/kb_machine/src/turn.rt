@@ -28,10 +28,16 @@ pub(crate) enum Call {
     Static,
 }
 
-/// What a step comes to.
+/// What a step comes to: the run goes on, or it ends as the state tells.
 #[derive(Clone, Copy, Debug, PartialEq, Eq)]
 pub(crate) enum Step {
     Goes,
+    Ends,
+}
+
+/// How a step ends a run.
+#[derive(Clone, Copy, Debug, PartialEq, Eq)]
+pub(crate) enum End {
     Returned(Option<Value>),
     Threw(u32),
     /// At that offset of the method.

@@ -4,19 +4,37 @@ ghost use Rattle.std.specs.Prelude.{◌≡◌, ◌∷◌, IfOk};
 ghost use Rattle.kb_semantics.specs.Instructions.{sets_local};
 ghost use Rattle.kb_semantics.specs.Ways.{branches, carries_out, goes, jumps};
 ghost use Rattle.kb_machine.specs.Turns.{setting_of, config_of, told};
+ghost use Rattle.kb_machine.specs.declared.turn.End.TheVariants as ends;
 ghost use Rattle.kb_machine.specs.declared.turn.Step.TheVariants as steps;
 
 use crate::NoMemory;
 use crate::state::State;
-use crate::turn::{Step, Turn};
+use crate::turn::{End, Step, Turn};
 use kb_heap::{Bound, Value};
 
 impl State {
-    /// The run ends as ill-typed at the instruction that was taken up.
-    pub(crate) fn ill_typed(&self) -> Step
-        ensures { result ≡ steps.IllTyped self.now.frame.method self.now.frame.at }
+    /// The run ends so.
+    pub(crate) fn ends(&mut self, end: End) -> Step
+        ensures step { result ≡ steps.Ends }
+        ensures state { self.new ≡ record self.old { end = end } }
     {
-        Step::IllTyped(self.frame.method(), self.frame.at())
+        self.end = end;
+        Step::Ends
+    }
+
+    /// The end as ill-typed at the instruction that was taken up.
+    pub(crate) fn place(&self) -> End
+        ensures { result ≡ ends.IllTyped self.now.frame.method self.now.frame.at }
+    {
+        End::IllTyped(self.frame.method(), self.frame.at())
+    }
+
+    /// The run ends as ill-typed at the instruction that was taken up.
+    pub(crate) fn ill_typed(&mut self) -> Step
+        ensures step { result ≡ steps.Ends }
+        ensures state { self.new ≡ record self.old { end = ends.IllTyped self.old.frame.method self.old.frame.at } }
+    {
+        self.ends(self.place())
     }
 
     /// It goes on at the next offset with a stack that the frame may have.
@@ -75,7 +93,7 @@ impl State {
             return self.ill_typed();
         }
         if !self.frame.transfer(&turn.bounds, target) {
-            return Step::Past(Bound::Loops);
+            return self.ends(End::Past(Bound::Loops));
         }
         Step::Goes
     }

@@ -15,7 +15,7 @@ returns-in_ok-number-in-Caught c =
     let number = c.in_ok-number-in-Caught.number in
     let comes = thrown t old c.args.class.now object c.in_ok-object.ensures number landings.Caught c.unwind.new.frame c.unwind.new.callers c.in_ok-number-in-Caught.ensures.number
     (rw c.in-Caught.is at (c.unwind.ensures (config_of t old) (with_object old.heap object) number)) in
-    caught t old c.catches.new.self c.catches.result _ c.unwind.new.frame c.unwind.new.callers (with_object old.heap object) number comes c.catches.ensures.step
+    caught t old c.catches.new.self c.catches.result _ c.unwind.new.frame c.unwind.new.callers (with_object old.heap object) number old.end comes c.catches.ensures.step
     (rw c.in_ok-number-in-Caught.ensures.state at c.catches.ensures.state)
 
 pub returns-in_ok-number-in-Uncaught : goal.returns-in_ok-number-in-Uncaught

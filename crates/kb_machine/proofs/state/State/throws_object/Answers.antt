@@ -25,7 +25,7 @@ returns-in-Caught c =
     let found : object_at old.heap number ≡ Some of = found_there old.heap c.as_slice.result.now number of c.as_slice.ensures c.in-Some.ensures.lookup.3.0 c.in-Some.ensures.lookup.1 in
     let fit : fits t.world.now of.kind (types.Class throwable) ≡ true = sym c.if-not-is_of_class.ensures in
     let comes = thrown_there t old number (object_at old.heap number) of landings.Caught c.unwind.new.frame c.unwind.new.callers found fit (rw c.in-Caught.is at (c.unwind.ensures (config_of t old) old.heap number)) in
-    caught t old c.catches.new.self c.catches.result _ c.unwind.new.frame c.unwind.new.callers old.heap number comes c.catches.ensures.step c.catches.ensures.state
+    caught t old c.catches.new.self c.catches.result _ c.unwind.new.frame c.unwind.new.callers old.heap number old.end comes c.catches.ensures.step c.catches.ensures.state
 
 pub returns-in-Uncaught : goal.returns-in-Uncaught
 returns-in-Uncaught c =
