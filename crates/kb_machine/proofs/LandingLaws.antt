@@ -15,7 +15,7 @@ use Rattle.kb_semantics.specs.Instructions.{with}
 use Rattle.kb_semantics.specs.Values.{new_object}
 use Rattle.kb_semantics.specs.Ways.{goes_to, handler_at, lands, nearest_handler, standpoint, throws, throws_in, throws_object, ill_typed}
 use Rattle.kb_machine.specs.Landings.{landed, unwound}
-use Rattle.kb_machine.specs.Turns.{config_of, setting_of, told}
+use Rattle.kb_machine.specs.Turns.{config_of, ended, ending_told, setting_of, told}
 use Rattle.kb_machine.specs.declared.NoMemory.{NoMemory}
 use Rattle.kb_machine.specs.declared.state.State.{State}
 use Rattle.kb_machine.specs.declared.turn.End.{End}
@@ -72,6 +72,11 @@ pub caught : (t : Turn) (old new : State) (r : Result Step NoMemory) (o : Outcom
     IfOk r (λ step. told t step new ≡ o)
 caught t old new (Ok step) o frame callers heap number end e goes is = rw (goes, is) (sym e)
 caught t old new (Err x) o frame callers heap number end e goes is = tt
+
+-- a step that ends the run
+pub ends_so : (t : Turn) (m new : State) (step : Step) (end : End) (o : Outcome) → step ≡ steps.Ends → new ≡ record m { end = end } →
+    ended (ending_told t.world.now end) m.heap ≡ o → told t step new ≡ o
+ends_so t m new step end o ends is e = rw (ends, is) e
 
 -- what an object of the heap that is thrown comes to
 pub thrown_there : (t : Turn) (old : State) (number : ℕ) (found : Option Object) (of : Object) (result : Landing) (frame : Frame) (callers : List Frame) → found ≡ Some of →

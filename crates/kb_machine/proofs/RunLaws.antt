@@ -10,6 +10,7 @@ use Rattle.kb_semantics.specs.Ways.{ill_typed, past}
 use Rattle.kb_machine.specs.Turns.{setting_of, config_of, config_at, told, ending_told}
 use Rattle.kb_machine.specs.declared.state.State.{State}
 use Rattle.kb_machine.specs.declared.turn.Turn.{Turn}
+use Rattle.kb_machine.specs.declared.turn.Step.{Step}
 use Rattle.kb_machine.specs.declared.turn.Step.TheVariants as steps
 
 -- ---- one step
@@ -33,20 +34,25 @@ module _ (s : Setting) (c : Config) where
 
 -- ---- a turn
 
-module _ (t : Turn) (old new : State) (found : Instr × ℕ) (more : t.carried < t.bounds.steps)
+module _ (t : Turn) (old new : State) (found : Instr × ℕ) (more : t.carried < t.bounds.now.steps)
     (at : instruction_at t.world.now old.frame.method old.frame.at ≡ Some found) where
   -- the run goes on from the new state
   pub goes_on : told t steps.Goes new ≡ effect found.0 (setting_of t) found.1 (config_of t old) →
-      run (suc (t.bounds.steps - t.carried)) (setting_of t) (config_of t old) ≡ run (suc (t.bounds.steps - (t.carried + 1))) (setting_of t) (config_at t (t.carried + 1) new)
+      run (suc (t.bounds.now.steps - t.carried)) (setting_of t) (config_of t old) ≡ run (suc (t.bounds.now.steps - (t.carried + 1))) (setting_of t) (config_at t (t.carried + 1) new)
   goes_on is =
-      let one_less : t.bounds.steps - t.carried ≡ suc (t.bounds.steps - (t.carried + 1)) = omega arith in
-      run_on (setting_of t) (config_of t old) (t.bounds.steps - t.carried) (told t steps.Goes new) (step_taken (setting_of t) (config_of t old) found more at ∙ sym is)
+      let one_less : t.bounds.now.steps - t.carried ≡ suc (t.bounds.now.steps - (t.carried + 1)) = omega arith in
+      run_on (setting_of t) (config_of t old) (t.bounds.now.steps - t.carried) (told t steps.Goes new) (step_taken (setting_of t) (config_of t old) found more at ∙ sym is)
       ∙ ap (λ (n : ℕ). run n (setting_of t) (config_at t (t.carried + 1) new)) one_less
 
   -- the step ends it
   pub ends : told t steps.Ends new ≡ effect found.0 (setting_of t) found.1 (config_of t old) →
-      run (suc (t.bounds.steps - t.carried)) (setting_of t) (config_of t old) ≡ record { ending = ending_told t.world.now new.end; heap = new.heap }
-  ends is = run_on (setting_of t) (config_of t old) (t.bounds.steps - t.carried) (told t steps.Ends new) (step_taken (setting_of t) (config_of t old) found more at ∙ sym is)
+      run (suc (t.bounds.now.steps - t.carried)) (setting_of t) (config_of t old) ≡ record { ending = ending_told t.world.now new.end; heap = new.heap }
+  ends is = run_on (setting_of t) (config_of t old) (t.bounds.now.steps - t.carried) (told t steps.Ends new) (step_taken (setting_of t) (config_of t old) found more at ∙ sym is)
+
+-- a step that does not go on ends the run
+pub no_other : (step : Step) → (step ≡ steps.Goes → ⊥) → step ≡ steps.Ends
+no_other steps.Goes other = absurd (other refl)
+no_other steps.Ends other = refl
 
 -- ---- where there is no instruction, and where none may be carried out any more
 

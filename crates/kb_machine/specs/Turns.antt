@@ -18,7 +18,7 @@ use Rattle.kb_machine.specs.declared.turn.Step.{Step}
 use Rattle.kb_machine.specs.declared.turn.Step.TheVariants as steps
 
 abbrev pub setting_of : Turn → Setting
-setting_of t = record { world = t.world.now; bounds = t.bounds }
+setting_of t = record { world = t.world.now; bounds = t.bounds.now }
 
 -- the configuration of a run over an input of so many objects that has reached the state
 abbrev pub reached : ℕ → ℕ → State → Config

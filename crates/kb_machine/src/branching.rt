@@ -67,6 +67,7 @@ impl State {
     }
 
     /// lookupswitch
+    #[inline(never)]
     #[tactic(auto, unfolding(kb_semantics::specs::Instructions::switch, kb_semantics::specs::Ways::goes_to))]
     pub(crate) fn lookup_switch(
         &mut self,
@@ -83,6 +84,7 @@ impl State {
     }
 
     /// tableswitch
+    #[inline(never)]
     #[tactic(auto, unfolding(kb_semantics::specs::Instructions::switch, kb_semantics::specs::Ways::goes_to))]
     pub(crate) fn table_switch(
         &mut self,

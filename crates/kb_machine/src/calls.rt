@@ -32,6 +32,7 @@ pub(crate) struct Callee<'w> {
 
 impl State {
     /// invokevirtual, invokespecial, invokestatic, invokeinterface
+    #[inline(never)]
     #[tactic(auto, unfolding(kb_semantics::specs::Instructions::invoke))]
     pub(crate) fn invoke(
         &mut self,

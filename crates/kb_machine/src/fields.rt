@@ -56,6 +56,7 @@ impl State {
     }
 
     /// new
+    #[inline(never)]
     #[tactic(auto, unfolding(kb_semantics::specs::Instructions::make_object))]
     pub(crate) fn make_object(&mut self, turn: &Turn<'_>, entry: u16) -> Result<Step, NoMemory>
         ensures { IfOk result (λ step. told turn.now step self.new ≡ make_object entry (setting_of turn.now) turn.now.next (config_of turn.now self.old)) }

@@ -67,6 +67,7 @@ pub(crate) fn behind(world: &World, frame: &Frame) -> u32
 
 impl State {
     /// Takes up an instruction.
+    #[inline(always)]
     #[tactic(auto, unfolding(kb_semantics::specs::Step::effect))]
     pub(crate) fn take(&mut self, turn: &Turn<'_>, instr: &Instr) -> Result<Step, NoMemory>
         ensures { IfOk result (λ step. told turn.now step self.new ≡ effect instr.now (setting_of turn.now) turn.now.next (config_of turn.now self.old)) }

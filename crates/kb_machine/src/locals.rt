@@ -67,6 +67,8 @@ impl Locals {
 }
 
 // Adds locals that were never written, up to that many.
+#[cold]
+#[inline(never)]
 fn grow_to(locals: &mut Vec<Option<Value>>, count: usize) -> Result<(), NoMemory>
     ensures { OnOk result (locals.new.items ≡ locals.old.items ++ replicate (count - length locals.old.items) None) }
 {

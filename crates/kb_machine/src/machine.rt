@@ -60,19 +60,19 @@ fn run_from(
     let mut state = state;
     for carried in 0..bounds.steps {
         let Some(found) = instruction_at(world, &state.frame) else {
-            let place = ending_of(alloc, world, state.place())?;
+            let place = ending_of(alloc, world, state.ill_typed_end())?;
             return Ok((place, state.heap));
         };
         let turn = Turn {
             alloc,
             world,
-            bounds: *bounds,
+            bounds,
             inputs,
             carried,
             next: found.next,
         };
         let step = state.take(&turn, found.instr)?;
-        if step == Step::Ends {
+        if step != Step::Goes {
             let ending = ending_of(alloc, world, state.end)?;
             return Ok((ending, state.heap));
         }

@@ -12,6 +12,7 @@ use kb_heap::Value;
 
 impl State {
     /// ldc, ldc_w
+    #[inline(never)]
     #[tactic(auto, unfolding(kb_semantics::specs::Instructions::load_constant))]
     pub(crate) fn load_constant(&mut self, turn: &Turn<'_>, entry: u16) -> Result<Step, NoMemory>
         ensures { IfOk result (λ step. told turn.now step self.new ≡ load_constant entry (setting_of turn.now) turn.now.next (config_of turn.now self.old)) }

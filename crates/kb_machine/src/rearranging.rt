@@ -21,6 +21,7 @@ impl State {
     }
 
     /// pop2
+    #[inline(never)]
     #[tactic(auto, unfolding(kb_semantics::specs::Instructions::rearrange, kb_semantics::specs::Ways::goes_on))]
     pub(crate) fn pop2(&mut self, turn: &Turn<'_>) -> Step
         ensures { told turn.now result self.new ≡ rearrange (without 2) (setting_of turn.now) turn.now.next (config_of turn.now self.old) }
@@ -44,6 +45,7 @@ impl State {
     }
 
     /// dup_x1
+    #[inline(never)]
     #[tactic(auto, unfolding(kb_semantics::specs::Instructions::rearrange, kb_semantics::specs::Ways::goes_on))]
     pub(crate) fn dup_x1(&mut self, turn: &Turn<'_>) -> Result<Step, NoMemory>
         ensures { IfOk result (λ step. told turn.now step self.new ≡ rearrange (copied_below 1 2) (setting_of turn.now) turn.now.next (config_of turn.now self.old)) }
@@ -56,6 +58,7 @@ impl State {
     }
 
     /// dup_x2
+    #[inline(never)]
     #[tactic(auto, unfolding(kb_semantics::specs::Instructions::rearrange, kb_semantics::specs::Ways::goes_on))]
     pub(crate) fn dup_x2(&mut self, turn: &Turn<'_>) -> Result<Step, NoMemory>
         ensures { IfOk result (λ step. told turn.now step self.new ≡ rearrange (copied_below 1 3) (setting_of turn.now) turn.now.next (config_of turn.now self.old)) }
@@ -68,6 +71,7 @@ impl State {
     }
 
     /// dup2
+    #[inline(never)]
     #[tactic(auto, unfolding(kb_semantics::specs::Instructions::rearrange, kb_semantics::specs::Ways::goes_on))]
     pub(crate) fn dup2(&mut self, turn: &Turn<'_>) -> Result<Step, NoMemory>
         ensures { IfOk result (λ step. told turn.now step self.new ≡ rearrange (copied_below 2 2) (setting_of turn.now) turn.now.next (config_of turn.now self.old)) }
@@ -80,6 +84,7 @@ impl State {
     }
 
     /// dup2_x1
+    #[inline(never)]
     #[tactic(auto, unfolding(kb_semantics::specs::Instructions::rearrange, kb_semantics::specs::Ways::goes_on))]
     pub(crate) fn dup2_x1(&mut self, turn: &Turn<'_>) -> Result<Step, NoMemory>
         ensures { IfOk result (λ step. told turn.now step self.new ≡ rearrange (copied_below 2 3) (setting_of turn.now) turn.now.next (config_of turn.now self.old)) }
@@ -92,6 +97,7 @@ impl State {
     }
 
     /// dup2_x2
+    #[inline(never)]
     #[tactic(auto, unfolding(kb_semantics::specs::Instructions::rearrange, kb_semantics::specs::Ways::goes_on))]
     pub(crate) fn dup2_x2(&mut self, turn: &Turn<'_>) -> Result<Step, NoMemory>
         ensures { IfOk result (λ step. told turn.now step self.new ≡ rearrange (copied_below 2 4) (setting_of turn.now) turn.now.next (config_of turn.now self.old)) }
@@ -105,6 +111,7 @@ impl State {
     }
 
     /// swap
+    #[inline(never)]
     #[tactic(auto, unfolding(kb_semantics::specs::Instructions::rearrange, kb_semantics::specs::Ways::goes_on))]
     pub(crate) fn swap(&mut self, turn: &Turn<'_>) -> Result<Step, NoMemory>
         ensures { IfOk result (λ step. told turn.now step self.new ≡ rearrange exchanged (setting_of turn.now) turn.now.next (config_of turn.now self.old)) }

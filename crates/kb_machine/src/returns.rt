@@ -88,13 +88,13 @@ impl State {
     fn hands_over(&mut self, turn: &Turn<'_>, value: Option<Value>) -> Result<Step, NoMemory>
         ensures { IfOk result (λ step. told turn.now step self.new ≡ hands_over (setting_of turn.now) (config_of turn.now self.old) value) }
     {
-        let place = self.place();
+        let end = self.ill_typed_end();
         let Some(caller) = self.callers.pop() else {
             return Ok(self.ends(End::Returned(value)));
         };
         self.frame = caller;
         if !self.frame.resumes(turn.world, value)? {
-            return Ok(self.ends(place));
+            return Ok(self.ends(end));
         }
         Ok(Step::Goes)
     }

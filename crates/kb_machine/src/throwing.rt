@@ -51,11 +51,13 @@ impl State {
     }
 
     /// A new object of the class is thrown.
+    #[cold]
+    #[inline(never)]
     pub(crate) fn throws(&mut self, turn: &Turn<'_>, class: &[u8]) -> Result<Step, NoMemory>
         ensures { IfOk result (λ step. told turn.now step self.new ≡ throws (setting_of turn.now) (config_of turn.now self.old) class.now) }
     {
         let object = new_object(turn.alloc, turn.world, class)?;
-        let place = self.place();
+        let end = self.ill_typed_end();
         match unwind(turn, &mut self.frame, &mut self.callers, &object.kind) {
             Landing::Caught => {
                 let number = self.add(object)?;
@@ -65,7 +67,7 @@ impl State {
                 let number = self.add(object)?;
                 Ok(self.ends(End::Threw(number)))
             }
-            Landing::IllTyped => Ok(self.ends(place)),
+            Landing::IllTyped => Ok(self.ends(end)),
             Landing::PastLoops => Ok(self.ends(End::Past(Bound::Loops))),
         }
     }
@@ -83,22 +85,23 @@ impl State {
     fn throws_object(&mut self, turn: &Turn<'_>, object: u32) -> Result<Step, NoMemory>
         ensures { IfOk result (λ step. told turn.now step self.new ≡ with (setting_of turn.now) (config_of turn.now self.old) (object_at self.old.heap object) (λ (of : PlainObject). if fits turn.now.world.now of.kind (types.Class throwable) then throws_object (setting_of turn.now) (config_of turn.now self.old) object of.kind else ill_typed (setting_of turn.now) (config_of turn.now self.old))) }
     {
-        let place = self.place();
+        let end = self.ill_typed_end();
         let Some(of) = self.heap.objects.as_slice().get(object as usize) else {
-            return Ok(self.ends(place));
+            return Ok(self.ends(end));
         };
         if !turn.world.is_of_class(&of.kind, THROWABLE) {
-            return Ok(self.ends(place));
+            return Ok(self.ends(end));
         }
         match unwind(turn, &mut self.frame, &mut self.callers, &of.kind) {
             Landing::Caught => self.catches(object),
             Landing::Uncaught => Ok(self.ends(End::Threw(object))),
-            Landing::IllTyped => Ok(self.ends(place)),
+            Landing::IllTyped => Ok(self.ends(end)),
             Landing::PastLoops => Ok(self.ends(End::Past(Bound::Loops))),
         }
     }
 
     /// athrow
+    #[inline(never)]
     #[tactic(auto, unfolding(kb_semantics::specs::Instructions::throw, kb_semantics::specs::Ways::goes_on), using(crate::proofs::Steps::throws_cleared, crate::proofs::Steps::throws_object_cleared))]
     pub(crate) fn throw(&mut self, turn: &Turn<'_>) -> Result<Step, NoMemory>
         ensures { IfOk result (λ step. told turn.now step self.new ≡ throw (setting_of turn.now) turn.now.next (config_of turn.now self.old)) }

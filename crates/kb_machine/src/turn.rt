@@ -10,7 +10,7 @@ use std::alloc::Global;
 pub(crate) struct Turn<'w> {
     pub(crate) alloc: Global,
     pub(crate) world: &'w World,
-    pub(crate) bounds: RunBounds,
+    pub(crate) bounds: &'w RunBounds,
     /// How many objects the input has.
     pub(crate) inputs: u32,
     /// How many instructions were carried out before.

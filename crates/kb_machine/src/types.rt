@@ -20,6 +20,7 @@ use std::alloc::Global;
 
 impl State {
     /// checkcast
+    #[inline(never)]
     #[tactic(auto, unfolding(kb_semantics::specs::Instructions::cast, kb_semantics::specs::Ways::goes_on), using(crate::proofs::Steps::throws_cleared))]
     pub(crate) fn cast(&mut self, turn: &Turn<'_>, entry: u16) -> Result<Step, NoMemory>
         ensures { IfOk result (λ step. told turn.now step self.new ≡ cast entry (setting_of turn.now) turn.now.next (config_of turn.now self.old)) }
@@ -38,6 +39,7 @@ impl State {
     }
 
     /// instanceof
+    #[inline(never)]
     #[tactic(auto, unfolding(kb_semantics::specs::Instructions::instance_of, kb_semantics::specs::Ways::goes_on))]
     pub(crate) fn instance_of(&mut self, turn: &Turn<'_>, entry: u16) -> Result<Step, NoMemory>
         ensures { IfOk result (λ step. told turn.now step self.new ≡ instance_of entry (setting_of turn.now) turn.now.next (config_of turn.now self.old)) }
@@ -54,6 +56,7 @@ impl State {
     }
 
     /// anewarray
+    #[inline(never)]
     #[tactic(auto, unfolding(kb_semantics::specs::Instructions::make_array))]
     pub(crate) fn make_references(&mut self, turn: &Turn<'_>, entry: u16) -> Result<Step, NoMemory>
         ensures { IfOk result (λ step. told turn.now step self.new ≡ make_array (component_of_entry turn.now.world.now (class_number turn.now.world.now self.old.frame.method) entry) (setting_of turn.now) turn.now.next (config_of turn.now self.old)) }
@@ -69,6 +72,7 @@ impl State {
     }
 
     /// newarray
+    #[inline(never)]
     #[tactic(auto, unfolding(kb_semantics::specs::Instructions::make_array))]
     pub(crate) fn make_primitives(&mut self, turn: &Turn<'_>, code: u8) -> Result<Step, NoMemory>
         ensures { IfOk result (λ step. told turn.now step self.new ≡ make_array (component_of_code code) (setting_of turn.now) turn.now.next (config_of turn.now self.old)) }

@@ -59,7 +59,7 @@ fn land(turn: &Turn<'_>, frame: &mut Frame, target: u32) -> Landing
     if !frame.may_have_one(turn.world) {
         return Landing::IllTyped;
     }
-    if !frame.transfer(&turn.bounds, target) {
+    if !frame.transfer(turn.bounds, target) {
         return Landing::PastLoops;
     }
     Landing::Caught

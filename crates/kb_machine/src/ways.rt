@@ -23,18 +23,20 @@ impl State {
     }
 
     /// The end as ill-typed at the instruction that was taken up.
-    pub(crate) fn place(&self) -> End
+    pub(crate) fn ill_typed_end(&self) -> End
         ensures { result ≡ ends.IllTyped self.now.frame.method self.now.frame.at }
     {
         End::IllTyped(self.frame.method(), self.frame.at())
     }
 
     /// The run ends as ill-typed at the instruction that was taken up.
+    #[cold]
+    #[inline(never)]
     pub(crate) fn ill_typed(&mut self) -> Step
         ensures step { result ≡ steps.Ends }
         ensures state { self.new ≡ record self.old { end = ends.IllTyped self.old.frame.method self.old.frame.at } }
     {
-        self.ends(self.place())
+        self.ends(self.ill_typed_end())
     }
 
     /// It goes on at the next offset with a stack that the frame may have.
@@ -69,6 +71,7 @@ impl State {
     }
 
     /// It goes on at the next offset with a value in a local.
+    #[inline(always)]
     #[tactic(auto, unfolding(kb_semantics::specs::Ways::goes_on))]
     pub(crate) fn sets_local(
         &mut self,
@@ -92,7 +95,7 @@ impl State {
         if !self.frame.is_allowed(turn.world) {
             return self.ill_typed();
         }
-        if !self.frame.transfer(&turn.bounds, target) {
+        if !self.frame.transfer(turn.bounds, target) {
             return self.ends(End::Past(Bound::Loops));
         }
         Step::Goes
