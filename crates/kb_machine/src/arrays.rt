@@ -11,13 +11,13 @@ ghost use Rattle.kb_machine.specs.Turns.{setting_of, config_of, told};
 
 use crate::NoMemory;
 use crate::kinds::kept;
+use crate::near::Near;
 use crate::state::State;
 use crate::throwing::{ARRAY_STORE, INDEX_OUTSIDE, NEGATIVE_SIZE, NULL_POINTER, default_of};
 use crate::turn::{End, Step, Turn};
 use kb_code::Elem;
 use kb_heap::{Bound, Heap, Object, Row, Value};
 use kb_names::{ExactType, JType};
-use kb_world::World;
 use std::alloc::Global;
 
 /// The component and the elements of an array.
@@ -215,7 +215,14 @@ fn loaded_at(heap: &Heap, array: u32, elem: Elem, index: i32) -> Loaded
 }
 
 // What becomes of a value that is to be stored in the array at an index.
-fn stored_at(world: &World, heap: &Heap, array: u32, elem: Elem, index: i32, value: Value) -> Stored
+fn stored_at(
+    world: &Near<'_>,
+    heap: &Heap,
+    array: u32,
+    elem: Elem,
+    index: i32,
+    value: Value,
+) -> Stored
     ensures { result ≡ stored_at world.now heap.now array (takes_component elem) index value }
 {
     let Some(found) = array_at(heap, array, elem) else {
@@ -258,14 +265,14 @@ fn place_in_array(index: i32, len: usize) -> Option<u32>
 }
 
 // Whether the component takes the value: null, or an object that fits it.
-fn takes_object(world: &World, heap: &Heap, component: &JType, value: Value) -> bool
+fn takes_object(world: &Near<'_>, heap: &Heap, component: &JType, value: Value) -> bool
     ensures { result ≡ takes_object world.now heap.now component.now value }
 {
     let Value::Ref(object) = value else {
         return true;
     };
     match heap.objects.as_slice().get(object as usize) {
-        Some(of) => world.subtype(&of.kind, component),
+        Some(of) => world.world().subtype(&of.kind, component),
         None => false,
     }
 }

@@ -13,6 +13,7 @@ ghost use Rattle.kb_machine.specs.Turns.{config_of, kind_of, setting_of, told};
 use crate::NoMemory;
 use crate::branching::same_reference;
 use crate::frame::Frame;
+use crate::near::Near;
 use crate::state::State;
 use crate::throwing::NULL_POINTER;
 use crate::turn::{Call, End, Step, Turn};
@@ -20,7 +21,6 @@ use crate::types::truth;
 use kb_class::{ClassId, MemberKind, MethodId, MethodInfo};
 use kb_heap::{Bound, Value};
 use kb_names::{ExactType, MethodType};
-use kb_world::World;
 use std::mem;
 
 /// A call's entry: the type in which the method is sought, and the method's type.
@@ -65,7 +65,11 @@ impl State {
     {
         let class = self.frame.class(turn.world);
         match call {
-            Call::Static => self.invokes(turn, turn.world.find_resolved(class, entry), args),
+            Call::Static => self.invokes(
+                turn,
+                turn.world.world().find_resolved(class, entry),
+                args,
+            ),
             Call::Special => self.invokes_special(turn, class, entry, args),
             Call::BySelection => self.invokes_selected(turn, class, entry, callee, args),
         }
@@ -87,7 +91,7 @@ impl State {
         if object as usize >= self.heap.objects.as_slice().len() {
             return Ok(self.ill_typed());
         }
-        self.invokes(turn, turn.world.find_special(class, entry), args)
+        self.invokes(turn, turn.world.world().find_special(class, entry), args)
     }
 
     // invokevirtual and invokeinterface with these operands
@@ -129,7 +133,7 @@ impl State {
         if info.code.is_some() {
             return self.enters(turn, id, args);
         }
-        if !turn.world.is_platform(info.class) {
+        if !turn.world.world().is_platform(info.class) {
             return Ok(self.ill_typed());
         }
         match platform_result(turn.world, info, args) {
@@ -159,10 +163,10 @@ impl State {
 }
 
 // What a call's entry of the class names.
-fn callee_at<'w>(world: &'w World, class: ClassId, entry: u16) -> Option<Callee<'w>>
+fn callee_at<'w>(world: &Near<'w>, class: ClassId, entry: u16) -> Option<Callee<'w>>
     ensures { option_map plain_callee result ≡ callee_at world.now class.0 entry }
 {
-    let found = world.find_reference(class, entry)?;
+    let found = world.world().find_reference(class, entry)?;
     match found.kind {
         MemberKind::Method(kind) => Some(Callee {
             class: found.class,
@@ -184,7 +188,7 @@ fn receiver_of(args: &[Value]) -> Option<u32>
 
 // What is called in place of the method of an entry, which is sought in the type, where the receiver is of the exact type.
 fn selected_at(
-    world: &World,
+    world: &Near<'_>,
     class: ClassId,
     entry: u16,
     callee: &Callee<'_>,
@@ -192,15 +196,15 @@ fn selected_at(
 ) -> Option<MethodId>
     ensures { option_map (λ (id : PlainId). id.0) result ≡ selected_at world.now class.0 entry (plain_callee callee.now) receiver.now }
 {
-    if !world.exact_subtype(receiver, callee.class) {
+    if !world.world().exact_subtype(receiver, callee.class) {
         return None;
     }
-    let method = world.find_resolved(class, entry)?;
-    world.find_selected(method, receiver)
+    let method = world.world().find_resolved(class, entry)?;
+    world.world().find_selected(method, receiver)
 }
 
 // What a method of a platform class answers.
-fn platform_result(world: &World, method: &MethodInfo, args: &[Value]) -> Option<Value>
+fn platform_result(world: &Near<'_>, method: &MethodInfo, args: &[Value]) -> Option<Value>
     ensures { result ≡ platform_result world.now method.now args.now }
 {
     if !is_equals(world, method) {
@@ -211,10 +215,10 @@ fn platform_result(world: &World, method: &MethodInfo, args: &[Value]) -> Option
 }
 
 // Whether the method is the platform's Object.equals.
-fn is_equals(world: &World, method: &MethodInfo) -> bool
+fn is_equals(world: &Near<'_>, method: &MethodInfo) -> bool
     ensures { result ≡ is_equals world.now method.now }
 {
-    if !world.is_platform(method.class) {
+    if !world.world().is_platform(method.class) {
         return false;
     }
     method.name.as_slice() == b"equals".as_slice()

@@ -8,12 +8,13 @@ ghost use Rattle.kb_semantics.specs.Ways.{goes_with};
 ghost use Rattle.kb_machine.specs.Turns.{setting_of, config_of, told};
 
 use crate::NoMemory;
+use crate::near::Near;
 use crate::state::State;
 use crate::throwing::{NULL_POINTER, new_object};
 use crate::turn::{Step, Turn};
 use kb_heap::{Heap, Object, Value};
 use kb_names::ExactType;
-use kb_world::{FieldSlot, World};
+use kb_world::FieldSlot;
 
 impl State {
     /// getfield
@@ -22,7 +23,7 @@ impl State {
         ensures { IfOk result (λ step. told turn.now step self.new ≡ get_field entry (setting_of turn.now) turn.now.next (config_of turn.now self.old)) }
     {
         let class = self.frame.class(turn.world);
-        let Some(field) = turn.world.find_field(class, entry) else {
+        let Some(field) = turn.world.world().find_field(class, entry) else {
             return Ok(self.ill_typed());
         };
         let Some(reference) = self.frame.a_reference() else {
@@ -43,7 +44,7 @@ impl State {
         ensures { IfOk result (λ step. told turn.now step self.new ≡ put_field entry (setting_of turn.now) turn.now.next (config_of turn.now self.old)) }
     {
         let class = self.frame.class(turn.world);
-        let Some(field) = turn.world.find_field(class, entry) else {
+        let Some(field) = turn.world.world().find_field(class, entry) else {
             return Ok(self.ill_typed());
         };
         let Some((reference, value)) = self.frame.an_object_and_value(&field.kind) else {
@@ -62,7 +63,7 @@ impl State {
         ensures { IfOk result (λ step. told turn.now step self.new ≡ make_object entry (setting_of turn.now) turn.now.next (config_of turn.now self.old)) }
     {
         let class = self.frame.class(turn.world);
-        let Some(ExactType::Class(name)) = turn.world.find_type(class, entry) else {
+        let Some(ExactType::Class(name)) = turn.world.world().find_type(class, entry) else {
             return Ok(self.ill_typed());
         };
         let object = new_object(turn.alloc, turn.world, name.as_slice())?;
@@ -99,7 +100,7 @@ impl State {
 }
 
 // What the object has in the slot of the field, where it has that.
-fn field_of(world: &World, heap: &Heap, object: u32, field: &FieldSlot) -> Option<Value>
+fn field_of(world: &Near<'_>, heap: &Heap, object: u32, field: &FieldSlot) -> Option<Value>
     ensures { result ≡ option_and_then (λ (of : PlainObject). field_of world.now of field.now) (object_at heap.now object) }
 {
     let of = heap.objects.as_slice().get(object as usize)?;
@@ -110,11 +111,11 @@ fn field_of(world: &World, heap: &Heap, object: u32, field: &FieldSlot) -> Optio
 }
 
 // Whether an object of the exact type has the slot.
-fn has_field(world: &World, kind: &ExactType, field: &FieldSlot) -> bool
+fn has_field(world: &Near<'_>, kind: &ExactType, field: &FieldSlot) -> bool
     ensures { result ≡ has_field world.now kind.now field.now }
 {
     match kind {
-        ExactType::Class(name) => world.is_in_chain(name, field.class),
+        ExactType::Class(name) => world.world().is_in_chain(name, field.class),
         ExactType::Array(_) => false,
     }
 }

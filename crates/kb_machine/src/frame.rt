@@ -9,10 +9,10 @@ ghost use Rattle.kb_world.specs.Lookup.{only_where};
 
 use crate::NoMemory;
 use crate::locals::Locals;
+use crate::near::Near;
 use crate::value_stack::ValueStack;
 use kb_class::{ClassId, MethodCode, MethodId};
 use kb_heap::{Row, RunBounds, Value};
-use kb_world::World;
 use std::alloc::Global;
 use std::marker::Model;
 
@@ -38,7 +38,7 @@ impl Frame {
     /// The frame of a method that begins with these arguments.
     pub(crate) fn begin(
         alloc: Global,
-        world: &World,
+        world: &Near<'_>,
         method: MethodId,
         args: &[Value],
     ) -> Result<Frame, NoMemory>
@@ -68,35 +68,35 @@ impl Frame {
     }
 
     /// The class that declares the method.
-    pub(crate) fn class(&self, world: &World) -> ClassId
+    pub(crate) fn class(&self, world: &Near<'_>) -> ClassId
         ensures { result.0 ≡ class_number world.now self.now.method }
     {
         class_of_method(world, self.method)
     }
 
     /// Whether the method may have the frame's stack.
-    pub(crate) fn is_allowed(&self, world: &World) -> bool
+    pub(crate) fn is_allowed(&self, world: &Near<'_>) -> bool
         ensures { result ≡ has_room world.now self.now.method (length self.now.stack) }
     {
         self.stack.len() <= usize::from(max_stack(world, self.method))
     }
 
     /// Whether it may have a stack with one value more.
-    pub(crate) fn has_room(&self, world: &World) -> bool
+    pub(crate) fn has_room(&self, world: &Near<'_>) -> bool
         ensures { result ≡ has_room world.now self.now.method (suc (length self.now.stack)) }
     {
         self.stack.len() < usize::from(max_stack(world, self.method))
     }
 
     /// Whether the method may have a stack of one value.
-    pub(crate) fn may_have_one(&self, world: &World) -> bool
+    pub(crate) fn may_have_one(&self, world: &Near<'_>) -> bool
         ensures { result ≡ has_room world.now self.now.method 1 }
     {
         max_stack(world, self.method) > 0
     }
 
     /// The value of a local, where it lies below the limit and was written.
-    pub(crate) fn local(&self, world: &World, local: u16) -> Option<Value>
+    pub(crate) fn local(&self, world: &Near<'_>, local: u16) -> Option<Value>
         ensures { result ≡ local_of world.now self.now local }
     {
         if local >= max_locals(world, self.method) {
@@ -108,7 +108,7 @@ impl Frame {
     /// Writes a local, where it lies below the limit: false where it does not.
     pub(crate) fn set_local(
         &mut self,
-        world: &World,
+        world: &Near<'_>,
         local: u16,
         value: Value,
     ) -> Result<bool, NoMemory>
@@ -240,7 +240,7 @@ impl Frame {
     }
 }
 
-fn class_of_method(world: &World, method: MethodId) -> ClassId
+fn class_of_method(world: &Near<'_>, method: MethodId) -> ClassId
     ensures { result.0 ≡ class_number world.now method }
 {
     match world.find_method(method) {
@@ -249,7 +249,7 @@ fn class_of_method(world: &World, method: MethodId) -> ClassId
     }
 }
 
-fn max_stack(world: &World, method: MethodId) -> u16
+fn max_stack(world: &Near<'_>, method: MethodId) -> u16
     ensures { result ≡ max_stack_of world.now method }
 {
     match world.find_code(method) {
@@ -258,7 +258,7 @@ fn max_stack(world: &World, method: MethodId) -> u16
     }
 }
 
-fn max_locals(world: &World, method: MethodId) -> u16
+fn max_locals(world: &Near<'_>, method: MethodId) -> u16
     ensures { result ≡ max_locals_of world.now method }
 {
     match world.find_code(method) {

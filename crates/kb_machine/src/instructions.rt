@@ -9,10 +9,10 @@ ghost use Rattle.kb_machine.specs.Turns.{config_of, setting_of, told};
 
 use crate::NoMemory;
 use crate::frame::Frame;
+use crate::near::Near;
 use crate::state::State;
 use crate::turn::{Call, Step, Turn};
 use kb_code::Instr;
-use kb_world::World;
 
 /// An instruction, and the offset behind it.
 #[derive(Clone, Copy)]
@@ -23,10 +23,10 @@ pub(crate) struct Found<'w> {
 
 /// The instruction at the frame's offset.
 #[tactic(auto, using(crate::proofs::ListingLaws::by_place))]
-pub(crate) fn instruction_at<'w>(world: &'w World, frame: &Frame) -> Option<Found<'w>>
+pub(crate) fn instruction_at<'w>(world: &Near<'w>, frame: &Frame) -> Option<Found<'w>>
     ensures { option_map plain_found result ≡ instruction_at world.now frame.now.method frame.now.at }
 {
-    let place = world.find_place(frame.method(), frame.at());
+    let place = world.world().find_place(frame.method(), frame.at());
     match world.find_code(frame.method()) {
         Some(code) => found_at(code.listing.items.as_slice(), code.size, place),
         None => None,
@@ -56,7 +56,7 @@ fn offset_at(items: &[(u32, Instr)], place: usize, size: u32) -> u32
 }
 
 /// The offset behind the instruction at the frame's offset.
-pub(crate) fn behind(world: &World, frame: &Frame) -> u32
+pub(crate) fn behind(world: &Near<'_>, frame: &Frame) -> u32
     ensures { result ≡ behind world.now frame.now.method frame.now.at }
 {
     match instruction_at(world, frame) {

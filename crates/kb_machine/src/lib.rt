@@ -16,6 +16,7 @@ mod ints;
 mod kinds;
 mod locals;
 mod machine;
+mod near;
 mod operands;
 mod pool;
 mod rearranging;

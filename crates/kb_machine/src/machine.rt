@@ -10,6 +10,7 @@ ghost use Rattle.kb_machine.specs.Turns.{begun, ending_told};
 use crate::NoMemory;
 use crate::frame::Frame;
 use crate::instructions::instruction_at;
+use crate::near::Near;
 use crate::state::{Callers, State};
 use crate::turn::{End, Step, Turn};
 use kb_class::MethodId;
@@ -39,7 +40,12 @@ pub fn run(
         return Err(NoMemory);
     };
     let state = State {
-        frame: Frame::begin(alloc, world, target, input.args.as_slice())?,
+        frame: Frame::begin(
+            alloc,
+            &Near::new(world, target),
+            target,
+            input.args.as_slice(),
+        )?,
         callers: Callers::new(alloc),
         heap: first_heap(alloc, world, &input.heap)?,
         end: End::Past(Bound::Steps),
@@ -58,14 +64,16 @@ fn run_from(
     ensures { IfOk result (λ ended. run (suc bounds.now.steps) (record { world = world.now; bounds = bounds.now }) (begun inputs state) ≡ record { ending = ended.0; heap = ended.1 }) }
 {
     let mut state = state;
+    let mut near = Near::new(world, state.frame.method());
     for carried in 0..bounds.steps {
-        let Some(found) = instruction_at(world, &state.frame) else {
+        near.come_to(state.frame.method());
+        let Some(found) = instruction_at(&near, &state.frame) else {
             let place = ending_of(alloc, world, state.ill_typed_end())?;
             return Ok((place, state.heap));
         };
         let turn = Turn {
             alloc,
-            world,
+            world: &near,
             bounds,
             inputs,
             carried,

@@ -29,10 +29,10 @@ impl State {
 fn constant_at(turn: &Turn<'_>, class: ClassId, entry: u16) -> Result<Option<Value>, NoMemory>
     ensures { IfOk result (λ value. value ≡ constant_at turn.now.world.now class.0 entry turn.now.inputs) }
 {
-    if let Some(value) = turn.world.find_int(class, entry) {
+    if let Some(value) = turn.world.world().find_int(class, entry) {
         return Ok(Some(Value::Int(value)));
     }
-    let Some(literal) = turn.world.literal_entry(class, entry) else {
+    let Some(literal) = turn.world.world().literal_entry(class, entry) else {
         return Ok(None);
     };
     match turn.inputs.checked_add(literal) {

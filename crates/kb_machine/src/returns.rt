@@ -11,11 +11,11 @@ use crate::NoMemory;
 use crate::frame::Frame;
 use crate::instructions::behind;
 use crate::kinds::kept;
+use crate::near::Near;
 use crate::operands::value_of;
 use crate::state::State;
 use crate::turn::{End, Step, Turn};
 use kb_heap::Value;
-use kb_world::World;
 
 impl State {
     /// ireturn
@@ -102,7 +102,7 @@ impl State {
 
 impl Frame {
     // It goes on behind its invoke, with the result on its stack: false where it may not have it.
-    fn resumes(&mut self, world: &World, value: Option<Value>) -> Result<bool, NoMemory>
+    fn resumes(&mut self, world: &Near<'_>, value: Option<Value>) -> Result<bool, NoMemory>
         ensures room { IfOk result (λ room. room ≡ has_room world.now self.old.method (length (pushed value self.old.stack))) }
         ensures frame { IfOk result (λ room. IsTrue room → self.new ≡ record self.old { at = behind world.now self.old.method self.old.at; stack = pushed value self.old.stack }) }
     {

@@ -15,12 +15,13 @@ ghost use Rattle.kb_machine.specs.declared.turn.Step.TheVariants as steps;
 ghost use Rattle.kb_machine.specs.Turns.{setting_of, config_of, told};
 
 use crate::NoMemory;
+use crate::near::Near;
 use crate::state::State;
 use crate::turn::{End, Step, Turn};
 use crate::unwinding::{Landing, unwind};
 use kb_heap::{Bound, Object, Row, Value};
 use kb_names::{ExactType, JType, Name};
-use kb_world::{FieldSlot, World};
+use kb_world::FieldSlot;
 use std::alloc::Global;
 
 /// The exceptions that the machine throws itself.
@@ -89,7 +90,7 @@ impl State {
         let Some(of) = self.heap.objects.as_slice().get(object as usize) else {
             return Ok(self.ends(end));
         };
-        if !turn.world.is_of_class(&of.kind, THROWABLE) {
+        if !turn.world.world().is_of_class(&of.kind, THROWABLE) {
             return Ok(self.ends(end));
         }
         match unwind(turn, &mut self.frame, &mut self.callers, &of.kind) {
@@ -115,13 +116,13 @@ impl State {
 }
 
 /// A new object of the class.
-pub(crate) fn new_object(alloc: Global, world: &World, class: &[u8]) -> Result<Object, NoMemory>
+pub(crate) fn new_object(alloc: Global, world: &Near<'_>, class: &[u8]) -> Result<Object, NoMemory>
     ensures { IfOk result (λ object. object ≡ new_object world.now class.now) }
 {
     let Ok(name) = Name::from_slice(alloc, class) else {
         return Err(NoMemory);
     };
-    let values = default_values(alloc, world.slots_named(&name))?;
+    let values = default_values(alloc, world.world().slots_named(&name))?;
     Ok(Object {
         kind: ExactType::Class(name),
         values,

@@ -1,15 +1,15 @@
 //! What surrounds one step, and what a step comes to.
 
+use crate::near::Near;
 use kb_class::MethodId;
 use kb_heap::{Bound, RunBounds, Value};
-use kb_world::World;
 use std::alloc::Global;
 
 /// What stays the same through one step.
 #[derive(Drop)]
 pub(crate) struct Turn<'w> {
     pub(crate) alloc: Global,
-    pub(crate) world: &'w World,
+    pub(crate) world: &'w Near<'w>,
     pub(crate) bounds: &'w RunBounds,
     /// How many objects the input has.
     pub(crate) inputs: u32,

@@ -10,12 +10,13 @@ ghost use Rattle.kb_world.specs.Faults.{component_of_code};
 ghost use Rattle.kb_machine.specs.Turns.{setting_of, config_of, told};
 
 use crate::NoMemory;
+use crate::near::Near;
 use crate::state::State;
 use crate::throwing::CLASS_CAST;
 use crate::turn::{Step, Turn};
 use kb_heap::{Heap, Value};
 use kb_names::{Component, ExactType, JType};
-use kb_world::{World, component_of_code};
+use kb_world::component_of_code;
 use std::alloc::Global;
 
 impl State {
@@ -26,7 +27,7 @@ impl State {
         ensures { IfOk result (λ step. told turn.now step self.new ≡ cast entry (setting_of turn.now) turn.now.next (config_of turn.now self.old)) }
     {
         let class = self.frame.class(turn.world);
-        let Some(high) = turn.world.find_type(class, entry) else {
+        let Some(high) = turn.world.world().find_type(class, entry) else {
             return Ok(self.ill_typed());
         };
         let Some(reference) = self.frame.top_reference() else {
@@ -45,7 +46,7 @@ impl State {
         ensures { IfOk result (λ step. told turn.now step self.new ≡ instance_of entry (setting_of turn.now) turn.now.next (config_of turn.now self.old)) }
     {
         let class = self.frame.class(turn.world);
-        let Some(high) = turn.world.find_type(class, entry) else {
+        let Some(high) = turn.world.world().find_type(class, entry) else {
             return Ok(self.ill_typed());
         };
         let Some(reference) = self.frame.a_reference() else {
@@ -62,7 +63,7 @@ impl State {
         ensures { IfOk result (λ step. told turn.now step self.new ≡ make_array (component_of_entry turn.now.world.now (class_number turn.now.world.now self.old.frame.method) entry) (setting_of turn.now) turn.now.next (config_of turn.now self.old)) }
     {
         let class = self.frame.class(turn.world);
-        match turn.world.find_type(class, entry) {
+        match turn.world.world().find_type(class, entry) {
             Some(of) => {
                 let component = type_of_exact(turn.alloc, of)?;
                 self.make_array(turn, Some(component))
@@ -83,7 +84,7 @@ impl State {
 
 // Whether the reference leads to an object of the type: `null` for null.
 fn is_instance(
-    world: &World,
+    world: &Near<'_>,
     heap: &Heap,
     high: &ExactType,
     reference: Option<u32>,
@@ -95,7 +96,7 @@ fn is_instance(
         return null;
     };
     match heap.objects.as_slice().get(object as usize) {
-        Some(of) => world.exact_subtype(&of.kind, high),
+        Some(of) => world.world().exact_subtype(&of.kind, high),
         None => false,
     }
 }

@@ -9,6 +9,7 @@ ghost use Rattle.kb_machine.specs.Turns.{setting_of};
 ghost use Rattle.kb_machine.specs.Landings.{landed, unwound};
 
 use crate::frame::Frame;
+use crate::near::Near;
 use crate::state::Callers;
 use crate::turn::Turn;
 use kb_class::ClassId;
@@ -66,13 +67,19 @@ fn land(turn: &Turn<'_>, frame: &mut Frame, target: u32) -> Landing
 }
 
 // Where the first handler of the frame goes on that takes an object of the exact type.
-fn handler_at(world: &World, frame: &Frame, kind: &ExactType) -> Option<u32>
+fn handler_at(world: &Near<'_>, frame: &Frame, kind: &ExactType) -> Option<u32>
     ensures { result ≡ handler_at world.now frame.now.method frame.now.at kind.now }
 {
     match world.find_code(frame.method()) {
         Some(code) => {
             let class = frame.class(world);
-            handler_among(world, class, frame.at(), kind, code.handlers.as_slice())
+            handler_among(
+                world.world(),
+                class,
+                frame.at(),
+                kind,
+                code.handlers.as_slice(),
+            )
         }
         None => None,
     }

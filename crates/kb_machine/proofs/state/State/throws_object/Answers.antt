@@ -2,14 +2,17 @@ use Rattle.std.proofs.Common.{◌≡◌, ℕ, ◌<◌, true, List, Some, length,
 use Rattle.std.specs.List.{slice_index_or}
 use Rattle.std.proofs.lemmas.Option.{slice_get_read}
 use Rattle.kb_names.specs.declared.types.JType.TheVariants as types
+use Rattle.kb_heap.specs.declared.bounds.Bound.TheVariants.{Loops}
 use Rattle.kb_class.specs.Platform.{throwable}
 use Rattle.kb_heap.specs.declared.heap.Heap.{Heap}
 use Rattle.kb_heap.specs.declared.heap.Object.{Object}
 use Rattle.kb_heap.specs.Heap.{object_at}
 use Rattle.kb_link.specs.Subtypes.{fits}
 use Rattle.kb_machine.specs.Turns.{config_of}
+use Rattle.kb_machine.specs.declared.state.State.{State}
+use Rattle.kb_machine.specs.declared.turn.End.TheVariants as ends
 use Rattle.kb_machine.specs.declared.unwinding.Landing.TheVariants as landings
-use Rattle.kb_machine.proofs.LandingLaws.{thrown_there, caught}
+use Rattle.kb_machine.proofs.LandingLaws.{thrown_there, caught, ends_so}
 use Rattle.kb_machine.proofs.state.State.throws_object.Goals as goal
 
 -- the object that was read is the one of that number
@@ -36,7 +39,8 @@ returns-in-Uncaught c =
     let found : object_at old.heap number ≡ Some of = found_there old.heap c.as_slice.result.now number of c.as_slice.ensures c.in-Some.ensures.lookup.3.0 c.in-Some.ensures.lookup.1 in
     let fit : fits t.world.now of.kind (types.Class throwable) ≡ true = sym c.if-not-is_of_class.ensures in
     let comes = thrown_there t old number (object_at old.heap number) of landings.Uncaught c.unwind.new.frame c.unwind.new.callers found fit (rw c.in-Uncaught.is at (c.unwind.ensures (config_of t old) old.heap number)) in
-    sym comes
+    let m : State = record old { frame = c.unwind.new.frame; callers = c.unwind.new.callers } in
+    ends_so t m c.ends-in-Uncaught.new.self c.ends-in-Uncaught.result (ends.Threw number) _ c.ends-in-Uncaught.ensures.step c.ends-in-Uncaught.ensures.state (sym comes)
 
 pub returns-in-IllTyped : goal.returns-in-IllTyped
 returns-in-IllTyped c =
@@ -47,7 +51,9 @@ returns-in-IllTyped c =
     let found : object_at old.heap number ≡ Some of = found_there old.heap c.as_slice.result.now number of c.as_slice.ensures c.in-Some.ensures.lookup.3.0 c.in-Some.ensures.lookup.1 in
     let fit : fits t.world.now of.kind (types.Class throwable) ≡ true = sym c.if-not-is_of_class.ensures in
     let comes = thrown_there t old number (object_at old.heap number) of landings.IllTyped c.unwind.new.frame c.unwind.new.callers found fit (rw c.in-IllTyped.is at (c.unwind.ensures (config_of t old) old.heap number)) in
-    rw c.ill_typed-place.ensures (sym comes)
+    let m : State = record old { frame = c.unwind.new.frame; callers = c.unwind.new.callers } in
+    ends_so t m c.ends-in-IllTyped.new.self c.ends-in-IllTyped.result (ends.IllTyped old.frame.method old.frame.at) _ c.ends-in-IllTyped.ensures.step
+    (rw c.ill_typed_end-end.ensures at c.ends-in-IllTyped.ensures.state) (sym comes)
 
 pub returns-in-PastLoops : goal.returns-in-PastLoops
 returns-in-PastLoops c =
@@ -58,4 +64,5 @@ returns-in-PastLoops c =
     let found : object_at old.heap number ≡ Some of = found_there old.heap c.as_slice.result.now number of c.as_slice.ensures c.in-Some.ensures.lookup.3.0 c.in-Some.ensures.lookup.1 in
     let fit : fits t.world.now of.kind (types.Class throwable) ≡ true = sym c.if-not-is_of_class.ensures in
     let comes = thrown_there t old number (object_at old.heap number) of landings.PastLoops c.unwind.new.frame c.unwind.new.callers found fit (rw c.in-PastLoops.is at (c.unwind.ensures (config_of t old) old.heap number)) in
-    sym comes
+    let m : State = record old { frame = c.unwind.new.frame; callers = c.unwind.new.callers } in
+    ends_so t m c.ends-in-PastLoops.new.self c.ends-in-PastLoops.result (ends.Past Loops) _ c.ends-in-PastLoops.ensures.step c.ends-in-PastLoops.ensures.state (sym comes)
