@@ -1,10 +1,10 @@
 -- Signatures of methods, and the methods that are selected by them.
-use Rattle.std.proofs.Common.{◌≡◌, ◌⊎◌, ℕ, zero, suc, ◌+◌, ◌<◌, ◌≤◌, Bool, true, false, true≢false, ◌==◌, ◌&&◌, List, [], ◌∷◌, ◌++◌, length, length-append, take, Option, Some, None, is_some, cond, slice_get, get_or, unwrap_or, inl, inr, refl, sym, ap, subst, ◌∙◌, arith}
+use Rattle.std.proofs.Common.{◌≡◌, ◌⊎◌, ℕ, zero, suc, ◌+◌, ◌<◌, ◌≤◌, ◌↔◌, Bool, IsTrue, true, false, true≢false, ◌==◌, ◌&&◌, List, [], ◌∷◌, ◌++◌, length, length-append, take, Option, Some, None, is_some, cond, slice_get, get_or, unwrap_or, inl, inr, refl, sym, ap, subst, ◌∙◌, arith}
 use Rattle.std.specs.List.{find}
 use Rattle.std.specs.Option.{option_and_then, option_map_or}
 use Rattle.std.specs.Str.{bytes_eq}
 use Rattle.std.proofs.lemmas.Bool.Decides.{Decides-eqb}
-use Rattle.std.proofs.lemmas.Option.{same_Some, none-some, slice_get_within, slice_get_cases}
+use Rattle.std.proofs.lemmas.Option.{same_Some, none-some, get_or_from_slice_get, slice_get_within, slice_get_cases}
 use Rattle.std.proofs.lemmas.Slice.Eq.{bytes_eq-Decides}
 use Rattle.kb_class.specs.Class.{Class}
 use Rattle.kb_class.specs.declared.members.MethodInfo.{MethodInfo}
@@ -13,15 +13,15 @@ use Rattle.kb_names.specs.declared.class_names.Spelling.TheVariants.{Raw}
 use Rattle.kb_names.specs.declared.types.MethodType.{MethodType}
 use Rattle.kb_link.specs.Links.{IsLinked}
 use Rattle.kb_link.specs.Members.{place_where, same_kind}
-use Rattle.kb_link.specs.Tables.{IsNumberOf}
+use Rattle.kb_link.specs.Tables.{AddsPlace, IsNumberOf}
 use Rattle.kb_link.specs.World.{World, method_at, methods_in}
 use Rattle.kb_link.proofs.MemberNames.{both_true, and_true, kind_is, kind_self, place_there, place_nowhere, declared_is, declared_there}
 use Rattle.kb_link.proofs.MethodNumbers.{number_of_place}
 use Rattle.kb_world.specs.Lookup.{or_else, only_where, first_along, is_open, is_open_at, if_open, declares, declares_open, selected, selected_for}
-use Rattle.kb_world.specs.Tables.{AddsClass, AddsFirst, AddsOpen, AreSelected, HaveSelections, HaveSignatures, first_of, has_name, has_signature, is_alike, is_such_at, key_of, open_from, places_named, selected_by, selected_in, signature_at, signature_of}
+use Rattle.kb_world.specs.Tables.{AddsClass, AddsFirst, AddsOpen, AreSelected, HaveSelections, HaveSignatures, IsByName, first_of, has_name, has_signature, is_alike, is_such_at, key_of, open_from, places_named, selected_by, selected_in, signature_at, signature_of}
 use Rattle.kb_world.specs.declared.selection.Selection.{Selection}
 use Rattle.kb_world.proofs.MethodLaws.{declared_past}
-use Rattle.kb_world.proofs.NameLaws.{found_named}
+use Rattle.kb_world.proofs.NameLaws.{found_named, by_name_next}
 
 -- ---- what is there, or else another
 
@@ -42,6 +42,15 @@ alike_is name kind method e =
 alike_self : (method : MethodInfo) → is_alike method.name method.kind method ≡ true
 alike_self method =
     and_true (bytes_eq method.name method.name) (same_kind method.kind method.kind) ((bytes_eq-Decides method.name method.name).1 refl) (kind_self method.kind)
+
+-- what is told is whether the types are the same
+pub kind_told : (one other : MethodType) (told : Bool) → (IsTrue told ↔ (one ≡ other)) → told ≡ same_kind one other
+kind_told one other true is = sym (subst (λ (k : MethodType). same_kind one k ≡ true) (is.0 refl) (kind_self one))
+kind_told one other false is = go (same_kind one other) refl
+  where
+    go : (b : Bool) → same_kind one other ≡ b → false ≡ same_kind one other
+    go false e = sym e
+    go true e = absurd (true≢false (sym (is.1 (kind_is one other e))))
 
 -- the key says no more than the name and the type
 same_key : (method other : MethodInfo) → has_name key_of (key_of method) (is_alike method.name method.kind) other ≡ is_alike method.name method.kind other
@@ -81,6 +90,13 @@ module _ (world : World) where
       absurd (place_nowhere (is_alike method.name method.kind) (methods_in world.classes) number method (sym is) there (alike_self method))
   has_one number method (Some first) there is = is ∙ sym (signature_there number method there)
 
+  -- one method more at its key
+  pub key_next : (before after : List ℕ → List ℕ) (number : ℕ) (method : MethodInfo) (key : List ℕ) → method_at world number ≡ Some method → key ≡ key_of method
+      → IsByName key_of (take number (methods_in world.classes)) before → AddsPlace before after key number → IsByName key_of (take (number + 1) (methods_in world.classes)) after
+  key_next before after number method key there key_is by adds =
+      by_name_next key_of before after (methods_in world.classes) method number (slice_get_within (methods_in world.classes) number method there)
+      (sym (get_or_from_slice_get (methods_in world.classes) number method method there)) by (subst (λ (k : List ℕ). AddsPlace before after k number) key_is adds)
+
   -- the first method among those of its key that is alike has its signature
   pub by_key : (number : ℕ) (method : MethodInfo) (numbers : List ℕ) (found : Option ℕ) → method_at world number ≡ Some method → numbers ≡ places_named key_of (key_of method) 0 (methods_in world.classes)
       → found ≡ find (is_such_at (is_alike method.name method.kind) (methods_in world.classes)) numbers → Some (unwrap_or found number) ≡ signature_at world number
@@ -99,7 +115,7 @@ module _ (signatures : List ℕ) (signature : ℕ) where
     pub method : MethodInfo
     pub there : slice_get methods place ≡ Some method
     pub sum : number + place ≡ found
-    pub open : is_open method ≡ true
+    pub taken : is_open method ≡ true
     pub signed : has_signature signatures signature found ≡ true
 
   pub open_there : (number : ℕ) (methods : List MethodInfo) (found : ℕ) → open_from signatures signature number methods ≡ Some found → IsOpenAt number methods found
@@ -114,19 +130,19 @@ module _ (signatures : List ℕ) (signature : ℕ) where
           ap (λ (b : Bool). or_else (only_where b number) (open_from signatures signature (suc number) methods)) such in
           let same : number ≡ found = same_Some number found (sym first ∙ e) in
           let sum : number + 0 ≡ found = omega (arith, same) in
-          record { place = 0; method = method; there = refl; sum = sum; open = both.0; signed = subst (λ (n : ℕ). has_signature signatures signature n ≡ true) same both.1 }
+          record { place = 0; method = method; there = refl; sum = sum; taken = both.0; signed = subst (λ (n : ℕ). has_signature signatures signature n ≡ true) same both.1 }
       go later false such =
           let first : open_from signatures signature number (method ∷ methods) ≡ open_from signatures signature (suc number) methods =
           ap (λ (b : Bool). or_else (only_where b number) (open_from signatures signature (suc number) methods)) such in
           let rest = later (sym first ∙ e) in
           let sum : number + suc rest.place ≡ found = omega (arith, rest.sum) in
-          record { place = suc rest.place; method = rest.method; there = rest.there; sum = sum; open = rest.open; signed = rest.signed }
+          record { place = suc rest.place; method = rest.method; there = rest.there; sum = sum; taken = rest.taken; signed = rest.signed }
 
   pub open_nowhere : (number : ℕ) (methods : List MethodInfo) (place : ℕ) (method : MethodInfo) → open_from signatures signature number methods ≡ None → slice_get methods place ≡ Some method
       → is_open method ≡ true → has_signature signatures signature (number + place) ≡ true → ⊥
-  open_nowhere number [] place method none there open signed = absurd (none-some method there)
-  open_nowhere number (first ∷ methods) place method none there open signed =
-      go (λ p h k. open_nowhere (suc number) methods p method h k open) (is_open first && has_signature signatures signature number) refl place there signed
+  open_nowhere number [] place method none there taken signed = absurd (none-some method there)
+  open_nowhere number (first ∷ methods) place method none there taken signed =
+      go (λ p h k. open_nowhere (suc number) methods p method h k taken) (is_open first && has_signature signatures signature number) refl place there signed
     where
       go : ((p : ℕ) → open_from signatures signature (suc number) methods ≡ None → slice_get methods p ≡ Some method → has_signature signatures signature (suc number + p) ≡ true → ⊥)
           → (b : Bool) → (is_open first && has_signature signatures signature number) ≡ b → (p : ℕ) → slice_get (first ∷ methods) p ≡ Some method → has_signature signatures signature (number + p) ≡ true → ⊥
@@ -138,7 +154,7 @@ module _ (signatures : List ℕ) (signature : ℕ) where
           let same : first ≡ method = same_Some first method at in
           let sum : number + 0 ≡ number = omega arith in
           let own : has_signature signatures signature number ≡ true = subst (λ (n : ℕ). has_signature signatures signature n ≡ true) sum has in
-          let is : is_open first ≡ true = ap is_open same ∙ open in
+          let is : is_open first ≡ true = ap is_open same ∙ taken in
           true≢false (sym (and_true (is_open first) (has_signature signatures signature number) is own) ∙ such)
       go later false such (suc p) at has =
           let here : open_from signatures signature number (first ∷ methods) ≡ open_from signatures signature (suc number) methods =
@@ -186,15 +202,15 @@ module _ (world : World) (linked : IsLinked world) (signatures : List ℕ) (have
           there = there;
         } in
         let declared : declares world name kind class ≡ Some found = declared_there world.classes linked.loaded.methods class name kind found number in
-        let open : is_open_at world found ≡ true = ap (λ (o : Option MethodInfo). option_map_or is_open o false) there ∙ at.open in
-        ap (λ (o : Option ℕ). if_open world o) declared ∙ ap (λ (b : Bool). only_where b found) open
+        let taken : is_open_at world found ≡ true = ap (λ (o : Option MethodInfo). option_map_or is_open o false) there ∙ at.taken in
+        ap (λ (o : Option ℕ). if_open world o) declared ∙ ap (λ (b : Bool). only_where b found) taken
 
     none_open : open_from signatures signature (first_of world class) of.methods ≡ None → declares_open world name kind class ≡ None
     none_open none = go (declares world name kind class) refl
       where
         closed : (found : ℕ) → declares world name kind class ≡ Some found → (b : Bool) → is_open_at world found ≡ b → only_where b found ≡ None
-        closed found e false open = refl
-        closed found e true open =
+        closed found e false taken = refl
+        closed found e true taken =
             let is = declared_is world.classes linked.loaded.methods class name kind found e in
             let method = is.stands.method in
             let declaring : is.declaring ≡ of = same_Some is.declaring of (sym is.class_is ∙ class_is) in
@@ -202,7 +218,7 @@ module _ (world : World) (linked : IsLinked world) (signatures : List ℕ) (have
             let there : method_at world (first_of world class + is.place) ≡ Some method = number_of_place world.classes class is.place of method class_is stands in
             let own : signature_of world method.name method.kind ≡ Some signature = (λ i. signature_of world (is.stands.named i) (is.stands.typed i)) ∙ signed in
             let has = signed_there signatures signature (first_of world class + is.place) (signature_is (first_of world class + is.place) method there ∙ own) in
-            let such : is_open method ≡ true = sym (ap (λ (o : Option MethodInfo). option_map_or is_open o false) is.there) ∙ open in
+            let such : is_open method ≡ true = sym (ap (λ (o : Option MethodInfo). option_map_or is_open o false) is.there) ∙ taken in
             absurd (open_nowhere signatures signature (first_of world class) of.methods is.place method none stands such has)
 
         go : (o : Option ℕ) → declares world name kind class ≡ o → declares_open world name kind class ≡ None
@@ -228,6 +244,14 @@ pub adds_nothing : (world : World) → IsLinked world → (class : ℕ) (table :
 adds_nothing world linked class table past name kind signature signed =
     let none : declares_open world name kind class ≡ None = ap (λ (o : Option ℕ). if_open world o) (declared_past world linked name kind class past) in
     sym (ap (λ (o : Option ℕ). or_else (table signature) o) none ∙ else_none (table signature))
+
+-- a place that is not in the list is behind it
+pub nowhere : {A : Type 0} (xs : List A) (place : ℕ) → slice_get xs place ≡ None → length xs ≤ place
+nowhere xs place none =
+    elim (slice_get_cases xs place).1 [
+      | inl h ↦ absurd (none-some h.0 (sym none ∙ h.2))
+      | inr h ↦ h.0
+    ]
 
 -- ---- the walk upwards
 
@@ -280,11 +304,11 @@ module _ (signatures : List ℕ) where
 
     pub adds_open : (before after : ℕ → Option ℕ) (own : ℕ) → is_open method ≡ true → slice_get signatures number ≡ Some own → AddsFirst own number before after
         → AddsOpen signatures number (method ∷ []) before after
-    adds_open before after own open there adds signature =
+    adds_open before after own taken there adds signature =
         let here : has_signature signatures signature number ≡ (own == signature) = ap (λ (o : Option ℕ). option_map_or (λ (other : ℕ). other == signature) o false) there in
         adds signature
         ∙ ap (λ (o : Option ℕ). or_else (before signature) o)
-        (sym (else_none (only_where (own == signature) number)) ∙ (λ i. or_else (only_where (sym open i && sym here i) number) None))
+        (sym (else_none (only_where (own == signature) number)) ∙ (λ i. or_else (only_where (sym taken i && sym here i) number) None))
 
 -- ---- one entry more
 

@@ -1,7 +1,7 @@
 //! Selection (JVMS 8 section 5.4.6) by tables: which method is called where the receiver is of a class.
-ghost use Rattle.std.specs.Prelude.{◌≡◌, ◌<◌, ◌^◌, ℕ, List, length, take, IfOk, OnOk};
+ghost use Rattle.std.specs.Prelude.{◌≡◌, ◌+◌, ◌<◌, ◌^◌, ◌∷◌, [], length, IfOk, OnOk};
 ghost use Rattle.kb_link.specs.Links.{IsLinked};
-ghost use Rattle.kb_link.specs.World.{World, methods_in};
+ghost use Rattle.kb_link.specs.World.{methods_in};
 ghost use Rattle.kb_world.specs.Tables.{AddsClass, AddsFirst, AddsOpen, AreSelected, HaveFirsts, HaveSignatures, HaveSelections, IsSelection, selected_by, selected_in};
 
 use crate::methods::is_open;
@@ -45,7 +45,13 @@ fn tables_of(
     let firsts = firsts_of(alloc, linked)?;
     let mut tables = Vec::new(alloc);
     for number in 0..linked.class_count() {
-        let table = table_of(alloc, linked, signatures, firsts.as_slice(), ClassId(number))?;
+        let table = table_of(
+            alloc,
+            linked,
+            signatures,
+            firsts.as_slice(),
+            ClassId(number),
+        )?;
         let Ok(()) = tables.push(table) else {
             return Err(NoMemory);
         };
@@ -165,7 +171,10 @@ fn add_first(signature: u32, number: u32, table: &mut HashMap<u32, u32>) -> Resu
 pub(crate) fn selected_by(told: &Selection, class: u32, method: u32) -> Option<u32>
     ensures { result ≡ selected_by told.now class method }
 {
-    match (told.signatures.get(method as usize), told.tables.get(class as usize)) {
+    match (
+        told.signatures.get(method as usize),
+        told.tables.get(class as usize),
+    ) {
         (Some(signature), Some(table)) => table.get(signature).copied(),
         _ => None,
     }

@@ -1,5 +1,5 @@
 //! The signatures of methods: one number for all methods of one name and type.
-ghost use Rattle.std.specs.Prelude.{◌≡◌, ◌<◌, ◌^◌, Some, length, IfOk};
+ghost use Rattle.std.specs.Prelude.{◌≡◌, ◌<◌, Some, length, IfOk};
 ghost use Rattle.std.specs.List.{find};
 ghost use Rattle.kb_link.specs.World.{methods_in};
 ghost use Rattle.kb_link.specs.Tables.{places_at};
