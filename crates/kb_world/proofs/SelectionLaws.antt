@@ -1,8 +1,12 @@
 -- Signatures of methods, and the methods that are selected by them.
 use Rattle.std.proofs.Common.{◌≡◌, ◌⊎◌, ℕ, zero, suc, ◌+◌, ◌<◌, ◌≤◌, ◌↔◌, Bool, IsTrue, true, false, true≢false, ◌==◌, ◌&&◌, List, [], ◌∷◌, ◌++◌, length, length-append, take, Option, Some, None, is_some, cond, slice_get, get_or, unwrap_or, inl, inr, refl, sym, ap, subst, ◌∙◌, arith}
+use Rattle.std.specs.HashMap.{HashMap}
 use Rattle.std.specs.List.{find}
+use Rattle.std.specs.Map.{lookup}
 use Rattle.std.specs.Option.{option_and_then, option_map_or}
 use Rattle.std.specs.Str.{bytes_eq}
+use Rattle.std.specs.declared.vec.Vec.{Vec}
+use Rattle.std.specs.declared.alloc.Global.{Global}
 use Rattle.std.proofs.lemmas.Bool.Decides.{Decides-eqb}
 use Rattle.std.proofs.lemmas.Option.{same_Some, none-some, get_or_from_slice_get, slice_get_within, slice_get_cases}
 use Rattle.std.proofs.lemmas.Slice.Eq.{bytes_eq-Decides}
@@ -13,7 +17,7 @@ use Rattle.kb_names.specs.declared.class_names.Spelling.TheVariants.{Raw}
 use Rattle.kb_names.specs.declared.types.MethodType.{MethodType}
 use Rattle.kb_link.specs.Links.{IsLinked}
 use Rattle.kb_link.specs.Members.{place_where, same_kind}
-use Rattle.kb_link.specs.Tables.{AddsPlace, IsNumberOf}
+use Rattle.kb_link.specs.Tables.{AddsPlace, IsNumberOf, entry_at, places_at}
 use Rattle.kb_link.specs.World.{World, method_at, methods_in}
 use Rattle.kb_link.proofs.MemberNames.{both_true, and_true, kind_is, kind_self, place_there, place_nowhere, declared_is, declared_there}
 use Rattle.kb_link.proofs.MethodNumbers.{number_of_place}
@@ -105,6 +109,14 @@ module _ (world : World) where
       (is
       ∙ found_named key_of (key_of method) (is_alike method.name method.kind) (methods_in world.classes) numbers are
       ∙ (λ i. place_where (λ (m : MethodInfo). same_key method m i) (methods_in world.classes)))
+
+  -- the same of what a table tells of the key
+  pub told_by_key : {S : Type 0} (table : HashMap (Vec ℕ Global) (List ℕ) S) (number : ℕ) (method : MethodInfo) (key : List ℕ) (told : Option (List ℕ)) (numbers : List ℕ) (found : Option ℕ)
+      → IsByName key_of (methods_in world.classes) (places_at table) → method_at world number ≡ Some method → key ≡ key_of method → told ≡ entry_at table key → numbers ≡ unwrap_or told []
+      → found ≡ find (is_such_at (is_alike method.name method.kind) (methods_in world.classes)) numbers → Some (unwrap_or found number) ≡ signature_at world number
+  told_by_key table number method key told numbers found by there key_is told_is are is =
+      by_key number method numbers found there
+      (are ∙ ap (λ (o : Option (List ℕ)). unwrap_or o []) told_is ∙ by key ∙ ap (λ (k : List ℕ). places_named key_of k 0 (methods_in world.classes)) key_is) is
 
 -- ---- the methods of a class that have a signature
 
@@ -268,6 +280,16 @@ module _ (world : World) (chain : List ℕ) where
       ∙ else_else (before signature) (declares_open world name kind class) (first_along (declares_open world name kind) rest)
       ∙ left name kind signature signed
 
+  -- a table of nothing
+  pub left_first : {S : Type 0} (table : HashMap ℕ ℕ S) → table.entries ≡ [] → IsLeft (selected_in table) chain
+  left_first table empty name kind signature signed =
+      ap (λ (entries : List (ℕ × ℕ)). or_else (lookup (λ (key : ℕ). signature == key) entries) (first_along (declares_open world name kind) chain)) empty
+
+  -- nothing is left
+  pub left_last : (table : ℕ → Option ℕ) → IsLeft table [] → (name : List ℕ) (kind : MethodType) (signature : ℕ) → signature_of world name kind ≡ Some signature
+      → table signature ≡ first_along (declares_open world name kind) chain
+  left_last table left name kind signature signed = sym (else_none (table signature)) ∙ left name kind signature signed
+
 -- ---- one method more
 
 module _ (signatures : List ℕ) where
@@ -283,6 +305,9 @@ module _ (signatures : List ℕ) where
       ap (λ (o : Option ℕ). or_else o (open_from signatures signature (suc number) rest)) (adds signature ∙ ap (λ (o : Option ℕ). or_else (before signature) o) (else_none here))
       ∙ else_else (before signature) here (open_from signatures signature (suc number) rest)
       ∙ left signature
+
+  pub open_last : (first : ℕ) (methods : List MethodInfo) (before table : ℕ → Option ℕ) (number : ℕ) → IsOpenLeft first methods before number [] table → AddsOpen signatures first methods before table
+  open_last first methods before table number left signature = sym (else_none (table signature)) ∙ left signature
 
   module _ (number : ℕ) (method : MethodInfo) where
     pub adds_closed : (table : ℕ → Option ℕ) → is_open method ≡ false → AddsOpen signatures number (method ∷ []) table table

@@ -70,9 +70,17 @@ fn firsts_of(alloc: Global, linked: &Linked) -> Result<Vec<u32>, NoMemory>
         let Ok(()) = firsts.push(first) else {
             return Err(NoMemory);
         };
-        first += linked.class_of(ClassId(number)).methods().len() as u32;
+        first = number_behind(first, linked.class_of(ClassId(number)).methods());
     }
     Ok(firsts)
+}
+
+// The number behind those of these methods, of which the first has that number.
+fn number_behind(first: u32, methods: &[MethodInfo]) -> u32
+    requires { first + length methods.now < 2 ^ 32 }
+    ensures { result ≡ first + length methods.now }
+{
+    first + methods.len() as u32
 }
 
 // The methods that are selected in the class: of each signature the first one from the class upwards that is neither private
