@@ -1,10 +1,12 @@
 #!/usr/bin/env python3
 """Times the machine and `java -Xint` on the same methods: a loop over an array, a walk along a linked list, a method that calls
-itself, and virtual calls in a loop.
+itself, virtual calls in a loop, and virtual calls of a method that the class of the receiver inherits from one class above it
+(near) and from 60 classes above (far).
 
-The methods are those of bench/machine/Walks.java. The machine is that of the program machine_rows, which runs a row of its
-table as often as `times=` says, in one process; the time of one run is taken off, since it is that of starting the program
-and reading the class files. How many instructions a run has is found by the bound on steps: a run with one less ends as past
+The methods are those of bench/machine/Walks.java and Calls.java; the classes that inherit are written here. Where a call takes
+no time for the classes between, near and far are alike. The machine is that of the program machine_rows, which runs a row of
+its table as often as `times=` says, in one process; the time of one run is taken off, since it is that of starting the
+program and reading the class files. How many instructions a run has is found by the bound on steps: a run with one less ends as past
 it. Java calls the method as often in one process, by its interpreter alone, and times the calls itself. What both return is
 compared. Instructions a second are of processor time with the machine, and of elapsed time with Java.
 
@@ -26,10 +28,23 @@ ROOT = Path(__file__).resolve().parent.parent
 CRATE = ROOT / "crates" / "machine_rows"
 PROGRAM = ROOT / "build" / "machine_rows"
 SOURCES = ROOT / "bench" / "machine"
-CLASSES = "Walks.class Node.class Shape.class Square.class Disc.class"
+LINKS = 60
+# of each class with methods the class files of its rows
+CLASSES = {
+    "Walks": ["Walks", "Node", "Shape", "Square", "Disc"],
+    "Calls": ["Calls", *(f"Link{number}" for number in range(LINKS + 1))],
+}
 MOST_STEPS = 100_000
 BOUNDS = "alloc=1000 loops=1000 depth=256"
-METHODS = {"array": 6, "list": 7, "fib": 18, "virtual": 4}
+# of each method its class and its argument
+METHODS = {
+    "array": ("Walks", 6),
+    "list": ("Walks", 7),
+    "fib": ("Walks", 18),
+    "virtual": ("Walks", 4),
+    "near": ("Calls", 8),
+    "far": ("Calls", 8),
+}
 
 
 def is_built():
@@ -60,19 +75,18 @@ def processor_seconds():
     return used.ru_utime + used.ru_stime
 
 
-def endings(program, folder, rows):
-    """How the rows end, and the processor time that the program took."""
-    (folder / "rows").write_text("".join(f"{line}\n" for line in [f"files {CLASSES}", *rows]))
+def ending(program, folder, method, steps, times=1):
+    """How the method ends, and the processor time that the program took."""
+    owner, argument = METHODS[method]
+    files = " ".join(f"{name}.class" for name in CLASSES[owner])
+    (folder / "rows").write_text(f"files {files}\n{owner}.{method}(I)I {argument} {BOUNDS} steps={steps} times={times}\n")
     before = processor_seconds()
     run = subprocess.run([str(program)], cwd=folder, stdin=subprocess.DEVNULL, capture_output=True, text=True)
     took = processor_seconds() - before
     if run.returncode != 0:
-        sys.exit(f"{rows}: exit code {run.returncode}")
-    return [line.split(": ")[1] for line in run.stdout.splitlines()], took
-
-
-def row(method, steps, times=1):
-    return f"Walks.{method}(I)I {METHODS[method]} {BOUNDS} steps={steps} times={times}"
+        sys.exit(f"{method}: exit code {run.returncode}")
+    [line] = run.stdout.splitlines()
+    return line.split(": ")[1], took
 
 
 def instructions(program, folder, method):
@@ -80,8 +94,7 @@ def instructions(program, folder, method):
     least, most = 1, MOST_STEPS
     while least < most:
         middle = (least + most) // 2
-        [ending], _ = endings(program, folder, [row(method, middle)])
-        if ending == "past steps":
+        if ending(program, folder, method, middle)[0] == "past steps":
             least = middle + 1
         else:
             most = middle
@@ -92,17 +105,18 @@ def machine_seconds(program, folder, method, times, runs):
     """The seconds of one run, and how it ends."""
 
     def once(count):
-        [ending], took = endings(program, folder, [row(method, MOST_STEPS, count)])
-        return took, ending
+        text, took = ending(program, folder, method, MOST_STEPS, count)
+        return took, text
 
     one, _ = min(once(1) for _ in range(runs))
-    many, ending = min(once(times + 1) for _ in range(runs))
-    return (many - one) / times, ending
+    many, text = min(once(times + 1) for _ in range(runs))
+    return (many - one) / times, text
 
 
 def java_seconds(folder, method, times, runs):
     """The seconds of one call, and what it returns."""
-    words = ["java", "-Xint", "-cp", str(folder), "Timed", method, str(METHODS[method]), str(times)]
+    owner, argument = METHODS[method]
+    words = ["java", "-Xint", "-cp", str(folder), "Timed", owner, method, str(argument), str(times)]
     found = []
     for _ in range(runs):
         text = subprocess.run(words, check=True, capture_output=True, text=True).stdout
@@ -111,12 +125,20 @@ def java_seconds(folder, method, times, runs):
     return min(found)
 
 
+def write_links(folder):
+    """A file of classes of which each extends the one before it and declares nothing."""
+    lines = [f"class Link{number} extends Link{number - 1} {{}}\n" for number in range(1, LINKS + 1)]
+    file = folder / "Links.java"
+    file.write_text("".join(lines))
+    return file
+
+
 def print_line(program, folder, method, options):
     count = instructions(program, folder, method)
-    ours, ending = machine_seconds(program, folder, method, options.times, options.runs)
+    ours, text = machine_seconds(program, folder, method, options.times, options.runs)
     theirs, result = java_seconds(folder, method, options.times, options.runs)
-    if ending != result:
-        sys.exit(f"{method}: {ending}, and by java {result}")
+    if text != result:
+        sys.exit(f"{method}: {text}, and by java {result}")
     rates = [count / seconds / 1e6 for seconds in (ours, theirs)]
     print(f"{method:<10} {count:>12} {rates[0]:>20.1f} {rates[1]:>12.1f} {rates[0] / rates[1]:>8.2f}", flush=True)
 
@@ -134,7 +156,7 @@ def main():
     program = (options.program or PROGRAM).resolve()
     with tempfile.TemporaryDirectory() as name:
         folder = Path(name)
-        sources = sorted(SOURCES.glob("*.java"))
+        sources = [*sorted(SOURCES.glob("*.java")), write_links(folder)]
         subprocess.run(["javac", "-nowarn", "-g:none", "--release", "8", "-d", name, *sources], check=True, stderr=subprocess.DEVNULL)
         print(f"{'method':<10} {'instructions':>12} {'machine, million/s':>20} {'java -Xint':>12} {'ratio':>8}")
         for method in METHODS:

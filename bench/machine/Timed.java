@@ -1,11 +1,12 @@
 import java.lang.reflect.Method;
 
-/** Calls a static method of Walks on an int again and again, and prints the nanoseconds of one call and its last result. */
+/** Calls a static method of a class on an int again and again, and prints the nanoseconds of one call and its last result. */
 class Timed {
     public static void main(String[] words) throws Exception {
-        Method method = Walks.class.getDeclaredMethod(words[0], int.class);
-        Integer argument = Integer.valueOf(words[1]);
-        int times = Integer.parseInt(words[2]);
+        Method method = Class.forName(words[0]).getDeclaredMethod(words[1], int.class);
+        method.setAccessible(true);
+        Integer argument = Integer.valueOf(words[2]);
+        int times = Integer.parseInt(words[3]);
         Object result = method.invoke(null, argument);
         long start = System.nanoTime();
         for (int i = 0; i < times; i++) {

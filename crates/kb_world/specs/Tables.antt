@@ -1,7 +1,10 @@
 -- Tables that answer what definitions search lists for.
-use Rattle.std.specs.Prelude.{◌≡◌, ℕ, suc, ◌<◌, ◌^◌, Bool, false, ◌==◌, ◌&&◌, not, List, [], ◌∷◌, length, Option, Some, None, slice_get, slice_index_or, if◌then◌else◌}
+use Rattle.std.specs.Prelude.{◌≡◌, ℕ, suc, ◌<◌, ◌^◌, Bool, false, ◌==◌, ◌&&◌, not, List, [], ◌∷◌, ◌++◌, length, take, Option, Some, None, slice_get, slice_index_or, if◌then◌else◌}
 use Rattle.std.specs.Option.{option_and_then, option_map_or}
+use Rattle.std.specs.HashMap.{HashMap, get_by}
 use Rattle.std.specs.Str.{bytes_eq}
+use Rattle.kb_names.specs.Descriptors.{method_text}
+use Rattle.kb_names.specs.declared.class_names.Spelling.TheVariants.{Raw}
 use Rattle.kb_names.specs.declared.types.JType.{JType}
 use Rattle.kb_names.specs.declared.types.MethodType.{MethodType}
 use Rattle.kb_class.specs.Class.{Class, Sought}
@@ -10,17 +13,17 @@ use Rattle.kb_class.specs.declared.entries.ReferenceKind.TheVariants as referenc
 use Rattle.kb_class.specs.declared.members.FieldInfo.{FieldInfo}
 use Rattle.kb_class.specs.declared.members.MemberKind.{MemberKind}
 use Rattle.kb_class.specs.declared.members.MemberKind.TheVariants as kinds
+use Rattle.kb_class.specs.declared.members.MethodInfo.{MethodInfo}
 use Rattle.kb_link.specs.declared.slots.FieldSlot.{FieldSlot}
-use Rattle.kb_link.specs.Members.{same_type}
+use Rattle.kb_link.specs.Members.{place_where, same_kind, same_type}
 use Rattle.kb_link.specs.Rules.{is_interface}
 use Rattle.kb_link.specs.Slots.{slots_of}
 use Rattle.kb_link.specs.Subtypes.{is_super}
 use Rattle.kb_link.specs.Tables.{places_at}
-use Rattle.kb_link.specs.World.{World}
-use Rattle.kb_world.specs.Lookup.{class_of_sought, slot_of_sought, method_of_sought, special_of_sought, resolved_field, resolved_field_class, resolved_method, selected_special, declares, declares_open}
-use Rattle.kb_world.specs.declared.methods.Pick.{Pick}
-use Rattle.kb_world.specs.declared.methods.Pick.TheVariants as picks
+use Rattle.kb_link.specs.World.{World, method_at, methods_in}
+use Rattle.kb_world.specs.Lookup.{is_open, class_of_sought, slot_of_sought, method_of_sought, special_of_sought, resolved_field, resolved_field_class, resolved_method, selected, selected_for, selected_special, declares_open, only_where, or_else}
 use Rattle.kb_world.specs.declared.resolving.Resolved.{Resolved}
+use Rattle.kb_world.specs.declared.selection.Selection.{Selection}
 use Rattle.kb_world.specs.declared.tables.MemberTables.{MemberTables}
 
 -- ---- fields and slots by their names
@@ -67,12 +70,7 @@ pub record HaveTables (world : World) (tables : List MemberTables) : Type 0 wher
   pub len : length tables ≡ length world.classes
   pub each : (number : ℕ) (told : MemberTables) → slice_get tables number ≡ Some told → AreTables world number told
 
--- ---- which methods are taken
-
--- the method of that name and type that the class of a number declares, where it is one that is taken
-abbrev pub declares_as : Pick → World → List ℕ → MethodType → ℕ → Option ℕ
-declares_as picks.Any world name kind number = declares world name kind number
-declares_as picks.Open world name kind number = declares_open world name kind number
+-- ---- methods
 
 -- whether the class of a number is an interface, and another class than the first one and above it
 abbrev pub is_superinterface : World → ℕ → ℕ → Bool
@@ -123,3 +121,81 @@ IsRow world class row = (entry : ℕ) → entry < 2 ^ 16 → IsResolved world cl
 -- a row of each class, in order
 abbrev pub AreRows : World → List (List Resolved) → Type 0
 AreRows world rows = (class : ℕ) → class < length world.classes → IsRow world class (slice_index_or rows class [])
+
+-- ---- selection
+
+-- whether a method has the name and the type
+abbrev pub is_alike : List ℕ → MethodType → MethodInfo → Bool
+is_alike name kind method = bytes_eq method.name name && same_kind method.kind kind
+
+-- a text for the name and the type of a method
+abbrev pub key_of : MethodInfo → List ℕ
+key_of method = method.name ++ method_text Raw method.kind
+
+-- The signature of a name and a type: the number of the first method that has them, so that all that have them have one
+-- signature, and no others.
+abbrev pub signature_of : World → List ℕ → MethodType → Option ℕ
+signature_of world name kind = place_where (is_alike name kind) (methods_in world.classes)
+
+-- that of the method of a number
+abbrev pub signature_at : World → ℕ → Option ℕ
+signature_at world number = option_and_then (λ (m : MethodInfo). signature_of world m.name m.kind) (method_at world number)
+
+-- that of each method, in order
+pub record HaveSignatures (world : World) (signatures : List ℕ) : Type 0 where
+  pub len : length signatures ≡ length (methods_in world.classes)
+  pub each : (number signature : ℕ) → slice_get signatures number ≡ Some signature → Some signature ≡ signature_at world number
+
+-- the number of the first method of a class
+abbrev pub first_of : World → ℕ → ℕ
+first_of world class = length (methods_in (take class world.classes))
+
+-- that of each class, in order
+pub record HaveFirsts (world : World) (firsts : List ℕ) : Type 0 where
+  pub len : length firsts ≡ length world.classes
+  pub each : (class first : ℕ) → slice_get firsts class ≡ Some first → first ≡ first_of world class
+
+-- whether the method of that number has the signature
+abbrev pub has_signature : List ℕ → ℕ → ℕ → Bool
+has_signature signatures signature number = option_map_or (λ (other : ℕ). other == signature) (slice_get signatures number) false
+
+-- the first of these methods that is neither private nor static and has the signature, where the first one has that number
+abbrev pub open_from : List ℕ → ℕ → ℕ → List MethodInfo → Option ℕ
+open_from signatures signature number [] = None
+open_from signatures signature number (method ∷ methods) =
+    or_else (only_where (is_open method && has_signature signatures signature number) number) (open_from signatures signature (suc number) methods)
+
+-- the table has such a method where it had none before
+abbrev pub AddsOpen : List ℕ → ℕ → List MethodInfo → (ℕ → Option ℕ) → (ℕ → Option ℕ) → Type 0
+AddsOpen signatures number methods before after = (signature : ℕ) → after signature ≡ or_else (before signature) (open_from signatures signature number methods)
+
+-- the table has the method where it had none of the signature before
+abbrev pub AddsFirst : ℕ → ℕ → (ℕ → Option ℕ) → (ℕ → Option ℕ) → Type 0
+AddsFirst signature number before after = (other : ℕ) → after other ≡ or_else (before other) (only_where (signature == other) number)
+
+-- the table has what the class declares and is neither private nor static, where it had none of the signature before
+abbrev pub AddsClass : World → ℕ → (ℕ → Option ℕ) → (ℕ → Option ℕ) → Type 0
+AddsClass world class before after =
+    (name : List ℕ) (kind : MethodType) (signature : ℕ) → signature_of world name kind ≡ Some signature → after signature ≡ or_else (before signature) (declares_open world name kind class)
+
+-- what the table of a class has for a signature
+abbrev pub selected_in : {S : Type 0} → HashMap ℕ ℕ S → ℕ → Option ℕ
+selected_in table signature = get_by (λ (key : ℕ). signature == key) table
+
+-- for each signature the method that is selected in the class
+abbrev pub IsSelection : World → ℕ → (ℕ → Option ℕ) → Type 0
+IsSelection world class selected = (name : List ℕ) (kind : MethodType) (signature : ℕ) → signature_of world name kind ≡ Some signature → selected signature ≡ selected_for world name kind class
+
+-- that of each class, in order
+pub record HaveSelections {S : Type 0} (world : World) (tables : List (HashMap ℕ ℕ S)) : Type 0 where
+  pub len : length tables ≡ length world.classes
+  pub each : (class : ℕ) (table : HashMap ℕ ℕ S) → slice_get tables class ≡ Some table → IsSelection world class (selected_in table)
+
+-- what the tables have for a class and a method
+abbrev pub selected_by : Selection → ℕ → ℕ → Option ℕ
+selected_by told class method =
+    option_and_then (λ (signature : ℕ). option_and_then (λ table. selected_in table signature) (slice_get told.tables.items class)) (slice_get told.signatures.items method)
+
+-- it is what is selected in the class in place of the method
+abbrev pub AreSelected : World → Selection → Type 0
+AreSelected world told = (class method : ℕ) → class < length world.classes → method < length (methods_in world.classes) → selected_by told class method ≡ selected world class method

@@ -20,6 +20,8 @@ mod methods;
 mod reach;
 mod resolving;
 mod running;
+mod selection;
+mod signatures;
 mod special;
 mod tables;
 mod world;

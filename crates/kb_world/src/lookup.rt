@@ -5,7 +5,6 @@ ghost use Rattle.kb_link.specs.World.{methods_in};
 ghost use Rattle.kb_world.specs.Lookup.{resolved_field, resolved_field_class, resolved_method, selected, selected_special};
 
 use crate::fields::slot_in;
-use crate::methods::{Pick, found_along};
 use crate::world::World;
 use kb_class::{ClassId, MethodId};
 use kb_link::FieldSlot;
@@ -57,10 +56,7 @@ impl World {
         requires method { method.0 < length (methods_in self.now.classes) }
         ensures { option_map (λ (id : MethodId). id.0) result ≡ selected self.now class.0 method.0 }
     {
-        let linked = self.linked();
-        let wanted = linked.method_of(method);
-        let chain = linked.chain_of(class);
-        method_id(found_along(linked, Pick::Open, chain, &wanted.name, &wanted.kind))
+        method_id(self.selected(class, method))
     }
 }
 

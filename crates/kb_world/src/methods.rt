@@ -5,7 +5,7 @@ ghost use Rattle.kb_link.specs.Links.{IsLinked};
 ghost use Rattle.kb_link.specs.Rules.{is_interface};
 ghost use Rattle.kb_link.specs.Subtypes.{numbers_of};
 ghost use Rattle.kb_world.specs.Lookup.{declares, declares_open, first_along, first_sought, is_open, resolved_in, superinterfaces};
-ghost use Rattle.kb_world.specs.Tables.{declares_as, is_superinterface, open_if_above};
+ghost use Rattle.kb_world.specs.Tables.{is_superinterface, open_if_above};
 
 use crate::chains::number_named;
 use kb_class::{ClassId, LoadedClass, MethodId, MethodInfo};
@@ -20,25 +20,6 @@ const INTERFACE: u16 = 0x0200;
 
 /// Where the methods of arrays are sought, and those that each interface has.
 pub(crate) const OBJECT: &[u8] = b"java/lang/Object";
-
-/// Which methods are taken.
-#[derive(Clone, Copy)]
-pub(crate) enum Pick {
-    Any,
-    /// Those that are neither private nor static.
-    Open,
-}
-
-// The method of the name and type that the class of a number declares, where it is one that is taken.
-fn found_in(linked: &Linked, pick: Pick, number: u32, name: &Name, kind: &MethodType) -> Option<u32>
-    requires { IsLinked linked.now }
-    ensures { result ≡ declares_as pick linked.now name.now kind.now number }
-{
-    match pick {
-        Pick::Any => declared_in(linked, number, name, kind),
-        Pick::Open => open_in(linked, number, name, kind),
-    }
-}
 
 // The method of the name and type that the class of a number declares.
 fn declared_in(linked: &Linked, number: u32, name: &Name, kind: &MethodType) -> Option<u32>
@@ -81,20 +62,19 @@ fn is_interface(class: &LoadedClass) -> bool
     class.access() & INTERFACE != 0
 }
 
-/// The first method of the name and type that one of these classes declares, and that is one that is taken.
+/// The first method of the name and type that one of these classes declares.
 pub(crate) fn found_along(
     linked: &Linked,
-    pick: Pick,
     chain: &[u32],
     name: &Name,
     kind: &MethodType,
 ) -> Option<u32>
     requires { IsLinked linked.now }
-    ensures { result ≡ first_along (declares_as pick linked.now name.now kind.now) chain.now }
+    ensures { result ≡ first_along (declares linked.now name.now kind.now) chain.now }
 {
     let mut rest = chain;
     while let [number, others @ ..] = rest {
-        if let Some(id) = found_in(linked, pick, *number, name, kind) {
+        if let Some(id) = declared_in(linked, *number, name, kind) {
             return Some(id);
         }
         rest = others;
@@ -126,13 +106,7 @@ fn found_first(linked: &Linked, number: u32, name: &Name, kind: &MethodType) -> 
     if is_interface(linked.class_of(ClassId(number))) {
         return found_in_interface(linked, number, name, kind);
     }
-    found_along(
-        linked,
-        Pick::Any,
-        linked.chain_of(ClassId(number)),
-        name,
-        kind,
-    )
+    found_along(linked, linked.chain_of(ClassId(number)), name, kind)
 }
 
 // The method in the interface and java/lang/Object.

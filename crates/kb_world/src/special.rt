@@ -9,7 +9,7 @@ ghost use Rattle.kb_world.specs.Lookup.{class_of, method_of_sought, special_for,
 ghost use Rattle.kb_world.specs.Tables.{method_kind};
 
 use crate::chains::{chain_at, number_named};
-use crate::methods::{OBJECT, Pick, found_along, resolved_in};
+use crate::methods::{OBJECT, found_along, resolved_in};
 use kb_class::{MemberKind, Reference, ReferenceKind};
 use kb_link::Linked;
 use kb_names::{ExactType, MethodType, Name};
@@ -80,7 +80,7 @@ fn special_for(
     ensures { result ≡ special_for linked.now current name.now kind.now named }
 {
     let start = special_start(linked, current, name, named);
-    found_along(linked, Pick::Any, chain_at(linked, start), name, kind)
+    found_along(linked, chain_at(linked, start), name, kind)
 }
 
 // The class at which invokespecial begins: the superclass of the class whose code calls, where a method other than a

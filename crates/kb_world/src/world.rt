@@ -8,10 +8,12 @@ ghost use Rattle.kb_link.specs.Placing.{place_in};
 ghost use Rattle.kb_link.specs.Slots.{slots_of};
 ghost use Rattle.kb_link.specs.Subtypes.{fits};
 ghost use Rattle.kb_link.specs.Targets.{IsTargetOf};
+ghost use Rattle.kb_world.specs.Lookup.{selected};
 ghost use Rattle.kb_world.specs.Tables.{IsResolved};
 
 use crate::chains::{chain_at, slots_at};
 use crate::resolving::{Resolved, resolved_at, rows_of};
+use crate::selection::{Selection, selected_by, selection_of};
 use kb_class::{ClassId, MethodId, MethodInfo};
 use kb_classfile::ClassFile;
 use kb_link::{FieldSlot, Linked};
@@ -26,6 +28,7 @@ pub struct World {
     linked: Linked,
     // Of each class what each entry of its constant pool stands for.
     rows: Vec<Row<Resolved>>,
+    selection: Selection,
 }
 
 impl Model for World {
@@ -36,9 +39,9 @@ impl Model for World {
 
     ghost view = { λ w. w.linked };
 
-    ghost use Rattle.kb_world.specs.Tables.{AreRows};
+    ghost use Rattle.kb_world.specs.Tables.{AreRows, AreSelected};
 
-    ghost invariant = { λ w. IsLinked w.linked × AreRows w.linked w.rows.items };
+    ghost invariant = { λ w. IsLinked w.linked × AreRows w.linked w.rows.items × AreSelected w.linked w.selection };
 }
 
 impl World {
@@ -48,7 +51,12 @@ impl World {
         ensures { IfOk result (λ world. world ≡ linked) }
     {
         let rows = rows_of(alloc, &linked)?;
-        Ok(World { linked, rows })
+        let selection = selection_of(alloc, &linked)?;
+        Ok(World {
+            linked,
+            rows,
+            selection,
+        })
     }
 
     /// What an entry of a class stands for; nothing where the class has no such entry.
@@ -58,6 +66,15 @@ impl World {
         ensures linked { IsLinked self.now }
     {
         resolved_at(self.rows.as_slice(), class.0, entry)
+    }
+
+    /// What is called in place of the method where the receiver is of the class.
+    pub(crate) fn selected(&self, class: ClassId, method: MethodId) -> Option<u32>
+        requires class { class.0 < length self.now.classes }
+        requires method { method.0 < length (methods_in self.now.classes) }
+        ensures { result ≡ selected self.now class.0 method.0 }
+    {
+        selected_by(&self.selection, class.0, method.0)
     }
 
     /// The linked classes.

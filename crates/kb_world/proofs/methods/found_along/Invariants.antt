@@ -1,10 +1,9 @@
 use Rattle.std.proofs.Common.{◌≡◌, length}
-use Rattle.kb_world.specs.Lookup.{first_along}
-use Rattle.kb_world.specs.Tables.{declares_as}
+use Rattle.kb_world.specs.Lookup.{declares, first_along}
 use Rattle.kb_world.proofs.methods.found_along.Given as goal
 
 abbrev pub invariant-loop-rest : goal.invariant-loop-rest
-invariant-loop-rest l = first_along (declares_as l.pick l.linked l.name l.kind) l.rest ≡ first_along (declares_as l.pick l.linked l.name l.kind) l.chain
+invariant-loop-rest l = first_along (declares l.linked l.name l.kind) l.rest ≡ first_along (declares l.linked l.name l.kind) l.chain
 
 abbrev pub decreases-loop-rest : goal.decreases-loop-rest
 decreases-loop-rest l = length l.rest
