@@ -338,6 +338,19 @@ def class_of_pattern(name, parent=b"two", extends=4, implements=10, first=15, fl
     return front + struct.pack(">HHHHH", flags, 2, extends, 1, implements) + members + b"\0\0"
 
 
+def class_t():
+    """Class T, which keeps the rules of names and descriptors, and with a byte changed breaks one. The entries 5 and 10 are both
+    the text `f`, 6 is `I`, 7 is `()V`, 12 is `J`, 15 is `()J`, 16 is `.;[`, and 9 and 13 are both empty. Entry 11 is a second Class
+    entry, and 8 and 14 are the NameAndType entries `f:I` and `f:()V`. The fields are `int f`, `long f` and `int .;[`, the methods
+    `void f()`, `long f()` and `void .;[()`, all without access flags."""
+    entries = [utf8(b"T"), b"\7\0\1", utf8(b"java/lang/Object"), b"\7\0\3", utf8(b"f"), utf8(b"I"), utf8(b"()V"), b"\x0c\0\5\0\6"]
+    entries += [utf8(b""), utf8(b"f"), b"\7\0\1", utf8(b"J"), utf8(b""), b"\x0c\0\5\0\7", utf8(b"()J"), utf8(b".;[")]
+    front = struct.pack(">IHHH", 0xCAFEBABE, 0, 52, len(entries) + 1) + b"".join(entries)
+    members = [struct.pack(">HHHH", 0, *numbers, 0) for numbers in ((5, 6), (10, 12), (16, 6), (5, 7), (10, 15), (16, 7))]
+    fields, methods = b"".join(members[:3]), b"".join(members[3:])
+    return front + struct.pack(">HHHHH", 0x21, 2, 4, 0, 3) + fields + struct.pack(">H", 3) + methods + b"\0\0"
+
+
 def for_worlds():
     """Class one is below two, and low below the interface six; java/lang/Object is above the others."""
     return {
@@ -345,6 +358,9 @@ def for_worlds():
         "two.class": class_of_pattern(b"two", extends=6),
         "low.class": class_of_pattern(b"low", b"six", extends=6, implements=4),
         "six.class": class_of_pattern(b"six", extends=6, flags=0x621),
+        "T.class": class_t(),
+        "plain_a.class": CLASS_A,
+        "plain_b.class": CLASS_B,
     }
 
 
@@ -365,6 +381,7 @@ def main():
     for name, content in files.items():
         (DATA / name).write_bytes(content)
     worlds = compiled("World.java", same_names("H", "S", "A", "B")) | for_worlds()
+    worlds |= compiled("Store.java", same_names("Store")) | compiled("Kinds.java", {"shop/Kinds": "Kinds.class"})
     for name, content in worlds.items():
         (WORLD_DATA / name).write_bytes(content)
 

@@ -8,8 +8,6 @@ mod listing;
 mod memory;
 mod reading;
 mod terms;
-#[cfg(test)]
-mod tests;
 mod variables;
 
 pub use conditions::{Blasted, blast};

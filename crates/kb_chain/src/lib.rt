@@ -16,8 +16,6 @@ mod refutation;
 mod resolution;
 mod signs;
 mod store;
-#[cfg(test)]
-mod tests;
 mod trail;
 mod working;
 

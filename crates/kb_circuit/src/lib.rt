@@ -7,8 +7,6 @@ mod gate;
 mod memory;
 mod multiplication;
 mod shift;
-#[cfg(test)]
-mod tests;
 mod words;
 
 pub use builder::Builder;

@@ -14,8 +14,6 @@ mod loading;
 mod members;
 mod platform;
 mod tables;
-#[cfg(test)]
-mod tests;
 mod texts;
 
 pub use entries::{Reference, ReferenceKind};

@@ -22,16 +22,3 @@ pub use laws::{
 };
 pub use read::read_class;
 pub use refusal::{ClassRefusal, NoMemory};
-
-#[cfg(test)]
-mod code_tests;
-#[cfg(test)]
-mod debug_sample;
-#[cfg(test)]
-mod fault_tests;
-#[cfg(test)]
-mod javac_tests;
-#[cfg(test)]
-mod plain_sample;
-#[cfg(test)]
-mod tests;

@@ -7,8 +7,6 @@ mod decoding;
 mod form;
 mod instruction;
 mod item_reader;
-#[cfg(test)]
-mod javac_tests;
 mod laws;
 mod listing;
 mod name;
@@ -17,8 +15,6 @@ mod placing;
 mod reader;
 mod refusal;
 mod switch_reader;
-#[cfg(test)]
-mod tests;
 
 pub use decoding::decode;
 pub use instruction::{Cond, Elem, Instr, IntCut, IntOp};

@@ -12,8 +12,6 @@ mod occurrences;
 mod propagation;
 mod resolvents;
 mod restoring;
-#[cfg(test)]
-mod tests;
 mod trail;
 mod watch;
 mod watches;

@@ -18,8 +18,3 @@ pub use fault::FormatFault;
 pub use format::format_fault;
 pub use kb_names::NoMemory;
 pub use laws::{one_fault, places_are_met};
-
-#[cfg(test)]
-mod javac_sample;
-#[cfg(test)]
-mod tests;

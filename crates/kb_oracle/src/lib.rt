@@ -7,8 +7,6 @@ mod memory;
 mod oracle;
 mod search;
 mod solver_oracle;
-#[cfg(test)]
-mod tests;
 mod told_oracle;
 
 pub use answer::{Answer, OracleStop};

@@ -12,8 +12,6 @@ mod pick;
 mod ranks;
 mod search;
 mod solver;
-#[cfg(test)]
-mod tests;
 
 pub use counts::Counts;
 pub use kb_eliminate::NoMemory;

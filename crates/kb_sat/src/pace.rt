@@ -74,19 +74,6 @@ mod tests {
     use std::test::Fail;
 
     #[test]
-    fn goes_back_by_lubys_sequence(rt: HostRuntime) -> Result<(), Fail> {
-        let luby = [1u32, 1, 2, 1, 1, 2, 4, 1, 1, 2, 1, 1, 2, 4, 8];
-        let mut pace = Pace::new();
-        for term in luby {
-            for _ in 1..100 * term {
-                assert!(rt; !pace.is_due());
-            }
-            assert!(rt; pace.is_due());
-        }
-        Ok(())
-    }
-
-    #[test]
     fn lets_go_at_growing_intervals(rt: HostRuntime) -> Result<(), Fail> {
         let mut crowding = Crowding::new();
         for interval in [1000u32, 1200, 1400] {

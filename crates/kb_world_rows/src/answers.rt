@@ -185,7 +185,7 @@ fn exact_type(alloc: Global, text: &[u8]) -> Option<ExactType> {
     }
 }
 
-fn write_exact(of: &ExactType, text: &mut Vec<u8>) -> io::Result<()> {
+pub fn write_exact(of: &ExactType, text: &mut Vec<u8>) -> io::Result<()> {
     match of {
         ExactType::Class(name) => write_text(name, text),
         ExactType::Array(component) => {
@@ -195,14 +195,14 @@ fn write_exact(of: &ExactType, text: &mut Vec<u8>) -> io::Result<()> {
     }
 }
 
-fn write_kind(kind: &JType, text: &mut Vec<u8>) -> io::Result<()> {
+pub fn write_kind(kind: &JType, text: &mut Vec<u8>) -> io::Result<()> {
     match write_type(kind, Spelling::Escaped, text) {
         Ok(()) => Ok(()),
         Err(_) => Err(Error::from(ErrorKind::OutOfMemory)),
     }
 }
 
-fn write_text(name: &Name, text: &mut Vec<u8>) -> io::Result<()> {
+pub fn write_text(name: &Name, text: &mut Vec<u8>) -> io::Result<()> {
     match write_name(name, text) {
         Ok(()) => Ok(()),
         Err(_) => Err(Error::from(ErrorKind::OutOfMemory)),
@@ -213,11 +213,11 @@ fn write_number(alloc: Global, number: u32, text: &mut Vec<u8>) -> io::Result<()
     Ok(text.extend_from_slice(format!(in alloc; "{number}\n")?.as_bytes())?)
 }
 
-fn write_none(text: &mut Vec<u8>) -> io::Result<()> {
+pub fn write_none(text: &mut Vec<u8>) -> io::Result<()> {
     Ok(text.extend_from_slice(b"none\n")?)
 }
 
 /// The fault of a row that asks for nothing.
-fn unknown() -> Error {
+pub fn unknown() -> Error {
     Error::from(ErrorKind::InvalidData)
 }

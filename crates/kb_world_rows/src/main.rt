@@ -1,15 +1,19 @@
-//! Questions to worlds of class files: each line of the file `rows` has a question, two words for it (`-` where it takes fewer)
-//! and the class files of a world, and the program writes the line and the answer.
+//! Questions to class files, to the classes that they are, and to their worlds: each line of the file `rows` has a question, two
+//! words for it (`-` where it takes fewer) and class files, and the program writes the line and the answer.
 //!
 //! The gate runs it over the files of `data/` and compares what it writes with `stdout`, so that a row costs no proof. What
 //! is expected there follows from the class files as `javap -v` shows them, by JVMS 8 chapters 4 and 5.
 #![tactic(auto)]
 
 mod answers;
+mod formats;
+mod loaded;
 mod worlds;
 
 use answers::write_answer;
+use formats::write_fault;
 use kb_outside::{FileShelf, OutSink, Shelf, Sink, send_all};
+use loaded::write_loaded;
 use std::alloc::Global;
 use std::io::{self, Error, ErrorKind};
 use std::process::ExitCode;
@@ -61,7 +65,7 @@ fn write_row<S: Shelf, W: Sink>(
     }
 }
 
-/// Writes the answer of the world that the words name, or that there is none.
+/// Writes the answer of the class or of the world that the words name, or that there is none.
 fn write_asked<S: Shelf>(
     alloc: Global,
     words: &[String],
@@ -71,6 +75,16 @@ fn write_asked<S: Shelf>(
     let [question, first, second, files @ ..] = words else {
         return Err(Error::from(ErrorKind::InvalidData));
     };
+    if let [file] = files {
+        match question.as_str() {
+            "format" => return write_fault(alloc, first.as_str(), file.as_str(), shelf, text),
+            "loaded" => {
+                let words = (first.as_str(), second.as_str(), file.as_str());
+                return write_loaded(alloc, words, shelf, text);
+            }
+            _ => {}
+        }
+    }
     match world_of(alloc, files, shelf) {
         Some(world) => {
             let words = (question.as_str(), first.as_str(), second.as_str());

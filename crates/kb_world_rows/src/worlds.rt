@@ -40,7 +40,7 @@ fn given_classes<S: Shelf>(
 }
 
 /// The bytes of that file.
-fn contents<S: Shelf>(alloc: Global, file: &str, shelf: &mut S) -> Option<Vec<u8>> {
+pub fn contents<S: Shelf>(alloc: Global, file: &str, shelf: &mut S) -> Option<Vec<u8>> {
     let mut bytes = Vec::new(alloc);
     match shelf.read(file, ROOM, &mut bytes) {
         Ok(()) => Some(bytes),
@@ -48,7 +48,7 @@ fn contents<S: Shelf>(alloc: Global, file: &str, shelf: &mut S) -> Option<Vec<u8
     }
 }
 
-fn given_class(alloc: Global, bytes: &[u8]) -> Option<GivenClass>
+pub fn given_class(alloc: Global, bytes: &[u8]) -> Option<GivenClass>
     ensures { IfSome result IsGiven }
 {
     let Ok(file) = read_class(alloc, bytes) else {

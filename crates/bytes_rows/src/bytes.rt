@@ -1,0 +1,69 @@
+//! Bytes from their text.
+
+use kb_outside::Shelf;
+use std::alloc::Global;
+use std::io::{self, Error, ErrorKind};
+
+/// More bytes than a class file here has.
+const ROOM: usize = 2_097_152;
+
+/// The bytes of a text: those of a file, `@` and its name; or pieces with `.` between two, each in hexadecimal, where `00*9`
+/// stands for a piece nine times. `-` stands for no bytes.
+pub fn read_bytes<S: Shelf>(alloc: Global, text: &str, shelf: &mut S) -> io::Result<Vec<u8>> {
+    let mut bytes = Vec::new(alloc);
+    if text == "-" {
+        return Ok(bytes);
+    }
+    if let Some(name) = text.strip_prefix("@") {
+        return match shelf.read(name, ROOM, &mut bytes) {
+            Ok(()) => Ok(bytes),
+            Err(_) => Err(Error::from(ErrorKind::NotFound)),
+        };
+    }
+    for piece in text.split('.') {
+        append_piece(alloc, piece, &mut bytes)?;
+    }
+    Ok(bytes)
+}
+
+fn append_piece(alloc: Global, piece: &str, bytes: &mut Vec<u8>) -> io::Result<()> {
+    let (digits, times) = match piece.split_once('*') {
+        Some((digits, times)) => (digits, number(times)?),
+        None => (piece, 1),
+    };
+    let once = hexadecimal(alloc, digits.as_bytes())?;
+    for _ in 0..times {
+        bytes.extend_from_slice(once.as_slice())?;
+    }
+    Ok(())
+}
+
+fn hexadecimal(alloc: Global, digits: &[u8]) -> io::Result<Vec<u8>> {
+    let mut bytes = Vec::new(alloc);
+    for pair in digits.chunks_exact(2) {
+        if let [high, low] = pair {
+            bytes.push(digit(*high)?.wrapping_shl(4) | digit(*low)?)?;
+        }
+    }
+    Ok(bytes)
+}
+
+fn digit(byte: u8) -> io::Result<u8> {
+    match byte {
+        b'0'..=b'9' => Ok(byte - b'0'),
+        b'a'..=b'f' => Ok(byte - b'a' + 10),
+        _ => Err(malformed()),
+    }
+}
+
+pub fn number(word: &str) -> io::Result<u32> {
+    match word.parse::<u32>() {
+        Ok(number) => Ok(number),
+        Err(_) => Err(malformed()),
+    }
+}
+
+/// The fault of a row that asks for nothing.
+pub fn malformed() -> Error {
+    Error::from(ErrorKind::InvalidData)
+}

@@ -1,6 +1,0 @@
-use Rattle.std.proofs.Common.{◌≡◌, length}
-use Rattle.kb_chain.specs.Cnf.{IsWithin}
-use Rattle.kb_circuit.proofs.tests.constant.Given as goal
-
-abbrev pub invariant-loop-i : goal.invariant-loop-i
-invariant-loop-i l = (length l.bits ≡ 32) × IsWithin 1 l.bits

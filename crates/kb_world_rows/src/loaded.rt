@@ -1,0 +1,187 @@
+//! What a class is once it is loaded, from a file or of the platform.
+ghost use Rattle.std.specs.Prelude.{◌≡◌, ◌<◌};
+
+use crate::answers::{unknown, write_exact, write_kind, write_none, write_text};
+use crate::worlds::{contents, given_class};
+use kb_class::{
+    ClassId, FieldInfo, LoadedClass, MethodInfo, PLATFORM_CLASSES, Reference, ReferenceKind,
+};
+use kb_format::format_fault;
+use kb_names::{MethodType, Spelling, write_method_type};
+use kb_outside::Shelf;
+use std::alloc::Global;
+use std::io::{self, Error, ErrorKind};
+
+/// The number that the class gets. Nothing that is asked here goes by it.
+const NUMBER: ClassId = ClassId(3);
+
+/// Writes what is asked of the class of a file, or of the platform class whose place stands there for a file: its `head`, its
+/// `fields`, its `methods`, the `entry` of a number, or how many types and descriptors are `named`.
+pub fn write_loaded<S: Shelf>(
+    alloc: Global,
+    words: (&str, &str, &str),
+    shelf: &mut S,
+    text: &mut Vec<u8>,
+) -> io::Result<()> {
+    let (question, number, file) = words;
+    let found = match file.parse::<usize>() {
+        Ok(place) => platform_class(alloc, place),
+        Err(_) => class_of_file(alloc, file, shelf),
+    };
+    let Some(class) = found else {
+        return write_none(text);
+    };
+    match question {
+        "head" => write_head(alloc, &class, text),
+        "fields" => write_fields(alloc, class.fields(), text),
+        "methods" => write_methods(alloc, class.methods(), text),
+        "entry" => write_entry(alloc, &class, number, text),
+        "named" => write_named(alloc, &class, text),
+        _ => Err(unknown()),
+    }
+}
+
+/// The class of a file, loaded.
+fn class_of_file<S: Shelf>(alloc: Global, file: &str, shelf: &mut S) -> Option<LoadedClass> {
+    let bytes = contents(alloc, file, shelf)?;
+    let class = given_class(alloc, bytes.as_slice())?;
+    let Ok(None) = format_fault(alloc, &class.file) else {
+        return None;
+    };
+    LoadedClass::load(alloc, NUMBER, class).ok()
+}
+
+/// The class at that place of the platform's table.
+#[tactic(auto, using(kb_class::proofs::PlatformLaws::table_size))]
+fn platform_class(alloc: Global, place: usize) -> Option<LoadedClass> {
+    if place >= PLATFORM_CLASSES {
+        return None;
+    }
+    LoadedClass::platform(alloc, NUMBER, place).ok()
+}
+
+/// Its name, its flags, its superclass and its interfaces, and whether it has a file.
+fn write_head(alloc: Global, class: &LoadedClass, text: &mut Vec<u8>) -> io::Result<()> {
+    write_text(class.name(), text)?;
+    let access = class.access();
+    text.extend_from_slice(format!(in alloc; " {access:#06x}")?.as_bytes())?;
+    if let Some(parent) = class.parent() {
+        text.extend_from_slice(b" extends ")?;
+        write_text(parent, text)?;
+    }
+    for place in 0..class.interface_count() {
+        if let Some(name) = class.interface(place) {
+            text.extend_from_slice(b" implements ")?;
+            text.extend_from_slice(name)?;
+        }
+    }
+    let from = match class.file() {
+        Some(_) => " from a file\n",
+        None => " of the platform\n",
+    };
+    Ok(text.extend_from_slice(from.as_bytes())?)
+}
+
+fn write_fields(alloc: Global, fields: &[FieldInfo], text: &mut Vec<u8>) -> io::Result<()> {
+    for field in fields {
+        let access = field.access;
+        text.extend_from_slice(format!(in alloc; "{access:#06x} ")?.as_bytes())?;
+        write_text(&field.name, text)?;
+        text.push(b' ')?;
+        write_kind(&field.kind, text)?;
+        text.push(b'\n')?;
+    }
+    Ok(())
+}
+
+fn write_methods(alloc: Global, methods: &[MethodInfo], text: &mut Vec<u8>) -> io::Result<()> {
+    for method in methods {
+        let access = method.access;
+        text.extend_from_slice(format!(in alloc; "{access:#06x} ")?.as_bytes())?;
+        write_text(&method.name, text)?;
+        text.push(b' ')?;
+        write_type_of(&method.kind, text)?;
+        write_code(alloc, method, text)?;
+        text.push(b'\n')?;
+    }
+    Ok(())
+}
+
+/// The largest stack, the number of locals, the size, and how many instructions and handlers there are.
+fn write_code(alloc: Global, method: &MethodInfo, text: &mut Vec<u8>) -> io::Result<()> {
+    let Some(code) = &method.code else {
+        return Ok(());
+    };
+    let (stack, locals, size) = (code.max_stack, code.max_locals, code.size);
+    let listed = code.listing.items.as_slice().len();
+    let handlers = code.handlers.as_slice().len();
+    let counts = format!(in alloc;
+        ": stack {stack}, locals {locals}, {size} bytes, {listed} instructions, {handlers} handlers"
+    )?;
+    Ok(text.extend_from_slice(counts.as_bytes())?)
+}
+
+/// What the entry of that number stands for.
+fn write_entry(
+    alloc: Global,
+    class: &LoadedClass,
+    number: &str,
+    text: &mut Vec<u8>,
+) -> io::Result<()> {
+    let Ok(number) = number.parse::<u16>() else {
+        return Err(unknown());
+    };
+    if let Some(of) = class.type_entry(number) {
+        text.extend_from_slice(b"type ")?;
+        write_exact(of, text)?;
+        return Ok(text.push(b'\n')?);
+    }
+    if let Some(told) = class.text_entry(number) {
+        text.extend_from_slice(b"text ")?;
+        text.extend_from_slice(told)?;
+        return Ok(text.push(b'\n')?);
+    }
+    if let Some(value) = class.int_entry(number) {
+        return Ok(text.extend_from_slice(format!(in alloc; "int {value}\n")?.as_bytes())?);
+    }
+    match class.reference_entry(number) {
+        Some(reference) => write_reference(&reference, text),
+        None => write_none(text),
+    }
+}
+
+fn write_reference(reference: &Reference<'_>, text: &mut Vec<u8>) -> io::Result<()> {
+    let what: &[u8] = match reference.what {
+        ReferenceKind::Field => b"field ",
+        ReferenceKind::Method => b"method ",
+        ReferenceKind::InterfaceMethod => b"method of an interface ",
+    };
+    text.extend_from_slice(what)?;
+    write_exact(reference.class, text)?;
+    text.push(b' ')?;
+    text.extend_from_slice(reference.name)?;
+    Ok(text.push(b'\n')?)
+}
+
+/// How many types its Class entries name, and how many different descriptors it has.
+fn write_named(alloc: Global, class: &LoadedClass, text: &mut Vec<u8>) -> io::Result<()> {
+    let types = class
+        .named_types()
+        .iter()
+        .filter(|told| told.is_some())
+        .count();
+    let kinds = class
+        .named_kinds()
+        .iter()
+        .filter(|told| told.is_some())
+        .count();
+    let counts = format!(in alloc; "{types} types, {kinds} descriptors\n")?;
+    Ok(text.extend_from_slice(counts.as_bytes())?)
+}
+
+fn write_type_of(kind: &MethodType, text: &mut Vec<u8>) -> io::Result<()> {
+    match write_method_type(kind, Spelling::Escaped, text) {
+        Ok(()) => Ok(()),
+        Err(_) => Err(Error::from(ErrorKind::OutOfMemory)),
+    }
+}

@@ -1,0 +1,88 @@
+//! What searches come to, each checked by other means than the search.
+ghost use Rattle.std.specs.Prelude.{◌<◌};
+
+use crate::numbers::{kept, malformed};
+use crate::terms::{Query, known};
+use kb_chain::{Clause, Formula, Lit, Log, Verdict, check_fresh, check_refutation};
+use kb_terms::TermId;
+use std::alloc::Global;
+use std::io;
+
+/// What a search comes to.
+#[derive(Clone, Copy, Debug, PartialEq, Eq, Drop)]
+pub enum Outcome {
+    /// A model that meets what is asked.
+    Model,
+    /// A refutation that is good.
+    Refuted,
+    /// A log of so many entries, all fresh.
+    Open(usize),
+    /// Anything else.
+    Wrong,
+}
+
+impl Outcome {
+    pub fn text(self, alloc: Global) -> io::Result<String> {
+        match self {
+            Outcome::Model => Ok(String::from_str(alloc, "model")?),
+            Outcome::Refuted => Ok(String::from_str(alloc, "refuted")?),
+            Outcome::Open(entries) => Ok(format!(in alloc; "open with {entries}")?),
+            Outcome::Wrong => Ok(String::from_str(alloc, "wrong")?),
+        }
+    }
+}
+
+/// What a refutation comes to, by the check of logs.
+pub fn judged_refutation(alloc: Global, formula: &Formula, log: &Log) -> io::Result<Outcome> {
+    match kept(check_refutation(alloc, formula, log))? {
+        Verdict::Good => Ok(Outcome::Refuted),
+        Verdict::Bad(_) => Ok(Outcome::Wrong),
+    }
+}
+
+/// What an undecided search comes to, by the check of fresh logs.
+pub fn judged_open(alloc: Global, formula: &Formula, log: &Log) -> io::Result<Outcome> {
+    match kept(check_fresh(alloc, formula, log))? {
+        Verdict::Good => Ok(Outcome::Open(log.entries.as_slice().len())),
+        Verdict::Bad(_) => Ok(Outcome::Wrong),
+    }
+}
+
+/// What an assignment of a formula comes to, clause by clause.
+pub fn judged_bits(formula: &Formula, bits: &[bool]) -> Outcome {
+    if formula.clauses().iter().all(|clause| holds(bits, clause)) {
+        Outcome::Model
+    } else {
+        Outcome::Wrong
+    }
+}
+
+fn holds(bits: &[bool], clause: &Clause) -> bool {
+    clause
+        .literals()
+        .iter()
+        .any(|literal| is_true(bits, *literal))
+}
+
+fn is_true(bits: &[bool], literal: Lit) -> bool {
+    bits.get(literal.variable() as usize - 1) == Some(&literal.is_positive())
+}
+
+/// What values of the variables come to, by the values of the conditions' terms.
+pub fn judged_values(alloc: Global, query: &Query, values: &[i32]) -> io::Result<Outcome> {
+    for (term, truth) in query.when.as_slice() {
+        if value_of(alloc, query, *term, values)? != i32::from(*truth) {
+            return Ok(Outcome::Wrong);
+        }
+    }
+    Ok(Outcome::Model)
+}
+
+/// The value of a term under values of the variables.
+fn value_of(alloc: Global, query: &Query, term: TermId, values: &[i32]) -> io::Result<i32> {
+    let term = known(&query.pool, term)?;
+    if values.len() != query.pool.variables() as usize {
+        return Err(malformed());
+    }
+    kept(query.pool.eval(alloc, term, values))
+}
