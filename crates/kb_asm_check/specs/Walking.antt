@@ -1,0 +1,14 @@
+-- What a reader of lines has noted.
+use Rattle.std.specs.Prelude.{◌≡◌, true, IsTrue}
+use Rattle.kb_asm_text.specs.declared.line.Line.{Line}
+use Rattle.kb_asm_check.specs.declared.limits.Limits.{Limits}
+use Rattle.kb_asm_check.specs.Limits.{Standing, are_few, with_line, fits_behind}
+
+abbrev pub standing_of : Limits → Standing
+standing_of limits = record { pool = limits.pool.says; constants = limits.constants.says; counts = limits.counts; labels = limits.labels }
+
+-- the line keeps the limits, and that is noted
+pub record IsNext (before : Standing) (line : Line) (next : Standing) : Type 0 where
+  pub fits : fits_behind before line ≡ true
+  pub is : next ≡ with_line before line
+  pub few : IsTrue (are_few next.counts)

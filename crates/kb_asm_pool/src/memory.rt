@@ -1,0 +1,18 @@
+//! Want of memory.
+use std::alloc::AllocFailed;
+
+/// Memory ran out.
+#[derive(Clone, Copy, Debug, PartialEq, Eq)]
+pub struct NoMemory;
+
+impl<T: Drop> From<AllocFailed<T>> for NoMemory {
+    fn from(_failed: AllocFailed<T>) -> NoMemory {
+        NoMemory
+    }
+}
+
+impl From<kb_names::NoMemory> for NoMemory {
+    fn from(_refusal: kb_names::NoMemory) -> NoMemory {
+        NoMemory
+    }
+}
