@@ -1,0 +1,7 @@
+pub mod Parts
+pub mod Entries
+pub mod Pool
+pub mod Instructions
+pub mod Class
+pub mod Needs
+pub mod Working

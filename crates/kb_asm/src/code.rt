@@ -1,153 +1,137 @@
 //! The code of a body.
 
-use crate::memory::{NoMemory, number_of};
-use kb_asm_body::{Layout, argument_words, layout_of};
-use kb_asm_check::body_of;
-use kb_asm_pool::{Items, add_call, add_constant, add_field, add_ref};
-use kb_asm_text::{BodyLine, Case, Catch, Constant, Line, Operand, Sizes};
-use kb_classfile::{Code, Handler};
-use kb_names::Name;
+ghost use Rattle.std.specs.Prelude.{◌≡◌, ◌≤◌, length, IsTrue, IfOk, OnOk};
+ghost use Rattle.std.specs.List.{AllByRecursion};
+ghost use Rattle.kb_grammar.specs.Grammar.{Each};
+ghost use Rattle.kb_asm_pool.specs.Needs.{operand_needs, line_needs};
+ghost use Rattle.kb_asm_pool.specs.Entries.{entries_of};
+ghost use Rattle.kb_asm.specs.Needs.{have, have_all, IsWhole};
+ghost use Rattle.kb_asm.specs.Instructions.{SpellsAsked, SpellsLine};
+ghost use Rattle.kb_asm.specs.Class.{IsCodeOf};
+ghost use Rattle.kb_asm.specs.Working.{labels_of, Appends, AreFew, AreCounted, IsFormed, IsFormedLine};
+
+use crate::handlers::handlers_of;
+use crate::instr::Body;
+use crate::memory::NoMemory;
+use kb_asm_body::layout_of;
+use kb_asm_pool::Items;
+use kb_asm_text::{BodyLine, Line, Operand, Sizes};
+use kb_classfile::Code;
 use kb_rows::Row;
-use kb_writer::{Written, write_instr};
+use kb_writer::write_instr;
 use std::alloc::Global;
 
-/// The opcodes of ldc, invokeinterface and goto_w (JVMS 8 section 6.5).
-const LDC: u8 = 0x12;
-
-const INVOKEINTERFACE: u8 = 0xb9;
-
-const GOTO_W: u8 = 0xc8;
-
-/// What the lines of a body are written by.
-#[derive(Clone, Copy)]
-struct Body<'a> {
-    layout: &'a Layout,
-}
+/// The most bytes of a method's code (JVMS 8 section 4.7.3).
+const MOST_CODE: usize = 65_535;
 
 impl Body<'_> {
-    /// Where a label leads that is there.
-    fn to(&self, label: &Name) -> u32 {
-        match self.layout.offset(label.as_slice()) {
-            Some(offset) => offset,
-            None => 0,
-        }
-    }
-
-    fn targets(&self, alloc: Global, labels: &[Name]) -> Result<Row<u32>, NoMemory> {
-        let mut targets = Row::new(alloc);
-        for label in labels {
-            targets.push(self.to(label))?;
-        }
-        Ok(targets)
-    }
-
-    fn pairs(&self, alloc: Global, cases: &[Case]) -> Result<Row<(i32, u32)>, NoMemory> {
-        let mut pairs = Row::new(alloc);
-        for case in cases {
-            pairs.push((case.key, self.to(&case.target)))?;
-        }
-        Ok(pairs)
-    }
-
-    fn instr(
+    /// Appends an instruction.
+    fn push_instr(
         &self,
-        alloc: Global,
+        code: &mut Vec<u8>,
         pool: &mut Items,
+        alloc: Global,
         op: u8,
         operand: &Operand,
-    ) -> Result<Written, NoMemory> {
-        match operand {
-            Operand::Alone => Ok(Written::Alone(op)),
-            Operand::Byte(number) => Ok(Written::PushByte(*number)),
-            Operand::Short(number) => Ok(Written::PushShort(*number)),
-            Operand::Constant(of) => constant(alloc, pool, op, of),
-            Operand::Local(local) => Ok(Written::Local(op, *local)),
-            Operand::Increment(local, constant) => Ok(Written::Increment(*local, *constant)),
-            Operand::Field(field) => Ok(Written::Entry(
-                op,
-                number_of(add_field(pool, alloc, field)?)?,
-            )),
-            Operand::Method(target) => {
-                let entry = number_of(add_call(pool, alloc, op, target)?)?;
-                if op == INVOKEINTERFACE {
-                    return Ok(Written::Interface(entry, argument_words(&target.kind).unwrap_or(0)));
-                }
-                Ok(Written::Entry(op, entry))
-            }
-            Operand::New(name) => Ok(Written::Entry(
-                op,
-                number_of(pool.class(alloc, name.as_slice())?)?,
-            )),
-            Operand::Type(of) => Ok(Written::Entry(op, number_of(add_ref(pool, alloc, of)?)?)),
-            Operand::Primitive(code) => Ok(Written::Primitive(*code)),
-            Operand::Target(label) => {
-                if op == GOTO_W {
-                    return Ok(Written::Far(op, self.to(label)));
-                }
-                Ok(Written::Near(op, self.to(label)))
-            }
-            Operand::Table(low, default, targets) => Ok(Written::Table(
-                *low,
-                self.to(default),
-                self.targets(alloc, targets.as_slice())?,
-            )),
-            Operand::Lookup(default, cases) => Ok(Written::Lookup(
-                self.to(default),
-                self.pairs(alloc, cases.as_slice())?,
-            )),
+    ) -> Result<(), NoMemory>
+        requires few { length code.old.items ≤ 65535 }
+        requires whole { IsWhole pool.old.says }
+        requires there { IsTrue (have pool.old.says (operand_needs op operand.now)) }
+        requires formed { IsFormed op operand.now }
+        ensures same { OnOk result (pool.new.says ≡ pool.old.says) }
+        ensures bytes { OnOk result (Appends (SpellsAsked (entries_of pool.old.says) (labels_of self.now.layout.now) op operand.now) code.old.items code.new.items) }
+    {
+        let at = code.len() as u32;
+        let written = self.instr(pool, alloc, op, operand)?;
+        if !written.is_sound() {
+            return Err(NoMemory);
         }
+        if !written.reaches(at) {
+            return Err(NoMemory);
+        }
+        write_instr(code, &written, at)?;
+        Ok(())
     }
 
-    fn handler(&self, alloc: Global, pool: &mut Items, row: &Catch) -> Result<Handler, NoMemory> {
-        let catch = match &row.class {
-            Some(class) => number_of(pool.class(alloc, class.as_slice())?)?,
-            None => 0,
-        };
-        Ok(Handler {
-            start: self.to(&row.start) as u16,
-            end: self.to(&row.end) as u16,
-            target: self.to(&row.target) as u16,
-            catch,
-        })
-    }
-}
-
-fn constant(alloc: Global, pool: &mut Items, op: u8, of: &Constant) -> Result<Written, NoMemory> {
-    let number = number_of(add_constant(pool, alloc, of)?)?;
-    if op == LDC {
-        return Ok(Written::Constant(number as u8));
-    }
-    Ok(Written::Entry(op, number))
-}
-
-/// The code of the body that begins the lines, which has no faults.
-pub(crate) fn code_of(
-    alloc: Global,
-    pool: &mut Items,
-    sizes: Sizes,
-    lines: &[Line],
-) -> Result<Code, NoMemory> {
-    let lines = body_of(lines);
-    let layout = layout_of(alloc, lines)?;
-    let body = Body { layout: &layout };
-    let mut code = Vec::new(alloc);
-    let mut handlers = Row::new(alloc);
-    for line in lines {
+    /// Appends the bytes of a line.
+    fn push_line(
+        &self,
+        code: &mut Vec<u8>,
+        pool: &mut Items,
+        alloc: Global,
+        line: &Line,
+    ) -> Result<(), NoMemory>
+        requires few { length code.old.items ≤ 65535 }
+        requires whole { IsWhole pool.old.says }
+        requires there { IsTrue (have pool.old.says (line_needs line.now)) }
+        requires formed { IsFormedLine line.now }
+        ensures same { OnOk result (pool.new.says ≡ pool.old.says) }
+        ensures bytes { OnOk result (Appends (SpellsLine (entries_of pool.old.says) (labels_of self.now.layout.now) line.now) code.old.items code.new.items) }
+    {
         match line {
             Line::Body(BodyLine::Instr(op, operand)) => {
-                let at = code.len() as u32;
-                let written = body.instr(alloc, pool, *op, operand)?;
-                write_instr(&mut code, &written, at)?;
+                self.push_instr(code, pool, alloc, *op, operand)
             }
-            Line::Body(BodyLine::Raw(byte)) => code.push(*byte)?,
-            Line::Body(BodyLine::Catch(row)) => handlers.push(body.handler(alloc, pool, row)?)?,
-            _ => {}
+            Line::Body(BodyLine::Raw(byte)) => {
+                code.push(*byte)?;
+                Ok(())
+            }
+            _ => Ok(()),
         }
     }
+
+    /// The bytes of the code.
+    fn bytes(
+        &self,
+        pool: &mut Items,
+        alloc: Global,
+        lines: &[Line],
+    ) -> Result<Vec<u8>, NoMemory>
+        requires whole { IsWhole pool.old.says }
+        requires there { IsTrue (have_all pool.old.says lines.now) }
+        requires formed { AllByRecursion IsFormedLine lines.now }
+        ensures same { OnOk result (pool.new.says ≡ pool.old.says) }
+        ensures bytes { IfOk result (λ bytes. Each (SpellsLine (entries_of pool.old.says) (labels_of self.now.layout.now)) lines.now 0 bytes.items) }
+        ensures few { IfOk result (λ bytes. AreFew bytes.items) }
+    {
+        let mut code = Vec::new(alloc);
+        let mut rest = lines;
+        while let [line, others @ ..] = rest {
+            self.push_line(&mut code, pool, alloc, line)?;
+            if code.len() > MOST_CODE {
+                return Err(NoMemory);
+            }
+            rest = others;
+        }
+        if code.is_empty() {
+            return Err(NoMemory);
+        }
+        Ok(code)
+    }
+}
+
+/// The code of a body.
+pub(crate) fn code_of(
+    pool: &mut Items,
+    alloc: Global,
+    sizes: Sizes,
+    lines: &[Line],
+) -> Result<Code, NoMemory>
+    requires whole { IsWhole pool.old.says }
+    requires there { IsTrue (have_all pool.old.says lines.now) }
+    requires formed { AllByRecursion IsFormedLine lines.now }
+    ensures same { OnOk result (pool.new.says ≡ pool.old.says) }
+    ensures code { IfOk result (IsCodeOf (entries_of pool.old.says) sizes lines.now) }
+    ensures few { IfOk result (λ code. AreFew code.bytes × AreCounted code.handlers) }
+{
+    let layout = layout_of(alloc, lines)?;
+    let body = Body { layout: &layout };
+    let bytes = body.bytes(pool, alloc, lines)?;
+    let handlers = body.handlers(pool, alloc, lines)?;
     Ok(Code {
         max_stack: sizes.max_stack,
         max_locals: sizes.max_locals,
-        bytes: Row::from_vec(code),
+        bytes: Row::from_vec(bytes),
         handlers,
     })
 }

@@ -1,12 +1,21 @@
 //! The assembler: from a text of lines to a class file.
+//!
+//! `specs/Class.antt` says which class file means the lines of a text, and `specs/Instructions.antt` which bytes a line of a
+//! body is.
 #![tactic(auto)]
 
 mod assemble;
 mod class;
 mod code;
+mod handlers;
+mod instr;
 mod memory;
+mod methods;
+mod numbers;
+mod parts;
+mod pool;
 #[cfg(test)]
 mod tests;
 
 pub use assemble::assemble;
-pub use kb_asm_check::TextRefusal;
+pub use kb_asm_check::TextRefusal as AsmRefusal;

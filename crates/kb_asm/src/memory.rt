@@ -40,11 +40,3 @@ impl From<kb_writer::NoMemory> for NoMemory {
         NoMemory
     }
 }
-
-/// The number of the entry at a place of a pool that has numbers for all its entries.
-pub(crate) fn number_of(place: usize) -> Result<u16, NoMemory> {
-    if place >= 65_534 {
-        return Err(NoMemory);
-    }
-    Ok((place + 1) as u16)
-}
