@@ -1,5 +1,5 @@
 -- The entries of a pool that has all that its entries name.
-use Rattle.std.proofs.Common.{◌≡◌, ◌⊎◌, inl, inr, ℕ, zero, suc, ◌+◌, ◌<◌, ◌≤◌, ◌^◌, Bool, true, false, true≢false, ◌&&◌, cond, ltb, if◌then◌else◌, List, [], ◌∷◌, ◌++◌, length, map, slice_get, position, find, Option, None, Some, refl, sym, ap, subst, ◌∙◌, arith, add-one, lt-ltb}
+use Rattle.std.proofs.Common.{◌≡◌, ◌⊎◌, inl, inr, ℕ, zero, suc, ◌+◌, ◌<◌, ◌≤◌, ◌^◌, Bool, true, false, true≢false, ◌&&◌, ◌||◌, cond, ltb, if◌then◌else◌, List, [], ◌∷◌, ◌++◌, length, map, slice_get, position, find, Option, None, Some, refl, sym, ap, subst, ◌∙◌, arith, add-one, lt-ltb}
 use Rattle.std.specs.List.{list_any, list_all, position_or_len}
 use Rattle.std.specs.Option.{option_map}
 use Rattle.std.proofs.lemmas.Bool.{and_parts}
@@ -30,7 +30,7 @@ found test [] h = absurd (true≢false (sym h))
 found test (one ∷ says) h = go (test one) refl (λ m. found test says m) h
   where
     go : (b : Bool) → test one ≡ b → (list_any test says ≡ true → (other : Says) × (find test says ≡ Some other) × (test other ≡ true))
-        → (if b then true else list_any test says) ≡ true → (other : Says) × (cond b (Some one) (find test says) ≡ Some other) × (test other ≡ true)
+        → (b || list_any test says) ≡ true → (other : Says) × (cond b (Some one) (find test says) ≡ Some other) × (test other ≡ true)
     go true e more m = (one, refl, e)
     go false e more m = more m
 

@@ -23,9 +23,8 @@ use Rattle.kb_asm_text.specs.declared.line.Operand.TheVariants as operands
 use Rattle.kb_asm_text.specs.Shapes.{shape_of, shape_of_entry}
 use Rattle.kb_asm_text.specs.Lines.{SpellsOperand}
 use Rattle.kb_code.specs.Reading.{padding_at}
-use Rattle.kb_asm_body.specs.Words.{argument_words}
 use Rattle.kb_asm_body.specs.Layout.{instr_size}
-use Rattle.kb_asm.specs.Instructions.{LeadsTo, IsPair, IsEntry, IsConstant, IsCall, IsBranch, IsAsked}
+use Rattle.kb_asm.specs.Instructions.{LeadsTo, IsPair, IsEntry, IsConstant, IsCallBy, IsCall, IsBranch, IsAsked}
 use Rattle.kb_asm.specs.Working.{IsFormed}
 
 -- ---- the opcodes of forms
@@ -208,7 +207,7 @@ module _ (pool : List PoolEntry) (labels : List ℕ → Option ℕ) (op : ℕ) (
   is_sized (operands.Field field) a = by_way (ways.Entry op a.0) a.2
   is_sized (operands.Method method) a = go (op == 0xb9) a.2
     where
-      go : (b : Bool) → (if b then ((words : ℕ) × (argument_words method.kind ≡ Some words) × (written ≡ ways.Interface a.0 words)) else IsEntry op a.0 written)
+      go : (b : Bool) → IsCallBy b op method.kind a.0 written
           → size_of written at ≡ (if b then 5 else 3)
       go true d = by_way (ways.Interface a.0 d.0) d.2
       go false d = by_way (ways.Entry op a.0) d

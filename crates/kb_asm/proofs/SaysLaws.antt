@@ -1,5 +1,5 @@
 -- Lists of what entries say, which grow at their ends.
-use Rattle.std.proofs.Common.{◌≡◌, ◌⊎◌, inl, inr, ℕ, zero, suc, ◌+◌, ◌<◌, ◌≤◌, Bool, true, false, true≢false, ◌&&◌, ◌||◌, if◌then◌else◌, List, [], ◌∷◌, ◌++◌, length, slice_get, Option, Some, refl, sym, ap, subst, ◌∙◌, arith, flat_map}
+use Rattle.std.proofs.Common.{◌≡◌, ◌⊎◌, inl, inr, ℕ, zero, suc, ◌+◌, ◌<◌, ◌≤◌, Bool, true, false, true≢false, ◌&&◌, ◌||◌, if◌then◌else◌, List, [], ◌∷◌, ◌++◌, length, slice_get, Option, Some, refl, sym, ap, subst, ◌∙◌, arith, length-append}
 use Rattle.std.specs.List.{list_any, list_all}
 use Rattle.std.proofs.lemmas.Bool.{and_parts, and_from, or_left, or_right, or_cases}
 use Rattle.std.proofs.lemmas.Bool.Decides.{Decides-int_eq}
@@ -150,6 +150,14 @@ all_pass test says (next ∷ more) h m =
     go : (b : Bool) → test next ≡ true → list_all test (if b then says else says ++ next ∷ []) ≡ true
     go true t = h
     go false t = list_all-append test says (next ∷ []) ∙ and_from (list_all test says) (list_all test (next ∷ [])) h (and_from (test next) true t refl)
+
+-- at most one more
+pub added_few : (says new : List Says) (more : Says) → new ≡ added says more → length new ≤ length says + 1
+added_few says new more e = subst (λ (l : List Says). length l ≤ length says + 1) (sym e) (go (list_any (same more) says))
+  where
+    go : (b : Bool) → length (if b then says else says ++ more ∷ []) ≤ length says + 1
+    go true = omega arith
+    go false = omega (arith, length-append says (more ∷ []))
 
 -- ---- places
 

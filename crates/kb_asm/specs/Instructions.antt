@@ -1,5 +1,5 @@
 -- The bytes of a line of a body (The Java Virtual Machine Specification, Java SE 8 Edition, section 6.5).
-use Rattle.std.specs.Prelude.{◌≡◌, ℕ, ℤ, ◌==◌, List, [], ◌∷◌, length, Option, Some, if◌then◌else◌}
+use Rattle.std.specs.Prelude.{◌≡◌, ℕ, ℤ, Bool, true, false, ◌==◌, List, [], ◌∷◌, length, Option, Some, if◌then◌else◌}
 use Rattle.std.specs.List.{AllZip}
 use Rattle.kb_grammar.specs.Grammar.{Piece}
 use Rattle.kb_classfile.specs.declared.file.PoolEntry.{PoolEntry}
@@ -48,10 +48,14 @@ IsEntry op number written = written ≡ ways.Entry op number
 abbrev pub IsConstant : ℕ → ℕ → Written → Type 0
 IsConstant op number written = written ≡ (if op == 0x12 then ways.Constant number else ways.Entry op number)
 
--- invokeinterface, b9, says how many words the arguments take, the receiver's among them
+-- invokeinterface says how many words the arguments take, the receiver's among them
+abbrev pub IsCallBy : Bool → ℕ → MethodType → ℕ → Written → Type 0
+IsCallBy true op kind number written = (words : ℕ) × (argument_words kind ≡ Some words) × (written ≡ ways.Interface number words)
+IsCallBy false op kind number written = IsEntry op number written
+
+-- b9 is invokeinterface
 abbrev pub IsCall : ℕ → MethodType → ℕ → Written → Type 0
-IsCall op kind number written =
-    if op == 0xb9 then ((words : ℕ) × (argument_words kind ≡ Some words) × (written ≡ ways.Interface number words)) else IsEntry op number written
+IsCall op kind number written = IsCallBy (op == 0xb9) op kind number written
 
 -- ---- lines
 

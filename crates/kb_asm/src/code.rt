@@ -10,7 +10,6 @@ ghost use Rattle.kb_asm.specs.Instructions.{SpellsAsked, SpellsLine};
 ghost use Rattle.kb_asm.specs.Class.{IsCodeOf};
 ghost use Rattle.kb_asm.specs.Working.{labels_of, Appends, AreFew, AreCounted, IsFormed, IsFormedLine};
 
-use crate::handlers::handlers_of;
 use crate::instr::Body;
 use crate::memory::NoMemory;
 use kb_asm_body::layout_of;

@@ -1,6 +1,6 @@
 //! The handler table of a body.
 
-ghost use Rattle.std.specs.Prelude.{◌≡◌, ◌<◌, ◌^◌, length, Some, IsTrue, IfOk, OnOk};
+ghost use Rattle.std.specs.Prelude.{◌≡◌, Some, [], IsTrue, IfOk, OnOk};
 ghost use Rattle.std.specs.List.{AllByRecursion, AllZip};
 ghost use Rattle.kb_asm_pool.specs.Needs.{caught_needs, line_needs};
 ghost use Rattle.kb_asm_pool.specs.Entries.{entries_of};

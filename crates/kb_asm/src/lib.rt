@@ -4,7 +4,7 @@
 //! body is.
 #![tactic(auto)]
 
-mod assemble;
+mod assembling;
 mod class;
 mod code;
 mod handlers;
@@ -17,5 +17,5 @@ mod pool;
 #[cfg(test)]
 mod tests;
 
-pub use assemble::assemble;
+pub use assembling::assemble;
 pub use kb_asm_check::TextRefusal as AsmRefusal;
