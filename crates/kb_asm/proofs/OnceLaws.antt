@@ -134,7 +134,7 @@ once_each says closed distinct (suc p) (suc q) entry e f =
 -- ---- needed, and first
 
 ldc_needed : (line : Line) (one : Says) → Has (ldc_says line) one → Has (line_needs line) one
-ldc_needed (lines.Body (bodies.Instr op (operands.Constant of))) one = go (eqb op 0x12)
+ldc_needed (lines.Body (bodies.Instr op (operands.Constant of))) one h = go (eqb op 0x12) h
   where
     constant : (of : Constant) → Has (constant_says of ∷ []) one → Has (constant_needs of) one
     constant (constants.Int z) h = h

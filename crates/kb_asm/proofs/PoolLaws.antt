@@ -145,7 +145,7 @@ constant_named (constants.Text bytes) one h =
     ]
 
 ldc_named : (line : Line) (one : Says) → Has (ldc_says line) one → have (line_needs line) (named one) ≡ true
-ldc_named (lines.Body (bodies.Instr op (operands.Constant of))) one = go (eqb op 0x12)
+ldc_named (lines.Body (bodies.Instr op (operands.Constant of))) one h = go (eqb op 0x12) h
   where
     go : (b : Bool) → Has (map constant_says (if b then of ∷ [] else [])) one → have (constant_needs of) (named one) ≡ true
     go true h = constant_named of one h

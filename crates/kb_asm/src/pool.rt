@@ -32,6 +32,7 @@ fn add_constant(pool: &mut Items, alloc: Global, line: &Line) -> Result<(), NoMe
 }
 
 /// Adds the constants of ldc lines.
+#[tactic(auto, using(crate::proofs::PoolLaws::more_added))]
 fn add_constants(pool: &mut Items, alloc: Global, lines: &[Line]) -> Result<(), NoMemory>
     ensures { OnOk result (pool.new.says ≡ all_added pool.old.says (flat_map ldc_says lines.now)) }
 {
@@ -44,6 +45,7 @@ fn add_constants(pool: &mut Items, alloc: Global, lines: &[Line]) -> Result<(), 
 }
 
 /// Adds what lines need.
+#[tactic(auto, using(crate::proofs::PoolLaws::more_added))]
 fn add_all_needs(pool: &mut Items, alloc: Global, lines: &[Line]) -> Result<(), NoMemory>
     ensures { OnOk result (pool.new.says ≡ all_added pool.old.says (flat_map line_needs lines.now)) }
 {
