@@ -6,3 +6,4 @@ pub mod WritableLaws
 pub mod LoopLaws
 pub mod FormLaws
 pub mod TextLaws
+pub mod CodeLaws

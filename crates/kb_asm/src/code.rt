@@ -3,7 +3,7 @@
 ghost use Rattle.std.specs.Prelude.{◌≡◌, ◌≤◌, length, IsTrue, IfOk, OnOk};
 ghost use Rattle.std.specs.List.{AllByRecursion};
 ghost use Rattle.kb_grammar.specs.Grammar.{Each};
-ghost use Rattle.kb_asm_pool.specs.Needs.{operand_needs, line_needs};
+ghost use Rattle.kb_asm_pool.specs.Needs.{operand_needs, body_needs, line_needs};
 ghost use Rattle.kb_asm_pool.specs.Entries.{entries_of};
 ghost use Rattle.kb_asm.specs.Needs.{have, have_all, IsWhole};
 ghost use Rattle.kb_asm.specs.Instructions.{SpellsAsked, SpellsLine};
@@ -52,7 +52,33 @@ impl Body<'_> {
         Ok(())
     }
 
-    /// Appends the bytes of a line.
+    /// Appends the bytes of a line of a body.
+    fn push_body(
+        &self,
+        code: &mut Vec<u8>,
+        pool: &mut Items,
+        alloc: Global,
+        line: &BodyLine,
+    ) -> Result<(), NoMemory>
+        requires few { length code.old.items ≤ 65535 }
+        requires whole { IsWhole pool.old.says }
+        requires there { IsTrue (have pool.old.says (body_needs line.now)) }
+        requires formed { IsFormedLine (Line.Body line.now) }
+        ensures same { OnOk result (pool.new.says ≡ pool.old.says) }
+        ensures bytes { OnOk result (Appends (SpellsLine (entries_of pool.old.says) (labels_of self.now.layout.now) (Line.Body line.now)) code.old.items code.new.items) }
+    {
+        match line {
+            BodyLine::Instr(op, operand) => self.push_instr(code, pool, alloc, *op, operand),
+            BodyLine::Raw(byte) => {
+                code.push(*byte)?;
+                Ok(())
+            }
+            BodyLine::Label(_) => Ok(()),
+            BodyLine::Catch(_) => Ok(()),
+        }
+    }
+
+    /// Appends the bytes of a line; one that is of no body has none.
     fn push_line(
         &self,
         code: &mut Vec<u8>,
@@ -68,13 +94,7 @@ impl Body<'_> {
         ensures bytes { OnOk result (Appends (SpellsLine (entries_of pool.old.says) (labels_of self.now.layout.now) line.now) code.old.items code.new.items) }
     {
         match line {
-            Line::Body(BodyLine::Instr(op, operand)) => {
-                self.push_instr(code, pool, alloc, *op, operand)
-            }
-            Line::Body(BodyLine::Raw(byte)) => {
-                code.push(*byte)?;
-                Ok(())
-            }
+            Line::Body(body) => self.push_body(code, pool, alloc, body),
             _ => Ok(()),
         }
     }
