@@ -32,7 +32,10 @@ pub fn assemble(alloc: Global, text: &[u8]) -> Result<Vec<u8>, TextRefusal>
     // The text is that of no class, and this is its first line that does not fit.
     ensures refused { IfErr result (Refuses text.now) }
 {
-    let lines = read_text(alloc, text)?;
+    let lines = match read_text(alloc, text) {
+        Ok(lines) => lines,
+        Err(refusal) => return Err(refusal),
+    };
     match bytes_of(alloc, lines.as_slice()) {
         Ok(bytes) => Ok(bytes),
         Err(NoMemory) => Err(TextRefusal::NoMemory),
