@@ -41,7 +41,7 @@ same_from start p q (l ∷ ls) [] (x ∷ xs) [] rest tail a b c d f g no none e 
     absurd (blocked start q p l ls x (lines_text xs) tail rest g f none a.0 c.0 (sym e))
 same_from start p q (l ∷ ls) (m ∷ ms) (x ∷ xs) (y ∷ ys) rest tail a b c d f g no none e =
     let cut : x ++ 10 ∷ (lines_text xs ++ rest) ≡ y ++ 10 ∷ (lines_text ys ++ tail) =
-        sym (append_assoc x (10 ∷ lines_text xs) rest) ∙ e ∙ append_assoc y (10 ∷ lines_text ys) tail in
+    sym (append_assoc x (10 ∷ lines_text xs) rest) ∙ e ∙ append_assoc y (10 ∷ lines_text ys) tail in
     let same = same_cut 10 x y (lines_text xs ++ rest) (lines_text ys ++ tail) a.0 b.0 cut in
     let line : l ≡ m = same_line l m x c.0 (subst (SpellsLine m) (sym same.0) d.0) in
     let leads : place_behind start (l ∷ ms) ≡ Some q = ap (λ (k : Line). place_behind start (k ∷ ms)) line ∙ g in

@@ -10,12 +10,13 @@ use Rattle.std.proofs.lemmas.Option.{slice_get-map}
 use Rattle.std.proofs.lemmas.Slice.Eq.{bytes_eq-Decides}
 use Rattle.kb_asm_pool.specs.contracts.items.ItemPartialEq.TheImpl.{eq-value}
 use Rattle.kb_asm_pool.specs.contracts.items.MemberKindPartialEq.TheImpl.{eq-value as kind-eq-value}
+use Rattle.kb_asm_pool.proofs.TextLaws.{distinct_if_new}
 use Rattle.kb_asm_pool.specs.declared.items.MemberKind.{MemberKind}
 use Rattle.kb_asm_pool.specs.declared.items.MemberKind.TheVariants as kinds
 use Rattle.kb_asm_pool.specs.declared.items.Item.{Item}
 use Rattle.kb_asm_pool.specs.declared.items.Item.TheVariants as items
 use Rattle.kb_asm_pool.specs.Texts.{AreDistinct, Keeps}
-use Rattle.kb_asm_pool.specs.Says.{Says, text, int, class, string, name_type, member, same_kind, same, added}
+use Rattle.kb_asm_pool.specs.Says.{Says, text, int, class, string, name_type, member, same_kind, same, added, all_added}
 use Rattle.kb_asm_pool.specs.Entries.{number_at, number_in}
 use Rattle.kb_asm_pool.specs.Items.{text_at, said, IsPlace, IsWithin}
 
@@ -133,7 +134,7 @@ module _ (texts : List (List ℕ)) (distinct : AreDistinct texts) where
       slice_get-map (said texts) keys place ∙ ap (λ (o : Option Item). option_map (said texts) o) there
       ∙ ap (λ (s : Says). Some s) (sym (same-true (said texts item) (said texts key) (sym (same_said item key v (within_at keys place key all there)) ∙ equal)))
 
--- ---- the numbers of items
+  -- ---- the numbers of items
 
   first_said : (item : Item) (keys : List Item) → IsWithin texts item → AllByRecursion (IsWithin texts) keys
       → position_or_len ((eq-value.it) item) keys ≡ position_or_len (same (said texts item)) (map (said texts) keys)
@@ -212,3 +213,29 @@ pub one_more : {A B : Type 0} (f : A → B) (xs : List A) (place : ℕ) (y : B) 
 one_more f [] place y e = absurd cc
 one_more f (x ∷ xs) zero y e = let h : y ≡ f x = cc in rw h refl
 one_more {B = B} f (x ∷ xs) (suc place) y e = ap (λ (l : List B). f x ∷ l) (one_more f xs place y e)
+
+-- ---- entries that are added
+
+same_kind-refl : (k : MemberKind) → same_kind k k ≡ true
+same_kind-refl kinds.Field = refl
+same_kind-refl kinds.Method = refl
+same_kind-refl kinds.InterfaceMethod = refl
+
+and-true : (a b : Bool) → a ≡ true → b ≡ true → (a && b) ≡ true
+and-true true true e f = refl
+and-true a b e f = absurd cc
+
+same-refl : (s : Says) → same s s ≡ true
+same-refl (text a) = (bytes_eq-Decides a a).1 refl
+same-refl (int z) = (Decides-int_eq z z).1 refl
+same-refl (class a) = (bytes_eq-Decides a a).1 refl
+same-refl (string a) = (bytes_eq-Decides a a).1 refl
+same-refl (name_type a b) = and-true (bytes_eq a a) (bytes_eq b b) ((bytes_eq-Decides a a).1 refl) ((bytes_eq-Decides b b).1 refl)
+same-refl (member k a b d) =
+    and-true (same_kind k k) (bytes_eq a a && (bytes_eq b b && bytes_eq d d)) (same_kind-refl k)
+    (and-true (bytes_eq a a) (bytes_eq b b && bytes_eq d d) ((bytes_eq-Decides a a).1 refl)
+    (and-true (bytes_eq b b) (bytes_eq d d) ((bytes_eq-Decides b b).1 refl) ((bytes_eq-Decides d d).1 refl)))
+
+pub all_distinct : (says more : List Says) → AreDistinct says → AreDistinct (all_added says more)
+all_distinct says [] distinct = distinct
+all_distinct says (one ∷ more) distinct = all_distinct (added says one) more (distinct_if_new says one (same one) (same-refl one) distinct)
