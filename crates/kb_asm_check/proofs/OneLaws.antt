@@ -1,5 +1,5 @@
 -- A text has one answer.
-use Rattle.std.proofs.Common.{◌≡◌, ◌×◌, ℕ, List, [], ◌∷◌, ◌++◌, Option, None, Some, length, refl, sym, ap, ◌∙◌, subst, append_assoc}
+use Rattle.std.proofs.Common.{◌≡◌, ℕ, true, List, [], ◌∷◌, ◌++◌, Option, None, Some, length, refl, sym, ap, ◌∙◌, subst, append_assoc}
 use Rattle.std.specs.Option.{option_and_then}
 use Rattle.std.specs.Prelude.{IsTrue}
 use Rattle.kb_grammar.specs.Lines.{Lacks, AreLines, lines_text}
@@ -19,43 +19,43 @@ abbrev NoFurther : Place → List ℕ → Type 0
 NoFurther place rest = (line tail : List ℕ) (next : Line) → Lacks 10 line → rest ≡ line ++ 10 ∷ tail → SpellsLine next line → next_place place next ≡ None
 
 -- lines that may stand behind the place do not begin such a rest
-blocked : (start p q : Place) (line : Line) (others : List Line) (word words rest tail : List ℕ) → place_behind start [] ≡ Some p
-    → place_behind start (line ∷ others) ≡ Some q → NoFurther p rest → Lacks 10 word → SpellsLine line word → rest ≡ (word ++ 10 ∷ words) ++ tail → ⊥
-blocked start p q line others word words rest tail here leads no_further lacks spelled begins =
-    let same : start ≡ p = cc in
+blocked : (at p q : Place) (line : Line) (others : List Line) (word words rest tail : List ℕ) → place_behind at [] ≡ Some p
+    → place_behind at (line ∷ others) ≡ Some q → NoFurther p rest → Lacks 10 word → SpellsLine line word → rest ≡ (word ++ 10 ∷ words) ++ tail → ⊥
+blocked at p q line others word words rest tail here leads no_further lacks spelled begins =
+    let same : at ≡ p = cc in
     let cut : rest ≡ word ++ 10 ∷ (words ++ tail) = begins ∙ append_assoc word (10 ∷ words) tail in
-    let none : next_place start line ≡ None = ap (λ (r : Place). next_place r line) same ∙ no_further word (words ++ tail) line lacks cut spelled in
-    let stop : option_and_then (λ (next : Place). place_behind next others) (next_place start line) ≡ None = ap (λ (o : Option Place). option_and_then (λ (next : Place). place_behind next others) o) none in
+    let none : next_place at line ≡ None = ap (λ (r : Place). next_place r line) same ∙ no_further word (words ++ tail) line lacks cut spelled in
+    let stop : option_and_then (λ (next : Place). place_behind next others) (next_place at line) ≡ None = ap (λ (o : Option Place). option_and_then (λ (next : Place). place_behind next others) o) none in
     absurd (no_place q (sym stop ∙ leads))
   where
     no_place : (r : Place) → (let nowhere : Option Place = None in nowhere ≡ Some r) → ⊥
     no_place r e = cc
 
-same_from : (start p q : Place) (of other : List Line) (xs ys : List (List ℕ)) (rest tail : List ℕ) → AreLines xs → AreLines ys → SpellEach of xs → SpellEach other ys
-    → place_behind start of ≡ Some p → place_behind start other ≡ Some q → NoFurther p rest → NoFurther q tail
+same_from : (at p q : Place) (of other : List Line) (xs ys : List (List ℕ)) (rest tail : List ℕ) → AreLines xs → AreLines ys → SpellEach of xs → SpellEach other ys
+    → place_behind at of ≡ Some p → place_behind at other ≡ Some q → NoFurther p rest → NoFurther q tail
     → lines_text xs ++ rest ≡ lines_text ys ++ tail → (of ≡ other) × (rest ≡ tail)
-same_from start p q [] [] [] [] rest tail a b c d f g no none e = (refl, e)
-same_from start p q [] (m ∷ ms) [] (y ∷ ys) rest tail a b c d f g no none e =
-    absurd (blocked start p q m ms y (lines_text ys) rest tail f g no b.0 d.0 e)
-same_from start p q (l ∷ ls) [] (x ∷ xs) [] rest tail a b c d f g no none e =
-    absurd (blocked start q p l ls x (lines_text xs) tail rest g f none a.0 c.0 (sym e))
-same_from start p q (l ∷ ls) (m ∷ ms) (x ∷ xs) (y ∷ ys) rest tail a b c d f g no none e =
+same_from at p q [] [] [] [] rest tail a b c d f g here there e = (refl, e)
+same_from at p q [] (m ∷ ms) [] (y ∷ ys) rest tail a b c d f g here there e =
+    absurd (blocked at p q m ms y (lines_text ys) rest tail f g here b.0 d.0 e)
+same_from at p q (l ∷ ls) [] (x ∷ xs) [] rest tail a b c d f g here there e =
+    absurd (blocked at q p l ls x (lines_text xs) tail rest g f there a.0 c.0 (sym e))
+same_from at p q (l ∷ ls) (m ∷ ms) (x ∷ xs) (y ∷ ys) rest tail a b c d f g here there e =
     let cut : x ++ 10 ∷ (lines_text xs ++ rest) ≡ y ++ 10 ∷ (lines_text ys ++ tail) =
     sym (append_assoc x (10 ∷ lines_text xs) rest) ∙ e ∙ append_assoc y (10 ∷ lines_text ys) tail in
     let same = same_cut 10 x y (lines_text xs ++ rest) (lines_text ys ++ tail) a.0 b.0 cut in
     let line : l ≡ m = same_line l m x c.0 (subst (SpellsLine m) (sym same.0) d.0) in
-    let leads : place_behind start (l ∷ ms) ≡ Some q = ap (λ (k : Line). place_behind start (k ∷ ms)) line ∙ g in
-    let others = go (λ next h i. same_from next p q ls ms xs ys rest tail a.1 b.1 c.1 d.1 h i no none same.1) (next_place start l) f leads in
+    let leads : place_behind at (l ∷ ms) ≡ Some q = ap (λ (k : Line). place_behind at (k ∷ ms)) line ∙ g in
+    let others = go (λ next h i. same_from next p q ls ms xs ys rest tail a.1 b.1 c.1 d.1 h i here there same.1) (next_place at l) f leads in
     (ap (λ (k : Line). k ∷ ls) line ∙ ap (λ (k : List Line). m ∷ k) others.0, others.1)
   where
     go : ((next : Place) → place_behind next ls ≡ Some p → place_behind next ms ≡ Some q → (ls ≡ ms) × (rest ≡ tail)) → (then : Option Place)
         → option_and_then (λ next. place_behind next ls) then ≡ Some p → option_and_then (λ next. place_behind next ms) then ≡ Some q → (ls ≡ ms) × (rest ≡ tail)
     go more None h i = absurd cc
     go more (Some next) h i = more next h i
-same_from start p q [] other (x ∷ xs) ys rest tail a b c d f g no none e = absurd cc
-same_from start p q (l ∷ ls) other [] ys rest tail a b c d f g no none e = absurd c
-same_from start p q of [] xs (y ∷ ys) rest tail a b c d f g no none e = absurd cc
-same_from start p q of (m ∷ ms) xs [] rest tail a b c d f g no none e = absurd d
+same_from at p q [] other (x ∷ xs) ys rest tail a b c d f g here there e = absurd cc
+same_from at p q (l ∷ ls) other [] ys rest tail a b c d f g here there e = absurd c
+same_from at p q of [] xs (y ∷ ys) rest tail a b c d f g here there e = absurd cc
+same_from at p q of (m ∷ ms) xs [] rest tail a b c d f g here there e = absurd d
 
 -- a text has one longest front
 pub one_front : (one other : Front) (text : List ℕ) (h : IsLongestFront one text) (i : IsLongestFront other text) → (one.lines ≡ other.lines) × (h.rest ≡ i.rest)
@@ -82,13 +82,14 @@ one_number text one other h i =
     h.is ∙ ap (λ (of : List Line). number_of (first_fault of) (kept of)) (one_front h.front i.front text h.longest i.longest).0 ∙ sym i.is
 
 -- where the lines lead
-one_place : (start p q : Place) (of other : List Line) → of ≡ other → place_behind start of ≡ Some p → place_behind start other ≡ Some q → p ≡ q
-one_place start p q of other same f g = go p q (sym f ∙ ap (place_behind start) same ∙ g)
+one_place : (at p q : Place) (of other : List Line) → of ≡ other → place_behind at of ≡ Some p → place_behind at other ≡ Some q → p ≡ q
+one_place at p q of other same f g = go p q (sym f ∙ ap (place_behind at) same ∙ g)
   where
     go : (a b : Place) → Some a ≡ Some b → a ≡ b
     go a b e = cc
 
 pub no_refusal : (of : List Line) (text : List ℕ) (number : ℕ) → IsText of text → IsFirstUnfit text number → ⊥
+unfolding whole_front
 no_refusal of text number h i =
     let mine = whole_front of text h.spelled in
     let same = one_front (record { lines = of; place = h.spelled.0; ended = true }) i.front text mine i.longest in
