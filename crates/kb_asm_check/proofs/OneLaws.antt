@@ -1,7 +1,6 @@
 -- A text has one answer.
-use Rattle.std.proofs.Common.{◌≡◌, ℕ, true, List, [], ◌∷◌, ◌++◌, Option, None, Some, length, refl, sym, ap, ◌∙◌, subst, append_assoc}
+use Rattle.std.proofs.Common.{◌≡◌, ℕ, true, List, [], ◌∷◌, ◌++◌, Option, None, Some, refl, sym, ap, ◌∙◌, subst, append_assoc}
 use Rattle.std.specs.Option.{option_and_then}
-use Rattle.std.specs.Prelude.{IsTrue}
 use Rattle.kb_grammar.specs.Lines.{Lacks, AreLines, lines_text}
 use Rattle.kb_grammar.proofs.WordLaws.{same_cut, not_lacking}
 use Rattle.kb_asm_text.specs.declared.line.Line.{Line}
@@ -9,10 +8,10 @@ use Rattle.kb_asm_text.specs.declared.place.Place.{Place}
 use Rattle.kb_asm_text.specs.declared.place.Place.TheVariants as places
 use Rattle.kb_asm_text.specs.declared.text.Front.{Front}
 use Rattle.kb_asm_text.specs.Lines.{SpellsLine}
-use Rattle.kb_asm_text.specs.Texts.{next_place, place_behind, SpellEach, AreRead, IsLongestFront, IsEnd, SpellsClass}
+use Rattle.kb_asm_text.specs.Texts.{next_place, place_behind, SpellEach, IsLongestFront, IsEnd, SpellsClass}
 use Rattle.kb_asm_text.proofs.SameLines.{same_line}
 use Rattle.kb_asm_check.specs.Limits.{kept}
-use Rattle.kb_asm_check.specs.Faults.{IsSound, IsText, IsWhole, IsFirstUnfit, first_fault, number_of}
+use Rattle.kb_asm_check.specs.Faults.{IsSound, IsText, IsFirstUnfit, first_fault, number_of}
 
 -- no line that may stand behind the place begins the rest
 abbrev NoFurther : Place → List ℕ → Type 0
