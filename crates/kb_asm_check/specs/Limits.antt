@@ -1,12 +1,10 @@
 -- The limits of class files that a line may break by what stands before it (The Java Virtual Machine Specification, Java SE 8
 -- Edition, section 4.11): numbers of pool entries and counts of lists have two bytes, and so has the length of a text. A label
 -- stands once in a body, and an ldc instruction names one of the first 255 entries.
-use Rattle.std.specs.Prelude.{ℕ, ◌+◌, ◌==◌, nat_le, Bool, true, false, not, ◌&&◌, ◌||◌, List, [], ◌∷◌, length, map, is_some, if◌then◌else◌}
+use Rattle.std.specs.Prelude.{ℕ, ◌+◌, ◌==◌, nat_le, Bool, true, not, ◌&&◌, ◌||◌, List, [], ◌∷◌, length, map, is_some, if◌then◌else◌}
 use Rattle.std.specs.List.{list_all, list_any}
 use Rattle.std.specs.Str.{bytes_eq}
-use Rattle.kb_asm_text.specs.declared.line.Operand.{Operand}
 use Rattle.kb_asm_text.specs.declared.line.Operand.TheVariants as operands
-use Rattle.kb_asm_text.specs.declared.line.BodyLine.{BodyLine}
 use Rattle.kb_asm_text.specs.declared.line.BodyLine.TheVariants as bodies
 use Rattle.kb_asm_text.specs.declared.line.Line.{Line}
 use Rattle.kb_asm_text.specs.declared.line.Line.TheVariants as lines

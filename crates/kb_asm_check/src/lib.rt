@@ -3,6 +3,7 @@
 
 mod counts;
 mod faults;
+mod laws;
 mod limits;
 mod memory;
 mod reading;
@@ -11,4 +12,5 @@ mod short;
 mod tests;
 
 pub use faults::body_of;
+pub use laws::one_answer;
 pub use reading::{TextRefusal, read_text};

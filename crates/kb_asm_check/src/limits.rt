@@ -1,9 +1,9 @@
 //! How many lines of a class keep the limits that do not depend on later lines.
 
-ghost use Rattle.std.specs.Prelude.{◌≡◌, ◌≤◌, length, IsTrue, false, IfOk, OnOk, MatchOption};
+ghost use Rattle.std.specs.Prelude.{◌≡◌, ◌≤◌, length, IsTrue, IfOk, OnOk};
 ghost use Rattle.kb_asm_pool.specs.Says.{all_added};
 ghost use Rattle.kb_asm_check.specs.Limits.{nothing, ldc_says, labelled, is_new, has_few_words, is_sound, are_few, has_room, with_line, fits_behind, kept};
-ghost use Rattle.kb_asm_check.specs.Walking.{standing_of, IsNext};
+ghost use Rattle.kb_asm_check.specs.Walking.{standing_of, IsTaken};
 
 use crate::counts::Counts;
 use crate::memory::NoMemory;
@@ -45,19 +45,18 @@ fn note_constant(constants: &mut Items, alloc: Global, line: &Line) -> Result<()
     Ok(())
 }
 
-/// The labels with that of the line.
-fn with_label(labels: Texts, alloc: Global, line: &Line) -> Result<Texts, NoMemory>
-    ensures { IfOk result (λ next. next ≡ labelled labels line.now) }
+/// Notes the label of a line; a method has labels of its own.
+fn note_label(labels: &mut Texts, alloc: Global, line: &Line) -> Result<(), NoMemory>
+    ensures { OnOk result (labels.new ≡ labelled labels.old line.now) }
 {
     match line {
-        Line::Method(_) => Ok(Texts::new(alloc)),
+        Line::Method(_) => *labels = Texts::new(alloc),
         Line::Body(BodyLine::Label(label)) => {
-            let mut next = labels;
-            next.place(alloc, label.as_slice())?;
-            Ok(next)
+            labels.place(alloc, label.as_slice())?;
         }
-        _ => Ok(labels),
+        _ => {}
     }
+    Ok(())
 }
 
 /// Whether no label has the name of a line that is a label.
@@ -106,22 +105,16 @@ impl Limits {
         entries <= MOST_ENTRIES && constants <= MOST_CONSTANTS
     }
 
-    /// With one line more.
-    fn with(self, alloc: Global, line: &Line) -> Result<Limits, NoMemory>
-        requires { IsTrue (are_few self.counts) }
-        ensures { IfOk result (λ next. standing_of next ≡ with_line (standing_of self) line.now) }
+    /// Notes one line more.
+    fn note(&mut self, alloc: Global, line: &Line) -> Result<(), NoMemory>
+        requires { IsTrue (are_few self.old.counts) }
+        ensures { OnOk result (standing_of self.new ≡ with_line (standing_of self.old) line.now) }
     {
-        let mut pool = self.pool;
-        let mut constants = self.constants;
-        add_needs(&mut pool, alloc, line)?;
-        note_constant(&mut constants, alloc, line)?;
-        let labels = with_label(self.labels, alloc, line)?;
-        Ok(Limits {
-            pool,
-            constants,
-            counts: self.counts.with(line),
-            labels,
-        })
+        add_needs(&mut self.pool, alloc, line)?;
+        note_constant(&mut self.constants, alloc, line)?;
+        note_label(&mut self.labels, alloc, line)?;
+        self.counts = self.counts.with(line);
+        Ok(())
     }
 
     /// Whether a line keeps the limits by itself and by the labels before it.
@@ -137,24 +130,19 @@ impl Limits {
         Ok(is_new(&self.labels, line))
     }
 
-    /// With one line more, if it keeps the limits.
-    fn next(self, alloc: Global, line: &Line) -> Result<Option<Limits>, NoMemory>
-        requires { IsTrue (are_few self.counts) }
-        ensures { IfOk result (λ read. MatchOption read
-            (fits_behind (standing_of self) line.now ≡ false)
-            (λ next. IsNext (standing_of self) line.now (standing_of next))) }
+    /// Notes one line more, and says whether it keeps the limits. Where it does not, what was noted is only dropped.
+    fn takes(&mut self, alloc: Global, line: &Line) -> Result<bool, NoMemory>
+        requires { IsTrue (are_few self.old.counts) }
+        ensures { IfOk result (λ fits. IsTaken fits (standing_of self.old) line.now (standing_of self.new)) }
     {
         if !self.is_sound(alloc, line)? {
-            return Ok(None);
+            return Ok(false);
         }
-        let next = self.with(alloc, line)?;
-        if !next.counts.are_few() {
-            return Ok(None);
+        self.note(alloc, line)?;
+        if !self.counts.are_few() {
+            return Ok(false);
         }
-        if !next.has_room() {
-            return Ok(None);
-        }
-        Ok(Some(next))
+        Ok(self.has_room())
     }
 }
 
@@ -167,10 +155,9 @@ pub(crate) fn kept(alloc: Global, lines: &[Line]) -> Result<usize, NoMemory>
     let mut count = 0;
     let mut rest = lines;
     while let [line, others @ ..] = rest {
-        let Some(next) = limits.next(alloc, line)? else {
+        if !limits.takes(alloc, line)? {
             return Ok(count);
-        };
-        limits = next;
+        }
         count += 1;
         rest = others;
     }

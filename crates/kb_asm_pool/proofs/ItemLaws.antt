@@ -1,21 +1,23 @@
 -- Items and what they say.
-use Rattle.std.proofs.Common.{◌≡◌, ℕ, zero, suc, Bool, true, false, true≢false, ◌&&◌, ◌||◌, eqb, if◌then◌else◌, List, [], ◌∷◌, ◌++◌, map, slice_get, Option, Some, Result, Ok, Err, OnOk, refl, sym, ap, ◌∙◌, subst}
-use Rattle.std.specs.List.{list_any, AllByRecursion}
+use Rattle.std.proofs.Common.{◌≡◌, ℕ, zero, suc, ◌+◌, Bool, true, false, true≢false, ◌&&◌, ◌||◌, eqb, if◌then◌else◌, List, [], ◌∷◌, ◌++◌, map, slice_get, take, length, position, Option, Some, Result, Ok, Err, OnOk, refl, sym, ap, ◌∙◌, subst}
+use Rattle.std.specs.List.{list_any, AllByRecursion, position_or_len}
 use Rattle.std.specs.Option.{option_map}
-use Rattle.std.specs.Prelude.{unwrap_or}
+use Rattle.std.specs.Prelude.{unwrap_or, not, nat_lt, None}
 use Rattle.std.specs.Str.{bytes_eq}
 use Rattle.std.proofs.lemmas.Bool.Decides.{Decides-int_eq, Decides-eqb}
-use Rattle.std.proofs.lemmas.List.{map-append}
+use Rattle.std.proofs.lemmas.List.{map-append, length-map}
 use Rattle.std.proofs.lemmas.Option.{slice_get-map}
 use Rattle.std.proofs.lemmas.Slice.Eq.{bytes_eq-Decides}
 use Rattle.kb_asm_pool.specs.contracts.items.ItemPartialEq.TheImpl.{eq-value}
 use Rattle.kb_asm_pool.specs.contracts.items.MemberKindPartialEq.TheImpl.{eq-value as kind-eq-value}
+use Rattle.kb_asm_pool.proofs.TextLaws.{distinct_if_new}
 use Rattle.kb_asm_pool.specs.declared.items.MemberKind.{MemberKind}
 use Rattle.kb_asm_pool.specs.declared.items.MemberKind.TheVariants as kinds
 use Rattle.kb_asm_pool.specs.declared.items.Item.{Item}
 use Rattle.kb_asm_pool.specs.declared.items.Item.TheVariants as items
 use Rattle.kb_asm_pool.specs.Texts.{AreDistinct, Keeps}
-use Rattle.kb_asm_pool.specs.Says.{Says, text, int, class, string, name_type, member, same_kind, same, added}
+use Rattle.kb_asm_pool.specs.Says.{Says, text, int, class, string, name_type, member, same_kind, same, added, all_added}
+use Rattle.kb_asm_pool.specs.Entries.{number_at, number_in}
 use Rattle.kb_asm_pool.specs.Items.{text_at, said, IsPlace, IsWithin}
 
 -- ---- entries that say the same
@@ -121,7 +123,7 @@ module _ (texts : List (List ℕ)) (distinct : AreDistinct texts) where
       go true = all
       go false = all_more item old v all
 
-  within_at : (keys : List Item) (place : ℕ) (key : Item) → AllByRecursion (IsWithin texts) keys → slice_get keys place ≡ Some key → IsWithin texts key
+  pub within_at : (keys : List Item) (place : ℕ) (key : Item) → AllByRecursion (IsWithin texts) keys → slice_get keys place ≡ Some key → IsWithin texts key
   within_at [] place key all e = absurd cc
   within_at (k ∷ keys) zero key all e = let is : k ≡ key = cc in subst (IsWithin texts) is all.0
   within_at (k ∷ keys) (suc place) key all e = within_at keys place key all.1 e
@@ -131,6 +133,22 @@ module _ (texts : List (List ℕ)) (distinct : AreDistinct texts) where
   entered item key keys place v all there equal =
       slice_get-map (said texts) keys place ∙ ap (λ (o : Option Item). option_map (said texts) o) there
       ∙ ap (λ (s : Says). Some s) (sym (same-true (said texts item) (said texts key) (sym (same_said item key v (within_at keys place key all there)) ∙ equal)))
+
+  -- ---- the numbers of items
+
+  first_said : (item : Item) (keys : List Item) → IsWithin texts item → AllByRecursion (IsWithin texts) keys
+      → position_or_len ((eq-value.it) item) keys ≡ position_or_len (same (said texts item)) (map (said texts) keys)
+  first_said item [] v all = refl
+  first_said item (key ∷ keys) v all =
+      ap (λ (b : Bool). if not b then 1 + position_or_len ((eq-value.it) item) keys else 0) (same_said item key v all.0)
+      ∙ ap (λ (n : ℕ). if not (same (said texts item) (said texts key)) then 1 + n else 0) (first_said item keys v all.1)
+
+  pub number_said : (item : Item) (keys : List Item) (found : Option ℕ) → IsWithin texts item → AllByRecursion (IsWithin texts) keys → found ≡ position ((eq-value.it) item) keys
+      → number_at found ≡ number_in (map (said texts) keys) (said texts item)
+  number_said item keys found v all is =
+      ap number_at is
+      ∙ ap (λ (n : ℕ). number_at (if nat_lt n (length keys) then Some n else None)) (first_said item keys v all)
+      ∙ ap (λ (n : ℕ). number_at (if nat_lt (position_or_len (same (said texts item)) (map (said texts) keys)) n then Some (position_or_len (same (said texts item)) (map (said texts) keys)) else None)) (sym (length-map keys (said texts)))
 
 -- ---- more texts
 
@@ -187,3 +205,37 @@ said_member texts of p q r a b d e f g =
 pub on_ok : {A E P Q : Type 0} (r : Result A E) → (P → Q) → OnOk r P → OnOk r Q
 on_ok (Ok a) f p = f p
 on_ok (Err e) f p = tt
+
+-- ---- entries one by one
+
+-- one more of the values of a list
+pub one_more : {A B : Type 0} (f : A → B) (xs : List A) (place : ℕ) (y : B) → Some y ≡ option_map f (slice_get xs place) → map f (take (suc place) xs) ≡ map f (take place xs) ++ y ∷ []
+one_more f [] place y e = absurd cc
+one_more f (x ∷ xs) zero y e = let h : y ≡ f x = cc in rw h refl
+one_more {B = B} f (x ∷ xs) (suc place) y e = ap (λ (l : List B). f x ∷ l) (one_more f xs place y e)
+
+-- ---- entries that are added
+
+same_kind-refl : (k : MemberKind) → same_kind k k ≡ true
+same_kind-refl kinds.Field = refl
+same_kind-refl kinds.Method = refl
+same_kind-refl kinds.InterfaceMethod = refl
+
+and-true : (a b : Bool) → a ≡ true → b ≡ true → (a && b) ≡ true
+and-true true true e f = refl
+and-true a b e f = absurd cc
+
+same-refl : (s : Says) → same s s ≡ true
+same-refl (text a) = (bytes_eq-Decides a a).1 refl
+same-refl (int z) = (Decides-int_eq z z).1 refl
+same-refl (class a) = (bytes_eq-Decides a a).1 refl
+same-refl (string a) = (bytes_eq-Decides a a).1 refl
+same-refl (name_type a b) = and-true (bytes_eq a a) (bytes_eq b b) ((bytes_eq-Decides a a).1 refl) ((bytes_eq-Decides b b).1 refl)
+same-refl (member k a b d) =
+    and-true (same_kind k k) (bytes_eq a a && (bytes_eq b b && bytes_eq d d)) (same_kind-refl k)
+    (and-true (bytes_eq a a) (bytes_eq b b && bytes_eq d d) ((bytes_eq-Decides a a).1 refl)
+    (and-true (bytes_eq b b) (bytes_eq d d) ((bytes_eq-Decides b b).1 refl) ((bytes_eq-Decides d d).1 refl)))
+
+pub all_distinct : (says more : List Says) → AreDistinct says → AreDistinct (all_added says more)
+all_distinct says [] distinct = distinct
+all_distinct says (one ∷ more) distinct = all_distinct (added says one) more (distinct_if_new says one (same one) (same-refl one) distinct)

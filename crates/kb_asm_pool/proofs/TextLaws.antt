@@ -28,31 +28,37 @@ pub any-map : {A B : Type 0} (f : B → Bool) (g : A → B) (xs : List A) → li
 any-map f g [] = refl
 any-map f g (x ∷ xs) = ap (λ (b : Bool). f (g x) || b) (any-map f g xs)
 
--- ---- texts
+-- ---- one more at the end, unless it is there
 
-module _ (texts : List (List ℕ)) (bytes : List ℕ) where
-  absent : list_any (bytes_eq bytes) texts ≡ false → (i : ℕ) → slice_get texts i ≡ Some bytes → ⊥
-  absent none i e = true≢false (sym (any_passes_from_place (bytes_eq bytes) texts i bytes e ((bytes_eq-Decides bytes bytes).1 refl)) ∙ none)
+module _ {A : Type 0} (xs : List A) (y : A) (test : A → Bool) (itself : test y ≡ true) where
+  absent : list_any test xs ≡ false → (i : ℕ) → slice_get xs i ≡ Some y → ⊥
+  absent none i e = true≢false (sym (any_passes_from_place test xs i y e itself) ∙ none)
 
-  distinct_end : AreDistinct texts → list_any (bytes_eq bytes) texts ≡ false → AreDistinct (texts ++ bytes ∷ [])
+  distinct_end : AreDistinct xs → list_any test xs ≡ false → AreDistinct (xs ++ y ∷ [])
   distinct_end distinct none one other x p q =
-      elim (end-cases texts bytes one x p) [
-        | inl a ↦ elim (end-cases texts bytes other x q) [
+      elim (end-cases xs y one x p) [
+        | inl a ↦ elim (end-cases xs y other x q) [
           | inl b ↦ distinct one other x a b
-          | inr b ↦ absurd (absent none one (a ∙ ap (λ (t : List ℕ). Some t) (sym b.1)))
+          | inr b ↦ absurd (absent none one (a ∙ ap (λ (t : A). Some t) (sym b.1)))
         ]
-        | inr a ↦ elim (end-cases texts bytes other x q) [
-          | inl b ↦ absurd (absent none other (b ∙ ap (λ (t : List ℕ). Some t) (sym a.1)))
+        | inr a ↦ elim (end-cases xs y other x q) [
+          | inl b ↦ absurd (absent none other (b ∙ ap (λ (t : A). Some t) (sym a.1)))
           | inr b ↦ a.0 ∙ sym b.0
         ]
       ]
 
-  pub distinct_more : AreDistinct texts → AreDistinct (with_text texts bytes)
-  distinct_more distinct = go (list_any (bytes_eq bytes) texts) refl
+  pub distinct_if_new : AreDistinct xs → AreDistinct (if list_any test xs then xs else xs ++ y ∷ [])
+  distinct_if_new distinct = go (list_any test xs) refl
     where
-      go : (b : Bool) → list_any (bytes_eq bytes) texts ≡ b → AreDistinct (if b then texts else texts ++ bytes ∷ [])
+      go : (b : Bool) → list_any test xs ≡ b → AreDistinct (if b then xs else xs ++ y ∷ [])
       go true e = distinct
       go false e = distinct_end distinct e
+
+-- ---- texts
+
+module _ (texts : List (List ℕ)) (bytes : List ℕ) where
+  pub distinct_more : AreDistinct texts → AreDistinct (with_text texts bytes)
+  distinct_more = distinct_if_new texts bytes (bytes_eq bytes) ((bytes_eq-Decides bytes bytes).1 refl)
 
   pub keeps_more : Keeps texts (with_text texts bytes)
   keeps_more place x = go (list_any (bytes_eq bytes) texts)

@@ -1,6 +1,7 @@
 //! The entries of a constant pool, each once.
 
 ghost use Rattle.std.specs.Prelude.{◌≡◌, ◌<◌, [], ◌∷◌, length, Some, slice_get, IfOk, OnOk};
+ghost use Rattle.std.specs.Option.{option_map};
 ghost use Rattle.kb_asm_pool.specs.Texts.{Keeps};
 ghost use Rattle.kb_asm_pool.specs.Says.{text as says_text, int as says_int, class as says_class, string as says_string, member as says_member, added, all_added};
 ghost use Rattle.kb_asm_pool.specs.Items.{IsPlace, IsWithin, said};
@@ -220,6 +221,18 @@ impl Items {
         }
     }
 
+    /// The entry at a place.
+    fn entry_at(&self, alloc: Global, place: usize) -> Result<PoolEntry, NoMemory>
+        requires within { place < length self.now.says }
+        requires few { length self.now.says < 65535 }
+        ensures { IfOk result (λ entry. Some entry ≡ option_map (entry_of self.now.says) (slice_get self.now.says place)) }
+    {
+        match self.set.get_index(place) {
+            Some(item) => self.entry(alloc, *item),
+            None => Err(NoMemory),
+        }
+    }
+
     /// The entries by their numbers.
     pub fn entries(&self, alloc: Global) -> Result<Row<PoolEntry>, NoMemory>
         requires { length self.now.says < 65535 }
@@ -227,10 +240,8 @@ impl Items {
     {
         let mut entries = Row::new(alloc);
         entries.push(PoolEntry::Skipped)?;
-        for place in 0..self.set.len() {
-            if let Some(item) = self.set.get_index(place) {
-                entries.push(self.entry(alloc, *item)?)?;
-            }
+        for place in 0..self.count() {
+            entries.push(self.entry_at(alloc, place)?)?;
         }
         Ok(entries)
     }

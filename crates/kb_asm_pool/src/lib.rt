@@ -4,6 +4,7 @@
 #![tactic(auto)]
 
 mod items;
+mod laws;
 mod memory;
 mod needs;
 #[cfg(test)]
@@ -11,6 +12,7 @@ mod tests;
 mod texts;
 
 pub use items::{Items, MemberKind};
+pub use laws::no_entry_twice;
 pub use memory::NoMemory;
 pub use needs::{
     add_alone, add_call, add_constant, add_field, add_needs, add_ref, method_bytes, type_bytes,

@@ -1,4 +1,4 @@
-use Rattle.std.proofs.Common.{◌≡◌, ◌<◌, ◌^◌, ◌≤◌, List, ℕ, length}
+use Rattle.std.proofs.Common.{◌≡◌, ◌<◌, ◌^◌, List, ℕ, length}
 use Rattle.kb_asm_body.specs.Layout.{offset_behind, label_behind, label_of, offset_at}
 use Rattle.kb_asm_body.proofs.layout.layout_of.Given as goal
 

@@ -1,5 +1,4 @@
-use Rattle.std.proofs.Common.{◌≡◌, length, sym, ◌∙◌, arith}
-use Rattle.kb_asm_check.specs.Faults.{body_of}
+use Rattle.std.proofs.Common.{sym, ◌∙◌, arith}
 use Rattle.kb_asm_check.proofs.BodyLaws.{take_body, no_body, all_body}
 use Rattle.kb_asm_check.proofs.faults.body_of.Goals as goal
 
