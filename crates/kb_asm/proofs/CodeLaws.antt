@@ -1,6 +1,6 @@
 -- Pieces of code, line by line.
 use Rattle.std.proofs.Common.{◌≡◌, ℕ, ◌+◌, List, [], ◌∷◌, ◌++◌, length, Option, Result, Ok, Err, OnOk, refl, sym, ap, subst, ◌∙◌, append-nil}
-use Rattle.std.specs.List.{AllZip}
+use mathlib.Core.Path.{fun_ext}
 use Rattle.kb_grammar.specs.Grammar.{Piece, Each}
 use Rattle.kb_classfile.specs.declared.file.PoolEntry.{PoolEntry}
 use Rattle.kb_code.specs.declared.instruction.Instr.{Instr}
@@ -73,3 +73,7 @@ module _ (pool : List PoolEntry) (labels : List ℕ → Option ℕ) where
 pub on_ok : {A E P Q : Type 0} (r : Result A E) → (P → Q) → OnOk r P → OnOk r Q
 on_ok (Ok a) f p = f p
 on_ok (Err e) f p = tt
+
+-- labels that lead to the same offsets
+pub same_labels : (one other : List ℕ → Option ℕ) → ((name : List ℕ) → one name ≡ other name) → one ≡ other
+same_labels one other each = fun_ext each

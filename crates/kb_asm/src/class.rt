@@ -62,9 +62,9 @@ fn field_of(pool: &mut Items, alloc: Global, head: &FieldHead) -> Result<Field, 
     ensures same { OnOk result (pool.new.says ≡ pool.old.says) }
     ensures field { IfOk result (IsFieldOf (entries_of pool.old.says) head.now) }
 {
-    let kind = type_bytes(alloc, &head.kind)?;
+    let text = type_bytes(alloc, &head.kind)?;
     let name = of_text(pool, alloc, head.name.as_slice())?;
-    let kind = of_text(pool, alloc, kind.as_slice())?;
+    let kind = of_text(pool, alloc, text.as_slice())?;
     Ok(Field {
         access: head.access,
         name,

@@ -58,9 +58,9 @@ fn method_of(
     ensures same { OnOk result (pool.new.says ≡ pool.old.says) }
     ensures method { IfOk result (IsReadyMethod pool.old.says (head.now, lines.now)) }
 {
-    let kind = method_bytes(alloc, &head.kind)?;
+    let text = method_bytes(alloc, &head.kind)?;
     let name = of_text(pool, alloc, head.name.as_slice())?;
-    let kind = of_text(pool, alloc, kind.as_slice())?;
+    let kind = of_text(pool, alloc, text.as_slice())?;
     let code = sized_code(pool, alloc, head.sizes, lines)?;
     Ok(Method {
         access: head.access,
