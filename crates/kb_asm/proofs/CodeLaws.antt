@@ -9,6 +9,7 @@ use Rattle.kb_writer.specs.declared.written.Written.{Written}
 use Rattle.kb_writer.specs.Instructions.{Writes, bytes_of}
 use Rattle.kb_writer.proofs.InstrLaws.{size_is}
 use Rattle.kb_asm_text.specs.declared.line.Operand.{Operand}
+use Rattle.kb_asm_text.specs.declared.line.Catch.{Catch}
 use Rattle.kb_asm_text.specs.declared.line.BodyLine.{BodyLine}
 use Rattle.kb_asm_text.specs.declared.line.BodyLine.TheVariants as bodies
 use Rattle.kb_asm_text.specs.declared.line.Line.{Line}
@@ -56,7 +57,7 @@ module _ (pool : List PoolEntry) (labels : List ℕ → Option ℕ) where
   unfolding line_size
   line_label label old new is = nothing (lines.Body (bodies.Label label)) old new is (record { code = refl; size = refl })
 
-  pub line_catch : (row : _) (old new : List ℕ) → new ≡ old → Appends (SpellsLine pool labels (lines.Body (bodies.Catch row))) old new
+  pub line_catch : (row : Catch) (old new : List ℕ) → new ≡ old → Appends (SpellsLine pool labels (lines.Body (bodies.Catch row))) old new
   unfolding line_size
   line_catch row old new is = nothing (lines.Body (bodies.Catch row)) old new is (record { code = refl; size = refl })
 

@@ -2,6 +2,7 @@
 use Rattle.std.proofs.Common.{◌≡◌, ◌⊎◌, inl, inr, ℕ, zero, suc, ◌+◌, ◌*◌, ◌<◌, ◌≤◌, Bool, true, false, ◌&&◌, not, cond, eqb, ltb, nat_lt, ◌==◌, if◌then◌else◌, List, [], ◌∷◌, length, Option, None, Some, refl, sym, ap, subst, ◌∙◌, arith}
 use Rattle.std.specs.List.{AllByRecursion, AllZip}
 use Rattle.std.proofs.lemmas.Bool.{and_parts, le-ltb, ltb-false, ltb-true, eqb-true, eqb-false, not-true}
+use Rattle.kb_names.specs.declared.types.MethodType.{MethodType}
 use Rattle.kb_classfile.specs.declared.file.PoolEntry.{PoolEntry}
 use Rattle.kb_code.specs.declared.instruction.Instr.{Instr}
 use Rattle.kb_code.specs.declared.instruction.Instr.TheVariants as instrs
@@ -107,7 +108,7 @@ chosen b c x y e = ap (λ (d : Bool). if d then x else y) e
 module _ (pool : List PoolEntry) (labels : List ℕ → Option ℕ) (op : ℕ) (written : Written) where
   -- an entry in two bytes
   entry_writing : (entry : Entry) (number : ℕ) → form_of op ≡ Some (forms.Entry entry) → IsEntry op number written → IsWriting written
-  entry_writing entry number f e = same_writing written (ways.Entry op number) e (entry_instr entry number, entry, f, refl)
+  entry_writing entry number f e = same_writing written (ways.Entry op number) e (entry_instr entry number, (entry, f, refl))
 
   formed_entry : (entry : Entry) (operand : Operand) (words : List (List ℕ)) → form_of op ≡ Some (forms.Entry entry) → (op == 0x12) ≡ false → (op == 0xb9) ≡ false
       → SpellsOperand (shape_of_entry entry) operand words → IsAsked pool labels op operand written → IsWriting written
@@ -120,13 +121,13 @@ module _ (pool : List PoolEntry) (labels : List ℕ → Option ℕ) (op : ℕ) (
       let b = subst (λ (o : Operand). IsAsked pool labels op o written) s.1 a in entry_writing entries.PutField b.0 f b.2
   formed_entry entries.Virtual operand words f ldc call s a =
       let b = subst (λ (o : Operand). IsAsked pool labels op o written) s.1 a in
-      entry_writing entries.Virtual b.0 f (rw call at b.2)
+      entry_writing entries.Virtual b.0 f (subst (λ (x : Bool). IsCallBy x op s.0.kind b.0 written) call b.2)
   formed_entry entries.Special operand words f ldc call s a =
       let b = subst (λ (o : Operand). IsAsked pool labels op o written) s.1 a in
-      entry_writing entries.Special b.0 f (rw call at b.2)
+      entry_writing entries.Special b.0 f (subst (λ (x : Bool). IsCallBy x op s.0.kind b.0 written) call b.2)
   formed_entry entries.Static operand words f ldc call s a =
       let b = subst (λ (o : Operand). IsAsked pool labels op o written) s.1 a in
-      entry_writing entries.Static b.0 f (rw call at b.2)
+      entry_writing entries.Static b.0 f (subst (λ (x : Bool). IsCallBy x op s.0.kind b.0 written) call b.2)
   formed_entry entries.New operand words f ldc call s a =
       let b = subst (λ (o : Operand). IsAsked pool labels op o written) s.1 a in entry_writing entries.New b.0 f b.2
   formed_entry entries.NewRefs operand words f ldc call s a =
@@ -150,7 +151,7 @@ module _ (pool : List PoolEntry) (labels : List ℕ → Option ℕ) (op : ℕ) (
       same_writing written (ways.Constant b.0) (b.2 ∙ chosen (op == 0x12) true (ways.Constant b.0) (ways.Entry op b.0) t) (instrs.Ldc b.0, refl)
   formed (Some (forms.Local local)) operand words f t s a =
       let b = subst (λ (o : Operand). IsAsked pool labels op o written) s.1 a in
-      same_writing written (ways.Local op s.0) b (local_instr local s.0, local, f, wide_is local (wide_form_of op) t, refl)
+      same_writing written (ways.Local op s.0) b (local_instr local s.0, (local, f, wide_is local (wide_form_of op) t, refl))
   formed (Some forms.Increment) operand words f t s a =
       let b = subst (λ (o : Operand). IsAsked pool labels op o written) s.2 a in same_writing written (ways.Increment s.0 s.1) b (instrs.Inc s.0 s.1, refl)
   formed (Some (forms.Entry entry)) operand words f t s a =
@@ -158,16 +159,16 @@ module _ (pool : List PoolEntry) (labels : List ℕ → Option ℕ) (op : ℕ) (
       formed_entry entry operand words f (not-true (op == 0x12) p.0) (not-true (op == 0xb9) p.1) s a
   formed (Some forms.Interface) operand words f t s a =
       let b = subst (λ (o : Operand). IsAsked pool labels op o written) s.1 a in
-      let d = rw t at b.2 in
+      let d = subst (λ (x : Bool). IsCallBy x op s.0.kind b.0 written) t b.2 in
       same_writing written (ways.Interface b.0 d.0) d.2 (instrs.Interface b.0, refl)
   formed (Some forms.Primitive) operand words f t s a =
       let b = subst (λ (o : Operand). IsAsked pool labels op o written) s.1 a in same_writing written (ways.Primitive s.0) b (instrs.NewPrim s.0, refl)
   formed (Some (forms.Near branch)) operand words f t s a =
       let b = subst (λ (o : Operand). IsAsked pool labels op o written) s.1 a in
-      same_writing written (ways.Near op b.0) (b.2 ∙ chosen (op == 0xc8) false (ways.Far op b.0) (ways.Near op b.0) (not-true (op == 0xc8) t)) (branch_instr branch b.0, branch, f, refl)
+      same_writing written (ways.Near op b.0) (b.2 ∙ chosen (op == 0xc8) false (ways.Far op b.0) (ways.Near op b.0) (not-true (op == 0xc8) t)) (branch_instr branch b.0, (branch, f, refl))
   formed (Some (forms.Far branch)) operand words f t s a =
       let b = subst (λ (o : Operand). IsAsked pool labels op o written) s.1 a in
-      same_writing written (ways.Far op b.0) (b.2 ∙ chosen (op == 0xc8) true (ways.Far op b.0) (ways.Near op b.0) t) (branch_instr branch b.0, branch, f, refl)
+      same_writing written (ways.Far op b.0) (b.2 ∙ chosen (op == 0xc8) true (ways.Far op b.0) (ways.Near op b.0) t) (branch_instr branch b.0, (branch, f, refl))
   formed (Some forms.Table) operand words f t s a =
       let b = subst (λ (o : Operand). IsAsked pool labels op o written) s.3 a in
       same_writing written (ways.Table s.0 b.0 b.1) b.4 (instrs.Table s.0 b.0 b.1, refl)
@@ -188,38 +189,42 @@ zip_length R [] (y ∷ ys) h = absurd h
 zip_length R (x ∷ xs) [] h = absurd h
 zip_length R (x ∷ xs) (y ∷ ys) h = omega (arith, zip_length R xs ys h.1)
 
-module _ (pool : List PoolEntry) (labels : List ℕ → Option ℕ) (op : ℕ) (written : Written) (at : ℕ) where
-  by_way : (way : Written) → written ≡ way → size_of written at ≡ size_of way at
-  by_way way e = ap (λ (w : Written). size_of w at) e
+by_way : (written way : Written) (at : ℕ) → written ≡ way → size_of written at ≡ size_of way at
+by_way written way at e = ap (λ (w : Written). size_of w at) e
 
-  pub is_sized : (operand : Operand) → IsAsked pool labels op operand written → size_of written at ≡ instr_size op operand at
-  unfolding size_of
-  is_sized operands.Alone a = by_way (ways.Alone op) a
-  is_sized (operands.Byte number) a = by_way (ways.PushByte number) a
-  is_sized (operands.Short number) a = by_way (ways.PushShort number) a
-  is_sized (operands.Constant of) a = by_way (if op == 0x12 then ways.Constant a.0 else ways.Entry op a.0) a.2 ∙ go (op == 0x12)
-    where
-      go : (b : Bool) → size_of (if b then ways.Constant a.0 else ways.Entry op a.0) at ≡ (if b then 2 else 3)
-      go true = refl
-      go false = refl
-  is_sized (operands.Local local) a = by_way (ways.Local op local) a
-  is_sized (operands.Increment local constant) a = by_way (ways.Increment local constant) a
-  is_sized (operands.Field field) a = by_way (ways.Entry op a.0) a.2
-  is_sized (operands.Method method) a = go (op == 0xb9) a.2
-    where
-      go : (b : Bool) → IsCallBy b op method.kind a.0 written
-          → size_of written at ≡ (if b then 5 else 3)
-      go true d = by_way (ways.Interface a.0 d.0) d.2
-      go false d = by_way (ways.Entry op a.0) d
-  is_sized (operands.New name) a = by_way (ways.Entry op a.0) a.2
-  is_sized (operands.Type of) a = by_way (ways.Entry op a.0) a.2
-  is_sized (operands.Primitive code) a = by_way (ways.Primitive code) a
-  is_sized (operands.Target label) a = by_way (if op == 0xc8 then ways.Far op a.0 else ways.Near op a.0) a.2 ∙ go (op == 0xc8)
-    where
-      go : (b : Bool) → size_of (if b then ways.Far op a.0 else ways.Near op a.0) at ≡ (if b then 5 else 3)
-      go true = refl
-      go false = refl
-  is_sized (operands.Table low default targets) a =
-      by_way (ways.Table low a.0 a.1) a.4 ∙ ap (λ (n : ℕ). 13 + padding_at (at + 1) + 4 * n) (sym (zip_length (LeadsTo labels) targets a.1 a.3))
-  is_sized (operands.Lookup default cases) a =
-      by_way (ways.Lookup a.0 a.1) a.4 ∙ ap (λ (n : ℕ). 9 + padding_at (at + 1) + 8 * n) (sym (zip_length (IsPair labels) cases a.1 a.3))
+constant_size : (op number at : ℕ) (b : Bool) → size_of (if b then ways.Constant number else ways.Entry op number) at ≡ (if b then 2 else 3)
+unfolding size_of
+constant_size op number at true = refl
+constant_size op number at false = refl
+
+branch_size : (op to at : ℕ) (b : Bool) → size_of (if b then ways.Far op to else ways.Near op to) at ≡ (if b then 5 else 3)
+unfolding size_of
+branch_size op to at true = refl
+branch_size op to at false = refl
+
+call_size : (op number at : ℕ) (kind : MethodType) (written : Written) (b : Bool) → IsCallBy b op kind number written → size_of written at ≡ (if b then 5 else 3)
+unfolding size_of
+call_size op number at kind written true d = by_way written (ways.Interface number d.0) at d.2
+call_size op number at kind written false d = by_way written (ways.Entry op number) at d
+
+pub is_sized : (pool : List PoolEntry) (labels : List ℕ → Option ℕ) (op : ℕ) (written : Written) (at : ℕ) (operand : Operand) → IsAsked pool labels op operand written
+    → size_of written at ≡ instr_size op operand at
+unfolding size_of
+is_sized pool labels op written at operands.Alone a = by_way written (ways.Alone op) at a
+is_sized pool labels op written at (operands.Byte number) a = by_way written (ways.PushByte number) at a
+is_sized pool labels op written at (operands.Short number) a = by_way written (ways.PushShort number) at a
+is_sized pool labels op written at (operands.Constant of) a =
+    by_way written (if op == 0x12 then ways.Constant a.0 else ways.Entry op a.0) at a.2 ∙ constant_size op a.0 at (op == 0x12)
+is_sized pool labels op written at (operands.Local local) a = by_way written (ways.Local op local) at a
+is_sized pool labels op written at (operands.Increment local constant) a = by_way written (ways.Increment local constant) at a
+is_sized pool labels op written at (operands.Field field) a = by_way written (ways.Entry op a.0) at a.2
+is_sized pool labels op written at (operands.Method method) a = call_size op a.0 at method.kind written (op == 0xb9) a.2
+is_sized pool labels op written at (operands.New name) a = by_way written (ways.Entry op a.0) at a.2
+is_sized pool labels op written at (operands.Type of) a = by_way written (ways.Entry op a.0) at a.2
+is_sized pool labels op written at (operands.Primitive code) a = by_way written (ways.Primitive code) at a
+is_sized pool labels op written at (operands.Target label) a =
+    by_way written (if op == 0xc8 then ways.Far op a.0 else ways.Near op a.0) at a.2 ∙ branch_size op a.0 at (op == 0xc8)
+is_sized pool labels op written at (operands.Table low default targets) a =
+    by_way written (ways.Table low a.0 a.1) at a.4 ∙ ap (λ (n : ℕ). 13 + padding_at (at + 1) + 4 * n) (sym (zip_length (LeadsTo labels) targets a.1 a.3))
+is_sized pool labels op written at (operands.Lookup default cases) a =
+    by_way written (ways.Lookup a.0 a.1) at a.4 ∙ ap (λ (n : ℕ). 9 + padding_at (at + 1) + 8 * n) (sym (zip_length (IsPair labels) cases a.1 a.3))

@@ -42,12 +42,12 @@ piece_on S x xs front new T before a more m =
 
 -- the first item, and the others
 pub walks : {A : Type 0} (rest : List A) (x : A) → 1 ≤ length rest → x ≡ get_or rest 0 x → rest ≡ x ∷ take (length rest - 1) (drop 1 rest)
-walks [] x some at = absurd (omega (arith, some))
-walks (y ∷ others) x some at =
+walks {A} [] x some at = absurd (omega (arith, some))
+walks {A} (y ∷ others) x some at =
     let long : length others ≤ length (y ∷ others) - 1 = omega arith in
     let same : take (length (y ∷ others) - 1) others ≡ others = take_all (length (y ∷ others) - 1) others long in
     let is : x ≡ y = at in
-    ap (λ (l : List _). y ∷ l) (sym same) ∙ ap (λ (z : _). z ∷ take (length (y ∷ others) - 1) others) (sym is)
+    ap (λ (l : List A). y ∷ l) (sym same) ∙ ap (λ (z : A). z ∷ take (length (y ∷ others) - 1) others) (sym is)
 
 -- at the end all values are made
 pub zip_end : {A B : Type 0} (R : A → B → Type 0) (rest : List A) (front : List B) (T : List B → Type 0) → length rest < 1

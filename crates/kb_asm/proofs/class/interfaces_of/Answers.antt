@@ -1,4 +1,4 @@
-use Rattle.std.proofs.Common.{◌≡◌, ◌-◌, true, List, [], ◌∷◌, length, take, drop, Option, sym, ◌∙◌, subst}
+use Rattle.std.proofs.Common.{◌≡◌, ◌-◌, ℕ, true, List, [], ◌∷◌, length, take, drop, Option, sym, ◌∙◌, subst}
 use Rattle.std.specs.List.{AllByRecursion, AllZip, list_all}
 use Rattle.std.proofs.lemmas.Bool.{and_parts}
 use Rattle.kb_asm_text.specs.declared.line.Line.{Line}
@@ -35,7 +35,7 @@ loop-rest-preserved c =
     let R = SaysClass (entries_of says) in
     let split : rest ≡ line ∷ others = walks rest line c.in-len1-up.len_at_least c.line-item.is in
     let there = and_parts (have says (line_needs line)) (have_all says others) (subst (λ (l : List Line). have_all says l ≡ true) split c.loop-rest.invariant.there) in
-    let agree = subst (λ (p : Option _). Agree (SaysClass (entries_of says)) p c.in_ok-number.number) (interface_in_alone line others) (subst (λ (s : List Says). Agree (SaysClass (entries_of s)) (interface_in line []) c.in_ok-number.number) c.loop-rest.invariant.same c.in_ok-number.ensures.number) in
+    let agree = subst (λ (p : Option (List ℕ)). Agree (SaysClass (entries_of says)) p c.in_ok-number.number) (interface_in_alone line others) (subst (λ (s : List Says). Agree (SaysClass (entries_of s)) (interface_in line []) c.in_ok-number.number) c.loop-rest.invariant.same c.in_ok-number.ensures.number) in
     record {
       same = c.in_ok-number.ensures.same ∙ c.loop-rest.invariant.same;
       there = there.1;

@@ -1,4 +1,4 @@
-use Rattle.std.proofs.Common.{◌≡◌, ◌≤◌, ◌-◌, true, List, [], ◌∷◌, length, take, drop, sym, ◌∙◌, subst, arith}
+use Rattle.std.proofs.Common.{◌≡◌, ◌≤◌, ◌-◌, ℕ, true, List, [], ◌∷◌, length, take, drop, sym, ◌∙◌, subst, arith}
 use Rattle.std.specs.List.{AllByRecursion}
 use Rattle.std.proofs.lemmas.Bool.{and_parts}
 use Rattle.kb_grammar.specs.Grammar.{Each}
@@ -48,10 +48,10 @@ loop-rest-preserved c =
       there = there.1;
       formed = (subst (λ (l : List Line). AllByRecursion IsFormedLine l) split c.loop-rest.invariant.formed).1;
       few = omega (arith, c.len.ensures);
-      bytes = piece_next S rest others line c.loop-rest.code.items c.push_line.new.code.items (λ (l : List _). Each S c.args.lines.now 0 l) split c.loop-rest.invariant.bytes piece;
+      bytes = piece_next S rest others line c.loop-rest.code.items c.push_line.new.code.items (λ (l : List ℕ). Each S c.args.lines.now 0 l) split c.loop-rest.invariant.bytes piece;
     }
 
 pub returns-clause-bytes : goal.returns-clause-bytes
 returns-clause-bytes c =
     let S = SpellsLine (entries_of c.args.pool.now.says) (labels_of c.args.self.now.layout.now) in
-    piece_end S c.loop-rest.rest.now c.loop-rest.code.items (λ (l : List _). Each S c.args.lines.now 0 l) c.in_default.len_below c.loop-rest.invariant.bytes
+    piece_end S c.loop-rest.rest.now c.loop-rest.code.items (λ (l : List ℕ). Each S c.args.lines.now 0 l) c.in_default.len_below c.loop-rest.invariant.bytes

@@ -1,6 +1,7 @@
 use Rattle.std.proofs.Common.{◌≡◌, ◌-◌, true, List, [], ◌∷◌, length, take, drop, Option, sym, ◌∙◌, subst}
 use Rattle.std.specs.List.{AllByRecursion, AllZip, list_all}
 use Rattle.std.proofs.lemmas.Bool.{and_parts}
+use Rattle.kb_asm_text.specs.declared.line.Catch.{Catch}
 use Rattle.kb_asm_text.specs.declared.line.Line.{Line}
 use Rattle.kb_asm_pool.specs.Says.{Says}
 use Rattle.kb_asm_pool.specs.Needs.{line_needs}
@@ -34,7 +35,7 @@ loop-rest-preserved c =
     let R = IsHandlerOf (entries_of says) (labels_of c.args.self.now.layout.now) in
     let split : rest ≡ line ∷ others = walks rest line c.in-len1-up.len_at_least c.line-item.is in
     let there = and_parts (have says (line_needs line)) (have_all says others) (subst (λ (l : List Line). have_all says l ≡ true) split c.loop-rest.invariant.there) in
-    let agree = subst (λ (p : Option _). Agree (IsHandlerOf (entries_of says) (labels_of c.args.self.now.layout.now)) p c.in_ok-handler.handler) (handler_in_alone line others) (subst (λ (s : List Says). Agree (IsHandlerOf (entries_of s) (labels_of c.args.self.now.layout.now)) (handler_in line []) c.in_ok-handler.handler) c.loop-rest.invariant.same c.in_ok-handler.ensures.handler) in
+    let agree = subst (λ (p : Option (Catch)). Agree (IsHandlerOf (entries_of says) (labels_of c.args.self.now.layout.now)) p c.in_ok-handler.handler) (handler_in_alone line others) (subst (λ (s : List Says). Agree (IsHandlerOf (entries_of s) (labels_of c.args.self.now.layout.now)) (handler_in line []) c.in_ok-handler.handler) c.loop-rest.invariant.same c.in_ok-handler.ensures.handler) in
     record {
       same = c.in_ok-handler.ensures.same ∙ c.loop-rest.invariant.same;
       there = there.1;
