@@ -196,7 +196,7 @@ module _ (of : List Line) where
   is_pool = record {
     once = once_each (says_of of) (is_closed of) (distinct_all (firsts_of of) (flat_map line_needs of) (distinct_all [] (flat_map ldc_says of) distinct_none));
     needed = λ number low high.
-        let few : number ≤ length (says_of of) = omega (arith, length-map (entry_of (says_of of)) (says_of of)) in
+        let few : number ≤ length (says_of of) = omega (arith, length-map (says_of of) (entry_of (says_of of))) in
         let n = of_number number low few in
         (n.0, is_needed of n.0 n.2, n.3);
     first = have_first;

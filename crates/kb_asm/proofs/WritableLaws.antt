@@ -106,7 +106,7 @@ pool_writable says whole =
     let few : length says ≤ 65534 = whole.few in
     record {
       zeroth = refl;
-      most = omega (arith, length-map (entry_of says) says);
+      most = omega (arith, length-map says (entry_of says));
       written = all_written says says whole.short;
       references = (tt, all_refer says whole.closed says (λ one h. h));
     }
