@@ -7,3 +7,4 @@ pub mod LoopLaws
 pub mod FormLaws
 pub mod TextLaws
 pub mod CodeLaws
+pub mod ListingLaws

@@ -195,6 +195,10 @@ module _ (of : List Line) where
   pub is_pool : IsPoolOf of (entries_of (says_of of))
   is_pool = record {
     once = once_each (says_of of) (is_closed of) (distinct_all (firsts_of of) (flat_map line_needs of) (distinct_all [] (flat_map ldc_says of) distinct_none));
+    there = λ one h.
+        let m : Has (says_of of) one = each_there (says_of of) (flat_map line_needs of) one (all_have (firsts_of of) (flat_map line_needs of)) h in
+        let p = placed (says_of of) one m in
+        (p.0 + 1, says_at (says_of of) (is_closed of) one p.0 m p.1);
     needed = λ number low high.
         let few : number ≤ length (says_of of) = omega (arith, length-map (says_of of) (entry_of (says_of of))) in
         let n = of_number number low few in

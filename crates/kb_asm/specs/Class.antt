@@ -12,6 +12,7 @@ use Rattle.kb_classfile.specs.declared.file.Handler.{Handler}
 use Rattle.kb_classfile.specs.declared.file.Method.{Method}
 use Rattle.kb_classfile.specs.declared.file.ClassFile.{ClassFile}
 use Rattle.kb_classfile.specs.Spelling.{Spells}
+use Rattle.kb_writer.specs.Files.{class_bytes}
 use Rattle.kb_asm_text.specs.declared.line.Sizes.{Sizes}
 use Rattle.kb_asm_text.specs.declared.line.Catch.{Catch}
 use Rattle.kb_asm_text.specs.declared.line.FieldHead.{FieldHead}
@@ -97,10 +98,13 @@ pub record IsClassOf (of : List Line) (file : ClassFile) : Type 0 where
   pub methods : AllZip (IsMethodOf file.pool) (parts method_in of) file.methods
   pub pool : IsPoolOf of file.pool
 
--- The text is that of a class, and the bytes are a class file that spells that class.
+-- The text is that of a class, and the bytes are a class file that spells that class, of the minor version 0 and without
+-- attributes but Code.
 pub record IsAssembled (text bytes : List ℕ) : Type 0 where
   pub of : List Line
   pub is_text : IsText of text
   pub file : ClassFile
+  pub code_name : ℕ
   pub is_class : IsClassOf of file
   pub spelled : Spells file bytes
+  pub are : bytes ≡ class_bytes code_name file

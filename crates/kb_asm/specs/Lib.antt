@@ -5,3 +5,4 @@ pub mod Instructions
 pub mod Class
 pub mod Needs
 pub mod Working
+pub mod Listings

@@ -22,7 +22,8 @@ pub record HasFirst (pool : List PoolEntry) (says : List Says) : Type 0 where
 pub record IsPoolOf (of : List Line) (pool : List PoolEntry) : Type 0 where
   -- no entry stands twice
   pub once : (one other : ℕ) (entry : PoolEntry) → entry_at pool one ≡ Some entry → entry_at pool other ≡ Some entry → one ≡ other
-  -- each entry is needed
+  -- each need is there, and each entry is needed
+  pub there : (one : Says) → Has (flat_map line_needs of) one → (number : ℕ) × EntrySays pool one number
   pub needed : (number : ℕ) → 1 ≤ number → number < length pool → (one : Says) × Has (flat_map line_needs of) one × EntrySays pool one number
   -- the constants of ldc lines have the first numbers
   pub first : HasFirst pool (flat_map ldc_says of)

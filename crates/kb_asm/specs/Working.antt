@@ -7,7 +7,7 @@ use Rattle.kb_classfile.specs.declared.file.Code.{Code}
 use Rattle.kb_classfile.specs.declared.file.Method.{Method}
 use Rattle.kb_classfile.specs.declared.file.ClassFile.{ClassFile}
 use Rattle.kb_classfile.specs.Spelling.{Spells}
-use Rattle.kb_writer.specs.Files.{IfCode}
+use Rattle.kb_writer.specs.Files.{IfCode, class_bytes}
 use Rattle.kb_asm_text.specs.declared.line.MethodHead.{MethodHead}
 use Rattle.kb_asm_text.specs.declared.line.Operand.{Operand}
 use Rattle.kb_asm_text.specs.declared.line.BodyLine.TheVariants as bodies
@@ -87,5 +87,7 @@ pub record IsFileOf (says : List Says) (of : List Line) (file : ClassFile) : Typ
 -- the bytes spell the class of the lines
 pub record AreBytesOf (of : List Line) (bytes : List ℕ) : Type 0 where
   pub file : ClassFile
+  pub code_name : ℕ
   pub is_class : IsClassOf of file
   pub spelled : Spells file bytes
+  pub are : bytes ≡ class_bytes code_name file

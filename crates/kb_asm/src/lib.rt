@@ -9,6 +9,7 @@ mod class;
 mod code;
 mod handlers;
 mod instr;
+mod laws;
 mod memory;
 mod methods;
 mod numbers;
@@ -18,4 +19,5 @@ mod pool;
 mod tests;
 
 pub use assembling::assemble;
+pub use laws::one_listing;
 pub use kb_asm_check::TextRefusal as AsmRefusal;

@@ -28,5 +28,7 @@ pub returns : goal.returns
 returns c = record {
   file = c.in_ok-file.file;
   is_class = is_class c.in_ok-pool.pool.says c.in_ok-pool.ensures.whole c.args.lines.now c.in_ok-file.file c.in_ok-file.ensures.file c.in_ok-pool.ensures.says;
+  code_name = c.in_ok-code_name.code_name;
   spelled = c.in_ok-write_class.ensures.spelled;
+  are = c.in_ok-write_class.ensures.bytes;
 }
