@@ -67,10 +67,13 @@ module _ (says : List Says) (closed : (one : Says) → Has says one → have say
       (number_in says (text name), there_is says (class name) h, text_there name (first_named (class name) (text name) [] refl h))
 
   pair_there : (name kind : List ℕ) → Has says (name_type name kind) → SaysNameType (entries_of says) name kind (number_in says (name_type name kind))
-  pair_there name kind h =
-      (number_in says (text name), number_in says (text kind), there_is says (name_type name kind) h,
-       text_there name (first_named (name_type name kind) (text name) (text kind ∷ []) refl h),
-       text_there kind (second_named (name_type name kind) (text name) (text kind) refl h))
+  pair_there name kind h = (
+    number_in says (text name),
+    number_in says (text kind),
+    there_is says (name_type name kind) h,
+    text_there name (first_named (name_type name kind) (text name) (text kind ∷ []) refl h),
+    text_there kind (second_named (name_type name kind) (text name) (text kind) refl h),
+  )
 
   pub there_says : (one : Says) → Has says one → EntrySays (entries_of says) one (number_in says one)
   there_says (text bytes) h = text_there bytes h
@@ -79,10 +82,13 @@ module _ (says : List Says) (closed : (one : Says) → Has says one → have say
   there_says (string of) h =
       (number_in says (text of), there_is says (string of) h, text_there of (first_named (string of) (text of) [] refl h))
   there_says (name_type name kind) h = pair_there name kind h
-  there_says (member of owner name kind) h =
-      (number_in says (class owner), number_in says (name_type name kind), there_is says (member of owner name kind) h,
-       class_there owner (first_named (member of owner name kind) (class owner) (name_type name kind ∷ []) refl h),
-       pair_there name kind (second_named (member of owner name kind) (class owner) (name_type name kind) refl h))
+  there_says (member of owner name kind) h = (
+    number_in says (class owner),
+    number_in says (name_type name kind),
+    there_is says (member of owner name kind) h,
+    class_there owner (first_named (member of owner name kind) (class owner) (name_type name kind ∷ []) refl h),
+    pair_there name kind (second_named (member of owner name kind) (class owner) (name_type name kind) refl h),
+  )
 
 -- an entry that is the one of a number says what that says
 pub same_entry : (pool : List PoolEntry) (one : Says) (number other : ℕ) → entry_at pool number ≡ entry_at pool other → EntrySays pool one number → EntrySays pool one other

@@ -34,7 +34,7 @@ pub piece_on : {A : Type 0} (S : A → Piece) (x : A) (xs : List A) (front new :
 piece_on S x xs front new T before a more m =
     let longer : length new ≡ length front + length a.piece = ap length a.is ∙ length-append front a.piece in
     let all : T (front ++ (a.piece ++ more)) =
-        before (a.piece ++ more) (record { front = a.piece; back = more; parts = refl; begins = a.spelled; ends = subst (λ (n : ℕ). Each S xs n more) longer m }) in
+    before (a.piece ++ more) (record { front = a.piece; back = more; parts = refl; begins = a.spelled; ends = subst (λ (n : ℕ). Each S xs n more) longer m }) in
     let same : front ++ (a.piece ++ more) ≡ new ++ more = sym (append_assoc front a.piece more) ∙ ap (λ (l : List ℕ). l ++ more) (sym a.is) in
     subst T same all
 

@@ -139,6 +139,7 @@ ldc_needed (lines.Body (bodies.Instr op (operands.Constant of))) one h = go (eqb
     constant : (of : Constant) → Has (constant_says of ∷ []) one → Has (constant_needs of) one
     constant (constants.Int z) h = h
     constant (constants.Text bytes) h = there (text bytes) one (string bytes ∷ []) h
+
     go : (b : Bool) → Has (map constant_says (if b then of ∷ [] else [])) one → Has (constant_needs of) one
     go true h = constant of h
     go false h = absurd (none one h)
@@ -186,10 +187,11 @@ module _ (of : List Line) where
         let p = place_there (firsts_of of) (number - 1) (omega arith) in
         let at : slice_get (says_of of) (number - 1) ≡ Some p.0 = keeps_all (firsts_of of) (flat_map line_needs of) (number - 1) p.0 p.1 in
         let back : number - 1 + 1 ≡ number = omega arith in
-        let s = says_at (says_of of) (is_closed of) p.0 (number - 1) (from_place (says_of of) (number - 1) p.0 at) at in
-        (p.0,
-         elim (all_from [] (flat_map ldc_says of) p.0 (from_place (firsts_of of) (number - 1) p.0 p.1)) [ inl n ↦ absurd (none p.0 n) | inr n ↦ n ],
-         subst (EntrySays (entries_of (says_of of)) p.0) back s);
+        let s = says_at (says_of of) (is_closed of) p.0 (number - 1) (from_place (says_of of) (number - 1) p.0 at) at in (
+          p.0,
+          elim (all_from [] (flat_map ldc_says of) p.0 (from_place (firsts_of of) (number - 1) p.0 p.1)) [ inl n ↦ absurd (none p.0 n) | inr n ↦ n ],
+          subst (EntrySays (entries_of (says_of of)) p.0) back s,
+        );
   }
 
   pub is_pool : IsPoolOf of (entries_of (says_of of))

@@ -81,7 +81,7 @@ closed_member of owner name kind =
     let n : Has four (text name) = there (text owner) (text name) (class owner ∷ text name ∷ text kind ∷ []) (there (class owner) (text name) (text name ∷ text kind ∷ []) (here (text name) (text kind ∷ []))) in
     let k : Has four (text kind) = there (text owner) (text kind) (class owner ∷ text name ∷ text kind ∷ []) (there (class owner) (text kind) (text name ∷ text kind ∷ []) (there (text name) (text kind) (text kind ∷ []) (here (text kind) []))) in
     let d : IsClosedList five =
-        closed_last four (name_type name kind) c (and_from (list_any (same (text name)) four) (have four (text kind ∷ [])) n (and_from (list_any (same (text kind)) four) true k refl)) in
+    closed_last four (name_type name kind) c (and_from (list_any (same (text name)) four) (have four (text kind ∷ [])) n (and_from (list_any (same (text kind)) four) true k refl)) in
     let o : Has five (class owner) = there (text owner) (class owner) (class owner ∷ text name ∷ text kind ∷ name_type name kind ∷ []) (here (class owner) (text name ∷ text kind ∷ name_type name kind ∷ [])) in
     let t : Has five (name_type name kind) = in_back four (name_type name kind ∷ []) (name_type name kind) (here (name_type name kind) []) in
     closed_last five (member of owner name kind) d (and_from (list_any (same (class owner)) five) (have five (name_type name kind ∷ [])) o (and_from (list_any (same (name_type name kind)) five) true t refl))

@@ -84,18 +84,22 @@ module _ (says : List Says) (closed : (one : Says) → Has says one → have say
   refers (int value) h = tt
   refers (class name) h = text_refers name (first_named says closed (class name) (text name) [] refl h)
   refers (string of) h = text_refers of (first_named says closed (string of) (text of) [] refl h)
-  refers (name_type name kind) h =
-      (text_refers name (first_named says closed (name_type name kind) (text name) (text kind ∷ []) refl h),
-       text_refers kind (second_named says closed (name_type name kind) (text name) (text kind) refl h))
-  refers (member members.Field owner name kind) h =
-      (class_refers owner (first_named says closed (member members.Field owner name kind) (class owner) (name_type name kind ∷ []) refl h),
-       pair_refers name kind (second_named says closed (member members.Field owner name kind) (class owner) (name_type name kind) refl h))
-  refers (member members.Method owner name kind) h =
-      (class_refers owner (first_named says closed (member members.Method owner name kind) (class owner) (name_type name kind ∷ []) refl h),
-       pair_refers name kind (second_named says closed (member members.Method owner name kind) (class owner) (name_type name kind) refl h))
-  refers (member members.InterfaceMethod owner name kind) h =
-      (class_refers owner (first_named says closed (member members.InterfaceMethod owner name kind) (class owner) (name_type name kind ∷ []) refl h),
-       pair_refers name kind (second_named says closed (member members.InterfaceMethod owner name kind) (class owner) (name_type name kind) refl h))
+  refers (name_type name kind) h = (
+    text_refers name (first_named says closed (name_type name kind) (text name) (text kind ∷ []) refl h),
+    text_refers kind (second_named says closed (name_type name kind) (text name) (text kind) refl h),
+  )
+  refers (member members.Field owner name kind) h = (
+    class_refers owner (first_named says closed (member members.Field owner name kind) (class owner) (name_type name kind ∷ []) refl h),
+    pair_refers name kind (second_named says closed (member members.Field owner name kind) (class owner) (name_type name kind) refl h),
+  )
+  refers (member members.Method owner name kind) h = (
+    class_refers owner (first_named says closed (member members.Method owner name kind) (class owner) (name_type name kind ∷ []) refl h),
+    pair_refers name kind (second_named says closed (member members.Method owner name kind) (class owner) (name_type name kind) refl h),
+  )
+  refers (member members.InterfaceMethod owner name kind) h = (
+    class_refers owner (first_named says closed (member members.InterfaceMethod owner name kind) (class owner) (name_type name kind ∷ []) refl h),
+    pair_refers name kind (second_named says closed (member members.InterfaceMethod owner name kind) (class owner) (name_type name kind) refl h),
+  )
 
   all_refer : (part : List Says) → ((one : Says) → Has part one → Has says one) → AllByRecursion (RefersWell (entries_of says)) (map (entry_of says) part)
   all_refer [] within = tt
@@ -168,11 +172,11 @@ module _ (says : List Says) (whole : IsWhole says) (of : List Line) (file : Clas
       let head = headed of file is.head in
       let major : file.major ≡ 52 = is.major in
       let interfaces : AllByRecursion (NamesEntry kinds.Class pool) file.interfaces =
-          each_of (SaysClass pool) (NamesEntry kinds.Class pool) (parts interface_in of) file.interfaces (class_kind pool) is.interfaces in
+      each_of (SaysClass pool) (NamesEntry kinds.Class pool) (parts interface_in of) file.interfaces (class_kind pool) is.interfaces in
       let fields : AllByRecursion (IsWritableField pool) file.fields =
-          each_of (IsFieldOf pool) (IsWritableField pool) (parts field_in of) file.fields (field_writable pool) is.fields in
+      each_of (IsFieldOf pool) (IsWritableField pool) (parts field_in of) file.fields (field_writable pool) is.fields in
       let methods : AllByRecursion (IsWritableMethod code_name pool) file.methods =
-          each_of (IsReadyMethod says) (IsWritableMethod code_name pool) (parts method_in of) file.methods (method_writable says code_name name_is) is.methods in
+      each_of (IsReadyMethod says) (IsWritableMethod code_name pool) (parts method_in of) file.methods (method_writable says code_name name_is) is.methods in
       let back : pool ≡ file.pool = sym is.pool in
       record {
         least = omega arith;

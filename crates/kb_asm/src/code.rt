@@ -100,12 +100,7 @@ impl Body<'_> {
     }
 
     /// The bytes of the code.
-    fn bytes(
-        &self,
-        pool: &mut Items,
-        alloc: Global,
-        lines: &[Line],
-    ) -> Result<Vec<u8>, NoMemory>
+    fn bytes(&self, pool: &mut Items, alloc: Global, lines: &[Line]) -> Result<Vec<u8>, NoMemory>
         requires whole { IsWhole pool.old.says }
         requires there { IsTrue (have_all pool.old.says lines.now) }
         requires formed { AllByRecursion IsFormedLine lines.now }

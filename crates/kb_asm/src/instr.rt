@@ -26,12 +26,7 @@ const INVOKEINTERFACE: u8 = 0xb9;
 const GOTO_W: u8 = 0xc8;
 
 /// An instruction that pushes a constant.
-fn constant(
-    pool: &mut Items,
-    alloc: Global,
-    op: u8,
-    of: &Constant,
-) -> Result<Written, NoMemory>
+fn constant(pool: &mut Items, alloc: Global, op: u8, of: &Constant) -> Result<Written, NoMemory>
     requires whole { IsWhole pool.old.says }
     requires there { IsTrue (have pool.old.says (constant_needs of.now)) }
     ensures same { OnOk result (pool.new.says ≡ pool.old.says) }

@@ -19,5 +19,5 @@ mod pool;
 mod tests;
 
 pub use assembling::assemble;
-pub use laws::one_listing;
 pub use kb_asm_check::TextRefusal as AsmRefusal;
+pub use laws::one_listing;

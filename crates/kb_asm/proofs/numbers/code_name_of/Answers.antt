@@ -23,4 +23,4 @@ returns c = λ there.
     let one = text (codes "Code") in
     subst (λ (number : ℕ). SaysText (entries_of c.args.pool.now.says) (codes "Code") number) (sym c.number_of.ensures)
     (is_number says c.text.new.self.says (one ∷ []) one c.in_ok-place.place c.requires (and_from (list_any (same one) says) true there refl)
-      c.in_ok-place.ensures.says c.in_ok-place.ensures.entry)
+    c.in_ok-place.ensures.says c.in_ok-place.ensures.entry)

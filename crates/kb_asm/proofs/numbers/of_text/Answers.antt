@@ -13,4 +13,4 @@ returns-clause-number c =
     let one = text c.args.bytes.now in
     subst (λ (number : ℕ). SaysText (entries_of c.args.pool.now.says) c.args.bytes.now number) (sym c.number_of.ensures)
     (is_number says c.text.new.self.says (one ∷ []) one c.in_ok-place.place c.requires.whole (and_from (list_any (same one) says) true c.requires.there refl)
-      c.in_ok-place.ensures.says c.in_ok-place.ensures.entry)
+    c.in_ok-place.ensures.says c.in_ok-place.ensures.entry)

@@ -12,8 +12,8 @@ pub returns-clause-whole : goal.returns-clause-whole
 returns-clause-whole c =
     let lines = c.args.lines.now in
     let is : c.add_all_needs.new.pool.says ≡ says_of lines =
-        c.in_ok-add_all_needs.ensures
-        ∙ ap (λ (l : List Says). all_added l (flat_map line_needs lines)) (c.in_ok-add_constants.ensures ∙ ap (λ (l : List Says). all_added l (flat_map ldc_says lines)) c.new-pool.ensures) in
+    c.in_ok-add_all_needs.ensures
+    ∙ ap (λ (l : List Says). all_added l (flat_map line_needs lines)) (c.in_ok-add_constants.ensures ∙ ap (λ (l : List Says). all_added l (flat_map ldc_says lines)) c.new-pool.ensures) in
     record {
       closed = subst (λ (l : List Says). (one : Says) → Has l one → have l (named one) ≡ true) (sym is) (is_closed lines);
       few = omega (arith, c.count.ensures);
