@@ -1,4 +1,4 @@
-use Rattle.kb_test.proofs.ReadLaws.{is_line_format, spells_tests, by_lines, bad_line_of_tests}
+use Rattle.kb_test.proofs.Format.{is_line_format, spells_tests, by_lines, bad_line_of_tests}
 use Rattle.kb_test.proofs.reading.read_tests.Goals as goal
 
 pub returns-in-Ok-clause-found : goal.returns-in-Ok-clause-found

@@ -1,0 +1,91 @@
+-- Lists of objects that are written one after the other.
+use Rattle.std.proofs.Common.{◌≡◌, ℕ, zero, suc, ◌+◌, ◌-◌, ◌<◌, ◌≤◌, Option, None, Some, Result, Ok, Err, OnOk, IfSome, List, [], ◌∷◌, ◌++◌, length, map, take, drop, get_or, refl, sym, ◌∙◌, ap, arith, append_assoc}
+use Rattle.std.specs.Prelude.{slice_get}
+use Rattle.std.proofs.lemmas.List.{length-take-le}
+use Rattle.std.proofs.Math.ListN.{drop_of_length-le}
+use Rattle.std.proofs.lemmas.Option.{slice_get_within}
+use Rattle.kb_grammar.specs.Lines.{lines_text}
+use Rattle.kb_grammar.proofs.LineLaws.{lines_text-++}
+use Rattle.kb_heap.specs.declared.heap.Object.{Object}
+use Rattle.kb_test.specs.declared.words.Word.{Word}
+use Rattle.kb_test.specs.declared.outcomes.Outcome.{Outcome}
+use Rattle.kb_test.specs.declared.lines.Line.{Line}
+use Rattle.kb_test.specs.declared.lines.Line.TheVariants.{Ends, Out, New}
+use Rattle.kb_test.specs.Lines.{outcome_text, line_text}
+use Rattle.kb_test.specs.Scripts.{out_lines, new_lines, texts_of}
+use Rattle.kb_test.specs.Writing.{words_of, listed_of, listeds_of, outs_of, news_of, run_lines}
+
+-- the values of several objects
+abbrev pub lists_of : ℕ → ℕ → List Object → List (List Word)
+lists_of inputs literals objects = map (λ (object : Object). words_of inputs literals object.values) objects
+
+-- the object of that number is the first behind those before it
+pub next_object : (objects : List Object) (number : ℕ) (object : Object) → slice_get objects number ≡ Some object → drop number objects ≡ object ∷ drop (number + 1) objects
+next_object [] number object e = absurd (omega (arith, slice_get_within [] number object e))
+next_object (first ∷ objects) zero object e = let same : first ≡ object = ap (λ (o : Option Object). first_of o) e in ap (λ (o : Object). o ∷ objects) same
+  where
+    first_of : Option Object → Object
+    first_of None = first
+    first_of (Some o) = o
+next_object (first ∷ objects) (suc number) object e =
+    next_object objects number object e ∙ ap (λ (n : ℕ). object ∷ drop n (first ∷ objects)) (let next : suc (number + 1) ≡ suc number + 1 = omega arith in next)
+
+-- the same among so many first ones
+pub next_of_first : (count : ℕ) (objects : List Object) (number : ℕ) (object : Object) → number < count → slice_get objects number ≡ Some object
+    → drop number (take count objects) ≡ object ∷ drop (number + 1) (take count objects)
+next_of_first zero objects number object lt e = absurd (omega (arith, lt))
+next_of_first (suc count) [] number object lt e = absurd (omega (arith, slice_get_within [] number object e))
+next_of_first (suc count) (first ∷ objects) zero object lt e = let same : first ≡ object = ap (λ (o : Option Object). first_of o) e in ap (λ (o : Object). o ∷ take count objects) same
+  where
+    first_of : Option Object → Object
+    first_of None = first
+    first_of (Some o) = o
+next_of_first (suc count) (first ∷ objects) (suc number) object lt e =
+    next_of_first count objects number object (omega (arith, lt)) e ∙ ap (λ (n : ℕ). object ∷ drop n (first ∷ take count objects)) (let next : suc (number + 1) ≡ suc number + 1 = omega arith in next)
+
+-- one line more
+pub next_out : (inputs literals number : ℕ) (objects : List Object) (object : Object) (old into new : List ℕ) → number < inputs → slice_get objects number ≡ Some object
+    → into ++ lines_text (texts_of (out_lines number (lists_of inputs literals (drop number (take inputs objects))))) ≡ old
+    → new ≡ into ++ (line_text (Out number (words_of inputs literals object.values)) ++ 10 ∷ [])
+    → new ++ lines_text (texts_of (out_lines (number + 1) (lists_of inputs literals (drop (number + 1) (take inputs objects))))) ≡ old
+next_out inputs literals number objects object old into new lt e before more =
+    ap (λ (l : List ℕ). l ++ after) more ∙ append_assoc into (line ++ 10 ∷ []) after ∙ ap (λ (l : List ℕ). into ++ l) (append_assoc line (10 ∷ []) after)
+    ∙ ap (λ (n : ℕ). into ++ (line ++ 10 ∷ lines_text (texts_of (out_lines n (lists_of inputs literals (drop (number + 1) (take inputs objects))))))) (let next : number + 1 ≡ suc number = omega arith in next)
+    ∙ ap (λ (os : List Object). into ++ lines_text (texts_of (out_lines number (lists_of inputs literals os)))) (sym (next_of_first inputs objects number object lt e))
+    ∙ before
+  where
+    line : List ℕ
+    line = line_text (Out number (words_of inputs literals object.values))
+
+    after : List ℕ
+    after = lines_text (texts_of (out_lines (number + 1) (lists_of inputs literals (drop (number + 1) (take inputs objects)))))
+
+pub last_out : (inputs literals number : ℕ) (objects : List Object) (old into : List ℕ) → inputs ≤ length objects → inputs ≤ number
+    → into ++ lines_text (texts_of (out_lines number (lists_of inputs literals (drop number (take inputs objects))))) ≡ old → into ++ [] ≡ old
+last_out inputs literals number objects old into le more before =
+    ap (λ (os : List Object). into ++ lines_text (texts_of (out_lines number (lists_of inputs literals os)))) (sym (drop_of_length-le (take inputs objects) (omega (arith, more, length-take-le inputs objects le)))) ∙ before
+
+-- the lines of a run, behind what was written
+pub run_parts : (inputs literals : ℕ) (objects : List Object) (outcome : Outcome) (old : List ℕ)
+    → (((old ++ outcome_text outcome) ++ 10 ∷ []) ++ lines_text (texts_of (out_lines 0 (outs_of inputs literals objects)))) ++ lines_text (texts_of (new_lines 0 (news_of inputs literals objects)))
+    ≡ old ++ lines_text (texts_of (run_lines inputs literals outcome objects))
+unfolding line_text
+run_parts inputs literals objects outcome old =
+    append_assoc ((old ++ outcome_text outcome) ++ 10 ∷ []) outs news ∙ append_assoc (old ++ outcome_text outcome) (10 ∷ []) (outs ++ news) ∙ append_assoc old (outcome_text outcome) (10 ∷ (outs ++ news))
+    ∙ ap (λ (l : List ℕ). old ++ (outcome_text outcome ++ 10 ∷ l)) (sym (lines_text-++ (texts_of outs_) (texts_of news_)) ∙ ap lines_text (sym (texts-++ outs_ news_)))
+  where
+    outs_ : List Line
+    outs_ = out_lines 0 (outs_of inputs literals objects)
+
+    news_ : List Line
+    news_ = new_lines 0 (news_of inputs literals objects)
+
+    outs : List ℕ
+    outs = lines_text (texts_of outs_)
+
+    news : List ℕ
+    news = lines_text (texts_of news_)
+
+    texts-++ : (xs ys : List Line) → texts_of (xs ++ ys) ≡ texts_of xs ++ texts_of ys
+    texts-++ [] ys = refl
+    texts-++ (x ∷ xs) ys = ap (λ (ls : List (List ℕ)). line_text x ∷ ls) (texts-++ xs ys)
