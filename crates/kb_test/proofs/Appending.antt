@@ -1,19 +1,20 @@
 -- Lists of objects that are written one after the other.
-use Rattle.std.proofs.Common.{◌≡◌, ℕ, zero, suc, ◌+◌, ◌-◌, ◌<◌, ◌≤◌, Option, None, Some, Result, Ok, Err, OnOk, IfSome, List, [], ◌∷◌, ◌++◌, length, map, take, drop, get_or, refl, sym, ◌∙◌, ap, arith, append_assoc}
+use Rattle.std.proofs.Common.{◌≡◌, ℕ, zero, suc, ◌+◌, ◌-◌, ◌<◌, ◌≤◌, Option, None, Some, Result, Ok, Err, OnOk, IfSome, List, [], ◌∷◌, ◌++◌, length, map, take, drop, get_or, refl, sym, ◌∙◌, ap, arith, append_assoc, append-nil}
 use Rattle.std.specs.Prelude.{slice_get}
-use Rattle.std.proofs.lemmas.List.{length-take-le}
+use Rattle.std.proofs.lemmas.List.{length-take}
 use Rattle.std.proofs.Math.ListN.{drop_of_length-le}
 use Rattle.std.proofs.lemmas.Option.{slice_get_within}
 use Rattle.kb_grammar.specs.Lines.{lines_text}
 use Rattle.kb_grammar.proofs.LineLaws.{lines_text-++}
 use Rattle.kb_heap.specs.declared.heap.Object.{Object}
 use Rattle.kb_test.specs.declared.words.Word.{Word}
-use Rattle.kb_test.specs.declared.outcomes.Outcome.{Outcome}
 use Rattle.kb_test.specs.declared.lines.Line.{Line}
-use Rattle.kb_test.specs.declared.lines.Line.TheVariants.{Ends, Out, New}
-use Rattle.kb_test.specs.Lines.{outcome_text, line_text}
+use Rattle.kb_test.specs.declared.lines.Line.TheVariants.{Out, New}
+use Rattle.kb_heap.specs.declared.ending.Ending.{Ending}
+use Rattle.kb_test.specs.Lines.{line_text}
 use Rattle.kb_test.specs.Scripts.{out_lines, new_lines, texts_of}
-use Rattle.kb_test.specs.Writing.{words_of, listed_of, listeds_of, outs_of, news_of, run_lines}
+use Rattle.kb_test.specs.Writing.{words_of, listed_of, listeds_of, outs_of, news_of, ending_text, run_text}
+use Rattle.kb_test.proofs.Texts.{texts_of-++}
 
 -- the values of several objects
 abbrev pub lists_of : ℕ → ℕ → List Object → List (List Word)
@@ -60,32 +61,63 @@ next_out inputs literals number objects object old into new lt e before more =
     after : List ℕ
     after = lines_text (texts_of (out_lines (number + 1) (lists_of inputs literals (drop (number + 1) (take inputs objects)))))
 
-pub last_out : (inputs literals number : ℕ) (objects : List Object) (old into : List ℕ) → inputs ≤ length objects → inputs ≤ number
-    → into ++ lines_text (texts_of (out_lines number (lists_of inputs literals (drop number (take inputs objects))))) ≡ old → into ++ [] ≡ old
-last_out inputs literals number objects old into le more before =
-    ap (λ (os : List Object). into ++ lines_text (texts_of (out_lines number (lists_of inputs literals os)))) (sym (drop_of_length-le (take inputs objects) (omega (arith, more, length-take-le inputs objects le)))) ∙ before
+-- behind the last object there is none
+pub no_object : (objects : List Object) (number : ℕ) → slice_get objects number ≡ None → drop number objects ≡ []
+no_object [] zero none = refl
+no_object [] (suc number) none = refl
+no_object (first ∷ objects) zero none = absurd cc
+no_object (first ∷ objects) (suc number) none = no_object objects number none
+
+no_first : (count : ℕ) (objects : List Object) (number : ℕ) → slice_get objects number ≡ None → drop number (take count objects) ≡ []
+no_first zero objects zero none = refl
+no_first zero objects (suc number) none = refl
+no_first (suc count) [] zero none = refl
+no_first (suc count) [] (suc number) none = refl
+no_first (suc count) (first ∷ objects) zero none = absurd cc
+no_first (suc count) (first ∷ objects) (suc number) none = no_first count objects number none
+
+-- the heap has fewer objects
+pub missing_out : (inputs literals number : ℕ) (objects : List Object) (old into : List ℕ) → slice_get objects number ≡ None
+    → into ++ lines_text (texts_of (out_lines number (lists_of inputs literals (drop number (take inputs objects))))) ≡ old → into ≡ old
+missing_out inputs literals number objects old into none before =
+    sym (append-nil into) ∙ ap (λ (os : List Object). into ++ lines_text (texts_of (out_lines number (lists_of inputs literals os)))) (sym (no_first inputs objects number none)) ∙ before
+
+-- all last values are written
+pub last_out : (inputs literals number : ℕ) (objects : List Object) (old into : List ℕ) → inputs ≤ number
+    → into ++ lines_text (texts_of (out_lines number (lists_of inputs literals (drop number (take inputs objects))))) ≡ old → into ≡ old
+last_out inputs literals number objects old into more before =
+    sym (append-nil into)
+    ∙ ap (λ (os : List Object). into ++ lines_text (texts_of (out_lines number (lists_of inputs literals os)))) (sym (drop_of_length-le (take inputs objects) (omega (arith, more, length-take inputs objects)))) ∙ before
+
+-- ---- objects of the run
+
+pub next_new : (inputs literals before number : ℕ) (objects : List Object) (object : Object) (old into new : List ℕ) → slice_get objects (before + number) ≡ Some object
+    → into ++ lines_text (texts_of (new_lines number (listeds_of inputs literals (drop (before + number) objects)))) ≡ old
+    → new ≡ into ++ (line_text (New number (listed_of inputs literals object)) ++ 10 ∷ [])
+    → new ++ lines_text (texts_of (new_lines (number + 1) (listeds_of inputs literals (drop (before + (number + 1)) objects)))) ≡ old
+next_new inputs literals before number objects object old into new e so_far more =
+    ap (λ (l : List ℕ). l ++ after) more ∙ append_assoc into (line ++ 10 ∷ []) after ∙ ap (λ (l : List ℕ). into ++ l) (append_assoc line (10 ∷ []) after)
+    ∙ ap (λ (n : ℕ). into ++ (line ++ 10 ∷ lines_text (texts_of (new_lines n (listeds_of inputs literals (drop (before + (number + 1)) objects)))))) (let next : number + 1 ≡ suc number = omega arith in next)
+    ∙ ap (λ (n : ℕ). into ++ (line ++ 10 ∷ lines_text (texts_of (new_lines (suc number) (listeds_of inputs literals (drop n objects)))))) (let next : before + (number + 1) ≡ before + number + 1 = omega arith in next)
+    ∙ ap (λ (os : List Object). into ++ lines_text (texts_of (new_lines number (listeds_of inputs literals os)))) (sym (next_object objects (before + number) object e))
+    ∙ so_far
+  where
+    line : List ℕ
+    line = line_text (New number (listed_of inputs literals object))
+
+    after : List ℕ
+    after = lines_text (texts_of (new_lines (number + 1) (listeds_of inputs literals (drop (before + (number + 1)) objects))))
+
+-- all of them are written
+pub last_new : (inputs literals at number : ℕ) (objects : List Object) (old into : List ℕ) → slice_get objects at ≡ None
+    → into ++ lines_text (texts_of (new_lines number (listeds_of inputs literals (drop at objects)))) ≡ old → into ≡ old
+last_new inputs literals at number objects old into none so_far =
+    sym (append-nil into) ∙ ap (λ (os : List Object). into ++ lines_text (texts_of (new_lines number (listeds_of inputs literals os)))) (sym (no_object objects at none)) ∙ so_far
 
 -- the lines of a run, behind what was written
-pub run_parts : (inputs literals : ℕ) (objects : List Object) (outcome : Outcome) (old : List ℕ)
-    → (((old ++ outcome_text outcome) ++ 10 ∷ []) ++ lines_text (texts_of (out_lines 0 (outs_of inputs literals objects)))) ++ lines_text (texts_of (new_lines 0 (news_of inputs literals objects)))
-    ≡ old ++ lines_text (texts_of (run_lines inputs literals outcome objects))
-unfolding line_text
-run_parts inputs literals objects outcome old =
-    append_assoc ((old ++ outcome_text outcome) ++ 10 ∷ []) outs news ∙ append_assoc (old ++ outcome_text outcome) (10 ∷ []) (outs ++ news) ∙ append_assoc old (outcome_text outcome) (10 ∷ (outs ++ news))
-    ∙ ap (λ (l : List ℕ). old ++ (outcome_text outcome ++ 10 ∷ l)) (sym (lines_text-++ (texts_of outs_) (texts_of news_)) ∙ ap lines_text (sym (texts-++ outs_ news_)))
-  where
-    outs_ : List Line
-    outs_ = out_lines 0 (outs_of inputs literals objects)
-
-    news_ : List Line
-    news_ = new_lines 0 (news_of inputs literals objects)
-
-    outs : List ℕ
-    outs = lines_text (texts_of outs_)
-
-    news : List ℕ
-    news = lines_text (texts_of news_)
-
-    texts-++ : (xs ys : List Line) → texts_of (xs ++ ys) ≡ texts_of xs ++ texts_of ys
-    texts-++ [] ys = refl
-    texts-++ (x ∷ xs) ys = ap (λ (ls : List (List ℕ)). line_text x ∷ ls) (texts-++ xs ys)
+pub run_parts : (inputs literals : ℕ) (objects : List Object) (ending : Ending) (old : List ℕ)
+    → (((old ++ ending_text inputs literals ending) ++ 10 ∷ []) ++ lines_text (texts_of (out_lines 0 (outs_of inputs literals objects)))) ++ lines_text (texts_of (new_lines 0 (news_of inputs literals objects)))
+    ≡ old ++ run_text inputs literals ending objects
+run_parts inputs literals objects ending old =
+    rw (texts_of-++ (out_lines 0 (outs_of inputs literals objects)) (new_lines 0 (news_of inputs literals objects)),
+    lines_text-++ (texts_of (out_lines 0 (outs_of inputs literals objects))) (texts_of (new_lines 0 (news_of inputs literals objects)))) (simp append_assoc)

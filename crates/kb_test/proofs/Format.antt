@@ -15,16 +15,12 @@ use Rattle.kb_test.specs.Lines.{line_text, IsLine, SpellsLine}
 use Rattle.kb_test.specs.Scripts.{script_lines, AreScripts, scripts_lines, texts_of}
 use Rattle.kb_test.specs.Tests.{test_of, tests_of, SpellsTests, IsTestsText}
 use Rattle.kb_test.specs.Fronts.{step, FitsAt, open_lines, IsOpen, StandsBehind, SpellsLines, TakesText}
-use Rattle.kb_test.proofs.Texts.{AllLines, AllLines-++, are_lines}
+use Rattle.kb_test.proofs.Texts.{AllLines, AllLines-++, are_lines, texts_of-++}
 use Rattle.kb_test.proofs.SameLines.{same_line, same_lines}
 use Rattle.kb_test.proofs.Steps.{steps, steps_then, front_of}
 use Rattle.kb_test.proofs.Accepts.{front_run, whole_run, open_are_lines, scripts_are_lines}
 use Rattle.kb_test.proofs.Sound.{Stands, next_stands, one_script, with_script}
 use Rattle.kb_test.proofs.Endings.{Completes, completes}
-
-pub texts_of-++ : (xs ys : List Line) → texts_of (xs ++ ys) ≡ texts_of xs ++ texts_of ys
-texts_of-++ [] ys = refl
-texts_of-++ (x ∷ xs) ys = ap (λ (ls : List (List ℕ)). line_text x ∷ ls) (texts_of-++ xs ys)
 
 -- the lines of a text that begins so
 record Splits (lines : List Line) (front : List (List ℕ)) (text : List ℕ) : Type 0 where

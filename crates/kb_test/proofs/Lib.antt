@@ -10,6 +10,9 @@ pub mod Parts
 pub mod Sound
 pub mod Endings
 pub mod Format
+pub mod Outcomes
+pub mod Held
 pub mod Written
 pub mod Appending
 pub mod OneText
+pub mod SameHeaps

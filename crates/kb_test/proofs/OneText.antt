@@ -25,7 +25,8 @@ use Rattle.kb_test.specs.Words.{is_below, word_below, words_below}
 use Rattle.kb_test.specs.Lines.{listed_below, outcome_below}
 use Rattle.kb_test.specs.Scripts.{limits_of, IsScript, AreScripts, scripts_lines, texts_of}
 use Rattle.kb_test.specs.Tests.{number_of, value_of, values_of, object_of, objects_of, last_objects, ending_of, literal_objects, string_object, test_of, tests_of, SpellsTests}
-use Rattle.kb_test.specs.Writing.{reference_of, word_of, words_of, listed_of, listeds_of, outs_of, news_of, outcome_of}
+use Rattle.kb_test.specs.Writing.{reference_of, word_of, words_of, listed_of, listeds_of, outs_of, news_of}
+use Rattle.kb_test.proofs.Outcomes.{outcome_of}
 use Rattle.kb_test.proofs.Steps.{both, AreBelow, are_below}
 
 not_both : {b : Bool} → b ≡ true → b ≡ false → ⊥
@@ -97,7 +98,7 @@ module _ (inputs literals made : ℕ) where
   outcome_again (Past Depth) h = refl
   outcome_again (Past Steps) h = refl
 
-last_many : (inputs literals : ℕ) (listeds : List Listed) (lists : List (List Word)) → length lists ≡ length listeds → length (last_objects inputs literals listeds lists) ≡ length listeds
+pub last_many : (inputs literals : ℕ) (listeds : List Listed) (lists : List (List Word)) → length lists ≡ length listeds → length (last_objects inputs literals listeds lists) ≡ length listeds
 last_many inputs literals [] lists e = refl
 last_many inputs literals (listed ∷ listeds) [] e = absurd (omega (arith, e))
 last_many inputs literals (listed ∷ listeds) (words ∷ lists) e = ap suc (last_many inputs literals listeds lists (omega (arith, e)))

@@ -214,3 +214,7 @@ are_lines (line ∷ lines) are = (line_lacks line are.0, are_lines lines are.1)
 pub AllLines-++ : (xs ys : List Line) → AllLines xs → AllLines ys → AllLines (xs ++ ys)
 AllLines-++ [] ys p q = q
 AllLines-++ (x ∷ xs) ys p q = (p.0, AllLines-++ xs ys p.1 q)
+
+pub texts_of-++ : (xs ys : List Line) → texts_of (xs ++ ys) ≡ texts_of xs ++ texts_of ys
+texts_of-++ [] ys = refl
+texts_of-++ (x ∷ xs) ys = ap (λ (ls : List (List ℕ)). line_text x ∷ ls) (texts_of-++ xs ys)

@@ -35,7 +35,8 @@ use Rattle.kb_test.specs.Words.{IsReference, IsWord, AreWords, AreWordLists, is_
 use Rattle.kb_test.specs.Lines.{AreListed, IsOutcome, listed_below, outcome_below}
 use Rattle.kb_test.specs.Scripts.{script_lines, script_below, limits_of, IsScript, scripts_lines, texts_of}
 use Rattle.kb_test.specs.Tests.{number_of, value_of, values_of, object_of, objects_of, last_objects, ending_of, literal_objects, test_of, SpellsTests, IsValue, AreValues, AreObjects, kinds_of, IsEnding, IsFinal, IsTest}
-use Rattle.kb_test.specs.Writing.{reference_of, word_of, words_of, listed_of, listeds_of, outs_of, news_of, outcome_of, run_lines, script_of, test_text, AppendsRun}
+use Rattle.kb_test.specs.Writing.{reference_of, word_of, words_of, listed_of, listeds_of, outs_of, news_of, test_text}
+use Rattle.kb_test.proofs.Outcomes.{outcome_of, script_of, test_text-is}
 use Rattle.kb_test.specs.Refusals.{Appends}
 use Rattle.kb_grammar.proofs.LineLaws.{lines_text-++}
 use Rattle.kb_test.proofs.Steps.{and_both, is_below_all}
@@ -296,16 +297,12 @@ module _ (literals : ℕ) (test : Test) (outcome : Outcome) (is : IsTest literal
       })
 
   -- the text is that of the test
-  pub appends : length test.heap.objects ≤ 2 ^ 32 → (old new : List ℕ) → new ≡ old ++ test_text literals outcome test → Appends literals test old new
-  appends numbered old new e = record {
-    text = test_text literals outcome test;
-    spelled = record {
-      scripts = script_of literals outcome test ∷ [];
-      are = (script_is numbered, tt);
-      tests_are = ap (λ (t : Test). t ∷ []) test_back;
-      is = ap (λ (ls : List Line). lines_text (texts_of ls)) (sym (append-nil (script_lines (script_of literals outcome test))));
-    };
-    is = e;
+  pub spelled : length test.heap.objects ≤ 2 ^ 32 → SpellsTests literals (test ∷ []) (test_text literals test)
+  spelled numbered = record {
+    scripts = script_of literals outcome test ∷ [];
+    are = (script_is numbered, tt);
+    tests_are = ap (λ (t : Test). t ∷ []) test_back;
+    is = test_text-is literals test outcome written ∙ ap (λ (ls : List Line). lines_text (texts_of ls)) (sym (append-nil (script_lines (script_of literals outcome test))));
   }
 
 -- a heap without an object of that number has no more objects
@@ -321,47 +318,8 @@ numbered objects none = go (nat_lt 4294967295 (length objects)) refl
         not_both p q = cc
     go false e = grind (arith, nat_tests)
 
--- what holds of an outcome that is there
-pub of_some : (P : Outcome → Type 0) (some : Option Outcome) (outcome : Outcome) → some ≡ Some outcome → IfSome some P → P outcome
-of_some P (Some other) outcome e h = let same : other ≡ outcome = cc in subst P same h
-of_some P None outcome e h = absurd cc
-
-pub with_some : (P Q : Outcome → Type 0) (some : Option Outcome) → ((outcome : Outcome) → P outcome → Q outcome) → IfSome some P → IfSome some Q
-with_some P Q (Some outcome) f h = f outcome h
-with_some P Q None f h = h
-
-pub appended : (literals : ℕ) (test : Test) → IsTest literals test → length test.heap.objects ≤ 2 ^ 32 → (old new : List ℕ)
-    → IfSome (outcome_of (length test.input.heap.objects) literals test.ending) (λ outcome. new ≡ old ++ test_text literals outcome test) → Appends literals test old new
-appended literals test is few old new h =
+pub appended : (literals : ℕ) (test : Test) → IsTest literals test → length test.heap.objects ≤ 2 ^ 32 → (old new : List ℕ) → new ≡ old ++ test_text literals test
+    → Appends literals (test ∷ []) old new
+appended literals test is few old new e =
     let some = some_outcome (length test.input.heap.objects) literals (length test.heap.objects) test.ending is.final.ending in
-    appends literals test some.0 is some.1 few old new
-    (of_some (λ (outcome : Outcome). new ≡ old ++ test_text literals outcome test) (outcome_of (length test.input.heap.objects) literals test.ending) some.0 some.1 h)
-
-pub has_outcome : (inputs literals objects : ℕ) (ending : Ending) → IsEnding objects ending → IsSome (outcome_of inputs literals ending)
-has_outcome inputs literals objects (Returned None) h = refl
-has_outcome inputs literals objects (Returned (Some value)) h = refl
-has_outcome inputs literals objects (Threw object) h = refl
-has_outcome inputs literals objects (IllTyped place) h = refl
-has_outcome inputs literals objects (Past K) h = absurd h
-has_outcome inputs literals objects (Past Array) h = absurd h
-has_outcome inputs literals objects (Past Alloc) h = refl
-has_outcome inputs literals objects (Past Loops) h = refl
-has_outcome inputs literals objects (Past Depth) h = refl
-has_outcome inputs literals objects (Past Steps) h = refl
-
--- a run's text, where its ending has one
-pub run_appended : (inputs literals : ℕ) (ending : Ending) (objects : List Object) (old new : List ℕ) → IsSome (outcome_of inputs literals ending)
-    → IfSome (outcome_of inputs literals ending) (λ outcome. new ≡ old ++ lines_text (texts_of (run_lines inputs literals outcome objects))) → AppendsRun inputs literals ending objects old new
-run_appended inputs literals ending objects old new there h = go (outcome_of inputs literals ending) refl there h
-  where
-    go : (some : Option Outcome) → outcome_of inputs literals ending ≡ some → IsSome some
-        → IfSome some (λ outcome. new ≡ old ++ lines_text (texts_of (run_lines inputs literals outcome objects))) → AppendsRun inputs literals ending objects old new
-    go None e there h = absurd cc
-    go (Some outcome) e there h = record { text = lines_text (texts_of (run_lines inputs literals outcome objects)); spelled = (outcome, e, refl); is = h }
-
--- the text of a test, line by line behind another
-pub text_of_parts : (old one two : List ℕ) (args ins run : List (List ℕ))
-    → (((((old ++ (one ++ 10 ∷ [])) ++ (two ++ 10 ∷ [])) ++ lines_text args) ++ lines_text ins) ++ lines_text run) ++ 101 ∷ 110 ∷ 100 ∷ 10 ∷ []
-    ≡ old ++ lines_text (one ∷ two ∷ (args ++ (ins ++ (run ++ (101 ∷ 110 ∷ 100 ∷ []) ∷ []))))
-text_of_parts old one two args ins run =
-    rw (lines_text-++ args (ins ++ (run ++ (101 ∷ 110 ∷ 100 ∷ []) ∷ [])), lines_text-++ ins (run ++ (101 ∷ 110 ∷ 100 ∷ []) ∷ []), lines_text-++ run ((101 ∷ 110 ∷ 100 ∷ []) ∷ [])) (simp append_assoc)
+    record { text = test_text literals test; spelled = spelled literals test some.0 is some.1 few; is = e }

@@ -1,5 +1,5 @@
 -- What the reader of tests answers.
-use Rattle.std.specs.Prelude.{◌≡◌, ℕ, List, [], ◌∷◌, ◌++◌, Result, Ok, Err}
+use Rattle.std.specs.Prelude.{◌≡◌, ℕ, List, ◌++◌, Result, Ok, Err}
 use Rattle.kb_grammar.specs.Lines.{IsFirstBadLine}
 use Rattle.kb_test.specs.Tests.{SpellsTests, IsTestsText}
 use Rattle.kb_test.specs.declared.test_case.Test.{Test}
@@ -17,8 +17,8 @@ abbrev pub RefusesTestText : ℕ → List ℕ → TestRefusal → Type 0
 RefusesTestText literals text (TestLine number) = IsFirstBadLine (IsTestsText literals) text number
 RefusesTestText literals text no_memory = Unit {0}
 
--- the text of that test was appended
-pub record Appends (literals : ℕ) (test : Test) (old new : List ℕ) : Type 0 where
+-- the text of these tests was appended
+pub record Appends (literals : ℕ) (tests : List Test) (old new : List ℕ) : Type 0 where
   pub text : List ℕ
-  pub spelled : SpellsTests literals (test ∷ []) text
+  pub spelled : SpellsTests literals tests text
   pub is : new ≡ old ++ text

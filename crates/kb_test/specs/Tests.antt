@@ -155,3 +155,7 @@ pub record IsTest (literals : ℕ) (test : Test) : Type 0 where
   pub inputs : AreObjects (length test.heap.objects) test.input.heap.objects
   pub kinds : kinds_of (take (length test.input.heap.objects) test.heap.objects) ≡ kinds_of test.input.heap.objects
   pub final : IsFinal (length test.input.heap.objects) literals test.ending test.heap
+
+abbrev pub AreTests : ℕ → List Test → Type 0
+AreTests literals [] = Unit {0}
+AreTests literals (test ∷ tests) = IsTest literals test × AreTests literals tests

@@ -1,5 +1,5 @@
 -- What is written of a test: the text that says it.
-use Rattle.std.specs.Prelude.{ℕ, ◌≡◌, ◌+◌, ◌-◌, nat_lt, if◌then◌else◌, Option, None, Some, List, [], ◌∷◌, ◌++◌, length, map, take, drop}
+use Rattle.std.specs.Prelude.{ℕ, ◌+◌, ◌-◌, nat_lt, if◌then◌else◌, None, Some, List, ◌∷◌, ◌++◌, length, map, take, drop, codes}
 use Rattle.kb_grammar.specs.Lines.{lines_text}
 use Rattle.kb_heap.specs.declared.heap.Value.{Value}
 use Rattle.kb_heap.specs.declared.heap.Value.TheVariants.{Int, Null, Ref}
@@ -7,18 +7,16 @@ use Rattle.kb_heap.specs.declared.heap.Object.{Object}
 use Rattle.kb_heap.specs.declared.bounds.Bound.TheVariants.{K, Array, Alloc, Loops, Depth, Steps}
 use Rattle.kb_heap.specs.declared.ending.Ending.{Ending}
 use Rattle.kb_heap.specs.declared.ending.Ending.TheVariants.{Returned, Threw, IllTyped, Past}
-use Rattle.kb_test.specs.Scripts.{out_lines, new_lines, script_lines, texts_of}
+use Rattle.kb_test.specs.Words.{reference_text, word_text}
+use Rattle.kb_test.specs.Lines.{place_text}
+use Rattle.kb_test.specs.Scripts.{in_lines, out_lines, new_lines, texts_of}
 use Rattle.kb_test.specs.declared.words.Reference.{Reference}
 use Rattle.kb_test.specs.declared.words.Reference.TheVariants.{Input, Literal, Made}
 use Rattle.kb_test.specs.declared.words.Word.{Word}
 use Rattle.kb_test.specs.declared.words.Word.TheVariants.{Int as int_word, Null as null_word, Object as object_word}
 use Rattle.kb_test.specs.declared.lines.Listed.{Listed}
-use Rattle.kb_test.specs.declared.outcomes.RunBound.TheVariants.{Alloc as alloc_bound, Loops as loops_bound, Depth as depth_bound, Steps as steps_bound}
-use Rattle.kb_test.specs.declared.outcomes.Outcome.{Outcome}
-use Rattle.kb_test.specs.declared.outcomes.Outcome.TheVariants.{Returns, Throws, IllTyped as ill_typed_at, Past as past_bound}
 use Rattle.kb_test.specs.declared.lines.Line.{Line}
-use Rattle.kb_test.specs.declared.lines.Line.TheVariants.{Ends}
-use Rattle.kb_test.specs.declared.script.Script.{Script}
+use Rattle.kb_test.specs.declared.lines.Line.TheVariants.{Method, Limit, Arg}
 use Rattle.kb_test.specs.declared.test_case.Test.{Test}
 
 -- the object of that number in a heap, of which so many are input objects and so many behind them literals
@@ -49,48 +47,36 @@ outs_of inputs literals objects = map (λ (object : Object). words_of inputs lit
 abbrev pub news_of : ℕ → ℕ → List Object → List Listed
 news_of inputs literals objects = listeds_of inputs literals (drop (inputs + literals) objects)
 
--- the ending, if it has a text
-abbrev pub outcome_of : ℕ → ℕ → Ending → Option Outcome
-outcome_of inputs literals (Returned None) = Some (Returns None)
-outcome_of inputs literals (Returned (Some value)) = Some (Returns (Some (word_of inputs literals value)))
-outcome_of inputs literals (Threw object) = Some (Throws (reference_of inputs literals object))
-outcome_of inputs literals (IllTyped place) = Some (ill_typed_at place)
-outcome_of inputs literals (Past K) = None
-outcome_of inputs literals (Past Array) = None
-outcome_of inputs literals (Past Alloc) = Some (past_bound alloc_bound)
-outcome_of inputs literals (Past Loops) = Some (past_bound loops_bound)
-outcome_of inputs literals (Past Depth) = Some (past_bound depth_bound)
-outcome_of inputs literals (Past Steps) = Some (past_bound steps_bound)
+-- How a run has ended. An ending past a bound of explorations, which no run has and no test may state, is written by its word too.
+unfoldable pub ending_text : ℕ → ℕ → Ending → List ℕ
+ending_text inputs literals (Returned None) = codes "returns"
+ending_text inputs literals (Returned (Some value)) = codes "returns " ++ word_text (word_of inputs literals value)
+ending_text inputs literals (Threw object) = codes "throws " ++ reference_text (reference_of inputs literals object)
+ending_text inputs literals (IllTyped place) = codes "illtyped " ++ place_text place
+ending_text inputs literals (Past K) = codes "past k"
+ending_text inputs literals (Past Array) = codes "past array"
+ending_text inputs literals (Past Alloc) = codes "past alloc"
+ending_text inputs literals (Past Loops) = codes "past loops"
+ending_text inputs literals (Past Depth) = codes "past depth"
+ending_text inputs literals (Past Steps) = codes "past steps"
 
--- the lines that say how a run has ended
-abbrev pub run_lines : ℕ → ℕ → Outcome → List Object → List Line
-run_lines inputs literals outcome objects = Ends outcome ∷ (out_lines 0 (outs_of inputs literals objects) ++ new_lines 0 (news_of inputs literals objects))
+-- the lines on the objects of the heap that a run leaves
+abbrev pub heap_lines : ℕ → ℕ → List Object → List Line
+heap_lines inputs literals objects = out_lines 0 (outs_of inputs literals objects) ++ new_lines 0 (news_of inputs literals objects)
 
--- the text says so of a run with that ending and those objects
-abbrev pub SpellsRun : ℕ → ℕ → Ending → List Object → List ℕ → Type 0
-SpellsRun inputs literals ending objects text = (outcome : Outcome) × (outcome_of inputs literals ending ≡ Some outcome) × (text ≡ lines_text (texts_of (run_lines inputs literals outcome objects)))
+-- The text on the end of a run over so many input objects: its ending, the last values of the input objects, and the objects of
+-- the run.
+abbrev pub run_text : ℕ → ℕ → Ending → List Object → List ℕ
+run_text inputs literals ending objects = lines_text (ending_text inputs literals ending ∷ texts_of (heap_lines inputs literals objects))
 
--- what the text of a test says, where its ending is written so
-abbrev pub script_with : ℕ → ℕ → Outcome → Test → Script
-script_with inputs literals outcome test = record {
-  target = test.target;
-  bounds = test.bounds;
-  args = words_of inputs literals test.input.args;
-  inputs = listeds_of inputs literals test.input.heap.objects;
-  outcome = outcome;
-  outs = outs_of inputs literals test.heap.objects;
-  news = news_of inputs literals test.heap.objects;
-}
+-- what stands before the ending
+abbrev pub first_lines : ℕ → ℕ → Test → List Line
+first_lines inputs literals test =
+    Method test.target ∷ Limit test.bounds ∷ (map Arg (words_of inputs literals test.input.args) ++ in_lines 0 (listeds_of inputs literals test.input.heap.objects))
 
-abbrev pub script_of : ℕ → Outcome → Test → Script
-script_of literals outcome test = script_with (length test.input.heap.objects) literals outcome test
+abbrev pub text_with : ℕ → ℕ → Test → List ℕ
+text_with inputs literals test = lines_text (texts_of (first_lines inputs literals test)) ++ (run_text inputs literals test.ending test.heap.objects ++ codes "end\n")
 
 -- the text of the test
-abbrev pub test_text : ℕ → Outcome → Test → List ℕ
-test_text literals outcome test = lines_text (texts_of (script_lines (script_of literals outcome test)))
-
--- the text of a run is behind the bytes that were there
-pub record AppendsRun (inputs literals : ℕ) (ending : Ending) (objects : List Object) (old new : List ℕ) : Type 0 where
-  pub text : List ℕ
-  pub spelled : SpellsRun inputs literals ending objects text
-  pub is : new ≡ old ++ text
+abbrev pub test_text : ℕ → Test → List ℕ
+test_text literals test = text_with (length test.input.heap.objects) literals test

@@ -1,6 +1,6 @@
 //! Tests are read, line by line.
 ghost use Rattle.std.specs.Prelude.{◌≡◌, List, IfOk, IfErr, MatchOption};
-ghost use Rattle.kb_test.specs.Tests.{SpellsTests};
+ghost use Rattle.kb_test.specs.Tests.{AreTests, SpellsTests};
 ghost use Rattle.kb_test.specs.Fronts.{TakesText, SpellsLines, StandsBehind};
 ghost use Rattle.kb_test.specs.Refusals.{ReadsTests, RefusesTestText};
 ghost use Rattle.kb_test.specs.declared.test_case.Test.{Test};
@@ -99,6 +99,7 @@ fn whole_tests(front: Front) -> Option<Row<Test>>
 pub fn read_tests(alloc: Global, text: &[u8], literals: u32) -> Result<Row<Test>, TestRefusal>
     ensures found { IfOk result (λ tests. SpellsTests literals tests text.now) }
     ensures only { (tests : List Test) → SpellsTests literals tests text.now → ReadsTests result tests }
+    ensures held { IfOk result (AreTests literals) }
     ensures bad { IfErr result (RefusesTestText literals text.now) }
 {
     match read_lines(&TestTexts { alloc, literals }, text) {

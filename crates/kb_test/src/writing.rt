@@ -1,14 +1,14 @@
 //! Tests are written.
-ghost use Rattle.std.specs.Prelude.{◌≡◌, ◌≤◌, ◌∷◌, [], ◌++◌, ◌+◌, length, map, take, drop, codes, ◌<◌, ◌^◌, ℕ, List, IsSome, IfSome, IsTrue, OnOk, OnErr};
+ghost use Rattle.std.specs.Prelude.{◌≡◌, ◌≤◌, ◌∷◌, [], ◌++◌, length, map, take, codes, ◌<◌, ◌^◌, ℕ, List, IsTrue, OnOk, OnErr};
 ghost use Rattle.std.specs.Fmt.{decimal};
 ghost use Rattle.kb_grammar.specs.Lines.{lines_text};
 ghost use Rattle.kb_test.specs.Words.{reference_text, word_text, words_text};
-ghost use Rattle.kb_test.specs.Lines.{exact_text, listed_text, place_text, outcome_text, line_text};
+ghost use Rattle.kb_test.specs.Lines.{exact_text, listed_text, place_text, line_text};
 ghost use Rattle.kb_test.specs.Scripts.{in_lines, out_lines, new_lines, texts_of};
 ghost use Rattle.kb_test.specs.Tests.{IsTest, SpellsTests};
 ghost use Rattle.kb_test.specs.declared.test_case.Test.{Test};
 ghost use Rattle.kb_test.specs.Refusals.{Appends};
-ghost use Rattle.kb_test.specs.Writing.{reference_of, word_of, words_of, listed_of, listeds_of, outs_of, news_of, outcome_of, run_lines, test_text, AppendsRun};
+ghost use Rattle.kb_test.specs.Writing.{reference_of, word_of, words_of, listed_of, listeds_of, outs_of, news_of, ending_text, run_text, test_text};
 ghost use Rattle.kb_test.specs.declared.lines.Line.TheVariants.{Method, Limit, Arg, In, Out, New};
 
 use crate::words::Reference;
@@ -40,7 +40,7 @@ pub fn write_test(
     into: &mut Vec<u8>,
 ) -> Result<(), NoMemory>
     requires { IsTest literals test.now }
-    ensures ok { OnOk result (Appends literals test.now into.old.items into.new.items) }
+    ensures ok { OnOk result (Appends literals (test.now ∷ []) into.old.items into.new.items) }
     ensures err { OnErr result (into.new.items ≡ into.old.items) }
 {
     if !is_numbered(&test.heap) {
@@ -76,9 +76,7 @@ pub fn write_run<O: Objects>(
     literals: u32,
     into: &mut Vec<u8>,
 ) -> Result<(), NoMemory>
-    requires inputs { inputs ≤ length (O.objects heap.now) }
-    requires ending { IsSome (outcome_of inputs literals ending.now) }
-    ensures ok { OnOk result (AppendsRun inputs literals ending.now (O.objects heap.now) into.old.items into.new.items) }
+    ensures ok { OnOk result (into.new.items ≡ into.old.items ++ run_text inputs literals ending.now (O.objects heap.now)) }
     ensures err { OnErr result (into.new.items ≡ into.old.items) }
 {
     let start = into.len();
@@ -109,8 +107,7 @@ fn append_test(
     literals: u32,
     into: &mut Vec<u8>,
 ) -> Result<(), NoMemory>
-    requires { IsTest literals test.now }
-    ensures ok { OnOk result (IfSome (outcome_of (length test.now.input.heap.objects) literals test.now.ending) (λ outcome. into.new.items ≡ into.old.items ++ test_text literals outcome test.now)) }
+    ensures ok { OnOk result (into.new.items ≡ into.old.items ++ test_text literals test.now) }
     ensures kept { take (length into.old.items) into.new.items ≡ into.old.items }
 {
     let inputs = test.input.heap.objects.as_slice();
@@ -330,21 +327,6 @@ impl Counts {
         Ok(())
     }
 
-    #[tactic(auto, unfolding(crate::specs::Lines::outcome_text, crate::specs::Lines::bound_text))]
-    fn append_past(self, bound: Bound, into: &mut Vec<u8>) -> Result<(), NoMemory>
-        requires { IsSome (outcome_of self.inputs self.literals (Ending.Past bound)) }
-        ensures ok { OnOk result (IfSome (outcome_of self.inputs self.literals (Ending.Past bound)) (λ outcome. into.new.items ≡ into.old.items ++ outcome_text outcome)) }
-        ensures kept { take (length into.old.items) into.new.items ≡ into.old.items }
-    {
-        match bound {
-            Bound::Alloc => append(b"past alloc", into),
-            Bound::Loops => append(b"past loops", into),
-            Bound::Depth => append(b"past depth", into),
-            Bound::Steps => append(b"past steps", into),
-            Bound::K | Bound::Array => unreachable!(),
-        }
-    }
-
     fn append_place(self, place: &Place, into: &mut Vec<u8>) -> Result<(), NoMemory>
         ensures ok { OnOk result (into.new.items ≡ into.old.items ++ (codes "illtyped " ++ place_text place.now)) }
         ensures kept { take (length into.old.items) into.new.items ≡ into.old.items }
@@ -355,10 +337,9 @@ impl Counts {
         append_number(self.alloc, place.at, into)
     }
 
-    #[tactic(auto, unfolding(crate::specs::Lines::outcome_text))]
+    #[tactic(auto, unfolding(crate::specs::Writing::ending_text))]
     fn append_ending(self, ending: &Ending, into: &mut Vec<u8>) -> Result<(), NoMemory>
-        requires { IsSome (outcome_of self.inputs self.literals ending.now) }
-        ensures ok { OnOk result (IfSome (outcome_of self.inputs self.literals ending.now) (λ outcome. into.new.items ≡ into.old.items ++ outcome_text outcome)) }
+        ensures ok { OnOk result (into.new.items ≡ into.old.items ++ ending_text self.inputs self.literals ending.now) }
         ensures kept { take (length into.old.items) into.new.items ≡ into.old.items }
     {
         match ending {
@@ -372,7 +353,12 @@ impl Counts {
                 self.append_reference(*object, into)
             }
             Ending::IllTyped(place) => self.append_place(place, into),
-            Ending::Past(bound) => self.append_past(*bound, into),
+            Ending::Past(Bound::K) => append(b"past k", into),
+            Ending::Past(Bound::Array) => append(b"past array", into),
+            Ending::Past(Bound::Alloc) => append(b"past alloc", into),
+            Ending::Past(Bound::Loops) => append(b"past loops", into),
+            Ending::Past(Bound::Depth) => append(b"past depth", into),
+            Ending::Past(Bound::Steps) => append(b"past steps", into),
         }
     }
 
@@ -393,14 +379,13 @@ impl Counts {
     }
 
     fn append_outs<O: Objects>(self, heap: &O, into: &mut Vec<u8>) -> Result<(), NoMemory>
-        requires { self.inputs ≤ length (O.objects heap.now) }
         ensures ok { OnOk result (into.new.items ≡ into.old.items ++ lines_text (texts_of (out_lines 0 (outs_of self.inputs self.literals (O.objects heap.now))))) }
         ensures kept { take (length into.old.items) into.new.items ≡ into.old.items }
     {
         let mut number: u32 = 0;
         while number < self.inputs {
             let Some(object) = heap.object(number as usize) else {
-                unreachable!()
+                return Ok(());
             };
             self.append_out_line(number, object.values.as_slice(), into)?;
             number += 1;
@@ -432,9 +417,7 @@ impl Counts {
         heap: &O,
         into: &mut Vec<u8>,
     ) -> Result<(), NoMemory>
-        requires inputs { self.inputs ≤ length (O.objects heap.now) }
-        requires ending { IsSome (outcome_of self.inputs self.literals ending.now) }
-        ensures ok { OnOk result (IfSome (outcome_of self.inputs self.literals ending.now) (λ outcome. into.new.items ≡ into.old.items ++ lines_text (texts_of (run_lines self.inputs self.literals outcome (O.objects heap.now))))) }
+        ensures ok { OnOk result (into.new.items ≡ into.old.items ++ run_text self.inputs self.literals ending.now (O.objects heap.now)) }
         ensures kept { take (length into.old.items) into.new.items ≡ into.old.items }
     {
         self.append_ending(ending, into)?;
