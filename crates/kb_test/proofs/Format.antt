@@ -170,7 +170,7 @@ module _ (literals : ℕ) where
   spelled_are_lines : (tests : List Test) (texts : List (List ℕ)) → SpellsLines literals tests texts → AreLines texts
   spelled_are_lines tests texts spells = subst AreLines (sym spells.texts_are) (are_lines (scripts_lines spells.scripts) (scripts_are_lines literals spells.scripts spells.are))
 
-  spelled_once : (one other : List Test) (texts : List (List ℕ)) → SpellsLines literals one texts → SpellsLines literals other texts → one ≡ other
+  pub spelled_once : (one other : List Test) (texts : List (List ℕ)) → SpellsLines literals one texts → SpellsLines literals other texts → one ≡ other
   spelled_once one other texts p q =
       let same = same_lines (scripts_lines p.scripts) (scripts_lines q.scripts) (scripts_are_lines literals p.scripts p.are) (scripts_are_lines literals q.scripts q.are) (sym p.texts_are ∙ q.texts_are) in
       let fronts : front_of (tests_of literals p.scripts) Between ≡ front_of (tests_of literals q.scripts) Between =

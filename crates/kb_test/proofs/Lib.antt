@@ -16,3 +16,4 @@ pub mod Written
 pub mod Appending
 pub mod OneText
 pub mod SameHeaps
+pub mod TextLaws

@@ -342,15 +342,15 @@ opens literals tests of open_test lines line at next = record {
   lines_are = ap (λ (ls : List Line). ls ++ line ∷ []) at.lines_are ∙ append_assoc (scripts_lines at.scripts) (open_lines of) (line ∷ []) ∙ ap (λ (ls : List Line). scripts_lines at.scripts ++ ls) (sym next.lines);
 }
 
-AreScripts-++ : (literals : ℕ) (xs ys : List Script) → AreScripts literals xs → AreScripts literals ys → AreScripts literals (xs ++ ys)
+pub AreScripts-++ : (literals : ℕ) (xs ys : List Script) → AreScripts literals xs → AreScripts literals ys → AreScripts literals (xs ++ ys)
 AreScripts-++ literals [] ys p q = q
 AreScripts-++ literals (x ∷ xs) ys p q = (p.0, AreScripts-++ literals xs ys p.1 q)
 
-scripts_lines-++ : (xs ys : List Script) → scripts_lines (xs ++ ys) ≡ scripts_lines xs ++ scripts_lines ys
+pub scripts_lines-++ : (xs ys : List Script) → scripts_lines (xs ++ ys) ≡ scripts_lines xs ++ scripts_lines ys
 scripts_lines-++ [] ys = refl
 scripts_lines-++ (x ∷ xs) ys = ap (λ (ls : List Line). script_lines x ++ ls) (scripts_lines-++ xs ys) ∙ sym (append_assoc (script_lines x) (scripts_lines xs) (scripts_lines ys))
 
-tests_of-++ : (literals : ℕ) (xs ys : List Script) → tests_of literals (xs ++ ys) ≡ tests_of literals xs ++ tests_of literals ys
+pub tests_of-++ : (literals : ℕ) (xs ys : List Script) → tests_of literals (xs ++ ys) ≡ tests_of literals xs ++ tests_of literals ys
 tests_of-++ literals [] ys = refl
 tests_of-++ literals (x ∷ xs) ys = ap (λ (ts : List Test). test_of literals x ∷ ts) (tests_of-++ literals xs ys)
 

@@ -1,4 +1,3 @@
-use Rattle.kb_test.specs.Texts.{tests_text}
 use Rattle.kiasan.specs.Covering.{tests_of}
 use Rattle.kiasan.specs.Tests.{literals_in}
 use Rattle.kiasan.proofs.TestTexts.{first_path_more}
@@ -6,6 +5,5 @@ use Rattle.kiasan.proofs.reports.tests_text.Goals as goal
 
 pub loop-rest-preserved : goal.loop-rest-preserved
 loop-rest-preserved c =
-    first_path_more (literals_in c.args.world.now) c.args.world.now c.args.report.now c.loop-rest.rest.now c.path-item.result c.loop-rest.text.items c.write_path_tests.new.text.items
-    (tests_text (tests_of c.args.world.now c.args.report.now))
-    c.in-len1-up.len_at_least c.path-item.is c.loop-rest.invariant.0 c.loop-rest.invariant.1 c.in_ok-write_path_tests.ensures
+    first_path_more (literals_in c.args.world.now) c.args.world.now c.args.report.now (tests_of c.args.world.now c.args.report.now) c.loop-rest.rest.now c.path-item.result
+    c.loop-rest.text.items c.write_path_tests.new.text.items c.in-len1-up.len_at_least c.path-item.is c.loop-rest.invariant c.in_ok-write_path_tests.ensures
