@@ -10,7 +10,7 @@ pub mod Parts
 pub mod Sound
 pub mod Endings
 pub mod Format
-pub mod Outcomes
+pub mod Stated
 pub mod Held
 pub mod Written
 pub mod Appending

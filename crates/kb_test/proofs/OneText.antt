@@ -26,7 +26,7 @@ use Rattle.kb_test.specs.Lines.{listed_below, outcome_below}
 use Rattle.kb_test.specs.Scripts.{limits_of, IsScript, AreScripts, scripts_lines, texts_of}
 use Rattle.kb_test.specs.Tests.{number_of, value_of, values_of, object_of, objects_of, last_objects, ending_of, literal_objects, string_object, test_of, tests_of, SpellsTests}
 use Rattle.kb_test.specs.Writing.{reference_of, word_of, words_of, listed_of, listeds_of, outs_of, news_of}
-use Rattle.kb_test.proofs.Outcomes.{outcome_of}
+use Rattle.kb_test.proofs.Stated.{outcome_of}
 use Rattle.kb_test.proofs.Steps.{both, AreBelow, are_below}
 
 not_both : {b : Bool} → b ≡ true → b ≡ false → ⊥

@@ -36,7 +36,7 @@ use Rattle.kb_test.specs.Lines.{AreListed, IsOutcome, listed_below, outcome_belo
 use Rattle.kb_test.specs.Scripts.{script_lines, script_below, limits_of, IsScript, scripts_lines, texts_of}
 use Rattle.kb_test.specs.Tests.{number_of, value_of, values_of, object_of, objects_of, last_objects, ending_of, literal_objects, test_of, SpellsTests, IsValue, AreValues, AreObjects, kinds_of, IsEnding, IsFinal, IsTest}
 use Rattle.kb_test.specs.Writing.{reference_of, word_of, words_of, listed_of, listeds_of, outs_of, news_of, test_text}
-use Rattle.kb_test.proofs.Outcomes.{outcome_of, script_of, test_text-is}
+use Rattle.kb_test.proofs.Stated.{outcome_of, script_of, test_text-is}
 use Rattle.kb_test.specs.Refusals.{Appends}
 use Rattle.kb_grammar.proofs.LineLaws.{lines_text-++}
 use Rattle.kb_test.proofs.Steps.{and_both, is_below_all}
