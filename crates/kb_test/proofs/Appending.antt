@@ -3,6 +3,7 @@ use Rattle.std.proofs.Common.{◌≡◌, ℕ, zero, suc, ◌+◌, ◌-◌, ◌<�
 use Rattle.std.specs.Prelude.{slice_get}
 use Rattle.std.proofs.lemmas.List.{length-take}
 use Rattle.std.proofs.Math.ListN.{drop_of_length-le}
+use Rattle.std.proofs.Math.Seq.{take-append_seam}
 use Rattle.std.proofs.lemmas.Option.{slice_get_within}
 use Rattle.kb_grammar.specs.Lines.{lines_text}
 use Rattle.kb_grammar.proofs.LineLaws.{lines_text-++}
@@ -121,3 +122,18 @@ pub run_parts : (inputs literals : ℕ) (objects : List Object) (ending : Ending
 run_parts inputs literals objects ending old =
     rw (texts_of-++ (out_lines 0 (outs_of inputs literals objects)) (new_lines 0 (news_of inputs literals objects)),
     lines_text-++ (texts_of (out_lines 0 (outs_of inputs literals objects))) (texts_of (new_lines 0 (news_of inputs literals objects)))) (simp append_assoc)
+
+-- ---- what was there stays in front
+
+pub kept_more : (old into new : List ℕ) → take (length old) into ≡ old → take (length into) new ≡ into → take (length old) new ≡ old
+kept_more [] into new p q = refl
+kept_more (x ∷ old) [] new p q = absurd cc
+kept_more (x ∷ old) (y ∷ into) [] p q = absurd cc
+kept_more (x ∷ old) (y ∷ into) (z ∷ new) p q =
+    let fronts : take (length old) into ≡ old = cc in
+    let rests : take (length into) new ≡ into = cc in
+    let first : z ≡ x = cc in
+    ap (λ (b : ℕ). b ∷ take (length old) new) first ∙ ap (λ (bs : List ℕ). x ∷ bs) (kept_more old into new fronts rests)
+
+pub kept_behind : (old piece new : List ℕ) → new ≡ old ++ piece → take (length old) new ≡ old
+kept_behind old piece new e = ap (take (length old)) e ∙ take-append_seam old piece

@@ -1,5 +1,5 @@
 -- What a reader of a part of a text says of the whole.
-use Rattle.std.proofs.Common.{◌≡◌, ℕ, List, [], ◌∷◌, ◌++◌, Option, None, Some, Result, Ok, Err, IfOk, refl, sym, ◌∙◌, ap, subst}
+use Rattle.std.proofs.Common.{◌≡◌, ℕ, List, [], ◌∷◌, ◌++◌, Option, None, Some, Result, Ok, Err, IfOk, OnOk, refl, sym, ◌∙◌, ap, subst}
 use Rattle.kb_grammar.specs.Lines.{Lacks, IsRead}
 use Rattle.kb_grammar.proofs.WordLaws.{same_behind, same_cut, not_lacking}
 use Rattle.kb_test.specs.Words.{IsTail}
@@ -36,3 +36,7 @@ none_read Spells text None e h = h
 pub some_read : {A : Type 0} (Spells : A → List ℕ → Type 0) (text : List ℕ) (read : Option A) (x : A) → read ≡ Some x → IsRead Spells text read → Spells x text
 some_read {A} Spells text (Some y) x e h = let same : y ≡ x = cc in subst (λ (z : A). Spells z text) same h
 some_read Spells text None x e h = absurd cc
+
+pub on_ok : {A E P Q : Type 0} (r : Result A E) → (P → Q) → OnOk r P → OnOk r Q
+on_ok (Ok x) f h = f h
+on_ok (Err x) f h = tt

@@ -1,5 +1,6 @@
 -- The endings that a test may state, as its text writes them.
 use Rattle.std.proofs.Common.{◌≡◌, ℕ, Option, None, Some, List, [], ◌∷◌, ◌++◌, length, map, refl, sym, ◌∙◌, ap, append_assoc}
+use Rattle.std.specs.Prelude.{codes}
 use Rattle.kb_grammar.specs.Lines.{lines_text}
 use Rattle.kb_grammar.proofs.LineLaws.{lines_text-++}
 use Rattle.kb_heap.specs.declared.bounds.Bound.TheVariants.{K, Array, Alloc, Loops, Depth, Steps}
@@ -14,7 +15,7 @@ use Rattle.kb_test.specs.declared.script.Script.{Script}
 use Rattle.kb_test.specs.declared.test_case.Test.{Test}
 use Rattle.kb_test.specs.Lines.{bound_text, outcome_text, line_text}
 use Rattle.kb_test.specs.Scripts.{in_lines, out_lines, new_lines, script_lines, texts_of}
-use Rattle.kb_test.specs.Writing.{reference_of, word_of, words_of, listeds_of, outs_of, news_of, ending_text, heap_lines, run_text, first_lines, test_text}
+use Rattle.kb_test.specs.Writing.{reference_of, word_of, words_of, listeds_of, outs_of, news_of, ending_text, heap_lines, run_text, first_lines, text_with, test_text}
 use Rattle.kb_test.proofs.Texts.{texts_of-++}
 
 -- what a text says of the ending, if a test may state it
@@ -95,7 +96,16 @@ test_text-is literals test outcome written =
         ∙ ap (λ (ls : List Line). args ++ (ins ++ Ends outcome ∷ ls)) (append_assoc (out_lines 0 (outs_of count literals test.heap.objects)) (new_lines 0 (news_of count literals test.heap.objects)) (End ∷ [])))
 
 -- the text of a test, piece by piece behind another
-pub text_of_parts : (old one two run end : List ℕ) (args ins : List Line)
+text_of_parts : (old one two run end : List ℕ) (args ins : List Line)
     → (((((old ++ (one ++ 10 ∷ [])) ++ (two ++ 10 ∷ [])) ++ lines_text (texts_of args)) ++ lines_text (texts_of ins)) ++ run) ++ end
     ≡ old ++ ((one ++ 10 ∷ (two ++ 10 ∷ lines_text (texts_of (args ++ ins)))) ++ (run ++ end))
 text_of_parts old one two run end args ins = rw (texts_of-++ args ins, lines_text-++ (texts_of args) (texts_of ins)) (simp append_assoc)
+
+pub test_written : (literals count : ℕ) (test : Test) (old : List ℕ) → count ≡ length test.input.heap.objects
+    → (((((old ++ (line_text (Method test.target) ++ 10 ∷ [])) ++ (line_text (Limit test.bounds) ++ 10 ∷ [])) ++ lines_text (texts_of (map Arg (words_of count literals test.input.args))))
+    ++ lines_text (texts_of (in_lines 0 (listeds_of count literals test.input.heap.objects)))) ++ run_text count literals test.ending test.heap.objects) ++ codes "end\n"
+    ≡ old ++ test_text literals test
+test_written literals count test old e =
+    text_of_parts old (line_text (Method test.target)) (line_text (Limit test.bounds)) (run_text count literals test.ending test.heap.objects) (codes "end\n")
+    (map Arg (words_of count literals test.input.args)) (in_lines 0 (listeds_of count literals test.input.heap.objects))
+    ∙ ap (λ (n : ℕ). old ++ text_with n literals test) e

@@ -1,6 +1,7 @@
 //! Where a reader of tests stands after some lines.
-ghost use Rattle.std.specs.Prelude.{◌≡◌, IfOk};
-ghost use Rattle.kb_test.specs.Fronts.{between_step, named_step, begun_step, ended_step, step, may_have_arg, may_have_input, may_have_out, may_have_new, may_be_whole, open_limits, ended_limits, with_outcome, with_open, if_may, may_end_so};
+ghost use Rattle.std.specs.Prelude.{◌≡◌, [], ◌∷◌, ◌++◌, IfOk};
+ghost use Rattle.kb_test.specs.Tests.{test_of};
+ghost use Rattle.kb_test.specs.Fronts.{between_step, named_step, begun_step, ended_step, step, may_have_arg, may_have_input, may_have_out, may_have_new, may_be_whole, open_limits, ended_limits, with_outcome, with_out, with_new, with_open, if_may, may_end_so};
 
 use crate::lines::{Line, Listed};
 use crate::outcomes::Outcome;
@@ -169,6 +170,69 @@ fn may_be_whole(literals: u32, script: &Script) -> bool
         && script.is_within(script.limits(literals))
 }
 
+fn ended_front(tests: Row<Test>, script: Script) -> Front
+    ensures { result ≡ record { tests = tests; open_test = Open.Ended script } }
+{
+    Front {
+        tests,
+        open_test: Open::Ended(script),
+    }
+}
+
+fn take_out(
+    literals: u32,
+    tests: Row<Test>,
+    script: Script,
+    number: u32,
+    words: Row<Word>,
+) -> Result<Option<Front>, NoMemory>
+    ensures { IfOk result (λ next. next ≡ if_may (may_have_out literals script number words) (record { tests = tests; open_test = Open.Ended (with_out script words) })) }
+{
+    if !may_have_out(literals, &script, number, words.as_slice()) {
+        return Ok(None);
+    }
+    let mut script = script;
+    script.outs.push(words)?;
+    Ok(Some(ended_front(tests, script)))
+}
+
+fn take_new(
+    literals: u32,
+    tests: Row<Test>,
+    script: Script,
+    number: u32,
+    listed: Listed,
+) -> Result<Option<Front>, NoMemory>
+    ensures { IfOk result (λ next. next ≡ if_may (may_have_new literals script number listed) (record { tests = tests; open_test = Open.Ended (with_new script listed) })) }
+{
+    if !may_have_new(literals, &script, number, &listed) {
+        return Ok(None);
+    }
+    let mut script = script;
+    script.news.push(listed)?;
+    Ok(Some(ended_front(tests, script)))
+}
+
+fn take_end(
+    alloc: Global,
+    literals: u32,
+    tests: Row<Test>,
+    script: Script,
+) -> Result<Option<Front>, NoMemory>
+    ensures { IfOk result (λ next. next ≡ if_may (may_be_whole literals script) (record { tests = tests ++ test_of literals script ∷ []; open_test = Open.Between })) }
+{
+    if !may_be_whole(literals, &script) {
+        return Ok(None);
+    }
+    let mut tests = tests;
+    let test = settled(alloc, literals, script)?;
+    tests.push(test)?;
+    Ok(Some(Front {
+        tests,
+        open_test: Open::Between,
+    }))
+}
+
 #[tactic(auto, unfolding(crate::specs::Fronts::ended_step))]
 fn after_ending(
     alloc: Global,
@@ -179,37 +243,12 @@ fn after_ending(
 ) -> Result<Option<Front>, NoMemory>
     ensures { IfOk result (λ next. next ≡ ended_step literals tests script line) }
 {
-    let mut tests = tests;
-    let mut script = script;
     match line {
-        Line::Out(number, words) => {
-            if !may_have_out(literals, &script, number, words.as_slice()) {
-                return Ok(None);
-            }
-            script.outs.push(words)?;
-        }
-        Line::New(number, listed) => {
-            if !may_have_new(literals, &script, number, &listed) {
-                return Ok(None);
-            }
-            script.news.push(listed)?;
-        }
-        Line::End => {
-            if !may_be_whole(literals, &script) {
-                return Ok(None);
-            }
-            tests.push(settled(alloc, literals, script)?)?;
-            return Ok(Some(Front {
-                tests,
-                open_test: Open::Between,
-            }));
-        }
-        _ => return Ok(None),
+        Line::Out(number, words) => take_out(literals, tests, script, number, words),
+        Line::New(number, listed) => take_new(literals, tests, script, number, listed),
+        Line::End => take_end(alloc, literals, tests, script),
+        _ => Ok(None),
     }
-    Ok(Some(Front {
-        tests,
-        open_test: Open::Ended(script),
-    }))
 }
 
 // The tests with that one before them, if there is one.
