@@ -31,7 +31,12 @@ pub fn replay(alloc: Global, world: &World, test: &Test) -> Result<Replayed, Rep
 }
 
 /// Runs the test by its method, and holds the run against what the test says.
-pub fn run_test(alloc: Global, world: &World, test: &Test, id: MethodId) -> Result<Replayed, NoMemory>
+pub fn run_test(
+    alloc: Global,
+    world: &World,
+    test: &Test,
+    id: MethodId,
+) -> Result<Replayed, NoMemory>
     requires { IsRunnable world.now test.now id }
     ensures { IfOk result (Says world.now id test.now) }
 {

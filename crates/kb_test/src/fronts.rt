@@ -225,7 +225,7 @@ fn take_end(
         return Ok(None);
     }
     let mut tests = tests;
-    let test = settled(alloc, literals, script)?;
+    let test = settled(alloc, literals, &script)?;
     tests.push(test)?;
     Ok(Some(Front {
         tests,

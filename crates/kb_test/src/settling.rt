@@ -1,6 +1,6 @@
 //! From what a text says to the test: objects get their numbers in the heap.
 ghost use Rattle.std.specs.Prelude.{◌≡◌, IfOk};
-ghost use Rattle.kb_test.specs.Tests.{number_of, value_of, values_of, objects_of, last_objects, bound_of, ending_of, test_of};
+ghost use Rattle.kb_test.specs.Tests.{number_of, value_of, values_of, objects_of, last_objects, bound_of, ending_of, final_heap_of, test_with, test_of};
 
 use crate::lines::Listed;
 use crate::outcomes::{Outcome, RunBound};
@@ -89,16 +89,35 @@ impl Numbering {
         Ok(objects)
     }
 
-    fn ending(self, outcome: Outcome) -> Result<Ending, NoMemory>
-        ensures { IfOk result (λ ending. ending ≡ ending_of self.inputs self.literals outcome) }
+    fn ending(self, outcome: &Outcome) -> Result<Ending, NoMemory>
+        ensures { IfOk result (λ ending. ending ≡ ending_of self.inputs self.literals outcome.now) }
     {
         match outcome {
             Outcome::Returns(None) => Ok(Ending::Returned(None)),
-            Outcome::Returns(Some(word)) => Ok(Ending::Returned(Some(self.value(word)?))),
-            Outcome::Throws(reference) => Ok(Ending::Threw(self.number(reference)?)),
-            Outcome::IllTyped(place) => Ok(Ending::IllTyped(place)),
-            Outcome::Past(bound) => Ok(Ending::Past(bound_of(bound))),
+            Outcome::Returns(Some(word)) => Ok(Ending::Returned(Some(self.value(*word)?))),
+            Outcome::Throws(reference) => Ok(Ending::Threw(self.number(*reference)?)),
+            Outcome::IllTyped(place) => Ok(Ending::IllTyped(place.copied(self.alloc)?)),
+            Outcome::Past(bound) => Ok(Ending::Past(bound_of(*bound))),
         }
+    }
+
+    fn input(self, script: &Script) -> Result<Input, NoMemory>
+        ensures { IfOk result (λ input. input ≡ (test_with self.inputs self.literals script.now).input) }
+    {
+        let objects = self.objects(script.inputs.as_slice())?;
+        let args = self.values(script.args.as_slice())?;
+        Ok(Input {
+            heap: Heap { objects },
+            args,
+        })
+    }
+
+    fn final_heap(self, script: &Script) -> Result<FinalHeap, NoMemory>
+        ensures { IfOk result (λ heap. heap ≡ final_heap_of self.inputs self.literals script.now) }
+    {
+        let last = self.last_objects(script.inputs.as_slice(), script.outs.as_slice())?;
+        let made = self.objects(script.news.as_slice())?;
+        FinalHeap::new(self.alloc, last, self.literals, made)
     }
 }
 
@@ -114,8 +133,8 @@ fn bound_of(bound: RunBound) -> Bound
 }
 
 // The test of that text. A heap that an object's number of 32 bits can't number is want of memory.
-pub(crate) fn settled(alloc: Global, literals: u32, script: Script) -> Result<Test, NoMemory>
-    ensures { IfOk result (λ test. test ≡ test_of literals script) }
+pub(crate) fn settled(alloc: Global, literals: u32, script: &Script) -> Result<Test, NoMemory>
+    ensures { IfOk result (λ test. test ≡ test_of literals script.now) }
 {
     let Ok(inputs) = u32::try_from(script.inputs.as_slice().len()) else {
         return Err(NoMemory);
@@ -125,19 +144,15 @@ pub(crate) fn settled(alloc: Global, literals: u32, script: Script) -> Result<Te
         inputs,
         literals,
     };
-    let last = numbering.last_objects(script.inputs.as_slice(), script.outs.as_slice())?;
-    let made = numbering.objects(script.news.as_slice())?;
-    let input = Input {
-        heap: Heap {
-            objects: numbering.objects(script.inputs.as_slice())?,
-        },
-        args: numbering.values(script.args.as_slice())?,
-    };
+    let input = numbering.input(script)?;
+    let heap = numbering.final_heap(script)?;
+    let ending = numbering.ending(&script.outcome)?;
+    let target = script.target.copied(alloc)?;
     Ok(Test {
-        target: script.target,
+        target,
         bounds: script.bounds,
         input,
-        ending: numbering.ending(script.outcome)?,
-        heap: FinalHeap::new(alloc, last, literals, made)?,
+        ending,
+        heap,
     })
 }
