@@ -3,7 +3,9 @@ use Rattle.std.proofs.Common.{◌≡◌, ◌⊎◌, inl, inr, ℕ, suc, ◌+◌,
 use Rattle.std.proofs.lemmas.List.{take_all, take-append-drop}
 use Rattle.std.proofs.Math.Seq.{take-suc}
 use Rattle.kb_class.specs.declared.ids.MethodId.{MethodId}
+use Rattle.kb_link.specs.Targets.{IsTargetOf}
 use Rattle.kb_link.specs.World.{World}
+use Rattle.kb_semantics.specs.Inputs.{IsTypeCorrect}
 use Rattle.kb_test.specs.declared.test_case.Test.{Test}
 use Rattle.kb_world.specs.Reach.{IsAccepted}
 use Rattle.kb_replay.specs.declared.checks.ReplayStop.{ReplayStop}
@@ -57,3 +59,11 @@ accepted_among world (other ∷ others) id are (inr among) = accepted_among worl
 pub accepted_more : (world : World) (ids : List MethodId) (id : MethodId) → AreAccepted world ids → IsAccepted world id → AreAccepted world (ids ++ id ∷ [])
 accepted_more world [] id are is = (is, tt)
 accepted_more world (other ∷ others) id are is = (are.0, accepted_more world others id are.1 is)
+
+-- the method that reach gives is the one that the target names
+pub runnable_here : (world : World) (test : Test) (named id : MethodId) → ((other : MethodId) → IsTargetOf world test.target other → other ≡ named)
+    → IsTypeCorrect world named test.input → IsTargetOf world test.target id → IsAccepted world id → IsRunnable world test id
+runnable_here world test named id alone correct found accepted = record {
+  fit = record { found = found; correct = subst (λ (i : MethodId). IsTypeCorrect world i test.input) (sym (alone id found)) correct };
+  accepted = accepted;
+}

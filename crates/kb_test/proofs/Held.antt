@@ -21,7 +21,7 @@ use Rattle.kb_test.specs.declared.test_case.Test.{Test}
 use Rattle.kb_test.specs.Words.{IsWord, AreWords, AreWordLists, is_below, word_below, words_below}
 use Rattle.kb_test.specs.Lines.{AreListed, IsExact, IsOutcome, listed_below, outcome_below}
 use Rattle.kb_test.specs.Scripts.{limits_of, IsScript, AreScripts}
-use Rattle.kb_test.specs.Tests.{number_of, value_of, values_of, objects_of, last_objects, ending_of, literal_objects, string_object, test_of, tests_of, SpellsTests, IsValue, AreValues, AreObjects, kinds_of, IsEnding, IsTest, AreTests}
+use Rattle.kb_test.specs.Tests.{number_of, value_of, values_of, object_of, objects_of, last_objects, ending_of, literal_objects, string_object, test_of, tests_of, SpellsTests, IsValue, AreValues, AreObjects, kinds_of, IsEnding, IsTest, AreTests}
 use Rattle.kb_test.proofs.Steps.{both, AreBelow, are_below}
 use Rattle.kb_test.proofs.OneText.{last_many}
 
@@ -120,10 +120,10 @@ module _ (literals : ℕ) (script : Script) (is : IsScript literals script) wher
   many = last_many count literals script.inputs script.outs is.as_many
 
   all_of : length heap ≡ total count literals (length script.news)
-  all_of = omega (arith, many, length-append last (literal_objects literals ++ made), length-append (literal_objects literals) made, length-replicate literals string_object, length-map script.news _)
+  all_of = omega (arith, many, length-append last (literal_objects literals ++ made), length-append (literal_objects literals) made, length-replicate literals string_object, length-map script.news (object_of count literals))
 
   inputs_are : length (objects_of count literals script.inputs) ≡ count
-  inputs_are = length-map script.inputs _
+  inputs_are = length-map script.inputs (object_of count literals)
 
   in_front : take count heap ≡ last
   in_front = ap (λ (n : ℕ). take n heap) (sym many) ∙ take-append_seam last (literal_objects literals ++ made)

@@ -1,5 +1,5 @@
 -- The text of tests, path by path.
-use Rattle.std.proofs.Common.{◌≡◌, ℕ, ◌≤◌, ◌-◌, List, [], ◌∷◌, ◌++◌, length, take, drop, get_or, sym, ◌∙◌, ap, subst, arith, append_assoc, append-nil}
+use Rattle.std.proofs.Common.{◌≡◌, ℕ, ◌<◌, ◌≤◌, ◌-◌, List, [], ◌∷◌, ◌++◌, length, take, drop, get_or, sym, ◌∙◌, ap, subst, arith, append_assoc, append-nil}
 use Rattle.std.proofs.lemmas.List.{take_all}
 use Rattle.kiasan.specs.declared.path.Path.{Path}
 use Rattle.kiasan.specs.declared.report.Report.{Report}
@@ -27,9 +27,10 @@ pub record IsBehind (literals : ℕ) (all rest : List Test) (text : List ℕ) : 
 pub none_behind : (literals : ℕ) (all : List Test) (text : List ℕ) → AreTests literals all → text ≡ [] → IsBehind literals all all text
 none_behind literals all text are none = record { are = are; goes_on = λ more spells. subst (λ (t : List ℕ). SpellsTests literals all (t ++ more)) (sym none) spells }
 
-pub all_behind : (literals : ℕ) (all rest : List Test) (text : List ℕ) → IsBehind literals all rest text → rest ≡ [] → SpellsTests literals all text
-all_behind literals all rest text at none =
-    subst (SpellsTests literals all) (append-nil text) (at.goes_on [] (subst (λ (ts : List Test). SpellsTests literals ts []) (sym none) (no_tests literals)))
+pub all_behind : (literals : ℕ) (world : World) (report : Report) (all : List Test) (rest : List Path) (text : List ℕ) → length rest < 1 → IsBehind literals all (tests_on world report rest) text →
+    SpellsTests literals all text
+all_behind literals world report all [] text end at = subst (SpellsTests literals all) (append-nil text) (at.goes_on [] (no_tests literals))
+all_behind literals world report all (path ∷ rest) text end at = absurd (omega (arith, end))
 
 -- the tests of one path are written
 more_behind : (literals : ℕ) (all xs ys : List Test) (text new : List ℕ) → IsBehind literals all (xs ++ ys) text → Appends literals xs text new → IsBehind literals all ys new
