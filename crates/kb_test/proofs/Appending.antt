@@ -120,8 +120,10 @@ pub run_parts : (inputs literals : ℕ) (objects : List Object) (ending : Ending
     → (((old ++ ending_text inputs literals ending) ++ 10 ∷ []) ++ lines_text (texts_of (out_lines 0 (outs_of inputs literals objects)))) ++ lines_text (texts_of (new_lines 0 (news_of inputs literals objects)))
     ≡ old ++ run_text inputs literals ending objects
 run_parts inputs literals objects ending old =
-    rw (texts_of-++ (out_lines 0 (outs_of inputs literals objects)) (new_lines 0 (news_of inputs literals objects)),
-    lines_text-++ (texts_of (out_lines 0 (outs_of inputs literals objects))) (texts_of (new_lines 0 (news_of inputs literals objects)))) (simp append_assoc)
+    rw (
+      texts_of-++ (out_lines 0 (outs_of inputs literals objects)) (new_lines 0 (news_of inputs literals objects)),
+      lines_text-++ (texts_of (out_lines 0 (outs_of inputs literals objects))) (texts_of (new_lines 0 (news_of inputs literals objects))),
+    ) (simp append_assoc)
 
 -- ---- what was there stays in front
 
