@@ -23,7 +23,13 @@ use Rattle.kb_picture.specs.Instances.{variable_values}
 use Rattle.kb_picture.specs.Endings.{Reading, out_value}
 use Rattle.kb_frames.specs.declared.value.SymValue.{SymValue}
 use Rattle.kb_frames.specs.declared.value.SymValue.TheVariants.{Int, Null, Obj, Literal, New, Loc}
-use Rattle.kb_frames.specs.State.{SymFrame, Cell, Untouched, Read, Written, SymObject, Stage, Begins, Runs, State, cell_at}
+use Rattle.kb_frames.specs.declared.value.Cell.{Cell}
+use Rattle.kb_frames.specs.declared.value.Cell.TheVariants.{Untouched, Read, Written}
+use Rattle.kb_frames.specs.declared.frame.SymFrame.{SymFrame}
+use Rattle.kb_frames.specs.declared.state.SymObject.{SymObject}
+use Rattle.kb_frames.specs.declared.state.Stage.{Stage}
+use Rattle.kb_frames.specs.declared.state.Stage.TheVariants.{Begins, Runs}
+use Rattle.kb_frames.specs.State.{State, cell_at}
 
 -- ---- values
 

@@ -31,3 +31,14 @@ pub enum Outcome {
     /// The run, or its input, goes beyond the bound.
     Cut(Bound),
 }
+
+/// What a slot or an element of an object of the picture holds.
+#[derive(Clone, Copy, Debug, PartialEq, Eq)]
+pub(crate) enum Cell {
+    /// As at the start of the run, and not known.
+    Untouched,
+    /// As at the start, and seen so.
+    Read(SymValue),
+    /// The last value that the run wrote there.
+    Written(SymValue),
+}

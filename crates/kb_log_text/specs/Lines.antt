@@ -7,10 +7,10 @@ use Rattle.kb_chain.specs.declared.log.Chain.{Chain}
 use Rattle.kb_chain.specs.declared.log.Log.{Log}
 
 unfoldable pub step_text : ℕ × ℕ → List ℕ
-step_text step = codes " " ++ decimal step.0 ++ codes " " ++ decimal step.1
+step_text step = codes " " ++ (decimal step.0 ++ (codes " " ++ decimal step.1))
 
 unfoldable pub learn_line : Chain → List ℕ
-learn_line chain = codes "learn " ++ decimal chain.start ++ flat_map step_text chain.steps
+learn_line chain = codes "learn " ++ (decimal chain.start ++ flat_map step_text chain.steps)
 
 -- the lines of a log, in the order of its entries
 abbrev pub learn_lines : Log → List (List ℕ)

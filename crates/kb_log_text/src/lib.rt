@@ -2,8 +2,12 @@
 //! of the logic know no texts.
 #![tactic(auto)]
 
+mod law;
+#[cfg(test)]
+mod tests;
 mod writing;
 
+pub use law::one_log_of_a_text;
 use std::alloc::AllocError;
 pub use writing::write_log;
 

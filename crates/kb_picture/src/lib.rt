@@ -9,6 +9,8 @@
 mod choice;
 mod path;
 mod picture;
+#[cfg(test)]
+mod tests;
 
 pub use choice::{Choice, Init};
 pub use kb_rows::Row;

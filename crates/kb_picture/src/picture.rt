@@ -1,7 +1,10 @@
 //! Pictures: what is known of the first heap of an unknown input.
+ghost use Rattle.std.specs.Prelude.{◌≡◌, [], IfOk};
 
+use crate::NoMemory;
 use kb_names::ExactType;
 use kb_rows::Row;
+use std::alloc::Global;
 
 /// A slot of an input's first heap.
 #[derive(Clone, Copy, Debug, PartialEq, Eq)]
@@ -57,6 +60,33 @@ pub struct PicObject {
     pub origin: Origin,
 }
 
+impl PicObject {
+    /// Another object that equals this one.
+    pub fn copied(&self, alloc: Global) -> Result<PicObject, NoMemory>
+        ensures { IfOk result (λ copy. copy ≡ self.now) }
+    {
+        let Ok(kind) = self.kind.copied(alloc) else {
+            return Err(NoMemory);
+        };
+        Ok(PicObject {
+            kind,
+            length: self.length,
+            origin: self.origin,
+        })
+    }
+}
+
+// Another row of equal objects.
+fn copied_objects(alloc: Global, objects: &[PicObject]) -> Result<Row<PicObject>, NoMemory>
+    ensures { IfOk result (λ copy. copy ≡ objects.now) }
+{
+    let mut copy = Row::new(alloc);
+    for object in objects {
+        copy.push(object.copied(alloc)?)?;
+    }
+    Ok(copy)
+}
+
 /// A location: the slot that it was read from, and which object it is.
 #[derive(Clone, Copy, Debug, PartialEq, Eq)]
 pub struct PicLoc {
@@ -71,6 +101,33 @@ pub struct Picture {
     pub seen: Row<(Origin, Seen)>,
     pub locs: Row<PicLoc>,
     pub objects: Row<PicObject>,
+}
+
+impl Picture {
+    /// The picture of which nothing is known. It takes no memory.
+    pub fn new(alloc: Global) -> Picture
+        ensures { result ≡ record { seen = []; locs = []; objects = [] } }
+    {
+        Picture {
+            seen: Row::new(alloc),
+            locs: Row::new(alloc),
+            objects: Row::new(alloc),
+        }
+    }
+
+    /// Another picture that equals this one.
+    pub fn copied(&self, alloc: Global) -> Result<Picture, NoMemory>
+        ensures { IfOk result (λ copy. copy ≡ self.now) }
+    {
+        let seen = self.seen.as_slice().to_vec(alloc)?;
+        let locs = self.locs.as_slice().to_vec(alloc)?;
+        let objects = copied_objects(alloc, self.objects.as_slice())?;
+        Ok(Picture {
+            seen: Row::from_vec(seen),
+            locs: Row::from_vec(locs),
+            objects,
+        })
+    }
 }
 
 /// For each object and each location of a picture the object of an input that it is.

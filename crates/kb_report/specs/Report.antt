@@ -27,12 +27,12 @@ unfoldable pub target_line : Target → List ℕ
 target_line target = codes "target " ++ target_text target
 
 unfoldable pub run_bounds_text : RunBounds → List ℕ
-run_bounds_text run = codes " alloc " ++ decimal run.alloc ++ codes " loops " ++ decimal run.loops ++ codes " depth " ++ decimal run.depth
-    ++ codes " steps " ++ decimal run.steps
+run_bounds_text run = codes " alloc " ++ (decimal run.alloc ++ (codes " loops " ++ (decimal run.loops ++ (codes " depth " ++ (decimal run.depth
+    ++ (codes " steps " ++ decimal run.steps))))))
 
 unfoldable pub settings_line : Init → Bounds → ℕ → ℕ → List ℕ
-settings_line init bounds paths budget = codes "init " ++ init_name init ++ codes " k " ++ decimal bounds.k ++ codes " array " ++ decimal bounds.array
-    ++ run_bounds_text bounds.run ++ codes " paths " ++ decimal paths ++ codes " budget " ++ decimal budget
+settings_line init bounds paths budget = codes "init " ++ (init_name init ++ (codes " k " ++ (decimal bounds.k ++ (codes " array " ++ (decimal bounds.array
+    ++ (run_bounds_text bounds.run ++ (codes " paths " ++ (decimal paths ++ (codes " budget " ++ decimal budget)))))))))
 
 unfoldable pub head_lines : Report → List (List ℕ)
 head_lines report = title_line ∷ target_line report.target ∷ settings_line report.init report.bounds report.paths report.budget ∷ []
@@ -58,14 +58,14 @@ count_of kind paths = count_by (λ (path : Path). same_kind kind (kind_of path.l
 
 -- how many paths there are, and how many of each kind
 unfoldable pub total_line : List Path → List ℕ
-total_line paths = codes "total " ++ decimal (length paths) ++ codes " ended " ++ decimal (count_of EndedKind paths)
-    ++ codes " cut " ++ decimal (count_of CutKind paths) ++ codes " undecided " ++ decimal (count_of UndecidedKind paths)
-    ++ codes " open " ++ decimal (count_of OpenKind paths)
+total_line paths = codes "total " ++ (decimal (length paths) ++ (codes " ended " ++ (decimal (count_of EndedKind paths)
+    ++ (codes " cut " ++ (decimal (count_of CutKind paths) ++ (codes " undecided " ++ (decimal (count_of UndecidedKind paths)
+    ++ (codes " open " ++ decimal (count_of OpenKind paths)))))))))
 
 -- ---- the whole
 
 unfoldable pub report_lines : World → Report → List (List ℕ)
-report_lines world report = head_lines report ++ flat_map (path_lines world) report.leaves ++ total_line report.leaves ∷ []
+report_lines world report = head_lines report ++ (flat_map (path_lines world) report.leaves ++ total_line report.leaves ∷ [])
 
 -- The text of a report on a method of the world.
 unfoldable pub report_text : World → Report → List ℕ

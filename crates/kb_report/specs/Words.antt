@@ -1,6 +1,6 @@
 -- How the parts of a line are written: slots, what they are seen to hold, operands, values, types, bounds. Each has one spelling.
 -- They stand in reports and in drawings of heaps.
-use Rattle.std.specs.Prelude.{ℕ, Bool, nat_lt, List, [], ◌++◌, codes, count_by, Option, Some, None, option_and_then, slice_get, if◌then◌else◌}
+use Rattle.std.specs.Prelude.{ℕ, Bool, true, false, nat_lt, List, [], ◌++◌, codes, count_by, Option, Some, None, option_and_then, slice_get}
 use Rattle.std.specs.Option.{option_map_or}
 use Rattle.std.specs.Fmt.{decimal, signed_decimal}
 use Rattle.std.specs.Str.{bytes_eq}
@@ -19,6 +19,7 @@ use Rattle.kb_names.specs.Targets.{target_text}
 use Rattle.kb_names.specs.declared.class_names.Spelling.TheVariants.{Escaped}
 use Rattle.kb_names.specs.declared.types.ExactType.{ExactType}
 use Rattle.kb_names.specs.declared.types.ExactType.TheVariants as exact
+use Rattle.kb_names.specs.declared.types.JType.{JType}
 use Rattle.kb_semantics.specs.Config.{class_name}
 use Rattle.kb_semantics.specs.Values.{slots_of_class}
 use Rattle.kb_terms.specs.Op.{op_name}
@@ -48,7 +49,7 @@ exact_text (exact.Array component) = codes "[" ++ type_text Escaped component
 
 -- an instruction: its method and its offset
 unfoldable pub place_text : Place → List ℕ
-place_text place = target_text place.method ++ codes " " ++ decimal place.at
+place_text place = target_text place.method ++ (codes " " ++ decimal place.at)
 
 unfoldable pub bound_name : Bound → List ℕ
 bound_name K = codes "k"
@@ -72,10 +73,14 @@ fields_named name class = count_by (λ (field : FieldInfo). bytes_eq name field.
 abbrev pub has_namesake : World → FieldSlot → Bool
 has_namesake world field = nat_lt 1 (option_map_or (fields_named field.name) (slice_get world.classes field.class.0) 0)
 
+-- the descriptor behind a field's name, where the name alone does not tell it
+abbrev pub kind_text : Bool → JType → List ℕ
+kind_text true kind = codes ":" ++ type_text Escaped kind
+kind_text false kind = []
+
 -- a field by the class that declares it and its name, and by its descriptor where it has a namesake there
 unfoldable pub field_text : World → FieldSlot → List ℕ
-field_text world field = name_text (class_name world field.class.0) ++ codes "." ++ name_text field.name
-    ++ if has_namesake world field then codes ":" ++ type_text Escaped field.kind else []
+field_text world field = name_text (class_name world field.class.0) ++ (codes "." ++ (name_text field.name ++ kind_text (has_namesake world field) field.kind))
 
 -- the field of that slot of an object of the exact type, where there is one
 abbrev pub field_of_type : World → ℕ → ExactType → Option FieldSlot
@@ -88,8 +93,8 @@ field_of world objects object slot = option_and_then (λ (o : PicObject). field_
 -- a slot: an argument, a field or an element of an object of the picture; where there is no such field, nothing behind the dot
 unfoldable pub slot_text : World → List PicObject → Origin → List ℕ
 slot_text world objects (Arg number) = codes "a" ++ decimal number
-slot_text world objects (Field object slot) = codes "o" ++ decimal object ++ codes "." ++ option_map_or (field_text world) (field_of world objects object slot) []
-slot_text world objects (Element array index) = codes "o" ++ decimal array ++ codes "[" ++ decimal index ++ codes "]"
+slot_text world objects (Field object slot) = codes "o" ++ (decimal object ++ (codes "." ++ option_map_or (field_text world) (field_of world objects object slot) []))
+slot_text world objects (Element array index) = codes "o" ++ (decimal array ++ (codes "[" ++ (decimal index ++ codes "]")))
 
 unfoldable pub seen_text : Seen → List ℕ
 seen_text (seens.Int number) = codes "v" ++ decimal number
@@ -123,7 +128,7 @@ second_text (Some operand) = codes " " ++ operand_text operand
 
 -- an operation and its operands, the left one first
 unfoldable pub term_text : Term → List ℕ
-term_text term = op_name term.op ++ codes " " ++ operand_text term.left ++ second_text term.right
+term_text term = op_name term.op ++ (codes " " ++ (operand_text term.left ++ second_text term.right))
 
 -- a stated value; a location that is bound comes in no well-formed path: it is stated as its object
 unfoldable pub out_text : Out → List ℕ

@@ -90,7 +90,7 @@ fn write_ended(
     objects: &[PicObject],
     ended: &Ended,
 ) -> Result<(), NoMemory>
-    ensures { OnOk result (text.new ≡ text.old ++ lines_text (map (set_line world.now objects.now) ended.now.writes ++ numbered_lines new_line 0 ended.now.made ++ input_lines ended.now.input)) }
+    ensures { OnOk result (text.new ≡ text.old ++ lines_text (map (set_line world.now objects.now) ended.now.writes ++ (numbered_lines new_line 0 ended.now.made ++ input_lines ended.now.input))) }
 {
     write_writes(text, world, objects, ended.writes.as_slice())?;
     write_made(text, ended.made.as_slice())?;
