@@ -80,14 +80,16 @@ impl SymCallers {
         ensures { IfOk result (λ copy. copy ≡ self.now) }
     {
         let frames = copied_frames(alloc, self.frames.as_slice())?;
-        Ok(SymCallers { frames })
+        Ok(SymCallers {
+            frames: frames.into_vec(),
+        })
     }
 }
 
-fn copied_frames(alloc: Global, frames: &[SymFrame]) -> Result<Vec<SymFrame>, NoMemory>
-    ensures { IfOk result (λ copy. copy.items ≡ frames.now) }
+fn copied_frames(alloc: Global, frames: &[SymFrame]) -> Result<Row<SymFrame>, NoMemory>
+    ensures { IfOk result (λ copy. copy ≡ frames.now) }
 {
-    let mut copy = Vec::new(alloc);
+    let mut copy = Row::new(alloc);
     for frame in frames {
         copy.push(frame.copied(alloc)?)?;
     }

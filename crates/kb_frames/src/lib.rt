@@ -5,6 +5,8 @@
 
 mod frame;
 mod state;
+#[cfg(test)]
+mod tests;
 mod value;
 
 pub use state::{SymState, start};

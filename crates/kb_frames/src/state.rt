@@ -110,7 +110,6 @@ impl Model for SymState {
 }
 
 /// The state before the arguments are read: it stands for the beginning of each run of the method. Nothing is read of the world.
-#[tactic(auto, using(crate::proofs::StartLaws::start_stands))]
 pub fn start(
     alloc: Global,
     _world: &World,
@@ -120,10 +119,16 @@ pub fn start(
     ensures state { IfOk result (λ s. s ≡ start_state init target) }
     ensures stands { IfOk result (λ s. (bounds : RunBounds) (input : PlainInput) → IsTypeCorrect _world.now target input → StandsFor (record { world = _world.now; bounds = bounds }) s input (start_of _world.now target input)) }
 {
-    Ok(SymState {
+    Ok(first_state(alloc, target, init))
+}
+
+fn first_state(alloc: Global, method: MethodId, init: Init) -> SymState
+    ensures { result ≡ start_state init method }
+{
+    SymState {
         alloc,
         init,
-        method: target,
+        method,
         stage: Stage::Begins(Row::new(alloc)),
         carried: 0,
         picture: Picture::new(alloc),
@@ -131,7 +136,7 @@ pub fn start(
         made: Row::new(alloc),
         pool: Pool::new(alloc),
         when: Row::new(alloc),
-    })
+    }
 }
 
 impl SymState {

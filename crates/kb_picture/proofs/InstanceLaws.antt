@@ -1,5 +1,5 @@
 -- Laws of instances: an instance of a path is one of the path with any front of its conditions.
-use Rattle.std.proofs.Common.{ℕ, zero, suc, ℤ, Bool, List, [], ◌∷◌, take, tt}
+use Rattle.std.proofs.Common.{ℕ, zero, suc, ℤ, Bool, List, [], ◌∷◌, take}
 use Rattle.kb_blast.specs.Meaning.{AreMet}
 use Rattle.kb_class.specs.declared.ids.MethodId.{MethodId}
 use Rattle.kb_heap.specs.declared.heap.Input.{Input}

@@ -1,13 +1,12 @@
 -- How deep the objects of a picture lie: an object that an argument holds has the depth 1, another one that of the object that
 -- holds it and one more (the bound on chains of references is that of Deng, Lee and Robby, ASE 2006; counting from 1 is own).
-use Rattle.std.specs.Prelude.{ℕ, suc, ◌<◌, ◌≡◌, ◌⊎◌, List, [], ◌∷◌, ◌++◌, fold, Some, slice_get}
+use Rattle.std.specs.Prelude.{ℕ, suc, ◌<◌, ◌⊎◌, List, [], ◌∷◌, ◌++◌, fold}
 use Rattle.std.specs.List.{slice_index_or}
 use Rattle.kb_class.specs.Naming.{Has}
 use Rattle.kb_picture.specs.declared.picture.Origin.{Origin}
 use Rattle.kb_picture.specs.declared.picture.Origin.TheVariants.{Arg, Field, Element}
 use Rattle.kb_picture.specs.declared.picture.Seen.TheVariants as seens
 use Rattle.kb_picture.specs.declared.picture.Standing.TheVariants as standings
-use Rattle.kb_picture.specs.declared.picture.PicLoc.{PicLoc}
 use Rattle.kb_picture.specs.declared.picture.PicObject.{PicObject}
 use Rattle.kb_picture.specs.declared.picture.Picture.{Picture}
 

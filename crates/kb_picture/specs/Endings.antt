@@ -1,6 +1,6 @@
 -- What an ended path states of each of its instances: how the run ends, and the whole heap that it leaves (symbolic values give
 -- the run's own when the input's are put in their places: King, 1976).
-use Rattle.std.specs.Prelude.{ℕ, ◌+◌, ℤ, pos, List, [], ◌∷◌, ◌++◌, length, map, fold, replicate, Option, option_map}
+use Rattle.std.specs.Prelude.{ℕ, ◌+◌, ℤ, List, ◌++◌, length, map, fold, replicate, option_map}
 use Rattle.std.specs.List.{slice_index_or}
 use Rattle.kb_blast.specs.Meaning.{operand_value}
 use Rattle.kb_heap.specs.declared.heap.Value.{Value}

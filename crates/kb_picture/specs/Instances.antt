@@ -1,6 +1,6 @@
 -- The instances of a path: the inputs whose first heap has the path's shape and whose ints meet its conditions (the path condition
 -- of symbolic execution: King, 1976).
-use Rattle.std.specs.Prelude.{ℕ, ℤ, pos, List, take, Option, Some, None, slice_get}
+use Rattle.std.specs.Prelude.{ℕ, ℤ, pos, List, take, Option, Some, None}
 use Rattle.std.specs.List.{filter_map}
 use Rattle.std.specs.Option.{option_map_or}
 use Rattle.kb_blast.specs.Meaning.{listed_values, AreMet}
@@ -10,7 +10,6 @@ use Rattle.kb_heap.specs.declared.heap.Input.{Input}
 use Rattle.kb_link.specs.World.{World}
 use Rattle.kb_semantics.specs.Inputs.{IsTypeCorrect}
 use Rattle.kb_semantics.specs.Operands.{int_of}
-use Rattle.kb_picture.specs.declared.picture.Origin.{Origin}
 use Rattle.kb_picture.specs.declared.picture.Seen.{Seen}
 use Rattle.kb_picture.specs.declared.picture.Seen.TheVariants.{Int, Null, Loc, Obj, Beyond}
 use Rattle.kb_picture.specs.declared.picture.Picture.{Picture}

@@ -1,8 +1,7 @@
 -- What is asked of a path's conditions: whether they can all hold. The kinds of the variables are told by the types of their
 -- slots (JVMS 8 section 2.3.4: a boolean is 0 or 1), and the conditions' terms are the first ones of the path.
-use Rattle.std.specs.Prelude.{ℕ, List, [], length, take, Option, Some, None, slice_get, option_map, option_and_then}
+use Rattle.std.specs.Prelude.{ℕ, List, length, take, Option, Some, None, slice_get, option_map, option_and_then}
 use Rattle.std.specs.List.{filter_map}
-use Rattle.std.specs.Option.{option_map_or}
 use Rattle.kb_blast.specs.Query.{Query}
 use Rattle.kb_class.specs.declared.ids.MethodId.{MethodId}
 use Rattle.kb_link.specs.World.{World}

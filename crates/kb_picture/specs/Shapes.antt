@@ -1,7 +1,7 @@
 -- Which inputs have the shape of a picture: what a picture says of the first heap, apart from the values of its ints (the
 -- partially known heaps of lazy initialisation: Khurshid, Păsăreanu and Visser, TACAS 2003; objects that are known to be there
 -- and not yet which: Deng, Lee and Robby, ASE 2006).
-use Rattle.std.specs.Prelude.{◌≡◌, ◌≢◌, ℕ, ◌<◌, ℤ, List, [], ◌∷◌, length, Option, Some, None, slice_get}
+use Rattle.std.specs.Prelude.{◌≡◌, ◌≢◌, ℕ, ◌<◌, ℤ, List, [], ◌∷◌, length, Option, Some, slice_get}
 use Rattle.kb_heap.specs.declared.heap.Value.{Value}
 use Rattle.kb_heap.specs.declared.heap.Value.TheVariants.{Int as IntValue, Null as NullValue, Ref}
 use Rattle.kb_heap.specs.declared.heap.Object.{Object}

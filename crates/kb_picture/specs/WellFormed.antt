@@ -1,7 +1,7 @@
 -- When a path is well-formed in a world and for a method of it: what it names is there, and everything stands in its order. The
 -- arguments that are there are those of the method, the slots those of the world's classes (The Java Virtual Machine
 -- Specification, Java SE 8 Edition, sections 2.6.1 and 2.7; that literals are numbered in the order of their bytes is an own rule).
-use Rattle.std.specs.Prelude.{◌≡◌, ◌≢◌, ◌⊎◌, ℕ, suc, ◌+◌, ◌<◌, ◌≤◌, Bool, true, false, List, [], ◌∷◌, length, take, map, Option, Some, None, slice_get}
+use Rattle.std.specs.Prelude.{◌≡◌, ◌≢◌, ◌⊎◌, ℕ, suc, ◌<◌, ◌≤◌, Bool, true, false, List, length, take, map, Option, Some, None, slice_get}
 use Rattle.std.specs.List.{filter_map}
 use Rattle.kb_blast.specs.Meaning.{OperandFits, IsComparison}
 use Rattle.kb_class.specs.Naming.{Has}
