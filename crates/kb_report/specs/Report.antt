@@ -30,9 +30,14 @@ unfoldable pub run_bounds_text : RunBounds → List ℕ
 run_bounds_text run = codes " alloc " ++ (decimal run.alloc ++ (codes " loops " ++ (decimal run.loops ++ (codes " depth " ++ (decimal run.depth
     ++ (codes " steps " ++ decimal run.steps))))))
 
+unfoldable pub bounds_text : Bounds → List ℕ
+bounds_text bounds = codes " k " ++ (decimal bounds.k ++ (codes " array " ++ (decimal bounds.array ++ run_bounds_text bounds.run)))
+
+unfoldable pub limits_text : ℕ → ℕ → List ℕ
+limits_text paths budget = codes " paths " ++ (decimal paths ++ (codes " budget " ++ decimal budget))
+
 unfoldable pub settings_line : Init → Bounds → ℕ → ℕ → List ℕ
-settings_line init bounds paths budget = codes "init " ++ (init_name init ++ (codes " k " ++ (decimal bounds.k ++ (codes " array " ++ (decimal bounds.array
-    ++ (run_bounds_text bounds.run ++ (codes " paths " ++ (decimal paths ++ (codes " budget " ++ decimal budget)))))))))
+settings_line init bounds paths budget = codes "init " ++ (init_name init ++ (bounds_text bounds ++ limits_text paths budget))
 
 unfoldable pub head_lines : Report → List (List ℕ)
 head_lines report = title_line ∷ target_line report.target ∷ settings_line report.init report.bounds report.paths report.budget ∷ []
@@ -56,11 +61,14 @@ same_kind _ _ = false
 abbrev pub count_of : LeafKind → List Path → ℕ
 count_of kind paths = count_by (λ (path : Path). same_kind kind (kind_of path.leaf)) paths
 
+-- how many paths there are of each kind
+unfoldable pub kinds_text : List Path → List ℕ
+kinds_text paths = codes " ended " ++ (decimal (count_of EndedKind paths) ++ (codes " cut " ++ (decimal (count_of CutKind paths)
+    ++ (codes " undecided " ++ (decimal (count_of UndecidedKind paths) ++ (codes " open " ++ decimal (count_of OpenKind paths)))))))
+
 -- how many paths there are, and how many of each kind
 unfoldable pub total_line : List Path → List ℕ
-total_line paths = codes "total " ++ (decimal (length paths) ++ (codes " ended " ++ (decimal (count_of EndedKind paths)
-    ++ (codes " cut " ++ (decimal (count_of CutKind paths) ++ (codes " undecided " ++ (decimal (count_of UndecidedKind paths)
-    ++ (codes " open " ++ decimal (count_of OpenKind paths)))))))))
+total_line paths = codes "total " ++ (decimal (length paths) ++ kinds_text paths)
 
 -- ---- the whole
 

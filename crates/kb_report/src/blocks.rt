@@ -11,7 +11,7 @@ use kb_picture::{Origin, Path, PicLoc, PicObject, Picture, Seen, Term};
 use kb_world::World;
 
 /// The block of a path.
-#[tactic(auto, unfolding(crate::specs::Blocks::path_lines))]
+#[tactic(auto, using(crate::proofs::TextLaws::lines_joined), unfolding(crate::specs::Blocks::path_lines))]
 pub(crate) fn write_path(text: &mut Text, world: &World, path: &Path) -> Result<(), NoMemory>
     ensures { OnOk result (text.new ≡ text.old ++ lines_text (path_lines world.now path.now)) }
 {
@@ -48,7 +48,7 @@ fn write_further(text: &mut Text, decisions: &[u32]) -> Result<(), NoMemory>
     Ok(())
 }
 
-#[tactic(auto, unfolding(crate::specs::Blocks::picture_lines))]
+#[tactic(auto, using(crate::proofs::TextLaws::lines_joined), unfolding(crate::specs::Blocks::picture_lines))]
 fn write_picture(text: &mut Text, world: &World, picture: &Picture) -> Result<(), NoMemory>
     ensures { OnOk result (text.new ≡ text.old ++ lines_text (picture_lines world.now picture.now)) }
 {

@@ -12,7 +12,7 @@ use kb_picture::{Ended, Leaf, Made, Out, PicObject, SymEnding, Write};
 use kb_world::World;
 
 /// The lines of a leaf.
-#[tactic(auto, unfolding(crate::specs::Blocks::leaf_lines))]
+#[tactic(auto, using(crate::proofs::TextLaws::lines_joined), unfolding(crate::specs::Blocks::leaf_lines))]
 pub(crate) fn write_leaf(
     text: &mut Text,
     world: &World,
@@ -84,6 +84,7 @@ fn write_further_lines(
 }
 
 // What an ended path wrote and made, and its input.
+#[tactic(auto, using(crate::proofs::TextLaws::lines_joined))]
 fn write_ended(
     text: &mut Text,
     world: &World,
@@ -159,7 +160,7 @@ fn write_outs(text: &mut Text, outs: &[Out]) -> Result<(), NoMemory>
     Ok(())
 }
 
-#[tactic(auto, unfolding(crate::specs::Blocks::input_lines))]
+#[tactic(auto, using(crate::proofs::TextLaws::lines_joined), unfolding(crate::specs::Blocks::input_lines))]
 fn write_input(text: &mut Text, input: &Input) -> Result<(), NoMemory>
     ensures { OnOk result (text.new ≡ text.old ++ lines_text (input_lines input.now)) }
 {

@@ -7,6 +7,7 @@ ghost use Rattle.kb_names.specs.Escapes.{name_text};
 ghost use Rattle.std.specs.Option.{option_copied, option_map_or};
 ghost use Rattle.kb_report.specs.Words.{exact_text, place_text, bound_name, fields_named, has_namesake, field_text, field_of_type, field_of, slot_text, seen_text, standing_text, length_text, operand_text, second_text, term_text, out_text, value_text};
 ghost use Rattle.kb_semantics.specs.Config.{class_name};
+ghost use Rattle.kb_semantics.specs.Values.{slots_of_class};
 
 use crate::NoMemory;
 use crate::text::Text;
@@ -102,15 +103,23 @@ fn write_field(text: &mut Text, world: &World, field: &FieldSlot) -> Result<(), 
     text.descriptor(&field.kind)
 }
 
+// The slots of objects of the class; none where there is no such class.
+#[tactic(auto, using(kb_link::proofs::Named::number_inside))]
+fn slots_of_class<'a>(world: &'a World, name: &Name) -> &'a [FieldSlot]
+    ensures { result.now ≡ slots_of_class world.now name.now }
+{
+    match world.class_named(name) {
+        Some(class) => world.fields_of(class),
+        None => &[],
+    }
+}
+
 // The field of that slot of an object of the exact type.
 fn field_of_type<'a>(world: &'a World, slot: u32, kind: &ExactType) -> Option<&'a FieldSlot>
     ensures { option_copied result ≡ field_of_type world.now slot kind.now }
 {
     match kind {
-        ExactType::Class(name) => {
-            let class = world.class_named(name)?;
-            world.fields_of(class).get(slot as usize)
-        }
+        ExactType::Class(name) => slots_of_class(world, name).get(slot as usize),
         ExactType::Array(_) => None,
     }
 }

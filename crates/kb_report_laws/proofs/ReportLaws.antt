@@ -26,7 +26,7 @@ use Rattle.kb_report.specs.declared.kinds.LeafKind.{LeafKind}
 use Rattle.kb_report.specs.declared.kinds.LeafKind.TheVariants.{Ended as EndedKind, Cut as CutKind, Undecided as UndecidedKind, Open as OpenKind}
 use Rattle.kb_report.specs.Words.{init_name}
 use Rattle.kb_report.specs.Blocks.{numbered_lines, path_line, see_line, loc_line, obj_line, picture_lines, let_line, when_line, set_line, new_line, arg_line, in_line, input_lines, leaf_line, further_lines, leaf_lines, path_lines}
-use Rattle.kb_report.specs.Report.{title_line, target_line, run_bounds_text, settings_line, head_lines, kind_of, same_kind, count_of, total_line, report_lines, report_text}
+use Rattle.kb_report.specs.Report.{title_line, target_line, run_bounds_text, bounds_text, limits_text, settings_line, head_lines, kind_of, same_kind, count_of, kinds_text, total_line, report_lines, report_text}
 use Rattle.kb_report_laws.specs.Ranges.{IsSmall, ValueFits, InputObjectFits, InputFits, LocFits, TermFits, ConditionFits, MadeFits, LeafFits, BoundsFit, ReportFits, WorldFits}
 use Rattle.kb_report_laws.specs.OneText.{IsSound}
 use Rattle.kb_report_laws.proofs.Lacking.{digits_lack, count_lacks, target_lacks, lacks_is, space, line_feed}
@@ -94,7 +94,7 @@ abbrev after_init : Bounds → ℕ → ℕ → List ℕ
 after_init bounds paths budget = codes "k " ++ (decimal bounds.k ++ 32 ∷ after_k bounds paths budget)
 
 settings_is : (init : Init) (bounds : Bounds) (paths budget : ℕ) → settings_line init bounds paths budget ≡ codes "init " ++ (init_name init ++ 32 ∷ after_init bounds paths budget)
-unfolding settings_line run_bounds_text
+unfolding settings_line bounds_text limits_text run_bounds_text
 settings_is init bounds paths budget = simp append_assoc
 
 init_lacks : (init : Init) → Lacks 32 (init_name init)
@@ -171,7 +171,7 @@ few_counted : (kind : LeafKind) (paths : List Path) → length paths < 2 ^ 64 �
 few_counted kind paths few = omega (arith, few, count_by-le-length (λ (path : Path). same_kind kind (kind_of path.leaf)) paths)
 
 total_lacks : (paths : List Path) → length paths < 2 ^ 64 → Lacks 10 (total_line paths)
-unfolding total_line
+unfolding total_line kinds_text
 total_lacks paths few =
     let opens = Lacks-++ 10 (codes " open ") (decimal (count_of OpenKind paths)) (lacks_is 10 (codes " open ") refl) (count_lacks 10 (count_of OpenKind paths) line_feed.apart (few_counted OpenKind paths few)) in
     let undecided = word_number (codes " undecided ") (count_of UndecidedKind paths) (codes " open " ++ decimal (count_of OpenKind paths)) (lacks_is 10 (codes " undecided ") refl) (few_counted UndecidedKind paths few) opens in

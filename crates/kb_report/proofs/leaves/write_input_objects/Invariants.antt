@@ -4,4 +4,4 @@ use Rattle.kb_report.specs.Blocks.{numbered_lines, in_line}
 use Rattle.kb_report.proofs.leaves.write_input_objects.Given as goal
 
 abbrev pub invariant-loop-number : goal.invariant-loop-number
-invariant-loop-number l = l.initial.text ++ lines_text (numbered_lines in_line 0 l.objects) ≡ l.text ++ lines_text (numbered_lines in_line l.number-counter (drop l.number-counter l.objects))
+invariant-loop-number l = l.initial.text ++ lines_text (numbered_lines in_line 0 l.objects) ≡ l.text ++ lines_text (numbered_lines in_line l.number (drop l.number l.objects))

@@ -4,4 +4,4 @@ use Rattle.kb_report.specs.Blocks.{numbered_lines, new_line}
 use Rattle.kb_report.proofs.leaves.write_made.Given as goal
 
 abbrev pub invariant-loop-number : goal.invariant-loop-number
-invariant-loop-number l = l.initial.text ++ lines_text (numbered_lines new_line 0 l.made) ≡ l.text ++ lines_text (numbered_lines new_line l.number-counter (drop l.number-counter l.made))
+invariant-loop-number l = l.initial.text ++ lines_text (numbered_lines new_line 0 l.made) ≡ l.text ++ lines_text (numbered_lines new_line l.number (drop l.number l.made))
