@@ -1,6 +1,6 @@
 -- The block of a path, line by line: its decisions, what it sees, its locations and objects, its terms and conditions, and its
 -- leaf. A line has no line feed in it; the text of lines puts one behind each.
-use Rattle.std.specs.Prelude.{ℕ, suc, Bool, cond, List, [], ◌∷◌, ◌++◌, codes, map, length, Option, Some, None}
+use Rattle.std.specs.Prelude.{ℕ, ◌+◌, Bool, cond, List, [], ◌∷◌, ◌++◌, codes, map, length, Option, Some, None}
 use Rattle.std.specs.List.{flat_map}
 use Rattle.std.specs.Fmt.{decimal}
 use Rattle.kb_chain.specs.declared.log.Log.{Log}
@@ -29,7 +29,7 @@ use Rattle.kb_report.specs.Words.{exact_text, place_text, bound_name, slot_text,
 -- a line for each of a list, with its number, from n on
 abbrev pub numbered_lines : {A : Type 0} → (ℕ → A → List ℕ) → ℕ → List A → List (List ℕ)
 numbered_lines line n [] = []
-numbered_lines line n (x ∷ xs) = line n x ∷ numbered_lines line (suc n) xs
+numbered_lines line n (x ∷ xs) = line n x ∷ numbered_lines line (n + 1) xs
 
 -- the words, each with a space before it
 abbrev pub spaced : {A : Type 0} → (A → List ℕ) → List A → List ℕ

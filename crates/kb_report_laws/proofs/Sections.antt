@@ -1,6 +1,6 @@
 -- Lists of words and of lines: a line of words is that of one list of words, and sections of lines are told apart by how their
 -- lines begin.
-use Rattle.std.proofs.Common.{◌≡◌, ◌≢◌, ℕ, suc, ◌+◌, ◌*◌, ◌<◌, ◌^◌, List, [], ◌∷◌, ◌++◌, length, map, refl, sym, ◌∙◌, arith, subst, append-nil}
+use Rattle.std.proofs.Common.{◌≡◌, ◌≢◌, ℕ, ◌+◌, ◌*◌, ◌<◌, ◌^◌, List, [], ◌∷◌, ◌++◌, length, map, refl, sym, ◌∙◌, arith, subst, append-nil}
 use Rattle.std.specs.Prelude.{slice_index}
 use Rattle.std.specs.List.{AllByRecursion}
 use Rattle.kb_grammar.specs.Lines.{Lacks, AreLines}
@@ -59,8 +59,8 @@ pairs_numbered f g P Q R same n [] [] p q e = tt
 pairs_numbered f g P Q R same n [] (y ∷ ys) p q e = absurd cc
 pairs_numbered f g P Q R same n (x ∷ xs) [] p q e = absurd cc
 pairs_numbered f g P Q R same n (x ∷ xs) (y ∷ ys) p q e =
-    let parts = heads (f n x) (g n y) (numbered_lines f (suc n) xs) (numbered_lines g (suc n) ys) e in
-    (same n x y p.0 q.0 parts.0, pairs_numbered f g P Q R same (suc n) xs ys p.1 q.1 parts.1)
+    let parts = heads (f n x) (g n y) (numbered_lines f (n + 1) xs) (numbered_lines g (n + 1) ys) e in
+    (same n x y p.0 q.0 parts.0, pairs_numbered f g P Q R same (n + 1) xs ys p.1 q.1 parts.1)
 
 pub pairs_same : {A : Type 0} (P Q : A → Type 0) (R : A → A → Type 0) → ((x y : A) → P x → Q y → R x y → x ≡ y) → (xs ys : List A) → AllByRecursion P xs → AllByRecursion Q ys → EachPair R xs ys → xs ≡ ys
 pairs_same P Q R same [] [] p q e = refl
@@ -86,7 +86,7 @@ mapped_are_lines f P lacks (x ∷ xs) all = (lacks x all.0, mapped_are_lines f P
 
 pub numbered_are_lines : {A : Type 0} (f : ℕ → A → List ℕ) (P : A → Type 0) → ((n : ℕ) (x : A) → n < 2 ^ 64 → P x → Lacks 10 (f n x)) → (n : ℕ) (xs : List A) → n + length xs < 2 ^ 64 → AllByRecursion P xs → AreLines (numbered_lines f n xs)
 numbered_are_lines f P lacks n [] few all = tt
-numbered_are_lines f P lacks n (x ∷ xs) few all = (lacks n x (omega (arith, few)) all.0, numbered_are_lines f P lacks (suc n) xs (omega (arith, few)) all.1)
+numbered_are_lines f P lacks n (x ∷ xs) few all = (lacks n x (omega (arith, few)) all.0, numbered_are_lines f P lacks (n + 1) xs (omega (arith, few)) all.1)
 
 pub all_both : {A : Type 0} (P Q : A → Type 0) (xs : List A) → AllByRecursion P xs → AllByRecursion Q xs → AllByRecursion (λ x. P x × Q x) xs
 all_both P Q [] p q = tt
@@ -125,4 +125,4 @@ mapped_begin f n is (x ∷ xs) = (is x, mapped_begin f n is xs)
 
 pub numbered_begin : {A : Type 0} (f : ℕ → A → List ℕ) (n : ℕ) → ((k : ℕ) (x : A) → beginning (f k x) ≡ n) → (k : ℕ) (xs : List A) → AllBegin n (numbered_lines f k xs)
 numbered_begin f n is k [] = tt
-numbered_begin f n is k (x ∷ xs) = (is k x, numbered_begin f n is (suc k) xs)
+numbered_begin f n is k (x ∷ xs) = (is k x, numbered_begin f n is (k + 1) xs)
