@@ -42,6 +42,45 @@ def changed(of, *changes):
     return bytes(content)
 
 
+def items(content):
+    """The offset and size of each number and each run of bytes of a class file (JVMS 8 section 4.1): the numbers of its
+    structures, the bytes of a Utf8 entry, and the content of an attribute."""
+    found, at = [], 0
+
+    def run(size):
+        nonlocal at
+        if size:
+            found.append((at, size))
+        at += size
+        return int.from_bytes(content[at - size : at], "big")
+
+    def numbers(*sizes):
+        return [run(size) for size in sizes]
+
+    def attributes():
+        for _ in range(run(2)):
+            _, length = numbers(2, 4)
+            run(length)
+
+    _, _, _, count = numbers(4, 2, 2, 2)
+    for _ in range(1, count):
+        tag = run(1)
+        if tag == 1:
+            run(run(2))
+        else:
+            # Class; Fieldref, Methodref and NameAndType
+            numbers(*{7: [2], 9: [2, 2], 10: [2, 2], 12: [2, 2]}[tag])
+    numbers(2, 2, 2)
+    numbers(*[2] * run(2))
+    for _ in ("fields", "methods"):
+        for _ in range(run(2)):
+            numbers(2, 2, 2)
+            attributes()
+    attributes()
+    assert at == len(content)
+    return found
+
+
 def class_rows():
     ask("class A", "class", A, WHOLE_A)
     ask("the method of class A", "method", A, "(9, 5, 6) (2, 2, 4)", "0")
@@ -87,8 +126,10 @@ def javac_rows():
 
 
 def fault_rows():
-    for length, at in ((0, 0), (139, 124), (260, 259)):
-        ask(f"{length} bytes of class B", "class", B[:length], f"Short({at})")
+    # a file that ends within an item is refused where that begins, and one that ends between two where the next one would
+    for at, size in items(B):
+        for length in range(at, at + size):
+            ask(f"{length} bytes of class B", "class", B[:length], f"Short({at})")
     ask("class A without its last byte", "class", A[:101], "Short(100)")
     ask("a byte behind class B", "class", B + b"\0", "Extra(261)")
     ask("another magic number", "class", changed(A, (0, 0xCB)), "Magic")
