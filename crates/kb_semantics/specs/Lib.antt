@@ -4,6 +4,7 @@ pub mod Inputs
 pub mod Instructions
 pub mod Looks
 pub mod Operands
+pub mod Past
 pub mod Step
 pub mod Values
 pub mod Ways

@@ -13,7 +13,7 @@ use std::alloc::Global;
 use std::collections::HashMap;
 
 /// Of each method its signature, and of each class the methods that are selected in it, by their signatures. A class has an
-/// entry for each signature of the methods that it declares or inherits, and no more.
+/// entry for each signature of the methods, neither private nor static, that it declares or inherits, and no more.
 #[derive(Drop)]
 pub(crate) struct Selection {
     pub(crate) signatures: Vec<u32>,

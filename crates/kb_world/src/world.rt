@@ -14,7 +14,7 @@ ghost use Rattle.kb_world.specs.Tables.{IsResolved};
 use crate::chains::{chain_at, slots_at};
 use crate::resolving::{Resolved, resolved_at, rows_of};
 use crate::selection::{Selection, selected_by, selection_of};
-use kb_class::{ClassId, MethodId, MethodInfo};
+use kb_class::{ClassId, LoadedClass, MethodId, MethodInfo};
 use kb_classfile::ClassFile;
 use kb_link::{FieldSlot, Linked};
 use kb_names::{ExactType, JType, Name, NoMemory, Row, Target};
@@ -112,6 +112,16 @@ impl World {
         ensures linked { IsLinked self.now }
     {
         self.linked.name_of(class)
+    }
+
+    /// The class of that number.
+    pub fn class_at(&self, class: ClassId) -> Option<&LoadedClass>
+        ensures { option_copied result ≡ slice_get self.now.classes class.0 }
+    {
+        if class.0 >= self.linked.class_count() {
+            return None;
+        }
+        Some(self.linked.class_of(class))
     }
 
     /// The class file of a class: None exactly for a platform class.

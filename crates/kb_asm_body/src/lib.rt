@@ -1,0 +1,15 @@
+//! The bodies of methods in assembler texts: where their instructions stand, where their labels lead, and which line is the
+//! first that names a label in vain.
+#![tactic(auto)]
+
+mod faults;
+mod layout;
+mod memory;
+#[cfg(test)]
+mod tests;
+mod words;
+
+pub use faults::body_fault;
+pub use layout::{Layout, layout_of};
+pub use memory::NoMemory;
+pub use words::argument_words;

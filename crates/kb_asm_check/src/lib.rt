@@ -1,0 +1,16 @@
+//! Which line of an assembler text is the first that does not fit.
+#![tactic(auto)]
+
+mod counts;
+mod faults;
+mod laws;
+mod limits;
+mod memory;
+mod reading;
+mod short;
+#[cfg(test)]
+mod tests;
+
+pub use faults::body_of;
+pub use laws::one_answer;
+pub use reading::{TextRefusal, read_text};

@@ -1,0 +1,5 @@
+pub mod Texts
+pub mod Says
+pub mod Items
+pub mod Needs
+pub mod Entries

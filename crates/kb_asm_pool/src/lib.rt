@@ -1,0 +1,20 @@
+//! The constant pools of assembler texts: which entries the lines of a class need, and their numbers.
+//!
+//! `specs/Says.antt` has what entries say, and `specs/Needs.antt` which of them a line needs.
+#![tactic(auto)]
+
+mod items;
+mod laws;
+mod memory;
+mod needs;
+#[cfg(test)]
+mod tests;
+mod texts;
+
+pub use items::{Items, MemberKind};
+pub use laws::no_entry_twice;
+pub use memory::NoMemory;
+pub use needs::{
+    add_alone, add_call, add_constant, add_field, add_needs, add_ref, method_bytes, type_bytes,
+};
+pub use texts::Texts;

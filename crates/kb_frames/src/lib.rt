@@ -1,0 +1,42 @@
+//! Symbolic states: a run over all inputs of a path at once.
+//!
+//! `specs/State.antt` has what a state is, `specs/StandsFor.antt` of which configurations of the machine it speaks.
+#![tactic(auto)]
+
+mod frame;
+mod state;
+#[cfg(test)]
+mod tests;
+mod value;
+
+pub use state::{SymState, start};
+use std::alloc::AllocError;
+pub use value::{Outcome, SymValue};
+
+/// Memory ran out.
+#[derive(Clone, Copy, Debug, PartialEq, Eq)]
+pub struct NoMemory;
+
+impl From<AllocError> for NoMemory {
+    fn from(_error: AllocError) -> NoMemory {
+        NoMemory
+    }
+}
+
+impl From<kb_names::NoMemory> for NoMemory {
+    fn from(_error: kb_names::NoMemory) -> NoMemory {
+        NoMemory
+    }
+}
+
+impl From<kb_picture::NoMemory> for NoMemory {
+    fn from(_error: kb_picture::NoMemory) -> NoMemory {
+        NoMemory
+    }
+}
+
+impl From<kb_terms::NoMemory> for NoMemory {
+    fn from(_error: kb_terms::NoMemory) -> NoMemory {
+        NoMemory
+    }
+}
