@@ -13,15 +13,13 @@ use Rattle.kb_classfile.specs.Spelling.{IsClassFile}
 use Rattle.kb_classfile.proofs.ClassLaws.{spelled_is_read}
 use Rattle.kb_code.specs.declared.refusal.CodeRefusal.{CodeRefusal}
 use Rattle.kb_grammar.specs.Lines.{Lacks, AreLines, IsFirstBadLine, lines_text}
-use Rattle.kb_grammar.proofs.LineLaws.{lines_beyond, no_lines}
 use Rattle.kb_grammar.proofs.WordLaws.{same_cut}
 use Rattle.kb_names.specs.declared.types.Target.{Target}
 use Rattle.kb_semantics.specs.Config.{Ended}
 use Rattle.kb_semantics.specs.Inputs.{IsTypeCorrect}
 use Rattle.kb_test.specs.declared.test_case.Test.{Test}
-use Rattle.kb_test.specs.Texts.{IsTestsText, SpellsTests, tests_lines}
-use Rattle.kb_test.proofs.SameTests.{same_tests}
-use Rattle.kb_test.proofs.TestLines.{tests_are_lines}
+use Rattle.kb_test.specs.Tests.{IsTestsText}
+use Rattle.kb_test.proofs.TextLaws.{one_tests}
 use Rattle.kb_link.specs.declared.linking.LinkRefusal.{LinkRefusal}
 use Rattle.kb_link.specs.declared.linking.LinkRefusal.TheVariants as links
 use Rattle.kb_link.specs.Links.{IsLinked, Links}
@@ -281,15 +279,6 @@ one_line IsText text m n a b = a.number_is ∙ ap (λ (k : ℕ). k + 1) (one_len
     one_length zero (suc j) a b = absurd (a (omega arith))
     one_length (suc i) zero a b = absurd (b (omega arith))
     one_length (suc i) (suc j) a b = ap suc (one_length i j (λ few. a (omega (arith, few))) (λ few. b (omega (arith, few))))
-
--- a text is that of one list of tests
-one_tests : (literals : ℕ) (one other : List Test) (text : List ℕ) → SpellsTests literals one text → SpellsTests literals other text → one ≡ other
-one_tests literals one other text p q =
-    let beyond = lines_beyond (tests_lines one) (tests_lines other) [] (tests_are_lines literals one p.0) (tests_are_lines literals other q.0)
-    (append-nil (lines_text (tests_lines one)) ∙ sym p.1 ∙ q.1) in
-    let none = no_lines [] beyond.0 tt beyond.2 in
-    let same : tests_lines other ≡ tests_lines one = beyond.1 ∙ ap (λ (lines : List (List ℕ)). tests_lines one ++ lines) none.0 ∙ append-nil (tests_lines one) in
-    same_tests literals one other p.0 q.0 (sym same)
 
 text_refusal : (literals : ℕ) (bytes : List ℕ) (r s : Refusal) → TextRefuses literals bytes r → TextRefuses literals bytes s → r ≡ s
 text_refusal literals bytes r s (inl a) (inl b) = a.0 ∙ sym b.0

@@ -13,7 +13,8 @@ use Rattle.kb_outside.specs.Outside.{Rose, Grows, GrowsByPart}
 use Rattle.kb_test.specs.declared.test_case.Test.{Test}
 use Rattle.kb_grammar.specs.Lines.{IsFirstBadLine}
 use Rattle.kb_names.specs.Targets.{IsTarget}
-use Rattle.kb_test.specs.Texts.{SpellsTests, IsTestsText, AreTests, IsRunBounds}
+use Rattle.kb_test.specs.Lines.{IsRunBounds}
+use Rattle.kb_test.specs.Tests.{SpellsTests, IsTestsText, AreTests}
 use Rattle.kb_link.specs.declared.linking.LinkRefusal.{LinkRefusal}
 use Rattle.kb_link.specs.Links.{Links, RefusesLink}
 use Rattle.kb_link.specs.Targets.{IsTargetOf}

@@ -148,7 +148,7 @@ fn run_test(alloc: Global, world: &World, test: &Test, id: MethodId) -> Result<R
     if !ending.is_same(&test.ending) {
         return Ok(Replayed::Differs(ending, heap));
     }
-    if !heap.is_same(&test.heap) {
+    if !test.heap.is_heap(&heap) {
         return Ok(Replayed::Differs(ending, heap));
     }
     Ok(Replayed::Passes)

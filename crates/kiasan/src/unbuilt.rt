@@ -2,7 +2,8 @@
 
 ghost use Rattle.std.specs.Prelude.{◌≡◌, ◌⊎◌};
 ghost use Rattle.kb_names.specs.Targets.{IsTarget};
-ghost use Rattle.kb_test.specs.Texts.{AreTests, IsRunBounds};
+ghost use Rattle.kb_test.specs.Lines.{IsRunBounds};
+ghost use Rattle.kb_test.specs.Tests.{AreTests};
 ghost use Rattle.kb_link.specs.Targets.{IsTargetOf};
 ghost use Rattle.kb_world.specs.Reach.{IsAccepted};
 ghost use Rattle.kiasan.specs.Answers.{IsWrittenReport};

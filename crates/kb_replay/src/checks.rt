@@ -1,0 +1,116 @@
+//! Whether tests may be run: looked at in their order, before any of them is.
+ghost use Rattle.std.specs.Prelude.{IfErr, IfOk, IsTrue};
+ghost use Rattle.kb_replay.specs.Replays.{AreAccepted, AreRunnable, IsAmong, IsRunnable, Stops, StopsAt};
+ghost use Rattle.kb_link.specs.Targets.{IsTargetOf};
+ghost use Rattle.kb_world.specs.Reach.{IsAccepted};
+
+use crate::NoMemory;
+use kb_class::MethodId;
+use kb_heap::Row;
+use kb_link::LinkRefusal;
+use kb_machine::fits_types;
+use kb_names::Target;
+use kb_test::Test;
+use kb_world::World;
+use std::alloc::Global;
+
+/// Why a test is not run.
+#[derive(Debug, Drop)]
+pub enum ReplayStop {
+    /// There is no such method.
+    TestMethod,
+    /// The input is none of the method.
+    TestTypes,
+    /// What the method reaches can't be carried out.
+    Reach(LinkRefusal),
+    NoMemory,
+}
+
+impl From<NoMemory> for ReplayStop {
+    fn from(_error: NoMemory) -> ReplayStop {
+        ReplayStop::NoMemory
+    }
+}
+
+impl From<kb_heap::NoMemory> for ReplayStop {
+    fn from(_error: kb_heap::NoMemory) -> ReplayStop {
+        ReplayStop::NoMemory
+    }
+}
+
+/// The first test of several that is not run: its number, from 0, and why.
+#[derive(Debug, Drop)]
+pub struct BadTest {
+    pub number: usize,
+    pub stop: ReplayStop,
+}
+
+/// The method of each test, where all of them may be run. A target is reached once, however many tests have it.
+pub fn check_tests(alloc: Global, world: &World, tests: &[Test]) -> Result<Row<MethodId>, BadTest>
+    ensures methods { IfOk result (AreRunnable world.now tests.now) }
+    ensures stop { IfErr result (StopsAt world.now tests.now) }
+{
+    let mut methods = Row::new(alloc);
+    let mut reached = Row::new(alloc);
+    for test in tests {
+        let id = match check(alloc, world, test, &mut reached) {
+            Ok(id) => id,
+            Err(stop) => {
+                return Err(BadTest {
+                    number: methods.as_slice().len(),
+                    stop,
+                });
+            }
+        };
+        if methods.push(id).is_err() {
+            return Err(BadTest {
+                number: methods.as_slice().len(),
+                stop: ReplayStop::NoMemory,
+            });
+        }
+    }
+    Ok(methods)
+}
+
+// The method of the test. `reached` has the methods that were reached before.
+pub(crate) fn check(
+    alloc: Global,
+    world: &World,
+    test: &Test,
+    reached: &mut Row<MethodId>,
+) -> Result<MethodId, ReplayStop>
+    requires { AreAccepted world.now reached.old }
+    ensures method { IfOk result (IsRunnable world.now test.now) }
+    ensures stop { IfErr result (Stops world.now test.now) }
+    ensures reached { AreAccepted world.now reached.new }
+{
+    let Some(id) = world.find_target(&test.target) else {
+        return Err(ReplayStop::TestMethod);
+    };
+    if !fits_types(world, id, &test.input) {
+        return Err(ReplayStop::TestTypes);
+    }
+    if is_among(reached.as_slice(), id) {
+        return Ok(id);
+    }
+    let id = match world.reach(alloc, &test.target) {
+        Ok(id) => id,
+        Err(LinkRefusal::NoMemory) => return Err(ReplayStop::NoMemory),
+        Err(refusal) => return Err(ReplayStop::Reach(refusal)),
+    };
+    reached.push(id)?;
+    Ok(id)
+}
+
+fn is_among(ids: &[MethodId], id: MethodId) -> bool
+    ensures { IsTrue result → IsAmong id ids.now }
+{
+    let mut rest = ids;
+    while let [first, others @ ..] = rest {
+        if *first == id {
+            return true;
+        }
+        rest = others;
+    }
+    false
+}
