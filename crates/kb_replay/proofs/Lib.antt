@@ -1,1 +1,1 @@
-mod Checks
+mod Runnable

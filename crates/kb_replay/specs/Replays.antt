@@ -1,5 +1,5 @@
 -- Which tests may be run, what stops one, and what the machine's run says of it.
-use Rattle.std.specs.Prelude.{◌≡◌, ◌≢◌, ◌⊎◌, List, [], ◌∷◌, ◌++◌, length}
+use Rattle.std.specs.Prelude.{◌≡◌, ◌≢◌, ℕ, Bool, true, List, [], ◌∷◌, ◌++◌, length, Some, slice_get}
 use Rattle.kb_class.specs.declared.ids.MethodId.{MethodId}
 use Rattle.kb_link.specs.declared.linking.LinkRefusal.TheVariants as links
 use Rattle.kb_link.specs.Targets.{IsTargetOf}
@@ -52,15 +52,13 @@ pub record StopsAt (world : World) (tests : List Test) (bad : BadTest) : Type 0 
   pub good : AreRunnable world before ids
   pub stops : Stops world test bad.stop
 
--- the id is one of these
-abbrev pub IsAmong : MethodId → List MethodId → Type 0
-IsAmong id [] = ⊥
-IsAmong id (other ∷ others) = (other ≡ id) ⊎ IsAmong id others
+-- the number is marked in a table of flags
+abbrev pub IsMarked : List Bool → ℕ → Type 0
+IsMarked flags number = slice_get flags number ≡ Some true
 
--- what each of these reaches can be carried out
-abbrev pub AreAccepted : World → List MethodId → Type 0
-AreAccepted world [] = Unit {0}
-AreAccepted world (id ∷ ids) = IsAccepted world id × AreAccepted world ids
+-- the methods of marked numbers can be run, with all that they reach
+abbrev pub AreAccepted : World → List Bool → Type 0
+AreAccepted world flags = (id : MethodId) → IsMarked flags id.0 → IsAccepted world id
 
 -- ---- what the run says
 

@@ -1,6 +1,6 @@
 //! Whether tests may be run: looked at in their order, before any of them is.
-ghost use Rattle.std.specs.Prelude.{IfErr, IfOk, IsTrue};
-ghost use Rattle.kb_replay.specs.Replays.{AreAccepted, AreRunnable, IsAmong, IsRunnable, Stops, StopsAt};
+ghost use Rattle.std.specs.Prelude.{◌≡◌, ◌⊎◌, ℕ, IfErr, IfOk, IsTrue};
+ghost use Rattle.kb_replay.specs.Replays.{AreAccepted, AreRunnable, IsMarked, IsRunnable, Stops, StopsAt};
 ghost use Rattle.kb_link.specs.Targets.{IsTargetOf};
 ghost use Rattle.kb_world.specs.Reach.{IsAccepted};
 
@@ -32,12 +32,6 @@ impl From<NoMemory> for ReplayStop {
     }
 }
 
-impl From<kb_heap::NoMemory> for ReplayStop {
-    fn from(_error: kb_heap::NoMemory) -> ReplayStop {
-        ReplayStop::NoMemory
-    }
-}
-
 /// The first test of several that is not run: its number, from 0, and why.
 #[derive(Debug, Drop)]
 pub struct BadTest {
@@ -51,38 +45,32 @@ pub fn check_tests(alloc: Global, world: &World, tests: &[Test]) -> Result<Row<M
     ensures stop { IfErr result (StopsAt world.now tests.now) }
 {
     let mut methods = Row::new(alloc);
-    let mut reached = Row::new(alloc);
+    let mut reached = Vec::new(alloc);
     for test in tests {
+        let number = methods.as_slice().len();
         let id = match check(alloc, world, test, &mut reached) {
             Ok(id) => id,
-            Err(stop) => {
-                return Err(BadTest {
-                    number: methods.as_slice().len(),
-                    stop,
-                });
-            }
+            Err(stop) => return Err(BadTest { number, stop }),
         };
-        if methods.push(id).is_err() {
-            return Err(BadTest {
-                number: methods.as_slice().len(),
-                stop: ReplayStop::NoMemory,
-            });
-        }
+        let Ok(()) = methods.push(id) else {
+            let stop = ReplayStop::NoMemory;
+            return Err(BadTest { number, stop });
+        };
     }
     Ok(methods)
 }
 
-// The method of the test. `reached` has the methods that were reached before.
+// The method of the test. `reached` tells by their numbers the methods that were reached before.
 pub(crate) fn check(
     alloc: Global,
     world: &World,
     test: &Test,
-    reached: &mut Row<MethodId>,
+    reached: &mut Vec<bool>,
 ) -> Result<MethodId, ReplayStop>
-    requires { AreAccepted world.now reached.old }
+    requires { AreAccepted world.now reached.old.items }
     ensures method { IfOk result (IsRunnable world.now test.now) }
     ensures stop { IfErr result (Stops world.now test.now) }
-    ensures reached { AreAccepted world.now reached.new }
+    ensures reached { AreAccepted world.now reached.new.items }
 {
     let Some(id) = world.find_target(&test.target) else {
         return Err(ReplayStop::TestMethod);
@@ -90,7 +78,7 @@ pub(crate) fn check(
     if !fits_types(world, id, &test.input) {
         return Err(ReplayStop::TestTypes);
     }
-    if is_among(reached.as_slice(), id) {
+    if is_marked(reached.as_slice(), id) {
         return Ok(id);
     }
     let id = match world.reach(alloc, &test.target) {
@@ -98,19 +86,31 @@ pub(crate) fn check(
         Err(LinkRefusal::NoMemory) => return Err(ReplayStop::NoMemory),
         Err(refusal) => return Err(ReplayStop::Reach(refusal)),
     };
-    reached.push(id)?;
-    Ok(id)
+    match mark(reached, id) {
+        Ok(()) => Ok(id),
+        Err(NoMemory) => Err(ReplayStop::NoMemory),
+    }
 }
 
-fn is_among(ids: &[MethodId], id: MethodId) -> bool
-    ensures { IsTrue result → IsAmong id ids.now }
+fn is_marked(flags: &[bool], id: MethodId) -> bool
+    ensures { IsTrue result → IsMarked flags.now id.0 }
 {
-    let mut rest = ids;
-    while let [first, others @ ..] = rest {
-        if *first == id {
-            return true;
-        }
-        rest = others;
+    match flags.get(id.0 as usize) {
+        Some(flag) => *flag,
+        None => false,
     }
-    false
+}
+
+// Marks one method more.
+fn mark(flags: &mut Vec<bool>, id: MethodId) -> Result<(), NoMemory>
+    ensures { (number : ℕ) → IsMarked flags.new.items number → (number ≡ id.0) ⊎ IsMarked flags.old.items number }
+{
+    let place = id.0 as usize;
+    while flags.len() <= place {
+        let Ok(()) = flags.push(false) else {
+            return Err(NoMemory);
+        };
+    }
+    flags[place] = true;
+    Ok(())
 }

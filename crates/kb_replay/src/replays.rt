@@ -25,7 +25,7 @@ pub fn replay(alloc: Global, world: &World, test: &Test) -> Result<Replayed, Rep
     ensures replayed { IfOk result (IsReplayed world.now test.now) }
     ensures stop { IfErr result (Stops world.now test.now) }
 {
-    let mut reached = Row::new(alloc);
+    let mut reached = Vec::new(alloc);
     let id = check(alloc, world, test, &mut reached)?;
     Ok(run_test(alloc, world, test, id)?)
 }

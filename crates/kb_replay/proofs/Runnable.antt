@@ -1,5 +1,5 @@
 -- How tests are found fit one after another.
-use Rattle.std.proofs.Common.{◌≡◌, ◌⊎◌, inl, inr, ℕ, suc, ◌+◌, ◌<◌, List, [], ◌∷◌, ◌++◌, length, take, drop, get_or, refl, sym, ◌∙◌, ap, subst, arith, drop-cons}
+use Rattle.std.proofs.Common.{◌≡◌, ℕ, suc, ◌+◌, ◌<◌, List, [], ◌∷◌, ◌++◌, length, take, drop, get_or, refl, sym, ◌∙◌, ap, subst, arith, drop-cons}
 use Rattle.std.proofs.lemmas.List.{take_all, take-append-drop}
 use Rattle.std.proofs.Math.Seq.{take-suc}
 use Rattle.kb_class.specs.declared.ids.MethodId.{MethodId}
@@ -9,7 +9,7 @@ use Rattle.kb_semantics.specs.Inputs.{IsTypeCorrect}
 use Rattle.kb_test.specs.declared.test_case.Test.{Test}
 use Rattle.kb_world.specs.Reach.{IsAccepted}
 use Rattle.kb_replay.specs.declared.checks.ReplayStop.{ReplayStop}
-use Rattle.kb_replay.specs.Replays.{IsRunnable, AreRunnable, Stops, StopsAt, IsAmong, AreAccepted}
+use Rattle.kb_replay.specs.Replays.{IsRunnable, AreRunnable, Stops, StopsAt}
 
 runnable_more : (world : World) (tests : List Test) (ids : List MethodId) (test : Test) (id : MethodId) → AreRunnable world tests ids
     → IsRunnable world test id → AreRunnable world (tests ++ test ∷ []) (ids ++ id ∷ [])
@@ -49,16 +49,6 @@ first_stop world tests ids i test number stop inside at are n stops =
       good = are;
       stops = stops;
     }
-
--- one of several that are accepted
-pub accepted_among : (world : World) (ids : List MethodId) (id : MethodId) → AreAccepted world ids → IsAmong id ids → IsAccepted world id
-accepted_among world [] id are among = absurd among
-accepted_among world (other ∷ others) id are (inl same) = subst (IsAccepted world) same are.0
-accepted_among world (other ∷ others) id are (inr among) = accepted_among world others id are.1 among
-
-pub accepted_more : (world : World) (ids : List MethodId) (id : MethodId) → AreAccepted world ids → IsAccepted world id → AreAccepted world (ids ++ id ∷ [])
-accepted_more world [] id are is = (is, tt)
-accepted_more world (other ∷ others) id are is = (are.0, accepted_more world others id are.1 is)
 
 -- the method that reach gives is the one that the target names
 pub runnable_here : (world : World) (test : Test) (named id : MethodId) → ((other : MethodId) → IsTargetOf world test.target other → other ≡ named)
