@@ -1,1 +1,2 @@
 mod Runnable
+pub mod OneAnswer

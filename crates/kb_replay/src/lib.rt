@@ -2,9 +2,11 @@
 #![tactic(auto)]
 
 mod checks;
+mod laws;
 mod replays;
 
 pub use checks::{BadTest, ReplayStop, check_tests};
+pub use laws::tests_have_one_answer;
 pub use replays::{Replayed, replay, run_test, run_tests};
 use std::alloc::AllocError;
 

@@ -3,8 +3,8 @@ use Rattle.std.specs.Prelude.{ℕ, ◌+◌, List, [], ◌∷◌, ◌++◌, lengt
 use Rattle.std.specs.Fmt.{decimal}
 use Rattle.kb_test.specs.declared.test_case.Test.{Test}
 use Rattle.kb_test.specs.Writing.{run_text}
-use Rattle.kiasan.specs.declared.replay.Replayed.{Replayed}
-use Rattle.kiasan.specs.declared.replay.Replayed.TheVariants.{Passes, Differs}
+use Rattle.kb_replay.specs.declared.replays.Replayed.{Replayed}
+use Rattle.kb_replay.specs.declared.replays.Replayed.TheVariants.{Passes, Differs}
 use Rattle.kiasan.specs.Report.{line}
 use Rattle.kiasan.specs.Tests.{count_passes, count_differs}
 

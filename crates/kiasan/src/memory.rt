@@ -42,8 +42,8 @@ impl From<kb_test::NoMemory> for NoMemory {
     }
 }
 
-impl From<kb_machine::NoMemory> for NoMemory {
-    fn from(_refusal: kb_machine::NoMemory) -> NoMemory {
+impl From<kb_replay::NoMemory> for NoMemory {
+    fn from(_refusal: kb_replay::NoMemory) -> NoMemory {
         NoMemory
     }
 }

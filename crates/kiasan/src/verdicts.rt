@@ -4,7 +4,8 @@ ghost use Rattle.std.specs.Prelude.{◌≡◌, ◌++◌, IfOk, OnOk};
 ghost use Rattle.kiasan.specs.Verdicts.{verdict_text, verdicts_text, replay_total, replay_text};
 
 use crate::memory::NoMemory;
-use crate::replay::{Replayed, count_differs};
+use crate::replay::count_differs;
+use kb_replay::Replayed;
 use kb_test::{Test, write_run};
 use std::alloc::Global;
 
