@@ -1,5 +1,5 @@
 -- How tests are found fit one after another.
-use Rattle.std.proofs.Common.{◌≡◌, ℕ, suc, ◌+◌, ◌<◌, List, [], ◌∷◌, ◌++◌, length, take, drop, get_or, refl, sym, ◌∙◌, ap, subst, arith, drop-cons}
+use Rattle.std.proofs.Common.{◌≡◌, ◌⊎◌, inl, inr, ℕ, zero, suc, ◌+◌, ◌<◌, ◌≤◌, Bool, true, false, slice_get, slice_set, slice_index_or, append-nil, List, [], ◌∷◌, ◌++◌, length, take, drop, get_or, refl, sym, ◌∙◌, ap, subst, arith, drop-cons}
 use Rattle.std.proofs.lemmas.List.{take_all, take-append-drop}
 use Rattle.std.proofs.Math.Seq.{take-suc}
 use Rattle.kb_class.specs.declared.ids.MethodId.{MethodId}
@@ -9,7 +9,8 @@ use Rattle.kb_semantics.specs.Inputs.{IsTypeCorrect}
 use Rattle.kb_test.specs.declared.test_case.Test.{Test}
 use Rattle.kb_world.specs.Reach.{IsAccepted}
 use Rattle.kb_replay.specs.declared.checks.ReplayStop.{ReplayStop}
-use Rattle.kb_replay.specs.Replays.{IsRunnable, AreRunnable, Stops, StopsAt}
+use Rattle.kb_replay.specs.declared.replays.Replayed.{Replayed}
+use Rattle.kb_replay.specs.Replays.{IsFit, IsRunnable, AreRunnable, Stops, StopsAt, IsMarked, AreAccepted, AreReplayed}
 
 runnable_more : (world : World) (tests : List Test) (ids : List MethodId) (test : Test) (id : MethodId) → AreRunnable world tests ids
     → IsRunnable world test id → AreRunnable world (tests ++ test ∷ []) (ids ++ id ∷ [])
@@ -50,10 +51,63 @@ first_stop world tests ids i test number stop inside at are n stops =
       stops = stops;
     }
 
+-- ---- marks
+
+marked_pushed : (flags : List Bool) (n : ℕ) → IsMarked (flags ++ false ∷ []) n → IsMarked flags n
+marked_pushed [] zero at = absurd cc
+marked_pushed [] (suc n) at = absurd cc
+marked_pushed (f ∷ flags) zero at = at
+marked_pushed (f ∷ flags) (suc n) at = marked_pushed flags n at
+
+marked_set : (flags : List Bool) (place n : ℕ) → IsMarked (slice_set flags place true) n → (n ≡ place) ⊎ IsMarked flags n
+marked_set [] place n at = inr at
+marked_set (f ∷ flags) zero zero at = inl refl
+marked_set (f ∷ flags) zero (suc n) at = inr at
+marked_set (f ∷ flags) (suc p) zero at = inr at
+marked_set (f ∷ flags) (suc p) (suc n) at = elim (marked_set flags p n at) [ inl e ↦ inl (ap suc e) | inr a ↦ inr a ]
+
+-- a flag that is not set marks nothing
+pub marked_kept : (before flags : List Bool) → ((n : ℕ) → IsMarked flags n → IsMarked before n) → (n : ℕ) → IsMarked (flags ++ false ∷ []) n → IsMarked before n
+marked_kept before flags kept n at = kept n (marked_pushed flags n at)
+
+pub marked_last : (before flags : List Bool) (place : ℕ) → ((n : ℕ) → IsMarked flags n → IsMarked before n) → (n : ℕ) → IsMarked (slice_set flags place true) n
+    → (n ≡ place) ⊎ IsMarked before n
+marked_last before flags place kept n at = elim (marked_set flags place n at) [ inl e ↦ inl e | inr a ↦ inr (kept n a) ]
+
+same_id : (a b : MethodId) → a.0 ≡ b.0 → a ≡ b
+same_id a b e = λ i. record { 0 = e i }
+
+-- one method more is marked, which is accepted
+pub marked_more : (world : World) (flags now : List Bool) (id : MethodId) → AreAccepted world flags → IsAccepted world id
+    → ((n : ℕ) → IsMarked now n → (n ≡ id.0) ⊎ IsMarked flags n) → AreAccepted world now
+marked_more world flags now id are is more other at =
+    elim (more other.0 at) [ inl e ↦ subst (IsAccepted world) (sym (same_id other id e)) is | inr marked ↦ are other marked ]
+
+-- ---- one test
+
+-- a method that was reached before
+pub runnable_marked : (world : World) (flags : List Bool) (test : Test) (id : MethodId) → AreAccepted world flags → IsFit world test id → IsMarked flags id.0
+    → IsRunnable world test id
+runnable_marked world flags test id are fit marked = record { fit = fit; accepted = are id marked }
+
 -- the method that reach gives is the one that the target names
-pub runnable_here : (world : World) (test : Test) (named id : MethodId) → ((other : MethodId) → IsTargetOf world test.target other → other ≡ named)
-    → IsTypeCorrect world named test.input → IsTargetOf world test.target id → IsAccepted world id → IsRunnable world test id
-runnable_here world test named id alone correct found accepted = record {
-  fit = record { found = found; correct = subst (λ (i : MethodId). IsTypeCorrect world i test.input) (sym (alone id found)) correct };
-  accepted = accepted;
-}
+pub accepted_here : (world : World) (test : Test) (id reached : MethodId) → ((other : MethodId) → IsTargetOf world test.target other → other ≡ id)
+    → IsTargetOf world test.target reached → IsAccepted world reached → IsAccepted world id
+accepted_here world test id reached alone found accepted = subst (IsAccepted world) (alone reached found) accepted
+
+pub runnable_here : (world : World) (test : Test) (id reached : MethodId) → IsFit world test id → ((other : MethodId) → IsTargetOf world test.target other → other ≡ id)
+    → IsTargetOf world test.target reached → IsAccepted world reached → IsRunnable world test id
+runnable_here world test id reached fit alone found accepted = record { fit = fit; accepted = accepted_here world test id reached alone found accepted }
+
+-- ---- runs
+
+pub first_runnable : (world : World) (tests : List Test) (ids : List MethodId) (test : Test) (d : MethodId) → AreRunnable world tests ids → 1 ≤ length tests
+    → test ≡ get_or tests 0 test → IsRunnable world test (slice_index_or ids 0 d)
+first_runnable world [] ids test d are some at = absurd (omega (arith, some))
+first_runnable world (x ∷ tests) [] test d are some at = absurd are
+first_runnable world (x ∷ tests) (i ∷ ids) test d are some at = subst (λ (t : Test). IsRunnable world t i) (sym at) are.0
+
+pub all_replayed : (world : World) (all rest : List Test) (replayed : List Replayed) → length rest < 1
+    → ((more : List Replayed) → AreReplayed world rest more → AreReplayed world all (replayed ++ more)) → AreReplayed world all replayed
+all_replayed world all [] replayed end goes_on = subst (AreReplayed world all) (append-nil replayed) (goes_on [] tt)
+all_replayed world all (x ∷ rest) replayed end goes_on = absurd (omega (arith, end))

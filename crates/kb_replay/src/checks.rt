@@ -1,8 +1,7 @@
 //! Whether tests may be run: looked at in their order, before any of them is.
 ghost use Rattle.std.specs.Prelude.{◌≡◌, ◌⊎◌, ℕ, IfErr, IfOk, IsTrue};
-ghost use Rattle.kb_replay.specs.Replays.{AreAccepted, AreRunnable, IsMarked, IsRunnable, Stops, StopsAt};
+ghost use Rattle.kb_replay.specs.Replays.{AreAccepted, AreRunnable, IsFit, IsMarked, IsRunnable, Stops, StopsAt};
 ghost use Rattle.kb_link.specs.Targets.{IsTargetOf};
-ghost use Rattle.kb_world.specs.Reach.{IsAccepted};
 
 use crate::NoMemory;
 use kb_class::MethodId;
@@ -61,6 +60,7 @@ pub fn check_tests(alloc: Global, world: &World, tests: &[Test]) -> Result<Row<M
 }
 
 // The method of the test. `reached` tells by their numbers the methods that were reached before.
+#[tactic(auto, using(crate::proofs::Runnable::runnable_marked, crate::proofs::Runnable::runnable_here, crate::proofs::Runnable::marked_more))]
 pub(crate) fn check(
     alloc: Global,
     world: &World,
@@ -72,24 +72,34 @@ pub(crate) fn check(
     ensures stop { IfErr result (Stops world.now test.now) }
     ensures reached { AreAccepted world.now reached.new.items }
 {
+    let id = fit_method(world, test)?;
+    if is_marked(reached.as_slice(), id) {
+        return Ok(id);
+    }
+    match world.reach(alloc, &test.target) {
+        Ok(_) => {}
+        Err(LinkRefusal::NoMemory) => return Err(ReplayStop::NoMemory),
+        Err(refusal) => return Err(ReplayStop::Reach(refusal)),
+    }
+    let Ok(()) = mark(reached, id) else {
+        return Err(ReplayStop::NoMemory);
+    };
+    Ok(id)
+}
+
+// The method that the test's target names, where the input is one of it.
+fn fit_method(world: &World, test: &Test) -> Result<MethodId, ReplayStop>
+    ensures fit { IfOk result (IsFit world.now test.now) }
+    ensures alone { IfOk result (λ id. (other : MethodId) → IsTargetOf world.now test.now.target other → other ≡ id) }
+    ensures stop { IfErr result (Stops world.now test.now) }
+{
     let Some(id) = world.find_target(&test.target) else {
         return Err(ReplayStop::TestMethod);
     };
     if !fits_types(world, id, &test.input) {
         return Err(ReplayStop::TestTypes);
     }
-    if is_marked(reached.as_slice(), id) {
-        return Ok(id);
-    }
-    let id = match world.reach(alloc, &test.target) {
-        Ok(id) => id,
-        Err(LinkRefusal::NoMemory) => return Err(ReplayStop::NoMemory),
-        Err(refusal) => return Err(ReplayStop::Reach(refusal)),
-    };
-    match mark(reached, id) {
-        Ok(()) => Ok(id),
-        Err(NoMemory) => Err(ReplayStop::NoMemory),
-    }
+    Ok(id)
 }
 
 fn is_marked(flags: &[bool], id: MethodId) -> bool
@@ -102,6 +112,7 @@ fn is_marked(flags: &[bool], id: MethodId) -> bool
 }
 
 // Marks one method more.
+#[tactic(auto, using(crate::proofs::Runnable::marked_last, crate::proofs::Runnable::marked_kept))]
 fn mark(flags: &mut Vec<bool>, id: MethodId) -> Result<(), NoMemory>
     ensures { (number : ℕ) → IsMarked flags.new.items number → (number ≡ id.0) ⊎ IsMarked flags.old.items number }
 {
