@@ -1,2 +1,3 @@
 mod Runnable
 pub mod OneAnswer
+pub mod RunEnds

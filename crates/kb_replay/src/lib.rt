@@ -6,7 +6,7 @@ mod laws;
 mod replays;
 
 pub use checks::{BadTest, ReplayStop, check_tests};
-pub use laws::tests_have_one_answer;
+pub use laws::{runs_end_as_tests, tests_have_one_answer};
 pub use replays::{Replayed, replay, run_test, run_tests};
 use std::alloc::AllocError;
 
