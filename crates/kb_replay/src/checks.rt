@@ -25,12 +25,6 @@ pub enum ReplayStop {
     NoMemory,
 }
 
-impl From<NoMemory> for ReplayStop {
-    fn from(_error: NoMemory) -> ReplayStop {
-        ReplayStop::NoMemory
-    }
-}
-
 /// The first test of several that is not run: its number, from 0, and why.
 #[derive(Debug, Drop)]
 pub struct BadTest {

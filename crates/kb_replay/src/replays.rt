@@ -27,7 +27,10 @@ pub fn replay(alloc: Global, world: &World, test: &Test) -> Result<Replayed, Rep
 {
     let mut reached = Vec::new(alloc);
     let id = check(alloc, world, test, &mut reached)?;
-    Ok(run_test(alloc, world, test, id)?)
+    match run_test(alloc, world, test, id) {
+        Ok(replayed) => Ok(replayed),
+        Err(NoMemory) => Err(ReplayStop::NoMemory),
+    }
 }
 
 /// Runs the test by its method, and holds the run against what the test says.
