@@ -11,6 +11,9 @@ from pathlib import Path
 HERE = Path(__file__).resolve().parent
 DATA = HERE.parent.parent / "crates" / "kiasan_rows" / "data"
 SOURCES = ("Node.java", "Tree.java", "Heavy.java", "Sorts.java")
+ASSEMBLER = HERE.parent / "machine" / "Assembler.java"
+ASM = "java.base/jdk.internal.org.objectweb.asm"
+EXPORTS = [word for package in (ASM, f"{ASM}.util") for word in ("--add-exports", f"{package}=ALL-UNNAMED")]
 
 
 def run(*words, **options):
@@ -20,6 +23,7 @@ def run(*words, **options):
 def main():
     sources = [HERE / name for name in SOURCES]
     run("javac", "-g:none", "-nowarn", "--release", "8", "-d", DATA, *sources, stderr=subprocess.DEVNULL)
+    run("java", *EXPORTS, ASSEMBLER, DATA, HERE / "Small.text")
     tests = run("java", HERE / "Written.java", HERE / "heaps.tests", DATA, stdout=subprocess.PIPE)
     (DATA / "heaps.tests").write_bytes(tests.stdout)
 
