@@ -41,9 +41,3 @@ impl From<kb_test::NoMemory> for NoMemory {
         NoMemory
     }
 }
-
-impl From<kb_replay::NoMemory> for NoMemory {
-    fn from(_refusal: kb_replay::NoMemory) -> NoMemory {
-        NoMemory
-    }
-}
