@@ -34,6 +34,11 @@ class Node {
         return front;
     }
 
+    /** The first of several, which names their array's type. */
+    static Node first(Node[] nodes) {
+        return nodes[0];
+    }
+
     /** The element so many nodes further on. */
     int at(int place) {
         return place == 0 ? elem : next.at(place - 1);
