@@ -18,7 +18,8 @@ import java.util.List;
  *
  * <p>The file that is read has tests without the lines behind the input. Each method is run over its input, and how it ends,
  * what the input objects then hold and what the run has made is written behind it. New objects are numbered as they are met from
- * the ending and then from the input, which is the order of their making where a run makes one.
+ * the ending and then from the input, which is the order of their making where a run makes one. Those that nothing leads to at the
+ * end are not met, so no test here may make any.
  */
 class Written {
     private final ClassLoader classes;
