@@ -14,16 +14,18 @@ use Rattle.kiasan.specs.declared.refusals.Refusal.{Refusal}
 use Rattle.kiasan.specs.declared.refusals.Stop.{Stop}
 use Rattle.kiasan.specs.declared.refusals.Stop.TheVariants.{Refused, ReadFault, NoMemory as NoRoom}
 use Rattle.kiasan.specs.Refusals.{Gives, link_refusal}
-use Rattle.kiasan.specs.Tests.{RefusesTests, test_refusal, passes, count_passes, count_differs}
+use Rattle.kiasan.specs.Answers.{AreTestsOf, Carries, RepliesReplay, TextRefuses}
+use Rattle.kiasan.proofs.StageLaws.{stage_stops}
+use Rattle.kiasan.specs.Tests.{RefusesTests, literals_in, test_refusal, passes, count_passes, count_differs}
 
 -- ---- refusals
 
 -- what stops a test is told, unless it is want of memory
-told : {A : Type 0} (world : World) (tests : List Test) (bad : BadTest) (Passes : A → Type 0) → StopsAt world tests bad → (stop : Stop) →
-    test_refusal bad.number bad.stop ≡ stop → (stop ≡ ReadFault → ⊥) → Gives {A = A} ⊥ (RefusesTests world tests) Passes (Err stop)
-told world tests bad Passes is (Refused refusal) e no = (bad, is, e)
-told world tests bad Passes is ReadFault e no = no refl
-told world tests bad Passes is NoRoom e no = tt
+told : {A : Type 0} (world : World) (tests : List Test) (bad : BadTest) (Fine : A → Type 0) → StopsAt world tests bad → (stop : Stop) →
+    test_refusal bad.number bad.stop ≡ stop → (stop ≡ ReadFault → ⊥) → Gives {A = A} ⊥ (RefusesTests world tests) Fine (Err stop)
+told world tests bad Fine is (Refused refusal) e no = (bad, is, e)
+told world tests bad Fine is ReadFault e no = no refl
+told world tests bad Fine is NoRoom e no = tt
 
 abbrev fault_or : Stop → Type 0
 fault_or (Refused refusal) = Unit {0}
@@ -52,10 +54,18 @@ no_fault number TestTypes = tt
 no_fault number (Reach refusal) = link_no_fault refusal
 no_fault number NoMemory = tt
 
-pub tests_stop : {A : Type 0} (world : World) (tests : List Test) (bad : BadTest) (Passes : A → Type 0) → StopsAt world tests bad →
-    Gives {A = A} ⊥ (RefusesTests world tests) Passes (Err (test_refusal bad.number bad.stop))
-tests_stop world tests bad Passes is =
-    told world tests bad Passes is (test_refusal bad.number bad.stop) refl (λ e. subst fault_or e (no_fault bad.number bad.stop))
+pub tests_stop : {A : Type 0} (world : World) (tests : List Test) (bad : BadTest) (Fine : A → Type 0) → StopsAt world tests bad →
+    Gives {A = A} ⊥ (RefusesTests world tests) Fine (Err (test_refusal bad.number bad.stop))
+tests_stop world tests bad Fine is =
+    told world tests bad Fine is (test_refusal bad.number bad.stop) refl (λ e. subst fault_or e (no_fault bad.number bad.stop))
+
+-- what the text is refused for, the replay is
+pub text_stops : (bytes : List ℕ) (world : World) (literals : ℕ) (stop : Stop) → literals ≡ literals_in world →
+    Gives {A = List Test} ⊥ (TextRefuses literals bytes) (AreTestsOf literals bytes) (Err stop) → Carries ⊥ (RepliesReplay bytes world) (Err stop)
+unfolding RepliesReplay
+text_stops bytes world literals stop same given =
+    stage_stops ⊥ ⊥ (TextRefuses (literals_in world) bytes) (AreTestsOf (literals_in world) bytes) _ stop (λ wrong. wrong)
+    (subst (λ (n : ℕ). Gives {A = List Test} ⊥ (TextRefuses n bytes) (AreTestsOf n bytes) (Err stop)) same given)
 
 -- ---- counting
 
