@@ -8,13 +8,13 @@ use Rattle.kb_replay.specs.declared.checks.ReplayStop.{ReplayStop}
 use Rattle.kb_replay.specs.declared.checks.ReplayStop.TheVariants.{TestMethod, TestTypes, Reach, NoMemory}
 use Rattle.kb_replay.specs.declared.replays.Replayed.{Replayed}
 use Rattle.kb_replay.specs.declared.replays.Replayed.TheVariants.{Passes, Differs as DiffersFrom}
-use Rattle.kb_replay.specs.Replays.{StopsAt}
+use Rattle.kb_replay.specs.Replays.{AreRunnable, StopsAt}
 use Rattle.kb_test.specs.declared.test_case.Test.{Test}
 use Rattle.kiasan.specs.declared.refusals.Refusal.{Refusal}
 use Rattle.kiasan.specs.declared.refusals.Stop.{Stop}
 use Rattle.kiasan.specs.declared.refusals.Stop.TheVariants.{Refused, ReadFault, NoMemory as NoRoom}
 use Rattle.kiasan.specs.Refusals.{Gives, link_refusal}
-use Rattle.kiasan.specs.Answers.{AreTestsOf, Carries, RepliesReplay, TextRefuses}
+use Rattle.kiasan.specs.Answers.{AreTestsOf, Carries, EndsReplay, Last, RepliesReplay, Stage, TextRefuses}
 use Rattle.kiasan.proofs.StageLaws.{stage_stops}
 use Rattle.kiasan.specs.Tests.{RefusesTests, literals_in, test_refusal, passes, count_passes, count_differs}
 
@@ -23,9 +23,9 @@ use Rattle.kiasan.specs.Tests.{RefusesTests, literals_in, test_refusal, passes, 
 -- what stops a test is told, unless it is want of memory
 told : {A : Type 0} (world : World) (tests : List Test) (bad : BadTest) (Fine : A → Type 0) → StopsAt world tests bad → (stop : Stop) →
     test_refusal bad.number bad.stop ≡ stop → (stop ≡ ReadFault → ⊥) → Gives {A = A} ⊥ (RefusesTests world tests) Fine (Err stop)
-told world tests bad Fine is (Refused refusal) e no = (bad, is, e)
-told world tests bad Fine is ReadFault e no = no refl
-told world tests bad Fine is NoRoom e no = tt
+told world tests bad Fine is (Refused refusal) e other = (bad, is, e)
+told world tests bad Fine is ReadFault e other = other refl
+told world tests bad Fine is NoRoom e other = tt
 
 abbrev fault_or : Stop → Type 0
 fault_or (Refused refusal) = Unit {0}
@@ -64,7 +64,8 @@ pub text_stops : (bytes : List ℕ) (world : World) (literals : ℕ) (stop : Sto
     Gives {A = List Test} ⊥ (TextRefuses literals bytes) (AreTestsOf literals bytes) (Err stop) → Carries ⊥ (RepliesReplay bytes world) (Err stop)
 unfolding RepliesReplay
 text_stops bytes world literals stop same given =
-    stage_stops ⊥ ⊥ (TextRefuses (literals_in world) bytes) (AreTestsOf (literals_in world) bytes) _ stop (λ wrong. wrong)
+    stage_stops ⊥ ⊥ (TextRefuses (literals_in world) bytes) (AreTestsOf (literals_in world) bytes)
+    (λ tests. Stage (RefusesTests world tests) (AreRunnable world tests) (λ ids. Last (EndsReplay world tests))) stop (λ wrong. wrong)
     (subst (λ (n : ℕ). Gives {A = List Test} ⊥ (TextRefuses n bytes) (AreTestsOf n bytes) (Err stop)) same given)
 
 -- ---- counting

@@ -5,7 +5,7 @@ use Rattle.kiasan.proofs.TestTexts.{none_behind, all_behind, first_path_more, fi
 use Rattle.kiasan.proofs.reports.tests_text.Goals as goal
 
 pub loop-rest-init : goal.loop-rest-init
-loop-rest-init c = rw c.as_slice-rest.ensures (none_behind (literals_in c.args.world.now) (tests_of c.args.world.now c.args.report.now) c.new.result.items c.requires (search rules))
+loop-rest-init c = rw c.as_slice-rest.ensures (none_behind (literals_in c.args.world.now) (tests_of c.args.world.now c.args.report.now) c.new-text.result.items c.requires (search rules))
 
 pub write_path_tests-requires : goal.write_path_tests-requires
 write_path_tests-requires c =
