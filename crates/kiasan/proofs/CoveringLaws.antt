@@ -42,7 +42,9 @@ use Rattle.kiasan.specs.Covering.{Covers, IsReportOf, setting_of, tests_of}
 use Rattle.std.specs.Int.RustNames.{FitsSigned}
 use mir.Syntax.{w32}
 use Rattle.kb_names.specs.Targets.{IsTarget}
-use Rattle.kb_test.specs.Texts.{AreIntValues, AreTests, IsRunBounds}
+use Rattle.kb_test.specs.Lines.{IsRunBounds}
+use Rattle.kb_test.specs.Tests.{AreValues, AreTests, literal_objects, string_object}
+use Rattle.kb_test.proofs.Held.{literals_are}
 use Rattle.kb_terms.specs.Terms.{value_of}
 use Rattle.kb_arith.specs.Word.{AreInts}
 use Rattle.kb_terms.proofs.Ranges.{value_of-fits}
@@ -332,9 +334,9 @@ report_straight world id job explored path report is states within listed e =
 
 -- ---- the test of a straight path
 
-zeros_are_ints : (n : ℕ) → AreIntValues (replicate n (IntValue (pos 0)))
-zeros_are_ints zero = tt
-zeros_are_ints (suc n) = (search rules, zeros_are_ints n)
+zeros_are_values : (objects n : ℕ) → AreValues objects (replicate n (IntValue (pos 0)))
+zeros_are_values objects zero = tt
+zeros_are_values objects (suc n) = (search rules, zeros_are_values objects n)
 
 pub straight_tests : (world : World) (job : Job) (explored : Explored) (path : Path) (report : Report) → StatesResult explored (params_of job.target) path → report ≡ straight_report job path →
     IsTarget job.target → IsRunBounds job.bounds.run → AreTests (literals_in world) (tests_of world report)
@@ -345,15 +347,18 @@ straight_tests world job explored path report states e target bounds =
     let value : ℤ = path_value states.terms states.operand (variable_values (zero_input params) (arguments_seen params)) in
     let is : value ≡ value_of explored.pool explored.result zeros =
     ap (path_value states.terms states.operand) (values_are params (zero_input params) (zero_ints params)) ∙ states.value zeros in
+    let all : ℕ = length (literal_objects (literals_in world)) in
+    let all_literals : take (literals_in world) (literal_objects (literals_in world)) ≡ literal_objects (literals_in world) =
+    take_all (literals_in world) (literal_objects (literals_in world)) (omega (arith, length-replicate (literals_in world) string_object)) in
     let fits : FitsSigned w32 value = subst (FitsSigned w32) (sym is) (value_of-fits explored.pool explored.result zeros states.pool (zeros_fit params)) in
     subst (λ (r : Report). AreTests (literals_in world) (tests_of world r)) (sym (e ∙ ap (straight_report job) states.path_is)) (
       record {
         target = target;
         bounds = bounds;
-        args = zeros_are_ints params;
-        input = refl;
-        ending = fits;
-        heap = refl;
+        args = zeros_are_values all params;
+        inputs = tt;
+        kinds = refl;
+        final = record { inputs_there = omega arith; literals_there = all_literals; objects = literals_are all (literals_in world); ending = fits };
       },
       tt,
     )

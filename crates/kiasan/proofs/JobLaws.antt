@@ -3,7 +3,7 @@ use Rattle.std.proofs.Common.{◌≡◌, List, [], ◌∷◌, ◌++◌, ℕ, tru
 use Rattle.std.specs.List.{AllByRecursion, list_all}
 use Rattle.kb_heap.specs.declared.heap.Input.{Input}
 use Rattle.kb_semantics.specs.Inputs.{IsTypeCorrect}
-use Rattle.kb_test.specs.Texts.{SpellsTests}
+use Rattle.kb_test.specs.Tests.{SpellsTests}
 use Rattle.kb_link.specs.World.{World}
 use Rattle.kb_class.specs.declared.ids.MethodId.{MethodId}
 use Rattle.kb_names.specs.declared.types.Target.{Target}

@@ -13,15 +13,11 @@ use Rattle.kb_classfile.specs.Spelling.{IsClassFile}
 use Rattle.kb_classfile.proofs.ClassLaws.{spelled_is_read}
 use Rattle.kb_code.specs.declared.refusal.CodeRefusal.{CodeRefusal}
 use Rattle.kb_grammar.specs.Lines.{Lacks, AreLines, IsFirstBadLine, lines_text}
-use Rattle.kb_grammar.proofs.LineLaws.{lines_beyond, no_lines}
 use Rattle.kb_grammar.proofs.WordLaws.{same_cut}
 use Rattle.kb_names.specs.declared.types.Target.{Target}
-use Rattle.kb_semantics.specs.Config.{Ended}
-use Rattle.kb_semantics.specs.Inputs.{IsTypeCorrect}
 use Rattle.kb_test.specs.declared.test_case.Test.{Test}
-use Rattle.kb_test.specs.Texts.{IsTestsText, SpellsTests, tests_lines}
-use Rattle.kb_test.proofs.SameTests.{same_tests}
-use Rattle.kb_test.proofs.TestLines.{tests_are_lines}
+use Rattle.kb_test.specs.Tests.{IsTestsText}
+use Rattle.kb_test.proofs.TextLaws.{one_tests}
 use Rattle.kb_link.specs.declared.linking.LinkRefusal.{LinkRefusal}
 use Rattle.kb_link.specs.declared.linking.LinkRefusal.TheVariants as links
 use Rattle.kb_link.specs.Links.{IsLinked, Links}
@@ -38,8 +34,11 @@ use Rattle.kiasan.specs.declared.refusals.Refusal.TheVariants as refusals
 use Rattle.kiasan.specs.declared.refusals.Stop.{Stop}
 use Rattle.kiasan.specs.declared.refusals.Stop.TheVariants.{Refused}
 use Rattle.kiasan.specs.declared.refusals.Stop.TheVariants as stops
-use Rattle.kiasan.specs.declared.replay.Replayed.{Replayed}
-use Rattle.kiasan.specs.declared.replay.Replayed.TheVariants.{Passes, Differs}
+use Rattle.kb_replay.specs.declared.checks.BadTest.{BadTest}
+use Rattle.kb_replay.specs.declared.checks.ReplayStop.TheVariants.{NoMemory}
+use Rattle.kb_replay.specs.declared.replays.Replayed.{Replayed}
+use Rattle.kb_replay.specs.Replays.{AreRunnable}
+use Rattle.kb_replay.proofs.OneAnswer.{one_bad_test, stopped_or_runnable, one_ids, one_replay}
 use Rattle.kiasan.specs.declared.report.Report.{Report}
 use Rattle.kiasan.specs.declared.status.Status.{Status}
 use Rattle.kiasan.specs.declared.words.Job.{Job}
@@ -51,8 +50,8 @@ use Rattle.kiasan.specs.Orders.{Orders, files_of, texts_of, classes_of}
 use Rattle.kiasan.specs.Reach.{ReachRefuses, TargetRefuses}
 use Rattle.kiasan.specs.CodeFaults.{MethodsRefuse, methods_fault}
 use Rattle.kiasan.specs.Refusals.{class_refusal, code_refusal, link_refusal, word_refusal}
-use Rattle.kiasan.specs.Tests.{AreRunnable, AreVerdicts, IsRunnable, IsVerdict, RefusesTest, RefusesTests, literals_in, replay_status}
-use Rattle.kiasan.specs.Unbuilt.{IsBuiltFor, IsBuiltMethod}
+use Rattle.kiasan.specs.Tests.{RefusesTests, literals_in, replay_status, test_refusal}
+use Rattle.kiasan.specs.Unbuilt.{IsBuiltFor}
 use Rattle.kiasan.proofs.ClassLaws.{no_faults}
 use Rattle.kiasan.proofs.OneListing.{listings_one}
 use Rattle.kiasan.proofs.StageLaws.{HasOne, stage_one}
@@ -282,15 +281,6 @@ one_line IsText text m n a b = a.number_is ∙ ap (λ (k : ℕ). k + 1) (one_len
     one_length (suc i) zero a b = absurd (b (omega arith))
     one_length (suc i) (suc j) a b = ap suc (one_length i j (λ few. a (omega (arith, few))) (λ few. b (omega (arith, few))))
 
--- a text is that of one list of tests
-one_tests : (literals : ℕ) (one other : List Test) (text : List ℕ) → SpellsTests literals one text → SpellsTests literals other text → one ≡ other
-one_tests literals one other text p q =
-    let beyond = lines_beyond (tests_lines one) (tests_lines other) [] (tests_are_lines literals one p.0) (tests_are_lines literals other q.0)
-    (append-nil (lines_text (tests_lines one)) ∙ sym p.1 ∙ q.1) in
-    let none = no_lines [] beyond.0 tt beyond.2 in
-    let same : tests_lines other ≡ tests_lines one = beyond.1 ∙ ap (λ (lines : List (List ℕ)). tests_lines one ++ lines) none.0 ∙ append-nil (tests_lines one) in
-    same_tests literals one other p.0 q.0 (sym same)
-
 text_refusal : (literals : ℕ) (bytes : List ℕ) (r s : Refusal) → TextRefuses literals bytes r → TextRefuses literals bytes s → r ≡ s
 text_refusal literals bytes r s (inl a) (inl b) = a.0 ∙ sym b.0
 text_refusal literals bytes r s (inl a) (inr b) = absurd (omega (arith, a.1, b.2))
@@ -303,87 +293,21 @@ text_apart literals bytes r tests (inr a) are = a.3.no_text (tests, are.1)
 
 -- ---- tests
 
-abbrev IsFine : World → Test → Type 0
-IsFine world test = (id : MethodId) × IsRunnable world test id
-
-abbrev IsBadTest : World → Test → Type 0
-IsBadTest world test = (number : ℕ) × (refusal : Refusal) × RefusesTest world number test refusal
-
-built_found : (world : World) (target : Target) (id : MethodId) → IsBuiltMethod world target id → IsTargetOf world target id × IsAccepted world id
-built_found world target id built = (built.1.found, built.1.accepted)
-
-test_apart : (world : World) → IsLinked world → (test : Test) → IsFine world test → IsBadTest world test → ⊥
-test_apart world given test (id, run) (number, refusal, inl bad) = bad.1 id run.built.1.found
-test_apart world given test (id, run) (number, refusal, inr (inl bad)) =
-    bad.3 (subst (λ (i : MethodId). IsTypeCorrect world i test.input) (ids_one world test.target given id bad.1 run.built.1.found bad.2) run.correct)
-test_apart world given test (id, run) (number, refusal, inr (inr bad)) =
-    target_apart (IsBuiltMethod world test.target) world test.target given (built_found world test.target) refusal id bad.2 run.built
-
-each_fine : (world : World) (tests : List Test) (ids : List MethodId) → AreRunnable world tests ids → AllByRecursion (IsFine world) tests
-each_fine world [] [] are = tt
-each_fine world (t ∷ tests) (i ∷ ids) are = ((i, are.0), each_fine world tests ids are.1)
-each_fine world [] (i ∷ ids) are = absurd are
-each_fine world (t ∷ tests) [] are = absurd are
-
-one_test_refusal : (world : World) → IsLinked world → (number : ℕ) (test : Test) (r s : Refusal) → RefusesTest world number test r → RefusesTest world number test s → r ≡ s
-one_test_refusal world given number test r s (inl a) (inl b) = a.0 ∙ sym b.0
-one_test_refusal world given number test r s (inl a) (inr (inl b)) = absurd (a.1 b.1 b.2)
-one_test_refusal world given number test r s (inl a) (inr (inr b)) = absurd (a.1 b.0 b.1.found)
-one_test_refusal world given number test r s (inr (inl a)) (inl b) = absurd (b.1 a.1 a.2)
-one_test_refusal world given number test r s (inr (inl a)) (inr (inl b)) = a.0 ∙ sym b.0
-one_test_refusal world given number test r s (inr (inl a)) (inr (inr b)) =
-    absurd (a.3 (subst (λ (i : MethodId). IsTypeCorrect world i test.input) (ids_one world test.target given b.0 a.1 b.1.found a.2) b.1.correct))
-one_test_refusal world given number test r s (inr (inr a)) (inl b) = absurd (b.1 a.0 a.1.found)
-one_test_refusal world given number test r s (inr (inr a)) (inr (inl b)) =
-    absurd (b.3 (subst (λ (i : MethodId). IsTypeCorrect world i test.input) (ids_one world test.target given a.0 b.1 a.1.found b.2) a.1.correct))
-one_test_refusal world given number test r s (inr (inr a)) (inr (inr b)) = target_refusal (IsBuiltMethod world test.target) world test.target given r s a.2 b.2
+no_want : (bad : BadTest) (refusal : Refusal) → test_refusal bad.number bad.stop ≡ Refused refusal → bad.stop ≡ NoMemory → ⊥
+no_want bad refusal told is =
+    let wrong : stops.NoMemory ≡ refused_by refusal = ap (test_refusal bad.number) (sym is) ∙ told in
+    cc
 
 tests_refusal_one : (world : World) → IsLinked world → (tests : List Test) (r s : Refusal) → RefusesTests world tests r → RefusesTests world tests s → r ≡ s
-tests_refusal_one world given tests r s a b =
-    let same = same_first (IsFine world) (IsBadTest world) (test_apart world given) a.before b.before a.test b.test a.after b.after (each_fine world a.before a.ids a.good)
-    (each_fine world b.before b.ids b.good) (length a.before, r, a.bad) (length b.before, s, b.bad) (sym a.tests_are ∙ b.tests_are) in
-    one_test_refusal world given (length b.before) b.test r s
-    (subst (λ (t : Test). RefusesTest world (length b.before) t r) same.1 (subst (λ (n : ℕ). RefusesTest world n a.test r) same.0 a.bad)) b.bad
+tests_refusal_one world given tests r s (a, p, e) (b, q, h) =
+    let same : a ≡ b = one_bad_test world given tests a b p q (no_want a r e) (no_want b s h) in
+    let told : refused_by r ≡ refused_by s = sym e ∙ ap (λ (bad : BadTest). test_refusal bad.number bad.stop) same ∙ h in
+    cc
 
 tests_apart : (world : World) → IsLinked world → (tests : List Test) (r : Refusal) (ids : List MethodId) → RefusesTests world tests r → AreRunnable world tests ids → ⊥
-tests_apart world given tests r ids a are =
-    test_apart world given a.test (all_at (IsFine world) a.before a.test a.after (subst (AllByRecursion (IsFine world)) a.tests_are (each_fine world tests ids are)))
-    (length a.before, r, a.bad)
-
-one_ids : (world : World) → IsLinked world → (tests : List Test) (xs ys : List MethodId) → AreRunnable world tests xs → AreRunnable world tests ys → xs ≡ ys
-one_ids world given [] [] [] a b = refl
-one_ids world given [] (x ∷ xs) ys a b = absurd a
-one_ids world given [] [] (y ∷ ys) a b = absurd b
-one_ids world given (t ∷ tests) [] ys a b = absurd a
-one_ids world given (t ∷ tests) (x ∷ xs) [] a b = absurd b
-one_ids world given (t ∷ tests) (x ∷ xs) (y ∷ ys) a b =
-    let first : x ≡ y = ids_one world t.target given x y a.0.built.1.found b.0.built.1.found in
-    let rest : xs ≡ ys = one_ids world given tests xs ys a.1 b.1 in
-    rw (first, rest) refl
+tests_apart world given tests r ids (a, p, e) are = stopped_or_runnable world given tests a ids p (no_want a r e) are
 
 -- ---- runs
-
-one_verdict : (world : World) (id : MethodId) (test : Test) (x y : Replayed) → IsVerdict world id test x → IsVerdict world id test y → x ≡ y
-one_verdict world id test Passes Passes a b = refl
-one_verdict world id test Passes (Differs ending heap) a b = absurd (b.1 a)
-one_verdict world id test (Differs ending heap) Passes a b = absurd (a.1 b)
-one_verdict world id test (Differs ending heap) (Differs other last) a b =
-    let same = sym a.0 ∙ b.0 in
-    let endings : ending ≡ other = ap (λ (e : Ended). e.ending) same in
-    let heaps : heap ≡ last = ap (λ (e : Ended). e.heap) same in
-    rw (endings, heaps) refl
-
-one_verdicts : (world : World) → IsLinked world → (tests : List Test) (xs ys : List Replayed) → AreVerdicts world tests xs → AreVerdicts world tests ys → xs ≡ ys
-one_verdicts world given [] [] [] a b = refl
-one_verdicts world given [] (x ∷ xs) ys a b = absurd a
-one_verdicts world given [] [] (y ∷ ys) a b = absurd b
-one_verdicts world given (t ∷ tests) [] ys a b = absurd a
-one_verdicts world given (t ∷ tests) (x ∷ xs) [] a b = absurd b
-one_verdicts world given (t ∷ tests) (x ∷ xs) (y ∷ ys) a b =
-    let ids : a.0.0 ≡ b.0.0 = ids_one world t.target given a.0.0 b.0.0 a.0.1.built.1.found b.0.1.built.1.found in
-    let first : x ≡ y = one_verdict world b.0.0 t x y (subst (λ (i : MethodId). IsVerdict world i t x) ids a.0.2) b.0.2 in
-    let rest : xs ≡ ys = one_verdicts world given tests xs ys a.1 b.1 in
-    rw (first, rest) refl
 
 replay_one : (Same : Status → List ℕ → Status → List ℕ → Type 0) (bytes : List ℕ) (world : World) → IsLinked world →
     ((a b : Status) (t u : List ℕ) → a ≡ b → t ≡ u → Same a t b u) → HasOne Same (RepliesReplay bytes world)
@@ -398,7 +322,7 @@ replay_one Same bytes world given same =
     last tests (refuses r) other a b = absurd a
     last tests (ends s t) (refuses r) a b = absurd b
     last tests (ends s t) (ends u v) a b =
-        let verdicts : a.verdicts ≡ b.verdicts = one_verdicts world given tests a.verdicts b.verdicts a.verdicts_are b.verdicts_are in
+        let verdicts : a.verdicts ≡ b.verdicts = one_replay world given tests a.verdicts b.verdicts a.verdicts_are b.verdicts_are in
         same s u t v (a.status_is ∙ ap (λ vs. replay_status vs) verdicts ∙ sym b.status_is) (a.text_is ∙ ap (λ vs. replay_text (literals_in world) tests vs) verdicts ∙ sym b.text_is)
 
 -- ---- words

@@ -1,47 +1,60 @@
 -- The text of tests, path by path.
-use Rattle.std.proofs.Common.{◌≡◌, ℕ, ◌≤◌, ◌-◌, List, [], ◌∷◌, ◌++◌, length, take, drop, get_or, refl, sym, ◌∙◌, ap, subst, arith, append_assoc}
+use Rattle.std.proofs.Common.{◌≡◌, ℕ, ◌<◌, ◌≤◌, ◌-◌, List, [], ◌∷◌, ◌++◌, length, take, drop, get_or, sym, ◌∙◌, ap, subst, arith, append_assoc, append-nil}
 use Rattle.std.proofs.lemmas.List.{take_all}
 use Rattle.kiasan.specs.declared.path.Path.{Path}
 use Rattle.kiasan.specs.declared.report.Report.{Report}
 use Rattle.kiasan.specs.Covering.{path_tests}
 use Rattle.kb_link.specs.World.{World}
 use Rattle.std.specs.List.{flat_map}
-use Rattle.kb_grammar.proofs.LineLaws.{lines_text-++}
-use Rattle.kb_grammar.specs.Lines.{lines_text}
 use Rattle.kb_test.specs.declared.test_case.Test.{Test}
-use Rattle.kb_test.specs.Texts.{AreTests, test_lines, tests_lines, tests_text}
+use Rattle.kb_test.specs.Refusals.{Appends}
+use Rattle.kb_test.specs.Tests.{AreTests, SpellsTests}
+use Rattle.kb_test.proofs.TextLaws.{joined, no_tests}
 
-pub split_tests : (literals : ℕ) (xs ys : List Test) → AreTests literals (xs ++ ys) → AreTests literals xs × AreTests literals ys
+split_tests : (literals : ℕ) (xs ys : List Test) → AreTests literals (xs ++ ys) → AreTests literals xs × AreTests literals ys
 split_tests literals [] ys h = (tt, h)
 split_tests literals (x ∷ xs) ys h = let rest = split_tests literals xs ys h.1 in ((h.0, rest.0), rest.1)
-
-lines_of_both : (xs ys : List Test) → tests_lines (xs ++ ys) ≡ tests_lines xs ++ tests_lines ys
-lines_of_both [] ys = refl
-lines_of_both (x ∷ xs) ys = ap (λ lines. test_lines x ++ lines) (lines_of_both xs ys) ∙ sym (append_assoc (test_lines x) (tests_lines xs) (tests_lines ys))
-
-pub text_of_both : (xs ys : List Test) → tests_text (xs ++ ys) ≡ tests_text xs ++ tests_text ys
-text_of_both xs ys = ap lines_text (lines_of_both xs ys) ∙ lines_text-++ (tests_lines xs) (tests_lines ys)
-
--- the tests of one path are written
-pub one_path_more : (literals : ℕ) (xs ys : List Test) (text new all : List ℕ) → AreTests literals (xs ++ ys) → text ++ tests_text (xs ++ ys) ≡ all → new ≡ text ++ tests_text xs →
-    AreTests literals ys × (new ++ tests_text ys ≡ all)
-one_path_more literals xs ys text new all are e n = (
-  (split_tests literals xs ys are).1,
-  ap (λ (t : List ℕ). t ++ tests_text ys) n ∙ append_assoc text (tests_text xs) (tests_text ys) ∙ ap (λ (t : List ℕ). text ++ t) (sym (text_of_both xs ys)) ∙ e,
-)
 
 -- the tests of some paths of a report
 abbrev pub tests_on : World → Report → List Path → List Test
 tests_on world report paths = flat_map (λ path. path_tests world report path path.leaf) paths
 
-pub first_path_more : (literals : ℕ) (world : World) (report : Report) (rest : List Path) (path : Path) (text new all : List ℕ) → 1 ≤ length rest → path ≡ get_or rest 0 path →
-    AreTests literals (tests_on world report rest) → text ++ tests_text (tests_on world report rest) ≡ all → new ≡ text ++ tests_text (path_tests world report path path.leaf) →
-    AreTests literals (tests_on world report (take (length rest - 1) (drop 1 rest))) × (new ++ tests_text (tests_on world report (take (length rest - 1) (drop 1 rest))) ≡ all)
-first_path_more literals world report [] path text new all some at are e n = absurd (omega (arith, some))
-first_path_more literals world report (x ∷ others) path text new all some at are e n =
+-- The text of the tests before `rest` is written: with a text of these behind it, it is one of all. They have texts.
+pub record IsBehind (literals : ℕ) (all rest : List Test) (text : List ℕ) : Type 0 where
+  pub are : AreTests literals rest
+  pub goes_on : (more : List ℕ) → SpellsTests literals rest more → SpellsTests literals all (text ++ more)
+
+pub none_behind : (literals : ℕ) (all : List Test) (text : List ℕ) → AreTests literals all → text ≡ [] → IsBehind literals all all text
+none_behind literals all text are none = record { are = are; goes_on = λ more spells. subst (λ (t : List ℕ). SpellsTests literals all (t ++ more)) (sym none) spells }
+
+pub all_behind : (literals : ℕ) (world : World) (report : Report) (all : List Test) (rest : List Path) (text : List ℕ) → length rest < 1 → IsBehind literals all (tests_on world report rest) text →
+    SpellsTests literals all text
+all_behind literals world report all [] text end at = subst (SpellsTests literals all) (append-nil text) (at.goes_on [] (no_tests literals))
+all_behind literals world report all (path ∷ rest) text end at = absurd (omega (arith, end))
+
+-- the tests of one path are written
+more_behind : (literals : ℕ) (all xs ys : List Test) (text new : List ℕ) → IsBehind literals all (xs ++ ys) text → Appends literals xs text new → IsBehind literals all ys new
+more_behind literals all xs ys text new at more = record {
+  are = (split_tests literals xs ys at.are).1;
+  goes_on = λ rest spells.
+      subst (SpellsTests literals all) (sym (append_assoc text more.text rest) ∙ ap (λ (t : List ℕ). t ++ rest) (sym more.is)) (at.goes_on (more.text ++ rest) (joined literals xs ys more.text rest more.spelled spells));
+}
+
+pub first_path_more : (literals : ℕ) (world : World) (report : Report) (all : List Test) (rest : List Path) (path : Path) (text new : List ℕ) → 1 ≤ length rest → path ≡ get_or rest 0 path →
+    IsBehind literals all (tests_on world report rest) text → Appends literals (path_tests world report path path.leaf) text new →
+    IsBehind literals all (tests_on world report (take (length rest - 1) (drop 1 rest))) new
+first_path_more literals world report all [] path text new some at behind more = absurd (omega (arith, some))
+first_path_more literals world report all (x ∷ others) path text new some at behind more =
     let long : length others ≤ length (x ∷ others) - 1 = omega arith in
     let same : take (length (x ∷ others) - 1) others ≡ others = take_all (length (x ∷ others) - 1) others long in
     let is : path ≡ x = at in
-    let n2 : new ≡ text ++ tests_text (path_tests world report x x.leaf) = n ∙ ap (λ (p : Path). text ++ tests_text (path_tests world report p p.leaf)) is in
-    subst (λ (ps : List Path). AreTests literals (tests_on world report ps) × (new ++ tests_text (tests_on world report ps) ≡ all)) (sym same)
-    (one_path_more literals (path_tests world report x x.leaf) (tests_on world report others) text new all are e n2)
+    subst (λ (ps : List Path). IsBehind literals all (tests_on world report ps) new) (sym same)
+    (more_behind literals all (path_tests world report x x.leaf) (tests_on world report others) text new behind
+    (subst (λ (p : Path). Appends literals (path_tests world report p p.leaf) text new) is more))
+
+-- the tests of the first path have texts
+pub first_are : (literals : ℕ) (world : World) (report : Report) (rest : List Path) (path : Path) → 1 ≤ length rest → path ≡ get_or rest 0 path →
+    AreTests literals (tests_on world report rest) → AreTests literals (path_tests world report path path.leaf)
+first_are literals world report [] path some at are = absurd (omega (arith, some))
+first_are literals world report (x ∷ others) path some at are =
+    subst (λ (p : Path). AreTests literals (path_tests world report p p.leaf)) (sym at) ((split_tests literals (path_tests world report x x.leaf) (tests_on world report others) are).0)

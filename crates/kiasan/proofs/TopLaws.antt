@@ -7,7 +7,7 @@ use Rattle.kiasan.specs.declared.refusals.Answer.{Answer}
 use Rattle.kiasan.specs.declared.refusals.Refusal.{Refusal}
 use Rattle.kiasan.specs.declared.refusals.Refusal.TheVariants as refusals
 use Rattle.kiasan.specs.declared.report.Report.{Report}
-use Rattle.kiasan.specs.declared.replay.Replayed.{Replayed}
+use Rattle.kb_replay.specs.declared.replays.Replayed.{Replayed}
 use Rattle.kiasan.specs.declared.words.Job.{Job}
 use Rattle.kiasan.specs.declared.words.Order.{Order}
 use Rattle.kiasan.specs.declared.words.Order.TheVariants.{Explore, Tests, Diagrams, Replay, Assemble, Sample}

@@ -4,7 +4,7 @@ use Rattle.std.proofs.Common.{◌≡◌, ℕ, List, [], length, refl, sym, ◌�
 use Rattle.kb_names.specs.declared.types.Target.{Target}
 use Rattle.kb_names.specs.Targets.{SpellsTarget, target_read}
 use Rattle.kb_names.proofs.TargetReader.{target_reader}
-use Rattle.kb_test.specs.Texts.{IsRunBounds}
+use Rattle.kb_test.specs.Lines.{IsRunBounds}
 use Rattle.kiasan.specs.Answers.{IsBuiltOrder, IsWritable}
 use Rattle.kiasan.specs.Words.{IsJobCommand, AreJobWords, AreReplayWords, default_job, default_run_bounds}
 use Rattle.kiasan.specs.Orders.{Orders, OrdersJob, HasBadTarget}

@@ -13,7 +13,8 @@ use Rattle.kb_outside.specs.Outside.{Rose, Grows, GrowsByPart}
 use Rattle.kb_test.specs.declared.test_case.Test.{Test}
 use Rattle.kb_grammar.specs.Lines.{IsFirstBadLine}
 use Rattle.kb_names.specs.Targets.{IsTarget}
-use Rattle.kb_test.specs.Texts.{SpellsTests, IsTestsText, AreTests, IsRunBounds}
+use Rattle.kb_test.specs.Lines.{IsRunBounds}
+use Rattle.kb_test.specs.Tests.{SpellsTests, IsTestsText, AreTests}
 use Rattle.kb_link.specs.declared.linking.LinkRefusal.{LinkRefusal}
 use Rattle.kb_link.specs.Links.{Links, RefusesLink}
 use Rattle.kb_link.specs.Targets.{IsTargetOf}
@@ -25,7 +26,8 @@ use Rattle.kiasan.specs.declared.refusals.Refusal.TheVariants.{TestLine, LongTex
 use Rattle.kiasan.specs.declared.refusals.Stop.{Stop}
 use Rattle.kiasan.specs.declared.refusals.Stop.TheVariants.{Refused}
 use Rattle.kiasan.specs.declared.refusals.Stop.TheVariants as stops
-use Rattle.kiasan.specs.declared.replay.Replayed.{Replayed}
+use Rattle.kb_replay.specs.declared.replays.Replayed.{Replayed}
+use Rattle.kb_replay.specs.Replays.{AreReplayed, AreRunnable}
 use Rattle.kiasan.specs.declared.report.Report.{Report}
 use Rattle.kiasan.specs.declared.words.Job.{Job}
 use Rattle.kiasan.specs.declared.words.Order.{Order}
@@ -39,7 +41,7 @@ use Rattle.kiasan.specs.Refusals.{Gives, class_refusal, link_refusal, refusal_st
 use Rattle.kiasan.specs.Report.{report_text}
 use Rattle.kiasan.specs.Reach.{TargetRefuses}
 use Rattle.kiasan.specs.Covering.{IsReportOf, HasStatus, tests_of}
-use Rattle.kiasan.specs.Tests.{AreRunnable, AreVerdicts, EndsAsStated, RefusesTests, literals_in, replay_status}
+use Rattle.kiasan.specs.Tests.{EndsAsStated, RefusesTests, literals_in, replay_status}
 use Rattle.kiasan.specs.Unbuilt.{IsBuiltFor}
 use Rattle.kiasan.specs.Verdicts.{replay_text}
 
@@ -110,10 +112,10 @@ pub record IsTestsTextOf (world : World) (id : MethodId) (report : Report) (text
   pub spelled : SpellsTests (literals_in world) (tests_of world report) text
   pub end_as_stated : AllByRecursion (EndsAsStated world id) (tests_of world report)
 
--- the end of a replay: the verdicts on the tests, in order
+-- the end of a replay: what the runs of the tests say, in order
 pub record EndsReplay (world : World) (tests : List Test) (status : Status) (text : List ℕ) : Type 0 where
   pub verdicts : List Replayed
-  pub verdicts_are : AreVerdicts world tests verdicts
+  pub verdicts_are : AreReplayed world tests verdicts
   pub status_is : status ≡ replay_status verdicts
   pub text_is : text ≡ replay_text (literals_in world) tests verdicts
 

@@ -5,11 +5,12 @@ use Rattle.std.specs.Fmt.{decimal, signed_decimal}
 use Rattle.kb_heap.specs.declared.bounds.Bounds.{Bounds}
 use Rattle.kb_heap.specs.declared.bounds.RunBounds.{RunBounds}
 use Rattle.kb_heap.specs.declared.heap.Input.{Input}
+use Rattle.kb_heap.specs.declared.heap.Value.{Value}
+use Rattle.kb_heap.specs.declared.heap.Value.TheVariants.{Int, Null, Ref}
 use Rattle.kb_names.specs.declared.types.Target.{Target}
 use Rattle.kb_names.specs.Targets.{target_text}
 use Rattle.kb_terms.specs.Op.{op_name}
 use Rattle.kb_grammar.specs.Lines.{lines_text}
-use Rattle.kb_test.specs.Texts.{arg_line}
 use Rattle.kiasan.specs.declared.path.Operand.{Operand}
 use Rattle.kiasan.specs.declared.path.Operand.TheVariants.{Const, Var, Term as Earlier}
 use Rattle.kiasan.specs.declared.path.Term.{Term}
@@ -129,6 +130,15 @@ out_text (OutInt operand) = operand_text operand
 unfoldable pub ending_text : SymEnding → List ℕ
 ending_text (Returned None) = codes "returns"
 ending_text (Returned (Some out)) = codes "returns " ++ out_text out
+
+-- a value of an input, which names no objects but its own
+unfoldable pub value_text : Value → List ℕ
+value_text (Int number) = signed_decimal number
+value_text Null = codes "null"
+value_text (Ref object) = codes "i" ++ decimal object
+
+unfoldable pub arg_line : Value → List ℕ
+arg_line value = codes "arg " ++ value_text value
 
 -- an input: its arguments; objects, which no input has by now, come behind them
 unfoldable pub input_lines : Input → List ℕ

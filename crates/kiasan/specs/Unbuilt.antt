@@ -10,7 +10,6 @@ use Rattle.kiasan.specs.declared.status.Status.{Status}
 use Rattle.kiasan.specs.declared.status.Status.TheVariants.{Outside}
 use Rattle.kiasan.specs.Report.{line}
 use Rattle.kiasan.specs.declared.words.Job.{Job}
-use Rattle.kiasan.specs.Straight.{IsStraight}
 use Rattle.kiasan.specs.StraightPath.{IsExplorable}
 use Rattle.kiasan.specs.Words.{IsJobCommand, AreJobWords, AreReplayWords}
 
@@ -26,10 +25,7 @@ pub record AreUnbuiltWords (words : List (List ℕ)) : Type 0 where
   pub no_job : (command method : List ℕ) (files : List (List ℕ)) → IsJobCommand command → AreJobWords words command method files → ⊥
   pub no_replay : (tests : List ℕ) (files : List (List ℕ)) → AreReplayWords words tests files → ⊥
 
--- a method is built for tests where it is straight, and for a job where its runs also end within the job's bounds
-abbrev pub IsBuiltMethod : World → Target → MethodId → Type 0
-IsBuiltMethod world target id = (method : Method) × IsStraight world target id method
-
+-- a method is built for a job where it is straight, and its runs end within the job's bounds
 abbrev pub IsBuiltFor : World → Job → MethodId → Type 0
 IsBuiltFor world job id = (method : Method) × IsExplorable world job id method
 

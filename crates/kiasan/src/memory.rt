@@ -41,9 +41,3 @@ impl From<kb_test::NoMemory> for NoMemory {
         NoMemory
     }
 }
-
-impl From<kb_machine::NoMemory> for NoMemory {
-    fn from(_refusal: kb_machine::NoMemory) -> NoMemory {
-        NoMemory
-    }
-}

@@ -1,8 +1,7 @@
 //! Reports, and their text.
 ghost use Rattle.std.specs.Prelude.{◌≡◌, ℕ, ◌+◌, List, [], ◌∷◌, ◌++◌, codes, map, string_bytes, Some, IfOk, OnOk};
 ghost use Rattle.kb_grammar.specs.Lines.{lines_text};
-ghost use Rattle.kb_test.specs.Texts.{arg_line};
-ghost use Rattle.kiasan.specs.Report.{operand_text, term_text, slot_text, seen_text, out_text, ending_text, init_text, title_line, target_line, settings_line, bounds_text, run_bounds_text, bound_text, head_text, decisions_line, further_decisions, see_line, see_lines, let_lines, when_line, when_lines, input_lines, leaf_text, path_text, paths_text, count_of, total_line, report_text};
+ghost use Rattle.kiasan.specs.Report.{arg_line, operand_text, term_text, slot_text, seen_text, out_text, ending_text, init_text, title_line, target_line, settings_line, bounds_text, run_bounds_text, bound_text, head_text, decisions_line, further_decisions, see_line, see_lines, let_lines, when_line, when_lines, input_lines, leaf_text, path_text, paths_text, count_of, total_line, report_text};
 ghost use Rattle.kiasan.specs.ReportExample.{example_report, example_text};
 
 use crate::memory::NoMemory;
@@ -294,13 +293,14 @@ fn write_args(text: &mut String, args: &[Value]) -> Result<(), AllocError>
     Ok(())
 }
 
-#[tactic(auto, unfolding(kb_test::specs::Texts::arg_line, kb_test::specs::Texts::value_text))]
+#[tactic(auto, unfolding(crate::specs::Report::arg_line, crate::specs::Report::value_text))]
 fn write_arg(text: &mut String, value: &Value) -> Result<(), AllocError>
     ensures { OnOk result (string_bytes text.new ≡ string_bytes text.old ++ (arg_line value.now ++ 10 ∷ [])) }
 {
     match value {
         Value::Int(number) => writeln!(text, "arg {number}"),
-        Value::Null | Value::Ref(_) => writeln!(text, "arg "),
+        Value::Null => writeln!(text, "arg null"),
+        Value::Ref(object) => writeln!(text, "arg i{object}"),
     }
 }
 

@@ -1,10 +1,12 @@
 //! The report of a method that is straight, and the tests of a report's paths.
 
-ghost use Rattle.std.specs.Prelude.{◌≡◌, ◌≤◌, List, ◌++◌, IfOk, IfSome, IfNone, OnOk};
+ghost use Rattle.std.specs.Prelude.{◌≡◌, ◌≤◌, List, IfOk, IfSome, IfNone, OnOk};
 ghost use Rattle.kb_names.specs.Targets.{IsTarget};
 ghost use Rattle.kiasan.specs.StraightMachine.{Method};
 ghost use Rattle.kb_terms.specs.Terms.{IsTerm};
-ghost use Rattle.kb_test.specs.Texts.{AreTests, IsRunBounds, SpellsTests, tests_text};
+ghost use Rattle.kb_test.specs.Lines.{IsRunBounds};
+ghost use Rattle.kb_test.specs.Refusals.{Appends};
+ghost use Rattle.kb_test.specs.Tests.{AreTests, SpellsTests};
 ghost use Rattle.kb_link.specs.Targets.{IsTargetOf};
 ghost use Rattle.kb_world.specs.Reach.{IsAccepted};
 ghost use Rattle.kb_link.specs.World.{World};
@@ -24,9 +26,8 @@ use crate::straight::explore_method;
 use crate::words::Job;
 use kb_class::MethodId;
 use kb_heap::{Heap, Input, Value};
-use kb_machine::first_heap;
 use kb_rows::Row;
-use kb_test::{Test, write_test};
+use kb_test::{FinalHeap, Test, write_test};
 use kb_world::World;
 use std::alloc::Global;
 
@@ -142,7 +143,7 @@ fn write_path_tests(
     text: &mut Vec<u8>,
 ) -> Result<(), NoMemory>
     requires { AreTests (literals_in world.now) (path_tests world.now report.now path.now path.now.leaf) }
-    ensures { OnOk result (text.new.items ≡ text.old.items ++ tests_text (path_tests world.now report.now path.now path.now.leaf)) }
+    ensures { OnOk result (Appends (literals_in world.now) (path_tests world.now report.now path.now path.now.leaf) text.old.items text.new.items) }
 {
     match &path.leaf {
         Leaf::Ended(ended) => {
@@ -164,11 +165,12 @@ fn test_of(
     ensures { IfOk result (λ test. test ≡ test_of world.now report.now path.now ended.now) }
 {
     let ending = ending_of(alloc, path, ended)?;
+    let kept = ended.input.heap.copied(alloc)?;
     Ok(Test {
         target: report.target.copied(alloc)?,
         bounds: report.bounds.run,
         input: ended.input.copied(alloc)?,
         ending,
-        heap: first_heap(alloc, world, &ended.input.heap)?,
+        heap: FinalHeap::new(alloc, kept.objects, world.literals(), Row::new(alloc))?,
     })
 }

@@ -2,7 +2,8 @@
 
 ghost use Rattle.std.specs.Prelude.{◌≡◌, ◌⊎◌};
 ghost use Rattle.kb_names.specs.Targets.{IsTarget};
-ghost use Rattle.kb_test.specs.Texts.{AreTests, IsRunBounds};
+ghost use Rattle.kb_test.specs.Lines.{IsRunBounds};
+ghost use Rattle.kb_test.specs.Tests.{AreTests};
 ghost use Rattle.kb_link.specs.Targets.{IsTargetOf};
 ghost use Rattle.kb_world.specs.Reach.{IsAccepted};
 ghost use Rattle.kiasan.specs.Answers.{IsWrittenReport};
@@ -10,16 +11,14 @@ ghost use Rattle.kiasan.specs.Covering.{IsReportOf, tests_of};
 ghost use Rattle.kiasan.specs.Reach.{TargetRefuses};
 ghost use Rattle.kiasan.specs.Refusals.{Gives};
 ghost use Rattle.kiasan.specs.Tests.{literals_in};
-ghost use Rattle.kiasan.specs.Unbuilt.{IsBuiltFor, IsBuiltMethod};
+ghost use Rattle.kiasan.specs.Unbuilt.{IsBuiltFor};
 
 use crate::refusals::{Refusal, Stop};
 use crate::report::Report;
 use crate::reports::report_of;
 use crate::status::Status;
-use crate::straight::explore_method;
 use crate::words::Job;
 use kb_class::MethodId;
-use kb_names::Target;
 use kb_world::World;
 use std::alloc::Global;
 
@@ -37,16 +36,4 @@ pub fn built_report(alloc: Global, world: &World, job: &Job, id: MethodId) -> Re
         return Err(Stop::Refused(Refusal::Unbuilt));
     };
     Ok(report)
-}
-
-/// Refuses a test's method that is not built.
-pub fn check_built(alloc: Global, world: &World, target: &Target, id: MethodId) -> Result<(), Stop>
-    requires found { IsTargetOf world.now target.now id }
-    requires accepted { IsAccepted world.now id }
-    ensures { Gives ⊥ (TargetRefuses (IsBuiltMethod world.now target.now) world.now target.now) (λ _. IsBuiltMethod world.now target.now id) result }
-{
-    let Some(_explored) = explore_method(alloc, world, target, id)? else {
-        return Err(Stop::Refused(Refusal::Unbuilt));
-    };
-    Ok(())
 }

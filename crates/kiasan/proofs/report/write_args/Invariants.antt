@@ -1,6 +1,6 @@
 use Rattle.std.proofs.Common.{◌≡◌, ◌++◌, map, drop, string_bytes}
 use Rattle.kb_grammar.specs.Lines.{lines_text}
-use Rattle.kb_test.specs.Texts.{arg_line}
+use Rattle.kiasan.specs.Report.{arg_line}
 use Rattle.kiasan.proofs.report.write_args.Given as goal
 
 abbrev pub invariant-loop-value : goal.invariant-loop-value

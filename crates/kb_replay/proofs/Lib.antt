@@ -1,0 +1,3 @@
+mod Runnable
+pub mod OneAnswer
+pub mod RunEnds

@@ -1,0 +1,113 @@
+-- How tests are found fit one after another.
+use Rattle.std.proofs.Common.{◌≡◌, ◌⊎◌, inl, inr, ℕ, zero, suc, ◌+◌, ◌<◌, ◌≤◌, Bool, true, false, slice_get, slice_set, slice_index_or, append-nil, List, [], ◌∷◌, ◌++◌, length, take, drop, get_or, refl, sym, ◌∙◌, ap, subst, arith, drop-cons}
+use Rattle.std.proofs.lemmas.List.{take_all, take-append-drop}
+use Rattle.std.proofs.Math.Seq.{take-suc}
+use Rattle.kb_class.specs.declared.ids.MethodId.{MethodId}
+use Rattle.kb_link.specs.Targets.{IsTargetOf}
+use Rattle.kb_link.specs.World.{World}
+use Rattle.kb_semantics.specs.Inputs.{IsTypeCorrect}
+use Rattle.kb_test.specs.declared.test_case.Test.{Test}
+use Rattle.kb_world.specs.Reach.{IsAccepted}
+use Rattle.kb_replay.specs.declared.checks.ReplayStop.{ReplayStop}
+use Rattle.kb_replay.specs.declared.replays.Replayed.{Replayed}
+use Rattle.kb_replay.specs.Replays.{IsFit, IsRunnable, AreRunnable, Stops, StopsAt, IsMarked, AreAccepted, AreReplayed}
+
+runnable_more : (world : World) (tests : List Test) (ids : List MethodId) (test : Test) (id : MethodId) → AreRunnable world tests ids
+    → IsRunnable world test id → AreRunnable world (tests ++ test ∷ []) (ids ++ id ∷ [])
+runnable_more world [] [] test id are is = (is, tt)
+runnable_more world (x ∷ tests) (i ∷ ids) test id are is = (are.0, runnable_more world tests ids test id are.1 is)
+runnable_more world [] (i ∷ ids) test id are is = absurd are
+runnable_more world (x ∷ tests) [] test id are is = absurd are
+
+as_many : (world : World) (tests : List Test) (ids : List MethodId) → AreRunnable world tests ids → length tests ≡ length ids
+as_many world [] [] are = refl
+as_many world (x ∷ tests) (i ∷ ids) are = ap suc (as_many world tests ids are.1)
+as_many world [] (i ∷ ids) are = absurd are
+as_many world (x ∷ tests) [] are = absurd are
+
+pub runnable_next : (world : World) (tests : List Test) (ids : List MethodId) (i : ℕ) (test : Test) (id : MethodId) → i < length tests → test ≡ get_or tests i test
+    → AreRunnable world (take i tests) ids → IsRunnable world test id → AreRunnable world (take (i + 1) tests) (ids ++ id ∷ [])
+runnable_next world tests ids i test id inside at are is =
+    let next : i + 1 ≡ suc i = omega arith in
+    rw (next, take-suc tests i test inside, ← at) (runnable_more world (take i tests) ids test id are is)
+
+pub all_runnable : (world : World) (tests : List Test) (ids : List MethodId) (i : ℕ) → length tests < i + 1 → AreRunnable world (take i tests) ids → AreRunnable world tests ids
+all_runnable world tests ids i end are = subst (λ (ts : List Test). AreRunnable world ts ids) (take_all i tests (omega (arith, end))) are
+
+pub first_stop : (world : World) (tests : List Test) (ids : List MethodId) (i : ℕ) (test : Test) (number : ℕ) (stop : ReplayStop) → i < length tests → test ≡ get_or tests i test
+    → AreRunnable world (take i tests) ids → number ≡ length ids → Stops world test stop → StopsAt world tests (record { number = number; stop = stop })
+first_stop world tests ids i test number stop inside at are n stops =
+    let next : suc i ≡ i + 1 = omega arith in
+    let behind : drop i tests ≡ test ∷ drop (i + 1) tests =
+    drop-cons tests i test inside ∙ ap (λ (x : Test). x ∷ drop (suc i) tests) (sym at) ∙ ap (λ (n : ℕ). test ∷ drop n tests) next in
+    record {
+      before = take i tests;
+      test = test;
+      after = drop (i + 1) tests;
+      tests_are = sym (take-append-drop i tests) ∙ ap (λ (rest : List Test). take i tests ++ rest) behind;
+      number_is = n ∙ sym (as_many world (take i tests) ids are);
+      ids = ids;
+      good = are;
+      stops = stops;
+    }
+
+-- ---- marks
+
+marked_pushed : (flags : List Bool) (n : ℕ) → IsMarked (flags ++ false ∷ []) n → IsMarked flags n
+marked_pushed [] zero at = absurd cc
+marked_pushed [] (suc n) at = absurd cc
+marked_pushed (f ∷ flags) zero at = at
+marked_pushed (f ∷ flags) (suc n) at = marked_pushed flags n at
+
+marked_set : (flags : List Bool) (place n : ℕ) → IsMarked (slice_set flags place true) n → (n ≡ place) ⊎ IsMarked flags n
+marked_set [] place n at = inr at
+marked_set (f ∷ flags) zero zero at = inl refl
+marked_set (f ∷ flags) zero (suc n) at = inr at
+marked_set (f ∷ flags) (suc p) zero at = inr at
+marked_set (f ∷ flags) (suc p) (suc n) at = elim (marked_set flags p n at) [ inl e ↦ inl (ap suc e) | inr a ↦ inr a ]
+
+-- a flag that is not set marks nothing
+pub marked_kept : (before flags : List Bool) → ((n : ℕ) → IsMarked flags n → IsMarked before n) → (n : ℕ) → IsMarked (flags ++ false ∷ []) n → IsMarked before n
+marked_kept before flags kept n at = kept n (marked_pushed flags n at)
+
+pub marked_last : (before flags : List Bool) (place : ℕ) → ((n : ℕ) → IsMarked flags n → IsMarked before n) → (n : ℕ) → IsMarked (slice_set flags place true) n
+    → (n ≡ place) ⊎ IsMarked before n
+marked_last before flags place kept n at = elim (marked_set flags place n at) [ inl e ↦ inl e | inr a ↦ inr (kept n a) ]
+
+same_id : (a b : MethodId) → a.0 ≡ b.0 → a ≡ b
+same_id a b e = λ i. record { 0 = e i }
+
+-- one method more is marked, which is accepted
+pub marked_more : (world : World) (flags now : List Bool) (id : MethodId) → AreAccepted world flags → IsAccepted world id
+    → ((n : ℕ) → IsMarked now n → (n ≡ id.0) ⊎ IsMarked flags n) → AreAccepted world now
+marked_more world flags now id are is more other at =
+    elim (more other.0 at) [ inl e ↦ subst (IsAccepted world) (sym (same_id other id e)) is | inr marked ↦ are other marked ]
+
+-- ---- one test
+
+-- a method that was reached before
+pub runnable_marked : (world : World) (flags : List Bool) (test : Test) (id : MethodId) → AreAccepted world flags → IsFit world test id → IsMarked flags id.0
+    → IsRunnable world test id
+runnable_marked world flags test id are fit marked = record { fit = fit; accepted = are id marked }
+
+-- the method that reach gives is the one that the target names
+pub accepted_here : (world : World) (test : Test) (id reached : MethodId) → ((other : MethodId) → IsTargetOf world test.target other → other ≡ id)
+    → IsTargetOf world test.target reached → IsAccepted world reached → IsAccepted world id
+accepted_here world test id reached alone found accepted = subst (IsAccepted world) (alone reached found) accepted
+
+pub runnable_here : (world : World) (test : Test) (id reached : MethodId) → IsFit world test id → ((other : MethodId) → IsTargetOf world test.target other → other ≡ id)
+    → IsTargetOf world test.target reached → IsAccepted world reached → IsRunnable world test id
+runnable_here world test id reached fit alone found accepted = record { fit = fit; accepted = accepted_here world test id reached alone found accepted }
+
+-- ---- runs
+
+pub first_runnable : (world : World) (tests : List Test) (ids : List MethodId) (test : Test) (d : MethodId) → AreRunnable world tests ids → 1 ≤ length tests
+    → test ≡ get_or tests 0 test → IsRunnable world test (slice_index_or ids 0 d)
+first_runnable world [] ids test d are some at = absurd (omega (arith, some))
+first_runnable world (x ∷ tests) [] test d are some at = absurd are
+first_runnable world (x ∷ tests) (i ∷ ids) test d are some at = subst (λ (t : Test). IsRunnable world t i) (sym at) are.0
+
+pub all_replayed : (world : World) (all rest : List Test) (replayed : List Replayed) → length rest < 1
+    → ((more : List Replayed) → AreReplayed world rest more → AreReplayed world all (replayed ++ more)) → AreReplayed world all replayed
+all_replayed world all [] replayed end goes_on = subst (AreReplayed world all) (append-nil replayed) (goes_on [] tt)
+all_replayed world all (x ∷ rest) replayed end goes_on = absurd (omega (arith, end))

@@ -1,0 +1,78 @@
+//! The runs of tests, held against what the tests say.
+ghost use Rattle.std.specs.Prelude.{IfErr, IfOk};
+ghost use Rattle.kb_replay.specs.Replays.{AreReplayed, AreRunnable, IsReplayed, IsRunnable, Says, Stops};
+
+use crate::NoMemory;
+use crate::checks::{ReplayStop, check};
+use kb_class::MethodId;
+use kb_heap::{Ending, Heap, Row};
+use kb_machine::run;
+use kb_test::Test;
+use kb_world::World;
+use std::alloc::Global;
+
+/// What the machine's run says of a test.
+#[derive(Debug, Drop)]
+pub enum Replayed {
+    /// It ends as the test says, and leaves the heap that it says.
+    Passes,
+    /// It ends so, and leaves this heap.
+    Differs(Ending, Heap),
+}
+
+/// Runs the test, if it may be run, and holds the run against what the test says.
+pub fn replay(alloc: Global, world: &World, test: &Test) -> Result<Replayed, ReplayStop>
+    ensures replayed { IfOk result (IsReplayed world.now test.now) }
+    ensures stop { IfErr result (Stops world.now test.now) }
+{
+    let mut reached = Vec::new(alloc);
+    let id = check(alloc, world, test, &mut reached)?;
+    match run_test(alloc, world, test, id) {
+        Ok(replayed) => Ok(replayed),
+        Err(NoMemory) => Err(ReplayStop::NoMemory),
+    }
+}
+
+/// Runs the test by its method, and holds the run against what the test says.
+pub fn run_test(
+    alloc: Global,
+    world: &World,
+    test: &Test,
+    id: MethodId,
+) -> Result<Replayed, NoMemory>
+    requires { IsRunnable world.now test.now id }
+    ensures { IfOk result (Says world.now id test.now) }
+{
+    let (ending, heap) = run(alloc, world, id, &test.input, &test.bounds)?;
+    if !ending.is_same(&test.ending) {
+        return Ok(Replayed::Differs(ending, heap));
+    }
+    if !test.heap.is_heap(&heap) {
+        return Ok(Replayed::Differs(ending, heap));
+    }
+    Ok(Replayed::Passes)
+}
+
+/// Runs each test by its method.
+pub fn run_tests(
+    alloc: Global,
+    world: &World,
+    tests: &[Test],
+    methods: &[MethodId],
+) -> Result<Row<Replayed>, NoMemory>
+    requires { AreRunnable world.now tests.now methods.now }
+    ensures { IfOk result (AreReplayed world.now tests.now) }
+{
+    let mut replayed = Row::new(alloc);
+    let mut rest = tests;
+    let mut ids = methods;
+    while let [test, others @ ..] = rest {
+        let [id, more @ ..] = ids else {
+            return Ok(replayed);
+        };
+        replayed.push(run_test(alloc, world, test, *id)?)?;
+        rest = others;
+        ids = more;
+    }
+    Ok(replayed)
+}

@@ -1,9 +1,0 @@
-use Rattle.std.proofs.Common.{length}
-use Rattle.kiasan.specs.Tests.{IsAmong}
-use Rattle.kiasan.proofs.replay.is_among.Given as goal
-
-abbrev pub invariant-loop-rest : goal.invariant-loop-rest
-invariant-loop-rest l = IsAmong l.id l.rest → IsAmong l.id l.ids
-
-abbrev pub decreases-loop-rest : goal.decreases-loop-rest
-decreases-loop-rest l = length l.rest
