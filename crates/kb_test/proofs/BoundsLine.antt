@@ -3,8 +3,7 @@ use Rattle.std.proofs.Common.{◌≡◌, ℕ, ◌<◌, ◌^◌, List, ◌∷◌,
 use Rattle.std.specs.Prelude.{codes}
 use Rattle.std.specs.Fmt.{decimal}
 use Rattle.kb_heap.specs.declared.bounds.RunBounds.{RunBounds}
-use Rattle.kb_test.specs.Texts.{bounds_line, IsRunBounds}
-use Rattle.kb_test.specs.Fronts.{IsAnyBounds}
+use Rattle.kb_test.specs.Lines.{bounds_text, IsRunBounds, IsAnyBounds}
 use Rattle.std.proofs.lemmas.Fmt.{decimal_injective}
 use Rattle.kb_grammar.proofs.WordLaws.{same_behind}
 use Rattle.kb_grammar.proofs.NumberLaws.{same_number}
@@ -18,9 +17,9 @@ after_loops bounds = codes "depth " ++ (decimal bounds.depth ++ 32 ∷ after_dep
 abbrev pub after_alloc : RunBounds → List ℕ
 after_alloc bounds = codes "loops " ++ (decimal bounds.loops ++ 32 ∷ after_loops bounds)
 
-pub bounds_line-is : (bounds : RunBounds) → bounds_line bounds ≡ codes "bounds alloc " ++ (decimal bounds.alloc ++ 32 ∷ after_alloc bounds)
-unfolding bounds_line
-bounds_line-is bounds = refl
+pub bounds_text-is : (bounds : RunBounds) → bounds_text bounds ≡ codes "bounds alloc " ++ (decimal bounds.alloc ++ 32 ∷ after_alloc bounds)
+unfolding bounds_text
+bounds_text-is bounds = refl
 
 -- one text has one number and one rest behind a front
 pub same_parts : (front text : List ℕ) (m n : ℕ) (us vs : List ℕ) → m < 2 ^ 32 → n < 2 ^ 32 → text ≡ front ++ (decimal m ++ 32 ∷ us) → text ≡ front ++ (decimal n ++ 32 ∷ vs) → (m ≡ n) × (us ≡ vs)
@@ -33,9 +32,9 @@ abbrev bounds_of : ℕ → ℕ → ℕ → ℕ → RunBounds
 bounds_of alloc loops depth steps = record { alloc = alloc; loops = loops; depth = depth; steps = steps }
 
 -- one line has one list of bounds
-pub same_bounds : (a b : RunBounds) → IsAnyBounds a → IsAnyBounds b → bounds_line a ≡ bounds_line b → a ≡ b
+pub same_bounds : (a b : RunBounds) → IsAnyBounds a → IsAnyBounds b → bounds_text a ≡ bounds_text b → a ≡ b
 same_bounds a b p q e =
-    let one = same_parts (codes "bounds alloc ") (bounds_line a) a.alloc b.alloc (after_alloc a) (after_alloc b) p.alloc q.alloc (bounds_line-is a) (e ∙ bounds_line-is b) in
+    let one = same_parts (codes "bounds alloc ") (bounds_text a) a.alloc b.alloc (after_alloc a) (after_alloc b) p.alloc q.alloc (bounds_text-is a) (e ∙ bounds_text-is b) in
     let two = same_parts (codes "loops ") (after_alloc a) a.loops b.loops (after_loops a) (after_loops b) p.loops q.loops refl one.1 in
     let three = same_parts (codes "depth ") (after_loops a) a.depth b.depth (after_depth a) (after_depth b) p.depth q.depth refl two.1 in
     let text : decimal a.steps ≡ decimal b.steps = same_behind (codes "steps ") (decimal a.steps) (decimal b.steps) three.1 in

@@ -1,3 +1,7 @@
-pub mod Texts
+pub mod Words
+pub mod Lines
+pub mod Scripts
+pub mod Tests
 pub mod Fronts
+pub mod Writing
 pub mod Refusals

@@ -1,7 +1,7 @@
 -- What the reader of tests answers.
-use Rattle.std.specs.Prelude.{◌≡◌, ℕ, List, Result, Ok, Err}
+use Rattle.std.specs.Prelude.{◌≡◌, ℕ, List, ◌++◌, Result, Ok, Err}
 use Rattle.kb_grammar.specs.Lines.{IsFirstBadLine}
-use Rattle.kb_test.specs.Texts.{IsTestsText}
+use Rattle.kb_test.specs.Tests.{SpellsTests, IsTestsText}
 use Rattle.kb_test.specs.declared.test_case.Test.{Test}
 use Rattle.kb_test.specs.declared.reading.TestRefusal.{TestRefusal}
 use Rattle.kb_test.specs.declared.reading.TestRefusal.TheVariants.{TestLine, NoMemory as no_memory}
@@ -16,3 +16,9 @@ ReadsTests (Err no_memory) tests = Unit {0}
 abbrev pub RefusesTestText : ℕ → List ℕ → TestRefusal → Type 0
 RefusesTestText literals text (TestLine number) = IsFirstBadLine (IsTestsText literals) text number
 RefusesTestText literals text no_memory = Unit {0}
+
+-- the text of these tests was appended
+pub record Appends (literals : ℕ) (tests : List Test) (old new : List ℕ) : Type 0 where
+  pub text : List ℕ
+  pub spelled : SpellsTests literals tests text
+  pub is : new ≡ old ++ text

@@ -1,14 +1,22 @@
 //! Tests of methods, written as texts and read back.
 #![tactic(auto)]
 
+mod final_heap;
+mod fronts;
+mod lines;
 mod memory;
+mod outcomes;
 mod reading;
+mod script;
+mod settling;
 mod test_case;
 #[cfg(test)]
 mod tests;
+mod words;
 mod writing;
 
+pub use final_heap::{FinalHeap, Objects};
 pub use memory::NoMemory;
 pub use reading::{TestRefusal, read_tests};
 pub use test_case::Test;
-pub use writing::{ending_text, write_test};
+pub use writing::{tests_have_one_text, write_run, write_test};

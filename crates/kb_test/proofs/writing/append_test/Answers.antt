@@ -1,13 +1,14 @@
-use Rattle.std.proofs.Common.{map, ◌∙◌}
-use Rattle.kb_test.specs.Texts.{test_line, bounds_line, ending_line, end_line, arg_line}
-use Rattle.kb_test.proofs.WritingLaws.{text_of_parts, on_ok}
+use Rattle.std.proofs.Common.{◌≡◌, ◌∙◌, length, rules}
+use Rattle.kb_test.proofs.ReadLaws.{on_ok}
+use Rattle.kb_test.proofs.Stated.{test_written}
 use Rattle.kb_test.proofs.writing.append_test.Goals as goal
 
 pub returns-clause-ok : goal.returns-clause-ok
 returns-clause-ok c =
-    on_ok c.append_end.result
+    let same : c.in-Ok.count ≡ length c.args.test.now.input.heap.objects = search rules in
+    on_ok c.append.result
     (λ h.
     h
-    ∙ rw (c.in_ok-append_ending.ensures.ok, c.in_ok-append_args.ensures.ok, c.as_slice.ensures, c.in_ok-append_bounds.ensures.ok, c.in_ok-append_target.ensures.ok)
-    (text_of_parts c.args.into.now.items (test_line c.args.test.now.target) (bounds_line c.args.test.now.bounds) (ending_line c.args.test.now.ending) end_line (map arg_line c.args.test.now.input.args)))
-    c.append_end.ensures.ok
+    ∙ rw (c.in_ok-append_run.ensures.ok, c.in_ok-append_inputs.ensures.ok, c.as_slice-inputs.ensures, c.in_ok-append_args.ensures.ok, c.as_slice.ensures, c.in_ok-append_bounds_line.ensures.ok, c.in_ok-append_method_line.ensures.ok)
+    (test_written c.args.literals c.in-Ok.count c.args.test.now c.args.into.now.items same))
+    c.append.ensures.ok

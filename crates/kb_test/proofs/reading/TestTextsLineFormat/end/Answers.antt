@@ -1,4 +1,4 @@
-use Rattle.kb_test.proofs.ReadLaws.{if_whole}
+use Rattle.kb_test.proofs.Format.{if_whole}
 use Rattle.kb_test.proofs.reading.TestTextsLineFormat.end.Goals as goal
 
 pub returns : goal.returns

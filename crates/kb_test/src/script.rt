@@ -1,0 +1,87 @@
+//! What the text of a test says.
+ghost use Rattle.std.specs.Prelude.{◌≡◌};
+ghost use Rattle.std.specs.List.{list_all};
+ghost use Rattle.kb_test.specs.Words.{words_below};
+ghost use Rattle.kb_test.specs.Lines.{listed_below};
+ghost use Rattle.kb_test.specs.Scripts.{script_below, limits_of};
+
+use crate::lines::Listed;
+use crate::outcomes::Outcome;
+use crate::words::{Limits, Word};
+use kb_heap::{Row, RunBounds};
+use kb_names::Target;
+
+// What is read of a test before its ending.
+#[derive(Debug, Drop)]
+pub(crate) struct Begun {
+    pub target: Target,
+    pub bounds: RunBounds,
+    pub args: Row<Word>,
+    pub inputs: Row<Listed>,
+}
+
+// What is read of a test from its ending on.
+#[derive(Debug, Drop)]
+pub(crate) struct Script {
+    pub target: Target,
+    pub bounds: RunBounds,
+    pub args: Row<Word>,
+    pub inputs: Row<Listed>,
+    pub outcome: Outcome,
+    // The last values of the input objects.
+    pub outs: Row<Row<Word>>,
+    // The objects that the run has made.
+    pub news: Row<Listed>,
+}
+
+impl Limits {
+    pub(crate) fn has_listed(self, objects: &[Listed]) -> bool
+        ensures { result ≡ list_all (listed_below self) objects.now }
+    {
+        let mut rest = objects;
+        while let [first, others @ ..] = rest {
+            if !self.has_words(first.values.as_slice()) {
+                return false;
+            }
+            rest = others;
+        }
+        true
+    }
+
+    fn has_lists(self, lists: &[Row<Word>]) -> bool
+        ensures { result ≡ list_all (words_below self) lists.now }
+    {
+        let mut rest = lists;
+        while let [first, others @ ..] = rest {
+            if !self.has_words(first.as_slice()) {
+                return false;
+            }
+            rest = others;
+        }
+        true
+    }
+}
+
+impl Script {
+    // Whether the number of each object that is named is below the limit of its kind.
+    pub(crate) fn is_within(&self, limits: Limits) -> bool
+        ensures { result ≡ script_below limits self.now }
+    {
+        limits.has_words(self.args.as_slice())
+            && limits.has_listed(self.inputs.as_slice())
+            && limits.has_outcome(&self.outcome)
+            && limits.has_lists(self.outs.as_slice())
+            && limits.has_listed(self.news.as_slice())
+    }
+
+    // How many objects of each kind there are, in a world of so many literals.
+    pub(crate) fn limits(&self, literals: u32) -> Limits
+        ensures { result ≡ limits_of literals self.now }
+    {
+        Limits {
+            inputs: self.inputs.as_slice().len(),
+            literals: literals as usize,
+            made: self.news.as_slice().len(),
+        }
+    }
+}
