@@ -57,12 +57,7 @@ fn append_verdict(
 }
 
 /// Says where the tests are written otherwise than they were.
-fn append_again(
-    alloc: Global,
-    literals: u32,
-    text: &[u8],
-    into: &mut Vec<u8>,
-) -> io::Result<()> {
+fn append_again(alloc: Global, literals: u32, text: &[u8], into: &mut Vec<u8>) -> io::Result<()> {
     let Ok(tests) = read_tests(alloc, text, literals) else {
         return Ok(());
     };
@@ -89,12 +84,7 @@ fn written(alloc: Global, tests: &[Test], literals: u32) -> io::Result<Vec<u8>>
 }
 
 /// A line for the first of each run of fronts that have one answer.
-fn append_cuts(
-    alloc: Global,
-    literals: u32,
-    text: &[u8],
-    into: &mut Vec<u8>,
-) -> io::Result<()> {
+fn append_cuts(alloc: Global, literals: u32, text: &[u8], into: &mut Vec<u8>) -> io::Result<()> {
     let mut last = None;
     for (end, _) in text.iter().enumerate() {
         let now = verdict(alloc, literals, &text[..end]);
@@ -107,12 +97,7 @@ fn append_cuts(
     Ok(())
 }
 
-fn append_runs(
-    alloc: Global,
-    literals: u32,
-    text: &[u8],
-    into: &mut Vec<u8>,
-) -> io::Result<()> {
+fn append_runs(alloc: Global, literals: u32, text: &[u8], into: &mut Vec<u8>) -> io::Result<()> {
     let Ok(tests) = read_tests(alloc, text, literals) else {
         return Err(malformed());
     };
