@@ -14,6 +14,11 @@ returns-in-Ok-clause-held c = tests_are_held c.args.literals c.in-Ok.tests c.arg
 pub read_lines-requires : goal.read_lines-requires
 read_lines-requires c = is_line_format c.args.literals
 
+pub returns-in-Err-BadLine-clause-only : goal.returns-in-Err-BadLine-clause-only
+returns-in-Err-BadLine-clause-only c = λ tests spells.
+    let bad = bad_line_of_tests c.args.literals c.args.text.now c.in-Err-BadLine.number (rw c.in-Err-BadLine.field-0-is at c.in-Err-BadLine.ensures.bad) in
+    bad.no_text (tests, spells)
+
 pub returns-in-Err-BadLine-clause-bad : goal.returns-in-Err-BadLine-clause-bad
 returns-in-Err-BadLine-clause-bad c =
     bad_line_of_tests c.args.literals c.args.text.now c.in-Err-BadLine.number (rw c.in-Err-BadLine.field-0-is at c.in-Err-BadLine.ensures.bad)
