@@ -1,0 +1,130 @@
+//! What a text of tests comes to.
+
+ghost use Rattle.kb_test.specs.Tests.{AreTests};
+
+use crate::heaps::append_numbers;
+use crate::malformed;
+use crate::texts::append_text;
+use kb_test::{Test, TestRefusal, read_tests, write_run, write_test};
+use std::alloc::Global;
+use std::io;
+
+/// Appends the answer to a question about the text, in a world of so many literals:
+///
+/// - `read`: how many tests there are, or the first bad line, and whether they are written as they were;
+/// - `cut`: the same of each front of the text, said once for each run of fronts of one answer, which begins with that many bytes;
+/// - `run`: how the run of each test ends, as text;
+/// - `numbers`: the objects of each test by their numbers in the heap.
+pub fn append_answer(
+    alloc: Global,
+    question: &str,
+    literals: u32,
+    text: &[u8],
+    into: &mut Vec<u8>,
+) -> io::Result<()> {
+    match question {
+        "read" => {
+            append_verdict(alloc, verdict(alloc, literals, text), into)?;
+            append_again(alloc, literals, text, into)
+        }
+        "cut" => append_cuts(alloc, literals, text, into),
+        "run" => append_runs(alloc, literals, text, into),
+        "numbers" => append_all_numbers(alloc, literals, text, into),
+        _ => Err(malformed()),
+    }
+}
+
+/// How many tests are read.
+fn verdict(alloc: Global, literals: u32, text: &[u8]) -> Result<usize, TestRefusal> {
+    match read_tests(alloc, text, literals) {
+        Ok(tests) => Ok(tests.as_slice().len()),
+        Err(refusal) => Err(refusal),
+    }
+}
+
+fn append_verdict(
+    alloc: Global,
+    verdict: Result<usize, TestRefusal>,
+    into: &mut Vec<u8>,
+) -> io::Result<()> {
+    let told = match verdict {
+        Ok(tests) => format!(in alloc; "tests {tests}\n")?,
+        Err(TestRefusal::TestLine(line)) => format!(in alloc; "bad line {line}\n")?,
+        Err(TestRefusal::NoMemory) => format!(in alloc; "no memory\n")?,
+    };
+    into.extend_from_slice(told.as_bytes())?;
+    Ok(())
+}
+
+/// Says where the tests are written otherwise than they were.
+fn append_again(alloc: Global, literals: u32, text: &[u8], into: &mut Vec<u8>) -> io::Result<()> {
+    let Ok(tests) = read_tests(alloc, text, literals) else {
+        return Ok(());
+    };
+    let again = written(alloc, tests.as_slice(), literals)?;
+    if again.as_slice() == text {
+        return Ok(());
+    }
+    into.extend_from_slice(b"written otherwise: ")?;
+    append_text(again.as_slice(), into)
+}
+
+fn written(alloc: Global, tests: &[Test], literals: u32) -> io::Result<Vec<u8>>
+    requires { AreTests literals tests.now }
+{
+    let mut text = Vec::new(alloc);
+    let mut rest = tests;
+    while let [test, others @ ..] = rest {
+        let Ok(()) = write_test(alloc, test, literals, &mut text) else {
+            return Err(malformed());
+        };
+        rest = others;
+    }
+    Ok(text)
+}
+
+/// A line for the first of each run of fronts that have one answer.
+fn append_cuts(alloc: Global, literals: u32, text: &[u8], into: &mut Vec<u8>) -> io::Result<()> {
+    let mut last = None;
+    for (end, _) in text.iter().enumerate() {
+        let now = verdict(alloc, literals, &text[..end]);
+        if last != Some(now) {
+            into.extend_from_slice(format!(in alloc; "from {end}: ")?.as_bytes())?;
+            append_verdict(alloc, now, into)?;
+            last = Some(now);
+        }
+    }
+    Ok(())
+}
+
+fn append_runs(alloc: Global, literals: u32, text: &[u8], into: &mut Vec<u8>) -> io::Result<()> {
+    let Ok(tests) = read_tests(alloc, text, literals) else {
+        return Err(malformed());
+    };
+    for test in tests.as_slice() {
+        let Ok(inputs) = u32::try_from(test.input.heap.objects.as_slice().len()) else {
+            return Err(malformed());
+        };
+        let mut run = Vec::new(alloc);
+        let Ok(()) = write_run(alloc, &test.ending, &test.heap, inputs, literals, &mut run) else {
+            return Err(malformed());
+        };
+        append_text(run.as_slice(), into)?;
+    }
+    Ok(())
+}
+
+fn append_all_numbers(
+    alloc: Global,
+    literals: u32,
+    text: &[u8],
+    into: &mut Vec<u8>,
+) -> io::Result<()> {
+    let Ok(tests) = read_tests(alloc, text, literals) else {
+        return Err(malformed());
+    };
+    for test in tests.as_slice() {
+        append_numbers(alloc, test, into)?;
+    }
+    Ok(())
+}
