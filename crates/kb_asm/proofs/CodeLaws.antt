@@ -15,7 +15,7 @@ use Rattle.kb_asm_text.specs.declared.line.BodyLine.TheVariants as bodies
 use Rattle.kb_asm_text.specs.declared.line.Line.{Line}
 use Rattle.kb_asm_text.specs.declared.line.Line.TheVariants as lines
 use Rattle.kb_asm_body.specs.Layout.{line_size, instr_size}
-use Rattle.kb_asm.specs.Instructions.{IsAsked, SpellsAsked, SpellsCode, SpellsLine}
+use Rattle.kb_asm.specs.Instructions.{IsAsked, SpellsAsked, SpellsCode, EncodesLine}
 use Rattle.kb_asm.specs.Working.{Appends, IsFormed}
 use Rattle.kb_asm.proofs.FormLaws.{is_writing, is_sized}
 
@@ -37,7 +37,7 @@ module _ (pool : List PoolEntry) (labels : List ℕ → Option ℕ) where
   asked_size op operand at bytes s = ap (λ (l : List ℕ). length l) s.are ∙ size_is s.written at ∙ is_sized pool labels op s.written at operand s.asked
 
   pub line_asked : (op : ℕ) (operand : Operand) (old new : List ℕ) → Appends (SpellsAsked pool labels op operand) old new
-      → Appends (SpellsLine pool labels (lines.Body (bodies.Instr op operand))) old new
+      → Appends (EncodesLine pool labels (lines.Body (bodies.Instr op operand))) old new
   unfolding line_size
   line_asked op operand old new a = record {
     piece = a.piece;
@@ -45,24 +45,24 @@ module _ (pool : List PoolEntry) (labels : List ℕ → Option ℕ) where
     spelled = record { code = a.spelled; size = asked_size op operand (length old) a.piece a.spelled };
   }
 
-  pub line_raw : (byte : ℕ) (old new : List ℕ) → new ≡ old ++ byte ∷ [] → Appends (SpellsLine pool labels (lines.Body (bodies.Raw byte))) old new
+  pub line_raw : (byte : ℕ) (old new : List ℕ) → new ≡ old ++ byte ∷ [] → Appends (EncodesLine pool labels (lines.Body (bodies.Raw byte))) old new
   unfolding line_size
   line_raw byte old new is = record { piece = byte ∷ []; is = is; spelled = record { code = refl; size = refl } }
 
   -- no bytes
-  nothing : (line : Line) (old new : List ℕ) → new ≡ old → SpellsLine pool labels line (length old) [] → Appends (SpellsLine pool labels line) old new
+  nothing : (line : Line) (old new : List ℕ) → new ≡ old → EncodesLine pool labels line (length old) [] → Appends (EncodesLine pool labels line) old new
   nothing line old new is s = record { piece = []; is = is ∙ sym (append-nil old); spelled = s }
 
-  pub line_label : (label : List ℕ) (old new : List ℕ) → new ≡ old → Appends (SpellsLine pool labels (lines.Body (bodies.Label label))) old new
+  pub line_label : (label : List ℕ) (old new : List ℕ) → new ≡ old → Appends (EncodesLine pool labels (lines.Body (bodies.Label label))) old new
   unfolding line_size
   line_label label old new is = nothing (lines.Body (bodies.Label label)) old new is (record { code = refl; size = refl })
 
-  pub line_catch : (row : Catch) (old new : List ℕ) → new ≡ old → Appends (SpellsLine pool labels (lines.Body (bodies.Catch row))) old new
+  pub line_catch : (row : Catch) (old new : List ℕ) → new ≡ old → Appends (EncodesLine pool labels (lines.Body (bodies.Catch row))) old new
   unfolding line_size
   line_catch row old new is = nothing (lines.Body (bodies.Catch row)) old new is (record { code = refl; size = refl })
 
   -- a line that is of no body
-  pub line_other : (line : Line) (old new : List ℕ) → ((body : BodyLine) → line ≡ lines.Body body → ⊥) → new ≡ old → Appends (SpellsLine pool labels line) old new
+  pub line_other : (line : Line) (old new : List ℕ) → ((body : BodyLine) → line ≡ lines.Body body → ⊥) → new ≡ old → Appends (EncodesLine pool labels line) old new
   unfolding line_size
   line_other (lines.Body body) old new other is = absurd (other body refl)
   line_other (lines.Class head) old new other is = nothing (lines.Class head) old new is (record { code = refl; size = refl })

@@ -10,7 +10,7 @@ use Rattle.kb_asm_text.specs.declared.line.Operand.{Operand}
 use Rattle.kb_asm_text.specs.declared.line.BodyLine.TheVariants as bodies
 use Rattle.kb_asm_text.specs.declared.line.Line.{Line}
 use Rattle.kb_asm_text.specs.declared.line.Line.TheVariants as lines
-use Rattle.kb_asm.specs.Instructions.{SpellsCode, SpellsLine}
+use Rattle.kb_asm.specs.Instructions.{SpellsCode, EncodesLine}
 use Rattle.kb_asm.specs.Listings.{is_raw}
 
 abbrev HasItems : ℕ → List ℕ → Type 0
@@ -31,7 +31,7 @@ module _ (pool : List PoolEntry) (labels : List ℕ → Option ℕ) where
   line_items (lines.Body (bodies.Raw byte)) at front back bytes own parts s h = absurd (true≢false own)
   line_items line at front back bytes own parts s h = behind_none at front back bytes parts s h
 
-  pub items_of : (body : List Line) (at : ℕ) (bytes : List ℕ) → list_any is_raw body ≡ false → Each (SpellsLine pool labels) body at bytes → HasItems at bytes
+  pub items_of : (body : List Line) (at : ℕ) (bytes : List ℕ) → list_any is_raw body ≡ false → Each (EncodesLine pool labels) body at bytes → HasItems at bytes
   items_of [] at bytes own s = ([], s)
   items_of (line ∷ body) at bytes own s =
       let p = or_parts (is_raw line) (list_any is_raw body) own in

@@ -25,7 +25,7 @@ use Rattle.kb_asm_check.specs.Faults.{IsText, body_of}
 use Rattle.kb_asm.specs.Entries.{SaysText, SaysClass}
 use Rattle.kb_asm.specs.Parts.{parts}
 use Rattle.kb_asm.specs.Pool.{IsPoolOf}
-use Rattle.kb_asm.specs.Instructions.{SpellsLine}
+use Rattle.kb_asm.specs.Instructions.{EncodesLine}
 
 -- ---- what lines have
 
@@ -68,7 +68,7 @@ pub record IsHandlerOf (pool : List PoolEntry) (labels : List ℕ → Option ℕ
 pub record IsCodeOf (pool : List PoolEntry) (sizes : Sizes) (body : List Line) (code : Code) : Type 0 where
   pub stack : code.max_stack ≡ sizes.max_stack
   pub locals : code.max_locals ≡ sizes.max_locals
-  pub instructions : Each (SpellsLine pool (label_of body)) body 0 code.bytes
+  pub instructions : Each (EncodesLine pool (label_of body)) body 0 code.bytes
   pub handlers : AllZip (IsHandlerOf pool (label_of body)) (parts handler_in body) code.handlers
 
 -- a method with sizes has code, and no other method

@@ -96,6 +96,6 @@ module _ (pool : List PoolEntry) (labels : List ℕ → Option ℕ) where
   SpellsCode _ at bytes = bytes ≡ []
 
   -- They are as many as the line takes at the offset, so that labels lead where they stand.
-  pub record SpellsLine (line : Line) (at : ℕ) (bytes : List ℕ) : Type 0 where
+  pub record EncodesLine (line : Line) (at : ℕ) (bytes : List ℕ) : Type 0 where
     pub code : SpellsCode line at bytes
     pub size : length bytes ≡ line_size line at

@@ -6,7 +6,7 @@ ghost use Rattle.kb_grammar.specs.Grammar.{Each};
 ghost use Rattle.kb_asm_pool.specs.Needs.{operand_needs, body_needs, line_needs};
 ghost use Rattle.kb_asm_pool.specs.Entries.{entries_of};
 ghost use Rattle.kb_asm.specs.Needs.{have, have_all, IsWhole};
-ghost use Rattle.kb_asm.specs.Instructions.{SpellsAsked, SpellsLine};
+ghost use Rattle.kb_asm.specs.Instructions.{SpellsAsked, EncodesLine};
 ghost use Rattle.kb_asm.specs.Class.{IsCodeOf};
 ghost use Rattle.kb_asm.specs.Working.{labels_of, Appends, AreFew, AreCounted, IsFormed, IsFormedLine};
 
@@ -65,7 +65,7 @@ impl Body<'_> {
         requires there { IsTrue (have pool.old.says (body_needs line.now)) }
         requires formed { IsFormedLine (Line.Body line.now) }
         ensures same { OnOk result (pool.new.says ≡ pool.old.says) }
-        ensures bytes { OnOk result (Appends (SpellsLine (entries_of pool.old.says) (labels_of self.now.layout.now) (Line.Body line.now)) code.old.items code.new.items) }
+        ensures bytes { OnOk result (Appends (EncodesLine (entries_of pool.old.says) (labels_of self.now.layout.now) (Line.Body line.now)) code.old.items code.new.items) }
     {
         match line {
             BodyLine::Instr(op, operand) => self.push_instr(code, pool, alloc, *op, operand),
@@ -91,7 +91,7 @@ impl Body<'_> {
         requires there { IsTrue (have pool.old.says (line_needs line.now)) }
         requires formed { IsFormedLine line.now }
         ensures same { OnOk result (pool.new.says ≡ pool.old.says) }
-        ensures bytes { OnOk result (Appends (SpellsLine (entries_of pool.old.says) (labels_of self.now.layout.now) line.now) code.old.items code.new.items) }
+        ensures bytes { OnOk result (Appends (EncodesLine (entries_of pool.old.says) (labels_of self.now.layout.now) line.now) code.old.items code.new.items) }
     {
         match line {
             Line::Body(body) => self.push_body(code, pool, alloc, body),
@@ -105,7 +105,7 @@ impl Body<'_> {
         requires there { IsTrue (have_all pool.old.says lines.now) }
         requires formed { AllByRecursion IsFormedLine lines.now }
         ensures same { OnOk result (pool.new.says ≡ pool.old.says) }
-        ensures bytes { IfOk result (λ bytes. Each (SpellsLine (entries_of pool.old.says) (labels_of self.now.layout.now)) lines.now 0 bytes.items) }
+        ensures bytes { IfOk result (λ bytes. Each (EncodesLine (entries_of pool.old.says) (labels_of self.now.layout.now)) lines.now 0 bytes.items) }
         ensures few { IfOk result (λ bytes. AreFew bytes.items) }
     {
         let mut code = Vec::new(alloc);

@@ -20,7 +20,7 @@ const LDC: u8 = 0x12;
 const MOST_ENTRIES: usize = 65_534;
 
 /// Adds the constant of an ldc line.
-fn add_constant(pool: &mut Items, alloc: Global, line: &Line) -> Result<(), NoMemory>
+fn add_ldc_constant(pool: &mut Items, alloc: Global, line: &Line) -> Result<(), NoMemory>
     ensures { OnOk result (pool.new.says ≡ all_added pool.old.says (ldc_says line.now)) }
 {
     if let Line::Body(BodyLine::Instr(op, Operand::Constant(of))) = line {
@@ -38,7 +38,7 @@ fn add_constants(pool: &mut Items, alloc: Global, lines: &[Line]) -> Result<(), 
 {
     let mut rest = lines;
     while let [line, others @ ..] = rest {
-        add_constant(pool, alloc, line)?;
+        add_ldc_constant(pool, alloc, line)?;
         rest = others;
     }
     Ok(())

@@ -7,7 +7,7 @@ use Rattle.kb_asm_pool.specs.Says.{Says}
 use Rattle.kb_asm_pool.specs.Needs.{line_needs}
 use Rattle.kb_asm_pool.specs.Entries.{entries_of}
 use Rattle.kb_asm.specs.Needs.{have, have_all, IsWhole}
-use Rattle.kb_asm.specs.Instructions.{SpellsLine}
+use Rattle.kb_asm.specs.Instructions.{EncodesLine}
 use Rattle.kb_asm.specs.Working.{labels_of, Appends, IsFormedLine}
 use Rattle.kb_asm.proofs.LoopLaws.{walks, piece_next, piece_end}
 use Rattle.kb_asm.proofs.instr.Body.bytes.Goals as goal
@@ -39,10 +39,10 @@ loop-rest-preserved c =
     let rest = c.loop-rest.rest.now in
     let others = take (length rest - 1) (drop 1 rest) in
     let labels = labels_of c.args.self.now.layout.now in
-    let S = SpellsLine (entries_of says) labels in
+    let S = EncodesLine (entries_of says) labels in
     let split : rest ≡ line ∷ others = walks rest line c.in-len1-up.len_at_least c.line-item.is in
     let there = and_parts (have says (line_needs line)) (have_all says others) (subst (λ (l : List Line). have_all says l ≡ true) split c.loop-rest.invariant.there) in
-    let piece = subst (λ (s : List Says). Appends (SpellsLine (entries_of s) labels line) c.loop-rest.code.items c.push_line.new.code.items) c.loop-rest.invariant.same c.in_ok-push_line.ensures.bytes in
+    let piece = subst (λ (s : List Says). Appends (EncodesLine (entries_of s) labels line) c.loop-rest.code.items c.push_line.new.code.items) c.loop-rest.invariant.same c.in_ok-push_line.ensures.bytes in
     record {
       same = c.in_ok-push_line.ensures.same ∙ c.loop-rest.invariant.same;
       there = there.1;
@@ -53,5 +53,5 @@ loop-rest-preserved c =
 
 pub returns-clause-bytes : goal.returns-clause-bytes
 returns-clause-bytes c =
-    let S = SpellsLine (entries_of c.args.pool.now.says) (labels_of c.args.self.now.layout.now) in
+    let S = EncodesLine (entries_of c.args.pool.now.says) (labels_of c.args.self.now.layout.now) in
     piece_end S c.loop-rest.rest.now c.loop-rest.code.items (λ (l : List ℕ). Each S c.args.lines.now 0 l) c.in_default.len_below c.loop-rest.invariant.bytes

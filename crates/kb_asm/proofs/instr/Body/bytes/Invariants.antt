@@ -3,7 +3,7 @@ use Rattle.std.specs.List.{AllByRecursion}
 use Rattle.kb_grammar.specs.Grammar.{Each}
 use Rattle.kb_asm_pool.specs.Entries.{entries_of}
 use Rattle.kb_asm.specs.Needs.{have_all}
-use Rattle.kb_asm.specs.Instructions.{SpellsLine}
+use Rattle.kb_asm.specs.Instructions.{EncodesLine}
 use Rattle.kb_asm.specs.Working.{labels_of, IsFormedLine}
 use Rattle.kb_asm.proofs.instr.Body.bytes.Given as goal
 
@@ -13,8 +13,8 @@ invariant-loop-rest l = record {
   there : IsTrue (have_all l.fn.pool.says l.rest);
   formed : AllByRecursion IsFormedLine l.rest;
   few : length l.code.items ≤ 65535;
-  bytes : (more : List ℕ) → Each (SpellsLine (entries_of l.fn.pool.says) (labels_of l.self.layout.now)) l.rest (length l.code.items) more
-      → Each (SpellsLine (entries_of l.fn.pool.says) (labels_of l.self.layout.now)) l.lines 0 (l.code.items ++ more);
+  bytes : (more : List ℕ) → Each (EncodesLine (entries_of l.fn.pool.says) (labels_of l.self.layout.now)) l.rest (length l.code.items) more
+      → Each (EncodesLine (entries_of l.fn.pool.says) (labels_of l.self.layout.now)) l.lines 0 (l.code.items ++ more);
 }
 
 abbrev pub decreases-loop-rest : goal.decreases-loop-rest
