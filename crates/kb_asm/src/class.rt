@@ -1,8 +1,9 @@
 //! The class of a text.
 
-ghost use Rattle.std.specs.Prelude.{◌≡◌, [], IsTrue, IfOk, OnOk};
+ghost use Rattle.std.specs.Prelude.{◌≡◌, List, [], ◌∷◌, IsTrue, IfOk, OnOk};
 ghost use Rattle.std.specs.List.{AllByRecursion, AllZip};
 ghost use Rattle.kb_writer.specs.Files.{IfCode};
+ghost use Rattle.kb_asm_text.specs.declared.line.Line.{Line};
 ghost use Rattle.kb_asm_pool.specs.Needs.{line_needs};
 ghost use Rattle.kb_asm_pool.specs.Entries.{entries_of};
 ghost use Rattle.kb_asm.specs.Needs.{have, have_all, IsWhole};
@@ -16,7 +17,7 @@ use crate::methods::methods_of;
 use crate::numbers::{of_class, of_text};
 use crate::parts::push_part;
 use kb_asm_pool::{Items, type_bytes};
-use kb_asm_text::{FieldHead, Line};
+use kb_asm_text::{ClassHead, FieldHead, Line};
 use kb_classfile::{ClassFile, Field};
 use kb_rows::Row;
 use std::alloc::Global;
@@ -103,6 +104,19 @@ fn fields_of(pool: &mut Items, alloc: Global, lines: &[Line]) -> Result<Row<Fiel
     Ok(fields)
 }
 
+/// The first line, which is that of the class.
+fn head_of(lines: &[Line]) -> Result<&ClassHead, NoMemory>
+    ensures { IfOk result (λ head. (others : List Line) × (lines.now ≡ Line.Class head.now ∷ others)) }
+{
+    let [first, ..] = lines else {
+        return Err(NoMemory);
+    };
+    match first {
+        Line::Class(head) => Ok(head),
+        _ => Err(NoMemory),
+    }
+}
+
 /// The class file of the lines of a text, of which the pool has what they need.
 pub(crate) fn file_of(
     pool: &mut Items,
@@ -115,9 +129,7 @@ pub(crate) fn file_of(
     ensures same { OnOk result (pool.new.says ≡ pool.old.says) }
     ensures file { IfOk result (IsFileOf pool.old.says lines.now) }
 {
-    let [Line::Class(head), ..] = lines else {
-        return Err(NoMemory);
-    };
+    let head = head_of(lines)?;
     let this = of_class(pool, alloc, head.name.as_slice())?;
     let parent = of_class(pool, alloc, head.parent.as_slice())?;
     let interfaces = interfaces_of(pool, alloc, lines)?;

@@ -15,8 +15,6 @@ mod methods;
 mod numbers;
 mod parts;
 mod pool;
-#[cfg(test)]
-mod tests;
 
 pub use assembling::assemble;
 pub use kb_asm_check::TextRefusal as AsmRefusal;
