@@ -52,15 +52,14 @@ abbrev pub is_label : Line → List ℕ → Bool
 is_label (lines.Body (bodies.Label label)) name = bytes_eq label name
 is_label _ name = false
 
--- where a label leads behind lines, of which the first stands at an offset, where it led somewhere before them
-abbrev pub label_behind : List ℕ → Option ℕ → ℕ → List Line → Option ℕ
-label_behind name found at [] = found
-label_behind name found at (line ∷ others) =
-    label_behind name (if is_label line name then Some at else found) (at + line_size line at) others
+-- where a label leads in lines, of which the first stands at an offset: to the first line that is that label
+abbrev pub label_from : List ℕ → ℕ → List Line → Option ℕ
+label_from name at [] = None
+label_from name at (line ∷ others) = if is_label line name then Some at else label_from name (at + line_size line at) others
 
 -- the offset that a label of a body names
 abbrev pub label_of : List Line → List ℕ → Option ℕ
-label_of body name = label_behind name None 0 body
+label_of body name = label_from name 0 body
 
 -- the offset at a name in a table
 abbrev pub offset_at : {S : Type 0} → HashMap (Vec ℕ Global) ℕ S → List ℕ → Option ℕ

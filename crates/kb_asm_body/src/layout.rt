@@ -1,6 +1,7 @@
 //! Where the instructions of a body stand, and where its labels lead.
 
-ghost use Rattle.std.specs.Prelude.{◌≡◌, ◌≤◌, ◌<◌, ◌^◌, ◌+◌, ◌*◌, ℕ, List, Option, Some, false, MatchOption, IfOk, OnOk, if◌then◌else◌};
+ghost use Rattle.std.specs.Prelude.{◌≡◌, ◌≤◌, ◌<◌, ◌^◌, ◌+◌, ◌*◌, ℕ, List, Option, None, Some, false, MatchOption, IfOk, OnOk, if◌then◌else◌};
+ghost use Rattle.std.specs.Option.{option_or};
 ghost use Rattle.std.specs.Str.{bytes_eq};
 ghost use Rattle.kb_asm_body.specs.Layout.{instr_size, line_size, offset_behind, label_of, is_label, offset_at, HasLabels};
 
@@ -92,18 +93,21 @@ fn label_in(line: &Line) -> Option<&Name>
     }
 }
 
-/// Notes the offset of a label, if the line is one.
+/// Notes the offset of a label, if the line is one and the first of that name.
 fn note(
     alloc: Global,
     labels: &mut HashMap<Vec<u8>, u32>,
     line: &Line,
     at: u32,
 ) -> Result<(), NoMemory>
-    ensures { OnOk result ((name : List ℕ) → offset_at labels.new name ≡ (if is_label line.now name then Some at else offset_at labels.old name)) }
+    ensures { OnOk result ((name : List ℕ) → offset_at labels.new name ≡ option_or (offset_at labels.old name) (if is_label line.now name then Some at else None)) }
 {
     let Some(label) = label_in(line) else {
         return Ok(());
     };
+    if labels.contains_key(label.as_slice()) {
+        return Ok(());
+    }
     let key = key_of(alloc, label.as_slice())?;
     let Ok(_) = labels.insert(key, at) else {
         return Err(NoMemory);

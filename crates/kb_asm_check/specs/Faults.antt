@@ -1,5 +1,5 @@
 -- The first line of a text that does not fit.
-use Rattle.std.specs.Prelude.{◌≡◌, ◌+◌, ℕ, Bool, true, false, IsTrue, List, [], ◌∷◌, length, take, Option, None, Some, nat_lt, if◌then◌else◌}
+use Rattle.std.specs.Prelude.{◌≡◌, ◌+◌, ℕ, Bool, true, false, IsTrue, List, [], ◌∷◌, length, Option, None, Some, nat_lt, if◌then◌else◌}
 use Rattle.std.specs.Option.{option_map}
 use Rattle.kb_asm_text.specs.declared.line.Sizes.{Sizes}
 use Rattle.kb_asm_text.specs.declared.line.Line.{Line}
@@ -41,10 +41,9 @@ abbrev pub fault_from : ℕ → List Line → Option ℕ
 fault_from place [] = None
 fault_from place (line ∷ others) = or_else (option_map (λ at. place + 1 + at) (fault_at line others)) (fault_from (place + 1) others)
 
--- the first faulty line, by its place, of the lines that keep the limits: a label is missing, a branch out of reach, or a body
--- of no bytes or of too many ends there
+-- the first faulty line by its place: a label is missing, a branch out of reach, or a body of no bytes or of too many ends there
 abbrev pub first_fault : List Line → Option ℕ
-first_fault of = fault_from 0 (take (kept of) of)
+first_fault of = fault_from 0 of
 
 -- a class is assembled of the lines
 pub record IsSound (of : List Line) : Type 0 where
@@ -62,13 +61,13 @@ pub record IsWhole (front : Front) : Type 0 where
   pub ended : IsTrue front.ended
   pub end : IsEnd front.place
 
--- the number of a fault, from 1, or of the line behind those that keep the limits
+-- the number, from 1, of the fault or of the line behind those that keep the limits, whichever comes first
 abbrev pub number_of : Option ℕ → ℕ → ℕ
-number_of (Some place) count = place + 1
+number_of (Some place) count = if nat_lt place count then place + 1 else count + 1
 number_of None count = count + 1
 
--- No class is assembled of the text, and this is its first line, from 1, that does not fit: the first that is faulty among those
--- that keep the limits, or else the one behind them, which breaks a limit, spells no line, may not stand there, is cut short,
+-- No class is assembled of the text, and this is its first line, from 1, that does not fit: the first that is faulty, or the one
+-- behind those that keep the limits, if that comes first: it breaks a limit, spells no line, may not stand there, is cut short,
 -- or is missing.
 pub record IsFirstUnfit (text : List ℕ) (number : ℕ) : Type 0 where
   pub front : Front

@@ -60,11 +60,14 @@ pub fn read_text(alloc: Global, text: &[u8]) -> Result<Row<Line>, TextRefusal>
     let Ok(count) = kept(alloc, front.lines.as_slice()) else {
         return Err(TextRefusal::NoMemory);
     };
-    let Ok(fault) = first_fault(alloc, &front.lines.as_slice()[..count]) else {
+    let Ok(fault) = first_fault(alloc, front.lines.as_slice()) else {
         return Err(TextRefusal::NoMemory);
     };
-    match fault {
-        Some(place) => Err(TextRefusal::Line(place + 1)),
-        None => whole(front, count),
+    let Some(place) = fault else {
+        return whole(front, count);
+    };
+    if place < count {
+        return Err(TextRefusal::Line(place + 1));
     }
+    Err(TextRefusal::Line(count + 1))
 }

@@ -40,6 +40,23 @@ fn a_label_stands_once_in_a_body(rt: HostRuntime) {
 }
 
 #[test]
+fn a_fault_stands_before_a_limit_that_is_broken_behind_it(rt: HostRuntime) {
+    let rows = [
+        (
+            b"class 0021 A B\nmethod 0009 f ()V 1 1\ngoto b\n:a\n:a\nreturn\nend\n".as_slice(),
+            3,
+        ),
+        (
+            b"class 0021 A B\nmethod 0009 f ()V 1 1\n:a\n:a\ngoto b\nreturn\nend\n",
+            4,
+        ),
+    ];
+    for (text, line) in rows {
+        assert_eq!(rt; told(rt.alloc(), text), Some(line));
+    }
+}
+
+#[test]
 fn a_text_that_ends_too_early_lacks_a_line(rt: HostRuntime) {
     assert_eq!(rt; told(rt.alloc(), b""), Some(1));
     assert_eq!(rt; told(rt.alloc(), b"class 0021 A B"), Some(1));
