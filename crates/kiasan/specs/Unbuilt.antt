@@ -12,7 +12,7 @@ use Rattle.kiasan.specs.Report.{line}
 use Rattle.kiasan.specs.declared.words.Job.{Job}
 use Rattle.kiasan.specs.Straight.{IsStraight}
 use Rattle.kiasan.specs.StraightPath.{IsExplorable}
-use Rattle.kiasan.specs.Words.{IsJobCommand, AreJobWords, AreReplayWords}
+use Rattle.kiasan.specs.Words.{IsJobCommand, AreJobWords, AreReplayWords, AreAssembleWords}
 
 abbrev pub unbuilt_status : Status
 unbuilt_status = Outside
@@ -25,6 +25,7 @@ pub record AreUnbuiltWords (words : List (List ℕ)) : Type 0 where
   pub some : words ≢ []
   pub no_job : (command method : List ℕ) (files : List (List ℕ)) → IsJobCommand command → AreJobWords words command method files → ⊥
   pub no_replay : (tests : List ℕ) (files : List (List ℕ)) → AreReplayWords words tests files → ⊥
+  pub no_assemble : (text : List ℕ) → AreAssembleWords words text → ⊥
 
 -- a method is built for tests where it is straight, and for a job where its runs also end within the job's bounds
 abbrev pub IsBuiltMethod : World → Target → MethodId → Type 0
