@@ -1,5 +1,4 @@
 use Rattle.std.proofs.Common.{◌≡◌, true, List, sym, subst, codes}
-use Rattle.kb_asm_text.specs.declared.line.Line.{Line}
 use Rattle.kb_asm_pool.specs.Says.{Says, text}
 use Rattle.kb_asm_pool.specs.Entries.{entries_of}
 use Rattle.kb_asm.specs.Entries.{SaysText}

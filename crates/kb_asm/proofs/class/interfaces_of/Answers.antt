@@ -1,5 +1,5 @@
 use Rattle.std.proofs.Common.{◌≡◌, ◌-◌, ℕ, true, List, [], ◌∷◌, length, take, drop, Option, sym, ◌∙◌, subst}
-use Rattle.std.specs.List.{AllByRecursion, AllZip, list_all}
+use Rattle.std.specs.List.{AllZip}
 use Rattle.std.proofs.lemmas.Bool.{and_parts}
 use Rattle.kb_asm_text.specs.declared.line.Line.{Line}
 use Rattle.kb_asm_pool.specs.Says.{Says}

@@ -1,10 +1,9 @@
-use Rattle.std.proofs.Common.{◌≡◌, ◌-◌, true, List, [], ◌∷◌, length, take, drop, Option, sym, ◌∙◌, subst}
-use Rattle.std.specs.List.{AllByRecursion, AllZip, list_all}
+use Rattle.std.proofs.Common.{◌≡◌, ◌-◌, true, List, ◌∷◌, length, take, drop, sym, ◌∙◌, subst}
+use Rattle.std.specs.List.{AllByRecursion, AllZip}
 use Rattle.std.proofs.lemmas.Bool.{and_parts}
 use Rattle.kb_asm_text.specs.declared.line.Line.{Line}
 use Rattle.kb_asm_pool.specs.Says.{Says}
 use Rattle.kb_asm_pool.specs.Needs.{line_needs}
-use Rattle.kb_asm_pool.specs.Entries.{entries_of}
 use Rattle.kb_asm.specs.Parts.{parts}
 use Rattle.kb_asm.specs.Needs.{have, have_all, IsWhole}
 use Rattle.kb_asm.specs.Class.{method_in}

@@ -1,7 +1,6 @@
 use Rattle.std.proofs.Common.{◌≡◌, List, ◌++◌, length, IsTrue}
 use Rattle.std.specs.List.{AllByRecursion, AllZip}
 use Rattle.kb_classfile.specs.declared.file.Method.{Method}
-use Rattle.kb_asm_pool.specs.Entries.{entries_of}
 use Rattle.kb_asm.specs.Needs.{have_all}
 use Rattle.kb_asm.specs.Parts.{parts}
 use Rattle.kb_asm.specs.Class.{method_in}

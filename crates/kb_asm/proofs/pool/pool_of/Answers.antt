@@ -1,4 +1,4 @@
-use Rattle.std.proofs.Common.{◌≡◌, ◌≤◌, true, List, length, flat_map, sym, ap, ◌∙◌, subst, arith}
+use Rattle.std.proofs.Common.{◌≡◌, true, List, flat_map, sym, ap, ◌∙◌, subst, arith}
 use Rattle.std.specs.List.{list_all}
 use Rattle.kb_asm_pool.specs.Says.{Says, all_added}
 use Rattle.kb_asm_pool.specs.Needs.{line_needs}
