@@ -4,6 +4,7 @@ pub mod ClassLaws
 pub mod CoveringLaws
 pub mod Exploring
 pub mod JobLaws
+pub mod OneAssembly
 pub mod OneListing
 pub mod OneReply
 pub mod PathLaws

@@ -53,6 +53,7 @@ use Rattle.kiasan.specs.Refusals.{class_refusal, code_refusal, link_refusal, wor
 use Rattle.kiasan.specs.Tests.{RefusesTests, literals_in, replay_status, test_refusal}
 use Rattle.kiasan.specs.Unbuilt.{IsBuiltFor}
 use Rattle.kiasan.proofs.ClassLaws.{no_faults}
+use Rattle.kiasan.proofs.OneAssembly.{assembly_one}
 use Rattle.kiasan.proofs.OneListing.{listings_one}
 use Rattle.kiasan.proofs.StageLaws.{HasOne, stage_one}
 use Rattle.kiasan.specs.Verdicts.{replay_text}
@@ -348,7 +349,10 @@ order_one words (Replay name files) ordered (bytes ∷ []) world given = replay_
 order_one words (Replay name files) ordered [] world given = λ one other p q. absurd p
 order_one words (Replay name files) ordered (bytes ∷ more ∷ texts) world given = λ one other p q. absurd p
 order_one words (Diagrams job) ordered texts world given = λ one other p q. absurd p
-order_one words (Assemble name) ordered texts world given = λ one other p q. absurd p
+order_one words (Assemble name) ordered (bytes ∷ []) world given =
+    assembly_one (SameEnd words) bytes (λ s u t v replay. absurd (not_both words (Assemble name) ordered (λ tests files e. cc) replay))
+order_one words (Assemble name) ordered [] world given = λ one other p q. absurd p
+order_one words (Assemble name) ordered (bytes ∷ more ∷ texts) world given = λ one other p q. absurd p
 order_one words (Sample blocks) ordered texts world given = λ one other p q. absurd p
 
 contents_one : (words : List (List ℕ)) (order : Order) → Orders words (Ok order) → (contents : Contents) → HasOne (SameEnd words) (RepliesOn order contents)

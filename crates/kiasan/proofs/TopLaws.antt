@@ -52,6 +52,7 @@ refusal_answers (refusals.OutsideOf target at what) = tt
 refusal_answers (refusals.Initialiser name) = tt
 refusal_answers refusals.TooMany = tt
 refusal_answers refusals.Unbuilt = tt
+refusal_answers (refusals.AssemblyLine number) = tt
 refusal_answers (refusals.TestLine number) = tt
 refusal_answers (refusals.NoTestMethod number) = tt
 refusal_answers (refusals.IllTypedTest number) = tt
@@ -86,7 +87,9 @@ order_answers (Replay name files) (bytes ∷ []) world status text h = tests_ans
 order_answers (Replay name files) [] world status text h = absurd h
 order_answers (Replay name files) (bytes ∷ other ∷ more) world status text h = absurd h
 order_answers (Diagrams job) texts world status text h = absurd h
-order_answers (Assemble name) texts world status text h = absurd h
+order_answers (Assemble name) (bytes ∷ []) world status text h = rw h.status_is tt
+order_answers (Assemble name) [] world status text h = absurd h
+order_answers (Assemble name) (bytes ∷ other ∷ more) world status text h = absurd h
 order_answers (Sample blocks) texts world status text h = absurd h
 
 pub ends_answer : (words : List (List ℕ)) (holds : List ℕ → Option (List ℕ)) (status : Status) (text : List ℕ) → Replies words holds (ends status text) → IsAnswer status
@@ -135,7 +138,9 @@ order_status words (Replay name files) ordered (bytes ∷ []) world status text 
 order_status words (Replay name files) ordered [] world status text h = absurd h
 order_status words (Replay name files) ordered (bytes ∷ other ∷ more) world status text h = absurd h
 order_status words (Diagrams job) ordered texts world status text h = absurd h
-order_status words (Assemble name) ordered texts world status text h = absurd h
+order_status words (Assemble name) ordered (bytes ∷ []) world status text h = rw h.status_is ((λ replay. tt), (λ none. tt))
+order_status words (Assemble name) ordered [] world status text h = absurd h
+order_status words (Assemble name) ordered (bytes ∷ other ∷ more) world status text h = absurd h
 order_status words (Sample blocks) ordered texts world status text h = absurd h
 
 status_of : (words : List (List ℕ)) (holds : List ℕ → Option (List ℕ)) (status : Status) (text : List ℕ) → Replies words holds (ends status text) → IsStatusFor words status

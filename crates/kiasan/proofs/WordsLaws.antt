@@ -6,7 +6,7 @@ use Rattle.kb_names.specs.Targets.{SpellsTarget, target_read}
 use Rattle.kb_names.proofs.TargetReader.{target_reader}
 use Rattle.kb_test.specs.Lines.{IsRunBounds}
 use Rattle.kiasan.specs.Answers.{IsBuiltOrder, IsWritable}
-use Rattle.kiasan.specs.Words.{IsJobCommand, AreJobWords, AreReplayWords, default_job, default_run_bounds}
+use Rattle.kiasan.specs.Words.{IsJobCommand, AreJobWords, AreReplayWords, AreAssembleWords, default_job, default_run_bounds}
 use Rattle.kiasan.specs.Orders.{Orders, OrdersJob, HasBadTarget}
 use Rattle.kiasan.specs.Unbuilt.{AreUnbuiltWords}
 use Rattle.kiasan.specs.declared.words.Job.{Job}
@@ -59,7 +59,17 @@ job_or_fault words command job word some none =
     let methods : some.method ≡ none.method = cc in
     none.no_target (job.target, (some.spelled.0, sym methods ∙ some.spelled.1))
 
+-- two words are no words of a job, and none of a replay
+job_or_assemble : (words : List (List ℕ)) (command method text : List ℕ) (files : List (List ℕ)) → AreJobWords words command method files → AreAssembleWords words text → ⊥
+job_or_assemble words command method text files one two = omega (arith, ap length one.words_are, ap length two)
+
+replay_or_assemble : (words : List (List ℕ)) (tests text : List ℕ) (files : List (List ℕ)) → AreReplayWords words tests files → AreAssembleWords words text → ⊥
+replay_or_assemble words tests text files one two = omega (arith, ap length one.words_are, ap length two)
+
 -- ---- each form has one order
+
+one_assemble : (words : List (List ℕ)) (text other : List ℕ) → AreAssembleWords words text → AreAssembleWords words other → text ≡ other
+one_assemble words text other one two = let words-one = one in let words-two = two in cc
 
 one_job : (words : List (List ℕ)) (command : List ℕ) (job other : Job) → OrdersJob words command job → OrdersJob words command other → job ≡ other
 one_job words command job other one two =
@@ -102,10 +112,15 @@ one_order words (Replay tests files) (Explore job) a b =
 one_order words (Replay tests files) (Tests job) a b = absurd (job_or_replay words (codes "tests") b.method tests job.files files (inr refl) b.form a)
 one_order words (Replay tests files) (Replay others more) a b = let same = one_replay words tests others files more a b in rw (same.0, same.1) refl
 one_order words (Diagrams job) other a b = absurd a
-one_order words (Assemble text) other a b = absurd a
+one_order words (Assemble text) (Assemble other) a b = ap Assemble (one_assemble words text other a b)
+one_order words (Assemble text) (Explore job) a b = absurd (job_or_assemble words (codes "explore") b.method text job.files b.form a)
+one_order words (Assemble text) (Tests job) a b = absurd (job_or_assemble words (codes "tests") b.method text job.files b.form a)
+one_order words (Assemble text) (Replay tests files) a b = absurd (replay_or_assemble words tests text files b a)
+one_order words (Explore job) (Assemble text) a b = absurd (job_or_assemble words (codes "explore") a.method text job.files a.form b)
+one_order words (Tests job) (Assemble text) a b = absurd (job_or_assemble words (codes "tests") a.method text job.files a.form b)
+one_order words (Replay tests files) (Assemble text) a b = absurd (replay_or_assemble words tests text files a b)
 one_order words (Sample blocks) other a b = absurd a
 one_order words one (Diagrams job) a b = absurd b
-one_order words one (Assemble text) a b = absurd b
 one_order words one (Sample blocks) a b = absurd b
 
 one_fault : (words : List (List ℕ)) (one other : WordFault) → Orders words (Err one) → Orders words (Err other) → one ≡ other
@@ -131,9 +146,11 @@ fault_or_order words (BadTarget word) (Replay tests files) a b = job_or_replay w
 fault_or_order words Unbuilt (Explore job) a b = unbuilt_or_job words (codes "explore") job (inl refl) a b
 fault_or_order words Unbuilt (Tests job) a b = unbuilt_or_job words (codes "tests") job (inr refl) a b
 fault_or_order words Unbuilt (Replay tests files) a b = a.no_replay tests files b
+fault_or_order words NoCommand (Assemble text) a b = let words-are = b in cc
+fault_or_order words (BadTarget word) (Assemble text) a b = job_or_assemble words a.command a.method text a.files a.form b
+fault_or_order words Unbuilt (Assemble text) a b = a.no_assemble text b
 fault_or_order words NoMemory order a b = a
 fault_or_order words fault (Diagrams job) a b = b
-fault_or_order words fault (Assemble text) a b = b
 fault_or_order words fault (Sample blocks) a b = b
 
 -- words have one order or one fault
@@ -159,5 +176,5 @@ built_order words (Explore job) h = job_writable words (codes "explore") job h
 built_order words (Tests job) h = job_writable words (codes "tests") job h
 built_order words (Replay tests files) h = tt
 built_order words (Diagrams job) h = absurd h
-built_order words (Assemble text) h = absurd h
+built_order words (Assemble text) h = tt
 built_order words (Sample blocks) h = absurd h

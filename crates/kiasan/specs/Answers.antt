@@ -9,6 +9,8 @@ use Rattle.kb_classfile.specs.declared.file.ClassFile.{ClassFile}
 use Rattle.kb_classfile.specs.declared.refusal.ClassRefusal.{ClassRefusal}
 use Rattle.kb_classfile.specs.Reading.{first_fault}
 use Rattle.kb_classfile.specs.Spelling.{IsClassFile}
+use Rattle.kb_asm.specs.Class.{IsAssembled}
+use Rattle.kb_asm_check.specs.Faults.{IsFirstUnfit}
 use Rattle.kb_outside.specs.Outside.{Rose, Grows, GrowsByPart}
 use Rattle.kb_test.specs.declared.test_case.Test.{Test}
 use Rattle.kb_grammar.specs.Lines.{IsFirstBadLine}
@@ -22,7 +24,7 @@ use Rattle.kb_link.specs.World.{World}
 use Rattle.kiasan.specs.declared.answer.Contents.{Contents}
 use Rattle.kiasan.specs.declared.refusals.Answer.{Answer}
 use Rattle.kiasan.specs.declared.refusals.Refusal.{Refusal}
-use Rattle.kiasan.specs.declared.refusals.Refusal.TheVariants.{TestLine, LongText}
+use Rattle.kiasan.specs.declared.refusals.Refusal.TheVariants.{AssemblyLine, TestLine, LongText}
 use Rattle.kiasan.specs.declared.refusals.Stop.{Stop}
 use Rattle.kiasan.specs.declared.refusals.Stop.TheVariants.{Refused}
 use Rattle.kiasan.specs.declared.refusals.Stop.TheVariants as stops
@@ -149,11 +151,28 @@ RepliesReplay bytes world =
     Stage (RefusesTests world tests) (AreRunnable world tests) (λ ids.
     Last (EndsReplay world tests)))
 
--- the commands, each on its texts and the world of its classes
+-- the bytes are no text of a class: they are too many, or this is the first line that does not fit
+abbrev pub AssemblyRefuses : List ℕ → Refusal → Type 0
+AssemblyRefuses bytes refusal =
+    ((refusal ≡ LongText) × (text_limit < length bytes))
+    ⊎ ((number : ℕ) × (refusal ≡ AssemblyLine number) × (length bytes ≤ text_limit) × IsFirstUnfit bytes number)
+
+-- the end of an assembly: the class file that the text is
+pub record EndsAssembly (bytes : List ℕ) (status : Status) (text : List ℕ) : Type 0 where
+  pub within : length bytes ≤ text_limit
+  pub status_is : status ≡ Complete
+  pub assembled : IsAssembled bytes text
+
+abbrev pub RepliesAssembly : List ℕ → Reply → Type 0
+RepliesAssembly bytes (refuses refusal) = AssemblyRefuses bytes refusal
+RepliesAssembly bytes (ends status text) = EndsAssembly bytes status text
+
+-- the commands, each on its texts and the world of its classes; an assembly has no classes
 abbrev pub RepliesIn : Order → List (List ℕ) → World → Reply → Type 0
 RepliesIn (Explore job) texts world = RepliesJob IsReportText world job
 RepliesIn (Tests job) texts world = RepliesJob IsTestsTextOf world job
 RepliesIn (Replay name files) (bytes ∷ []) world = RepliesReplay bytes world
+RepliesIn (Assemble name) (bytes ∷ []) world = RepliesAssembly bytes
 RepliesIn _ texts world = λ reply. ⊥
 
 -- the orders that come by now, jobs with what a test may have
@@ -162,7 +181,7 @@ IsBuiltOrder (Explore job) = IsWritable job
 IsBuiltOrder (Tests job) = IsWritable job
 IsBuiltOrder (Diagrams job) = ⊥
 IsBuiltOrder (Replay tests files) = Unit {0}
-IsBuiltOrder (Assemble text) = ⊥
+IsBuiltOrder (Assemble text) = Unit {0}
 IsBuiltOrder (Sample blocks) = ⊥
 
 -- ---- classes, and their world

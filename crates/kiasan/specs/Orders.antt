@@ -6,7 +6,7 @@ use Rattle.kiasan.specs.declared.words.Order.{Order}
 use Rattle.kiasan.specs.declared.words.Order.TheVariants.{Explore, Tests, Diagrams, Replay, Assemble, Sample}
 use Rattle.kiasan.specs.declared.words.WordFault.{WordFault}
 use Rattle.kiasan.specs.declared.words.WordFault.TheVariants.{NoCommand, BadTarget, Unbuilt, NoMemory}
-use Rattle.kiasan.specs.Words.{IsJobCommand, AreJobWords, AreReplayWords, method_place, default_job}
+use Rattle.kiasan.specs.Words.{IsJobCommand, AreJobWords, AreReplayWords, AreAssembleWords, method_place, default_job}
 use Rattle.kiasan.specs.Unbuilt.{AreUnbuiltWords}
 
 -- the words are those of a command on a method, and all else is as where the words say nothing
@@ -32,7 +32,7 @@ Orders words (Ok (Explore job)) = OrdersJob words (codes "explore") job
 Orders words (Ok (Tests job)) = OrdersJob words (codes "tests") job
 Orders words (Ok (Diagrams job)) = ⊥
 Orders words (Ok (Replay tests files)) = AreReplayWords words tests files
-Orders words (Ok (Assemble text)) = ⊥
+Orders words (Ok (Assemble text)) = AreAssembleWords words text
 Orders words (Ok (Sample blocks)) = ⊥
 Orders words (Err NoCommand) = words ≡ []
 Orders words (Err (BadTarget word)) = HasBadTarget words word

@@ -8,7 +8,7 @@ use Rattle.kb_code.specs.declared.refusal.CodeRefusal.TheVariants as codes_of
 use Rattle.kb_names.specs.Escapes.{name_text}
 use Rattle.kb_names.specs.Targets.{target_text}
 use Rattle.kiasan.specs.declared.refusals.Refusal.{Refusal}
-use Rattle.kiasan.specs.declared.refusals.Refusal.TheVariants.{Magic, Version, Short, Tag, PoolIndex, PoolKind, CodeLength, Extra, TwoCodes, LongClass, Opcode, CutInstr, JumpTarget, Switch, HandlerRange, TwoMembers, BadName, BadDescriptor, Twice, Missing, Circle, BadSuper, SplitPackage, NoMethod, NoField, OutsideOf, Initialiser, TooMany, Unbuilt, TestLine, NoTestMethod, IllTypedTest, LongText, NoCommand, BadTarget}
+use Rattle.kiasan.specs.declared.refusals.Refusal.TheVariants.{Magic, Version, Short, Tag, PoolIndex, PoolKind, CodeLength, Extra, TwoCodes, LongClass, Opcode, CutInstr, JumpTarget, Switch, HandlerRange, TwoMembers, BadName, BadDescriptor, Twice, Missing, Circle, BadSuper, SplitPackage, NoMethod, NoField, OutsideOf, Initialiser, TooMany, Unbuilt, AssemblyLine, TestLine, NoTestMethod, IllTypedTest, LongText, NoCommand, BadTarget}
 use Rattle.kiasan.specs.declared.refusals.Stop.{Stop}
 use Rattle.kiasan.specs.declared.refusals.Stop.TheVariants.{Refused, ReadFault, NoMemory}
 use Rattle.kb_test.specs.declared.reading.TestRefusal.{TestRefusal}
@@ -115,6 +115,7 @@ refusal_line (OutsideOf target at what) = instruction_front 47 target at ++ (wha
 refusal_line (Initialiser name) = class_line 48 name
 refusal_line TooMany = line (codes "refused 49" ∷ [])
 refusal_line Unbuilt = unbuilt_line
+refusal_line (AssemblyLine number) = line (codes "refused 30 line " ∷ decimal number ∷ [])
 refusal_line (TestLine number) = line (codes "refused 60 line " ∷ decimal number ∷ [])
 refusal_line (NoTestMethod number) = line (codes "refused 61 test " ∷ decimal number ∷ [])
 refusal_line (IllTypedTest number) = line (codes "refused 62 test " ∷ decimal number ∷ [])
@@ -152,6 +153,7 @@ refusal_status (OutsideOf target at what) = Outside
 refusal_status (Initialiser name) = Outside
 refusal_status TooMany = Link
 refusal_status Unbuilt = unbuilt_status
+refusal_status (AssemblyLine number) = Text
 refusal_status (TestLine number) = Text
 refusal_status (NoTestMethod number) = Text
 refusal_status (IllTypedTest number) = Text

@@ -11,7 +11,7 @@ use Rattle.kiasan.specs.declared.status.Status.TheVariants.{Outside}
 use Rattle.kiasan.specs.Report.{line}
 use Rattle.kiasan.specs.declared.words.Job.{Job}
 use Rattle.kiasan.specs.StraightPath.{IsExplorable}
-use Rattle.kiasan.specs.Words.{IsJobCommand, AreJobWords, AreReplayWords}
+use Rattle.kiasan.specs.Words.{IsJobCommand, AreJobWords, AreReplayWords, AreAssembleWords}
 
 abbrev pub unbuilt_status : Status
 unbuilt_status = Outside
@@ -24,6 +24,7 @@ pub record AreUnbuiltWords (words : List (List ℕ)) : Type 0 where
   pub some : words ≢ []
   pub no_job : (command method : List ℕ) (files : List (List ℕ)) → IsJobCommand command → AreJobWords words command method files → ⊥
   pub no_replay : (tests : List ℕ) (files : List (List ℕ)) → AreReplayWords words tests files → ⊥
+  pub no_assemble : (text : List ℕ) → AreAssembleWords words text → ⊥
 
 -- a method is built for a job where it is straight, and its runs end within the job's bounds
 abbrev pub IsBuiltFor : World → Job → MethodId → Type 0

@@ -29,6 +29,10 @@ pub record AreReplayWords (words : List (List ℕ)) (tests : List ℕ) (files : 
   pub words_are : words ≡ codes "replay" ∷ codes "--tests" ∷ tests ∷ files
   pub are_files : AreFiles files
 
+-- `assemble TEXT`: the text is a file, whatever the word begins with
+abbrev pub AreAssembleWords : List (List ℕ) → List ℕ → Type 0
+AreAssembleWords words text = words ≡ codes "assemble" ∷ text ∷ []
+
 -- the place of the option's value in the words of a job
 abbrev pub method_place : ℕ
 method_place = 2

@@ -5,6 +5,7 @@ ghost use Rattle.kb_outside.specs.Outside.{Rose};
 ghost use Rattle.kiasan.specs.Answers.{Answers, AreRead, Carries, IsAnswer, IsBuiltOrder, IsContents, IsOf, IsRead, IsReadFault, IsReadFaultOrNoMemory, Replies, RepliesIn, RepliesOn, RepliesTo, SomeUnsound, class_limit, text_limit};
 ghost use Rattle.kiasan.specs.Orders.{classes_of, files_of, texts_of};
 
+use crate::assembly::answer_assembly;
 use crate::classes::{link_classes, read_classes};
 use crate::methods::{answer_report, answer_tests};
 use crate::refusals::{Answer, Stop, answer_refusal};
@@ -142,6 +143,7 @@ fn answer_in(alloc: Global, order: &Order, texts: &[Row<u8>], world: &World) -> 
         Order::Explore(job) => answer_report(alloc, world, job),
         Order::Tests(job) => answer_tests(alloc, world, job),
         Order::Replay(..) => replay(alloc, world, texts[0].as_slice()),
-        Order::Diagrams(_) | Order::Assemble(_) | Order::Sample(_) => unreachable!(),
+        Order::Assemble(_) => answer_assembly(alloc, texts[0].as_slice()),
+        Order::Diagrams(_) | Order::Sample(_) => unreachable!(),
     }
 }

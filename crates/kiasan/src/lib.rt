@@ -2,6 +2,7 @@
 #![tactic(auto)]
 
 mod answer;
+mod assembly;
 mod built;
 mod classes;
 mod explore;

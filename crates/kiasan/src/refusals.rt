@@ -78,6 +78,8 @@ pub enum Refusal {
     TooMany,
     /// Something that is not built was met.
     Unbuilt,
+    /// That line of an assembler text is the first that does not fit.
+    AssemblyLine(usize),
     /// No list of tests goes on at that line.
     TestLine(usize),
     /// The method of that test is not there.
@@ -284,7 +286,8 @@ fn refusal_status(refusal: &Refusal) -> Status
         | Refusal::TooMany => Status::Link,
         Refusal::OutsideOf(..) | Refusal::Initialiser(_) => Status::Outside,
         Refusal::Unbuilt => UNBUILT_STATUS,
-        Refusal::TestLine(_)
+        Refusal::AssemblyLine(_)
+        | Refusal::TestLine(_)
         | Refusal::NoTestMethod(_)
         | Refusal::IllTypedTest(_)
         | Refusal::LongText => Status::Text,
@@ -358,7 +361,7 @@ fn link_refusal_line(alloc: Global, refusal: &Refusal) -> Result<Vec<u8>, NoMemo
     }
 }
 
-/// The line of a refusal of an instruction that is reached, of what is not built, of tests or of words.
+/// The line of a refusal of an instruction that is reached, of what is not built, of texts or of words.
 #[tactic(auto, unfolding(crate::specs::Refusals::refusal_line, crate::specs::Unbuilt::unbuilt_line))]
 fn other_refusal_line(alloc: Global, refusal: &Refusal) -> Result<Vec<u8>, NoMemory>
     requires class { refusal_status refusal.now ≢ Status.Class }
@@ -369,6 +372,9 @@ fn other_refusal_line(alloc: Global, refusal: &Refusal) -> Result<Vec<u8>, NoMem
         Refusal::OutsideOf(target, at, what) => outside_line(alloc, target, *at, *what),
         Refusal::Initialiser(name) => class_line(alloc, 48, name),
         Refusal::Unbuilt => Ok(String::from_str(alloc, UNBUILT_LINE)?.into_bytes()),
+        Refusal::AssemblyLine(number) => {
+            Ok(format!(in alloc; "refused 30 line {number}\n")?.into_bytes())
+        }
         Refusal::TestLine(number) => {
             Ok(format!(in alloc; "refused 60 line {number}\n")?.into_bytes())
         }

@@ -22,7 +22,7 @@ pub enum Status {
     WriteFault,
     /// Memory ran out.
     Memory,
-    /// A file of tests, or a test, was refused.
+    /// A text, or a test, was refused.
     Text,
     /// A test's run is not as the test says.
     Differs,

@@ -152,6 +152,7 @@ pub fn read_words(alloc: Global, words: &[String]) -> Result<Order, WordFault>
 {
     match words {
         [] => Err(WordFault::NoCommand),
+        [command, text] => read_assemble(alloc, command.as_str(), text.as_str()),
         [command, option, value, files @ ..] => read_command(
             alloc,
             command.as_str(),
@@ -244,6 +245,16 @@ fn read_replay(
     }
     let tests = FileName::from_word(alloc, tests)?;
     Ok(Order::Replay(tests, file_names(alloc, files)?))
+}
+
+fn read_assemble(alloc: Global, command: &str, text: &str) -> Result<Order, WordFault>
+    ensures order { IfOk result (λ order. Orders (command.now ∷ text.now ∷ []) (Ok order)) }
+    ensures fault { IfErr result (IsFaultOf (command.now ∷ text.now ∷ [])) }
+{
+    if command != "assemble" {
+        return Err(WordFault::Unbuilt);
+    }
+    Ok(Order::Assemble(FileName::from_word(alloc, text)?))
 }
 
 /// The names of files that these words are.

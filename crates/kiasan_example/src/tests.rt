@@ -1,4 +1,5 @@
-//! What no row of words over files can show of the top call: how often it reads a file, and a sink that fails.
+//! What no row of words over files can show of the top call: how often it reads a file, a sink that fails, and a class file that
+//! is written.
 
 use kb_outside::{MemoryShelf, MemorySink};
 use kb_samples::CLASS_A;
@@ -7,6 +8,8 @@ use std::alloc::{AllocError, Global};
 use std::test::Fail;
 
 const EXPLORE_A: &str = "explore --method A.f(II)I A.class";
+
+const ASSEMBLE_A: &str = "assemble A.asm";
 
 const REPLAY_A: &str = "replay --tests A.tests A.class";
 
@@ -19,12 +22,24 @@ returns 0
 end
 ";
 
-/// A shelf with class A and its test, whose calls of these numbers fail, from 0.
+/// The text of class A.
+const TEXT_A: &str = "class 0021 A java/lang/Object
+method 0009 f (II)I 2 2
+iload_0
+iload_1
+iadd
+ireturn
+end
+";
+
+/// A shelf with class A, its test and its text, whose calls of these numbers fail, from 0.
 fn shelf_failing_at(alloc: Global, fails: Vec<u64>) -> Result<MemoryShelf, AllocError> {
     let mut files = Vec::new(alloc);
     files.push((String::from_str(alloc, "A.class")?, CLASS_A.to_vec(alloc)?))?;
     let tests = TEST_A.as_bytes().to_vec(alloc)?;
     files.push((String::from_str(alloc, "A.tests")?, tests))?;
+    let text = TEXT_A.as_bytes().to_vec(alloc)?;
+    files.push((String::from_str(alloc, "A.asm")?, text))?;
     Ok(MemoryShelf::new(files, fails))
 }
 
@@ -78,5 +93,17 @@ fn a_sink_that_fails_has_the_front_of_the_report(rt: HostRuntime) -> Result<(), 
     let status = answer_to(alloc, EXPLORE_A, &mut shelf, &mut sink)?;
     assert_eq!(rt; status, Status::WriteFault);
     assert_eq!(rt; sink.bytes(), b"kiasan report 1\ntarg".as_slice());
+    Ok(())
+}
+
+/// A text that is assembled has as many bytes as the class file, whose pool has other places.
+#[test]
+fn a_class_is_assembled(rt: HostRuntime) -> Result<(), Fail> {
+    let alloc = rt.alloc();
+    let mut shelf = shelf_failing_at(alloc, Vec::new(alloc))?;
+    let mut sink = sink_failing_at(alloc, Vec::new(alloc))?;
+    let status = answer_to(alloc, ASSEMBLE_A, &mut shelf, &mut sink)?;
+    assert_eq!(rt; status, Status::Complete);
+    assert_eq!(rt; sink.bytes().len(), CLASS_A.len());
     Ok(())
 }

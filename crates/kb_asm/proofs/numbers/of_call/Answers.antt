@@ -1,0 +1,19 @@
+use Rattle.std.proofs.Common.{ℕ, sym, subst}
+use Rattle.kb_asm_pool.specs.Needs.{call_needs, call_says}
+use Rattle.kb_asm_pool.specs.Entries.{entries_of}
+use Rattle.kb_asm.specs.Entries.{EntrySays}
+use Rattle.kb_asm.proofs.EntryLaws.{not_grown, has_number, is_number}
+use Rattle.kb_asm.proofs.numbers.of_call.Goals as goal
+
+pub number_of-requires : goal.number_of-requires
+number_of-requires c =
+    has_number c.args.pool.now.says c.add_call.new.items.says (call_needs c.args.op c.args.target.now) (call_says c.args.op c.args.target.now) c.in_ok-place.place c.requires.whole c.requires.there c.in_ok-place.ensures.says c.in_ok-place.ensures.entry
+
+pub returns-clause-same : goal.returns-clause-same
+returns-clause-same c =
+    not_grown c.args.pool.now.says c.add_call.new.items.says (call_needs c.args.op c.args.target.now) (call_says c.args.op c.args.target.now) c.in_ok-place.place c.requires.whole c.requires.there c.in_ok-place.ensures.says c.in_ok-place.ensures.entry
+
+pub returns-clause-number : goal.returns-clause-number
+returns-clause-number c =
+    subst (λ (number : ℕ). EntrySays (entries_of c.args.pool.now.says) (call_says c.args.op c.args.target.now) number) (sym c.number_of.ensures)
+    (is_number c.args.pool.now.says c.add_call.new.items.says (call_needs c.args.op c.args.target.now) (call_says c.args.op c.args.target.now) c.in_ok-place.place c.requires.whole c.requires.there c.in_ok-place.ensures.says c.in_ok-place.ensures.entry)

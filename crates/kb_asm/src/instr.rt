@@ -1,0 +1,151 @@
+//! The instructions that the lines of a body ask for.
+
+ghost use Rattle.std.specs.Prelude.{◌≡◌, ℕ, Some, IsTrue, IfOk, OnOk};
+ghost use Rattle.std.specs.List.{AllZip};
+ghost use Rattle.kb_asm_pool.specs.Needs.{constant_needs, constant_says, call_needs, call_says, operand_needs};
+ghost use Rattle.kb_asm_pool.specs.Entries.{entries_of};
+ghost use Rattle.kb_asm.specs.Needs.{have, IsWhole};
+ghost use Rattle.kb_asm.specs.Instructions.{LeadsTo, IsPair, Names, IsConstant, IsCall, IsBranch, IsAsked};
+ghost use Rattle.kb_asm.specs.Working.{labels_of};
+
+use crate::memory::NoMemory;
+use crate::numbers::{of_call, of_class, of_constant, of_field, of_ref};
+use kb_asm_body::{Layout, argument_words};
+use kb_asm_pool::Items;
+use kb_asm_text::{Case, Constant, Operand};
+use kb_names::{Name, Target};
+use kb_rows::Row;
+use kb_writer::Written;
+use std::alloc::Global;
+
+/// The opcodes of ldc, invokeinterface and goto_w (JVMS 8 section 6.5).
+const LDC: u8 = 0x12;
+
+const INVOKEINTERFACE: u8 = 0xb9;
+
+const GOTO_W: u8 = 0xc8;
+
+/// An instruction that pushes a constant.
+fn constant(pool: &mut Items, alloc: Global, op: u8, of: &Constant) -> Result<Written, NoMemory>
+    requires whole { IsWhole pool.old.says }
+    requires there { IsTrue (have pool.old.says (constant_needs of.now)) }
+    ensures same { OnOk result (pool.new.says ≡ pool.old.says) }
+    ensures asked { IfOk result (Names (entries_of pool.old.says) (constant_says of.now) (IsConstant op)) }
+{
+    let number = of_constant(pool, alloc, of)?;
+    if op != LDC {
+        return Ok(Written::Entry(op, number));
+    }
+    match u8::try_from(number) {
+        Ok(short) => Ok(Written::Constant(short)),
+        Err(_) => Err(NoMemory),
+    }
+}
+
+/// An instruction that calls a method.
+fn call(pool: &mut Items, alloc: Global, op: u8, target: &Target) -> Result<Written, NoMemory>
+    requires whole { IsWhole pool.old.says }
+    requires there { IsTrue (have pool.old.says (call_needs op target.now)) }
+    ensures same { OnOk result (pool.new.says ≡ pool.old.says) }
+    ensures asked { IfOk result (Names (entries_of pool.old.says) (call_says op target.now) (IsCall op target.now.kind)) }
+{
+    let number = of_call(pool, alloc, op, target)?;
+    if op != INVOKEINTERFACE {
+        return Ok(Written::Entry(op, number));
+    }
+    match argument_words(&target.kind) {
+        Some(words) => Ok(Written::Interface(number, words)),
+        None => Err(NoMemory),
+    }
+}
+
+/// What the lines of a body are written by.
+#[derive(Clone, Copy)]
+pub(crate) struct Body<'a> {
+    pub(crate) layout: &'a Layout,
+}
+
+impl Body<'_> {
+    /// Where a label leads.
+    pub(crate) fn to(&self, label: &Name) -> Result<u32, NoMemory>
+        ensures { IfOk result (LeadsTo (labels_of self.now.layout.now) label.now) }
+    {
+        match self.layout.offset(label.as_slice()) {
+            Some(offset) => Ok(offset),
+            None => Err(NoMemory),
+        }
+    }
+
+    fn branch(&self, op: u8, label: &Name) -> Result<Written, NoMemory>
+        ensures { IfOk result (λ written. (to : ℕ) × LeadsTo (labels_of self.now.layout.now) label.now to × IsBranch op to written) }
+    {
+        let to = self.to(label)?;
+        if op == GOTO_W {
+            return Ok(Written::Far(op, to));
+        }
+        Ok(Written::Near(op, to))
+    }
+
+    fn targets(&self, alloc: Global, labels: &[Name]) -> Result<Row<u32>, NoMemory>
+        ensures { IfOk result (AllZip (LeadsTo (labels_of self.now.layout.now)) labels.now) }
+    {
+        let mut targets = Row::new(alloc);
+        let mut rest = labels;
+        while let [label, others @ ..] = rest {
+            targets.push(self.to(label)?)?;
+            rest = others;
+        }
+        Ok(targets)
+    }
+
+    fn pairs(&self, alloc: Global, cases: &[Case]) -> Result<Row<(i32, u32)>, NoMemory>
+        ensures { IfOk result (AllZip (IsPair (labels_of self.now.layout.now)) cases.now) }
+    {
+        let mut pairs = Row::new(alloc);
+        let mut rest = cases;
+        while let [case, others @ ..] = rest {
+            pairs.push((case.key, self.to(&case.target)?))?;
+            rest = others;
+        }
+        Ok(pairs)
+    }
+
+    /// The instruction of an opcode and its operand.
+    pub(crate) fn instr(
+        &self,
+        pool: &mut Items,
+        alloc: Global,
+        op: u8,
+        operand: &Operand,
+    ) -> Result<Written, NoMemory>
+        requires whole { IsWhole pool.old.says }
+        requires there { IsTrue (have pool.old.says (operand_needs op operand.now)) }
+        ensures same { OnOk result (pool.new.says ≡ pool.old.says) }
+        ensures asked { IfOk result (IsAsked (entries_of pool.old.says) (labels_of self.now.layout.now) op operand.now) }
+    {
+        match operand {
+            Operand::Alone => Ok(Written::Alone(op)),
+            Operand::Byte(number) => Ok(Written::PushByte(*number)),
+            Operand::Short(number) => Ok(Written::PushShort(*number)),
+            Operand::Constant(of) => constant(pool, alloc, op, of),
+            Operand::Local(local) => Ok(Written::Local(op, *local)),
+            Operand::Increment(local, constant) => Ok(Written::Increment(*local, *constant)),
+            Operand::Field(field) => Ok(Written::Entry(op, of_field(pool, alloc, field)?)),
+            Operand::Method(target) => call(pool, alloc, op, target),
+            Operand::New(name) => Ok(Written::Entry(op, of_class(pool, alloc, name.as_slice())?)),
+            Operand::Type(of) => Ok(Written::Entry(op, of_ref(pool, alloc, of)?)),
+            Operand::Primitive(code) => Ok(Written::Primitive(*code)),
+            Operand::Target(label) => self.branch(op, label),
+            Operand::Table(low, default, targets) => {
+                let default = self.to(default)?;
+                let targets = self.targets(alloc, targets.as_slice())?;
+                Ok(Written::Table(*low, default, targets))
+            }
+            Operand::Lookup(default, cases) => {
+                let default = self.to(default)?;
+                let pairs = self.pairs(alloc, cases.as_slice())?;
+                Ok(Written::Lookup(default, pairs))
+            }
+        }
+    }
+}

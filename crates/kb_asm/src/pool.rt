@@ -1,0 +1,73 @@
+//! The constant pool of a class.
+
+ghost use Rattle.std.specs.Prelude.{◌≡◌, IfOk, OnOk};
+ghost use Rattle.std.specs.List.{flat_map};
+ghost use Rattle.kb_asm_pool.specs.Says.{all_added};
+ghost use Rattle.kb_asm_pool.specs.Needs.{line_needs};
+ghost use Rattle.kb_asm_check.specs.Limits.{ldc_says};
+ghost use Rattle.kb_asm.specs.Needs.{IsWhole, says_of};
+ghost use Rattle.kb_asm.specs.Working.{AreText};
+
+use crate::memory::NoMemory;
+use kb_asm_pool::{Items, add_alone, add_needs};
+use kb_asm_text::{BodyLine, Line, Operand};
+use std::alloc::Global;
+
+/// The opcode of ldc (JVMS 8 section 6.5).
+const LDC: u8 = 0x12;
+
+/// The most entries of a pool.
+const MOST_ENTRIES: usize = 65_534;
+
+/// Adds the constant of an ldc line.
+fn add_ldc_constant(pool: &mut Items, alloc: Global, line: &Line) -> Result<(), NoMemory>
+    ensures { OnOk result (pool.new.says ≡ all_added pool.old.says (ldc_says line.now)) }
+{
+    if let Line::Body(BodyLine::Instr(op, Operand::Constant(of))) = line {
+        if *op == LDC {
+            add_alone(pool, alloc, of)?;
+        }
+    }
+    Ok(())
+}
+
+/// Adds the constants of ldc lines.
+#[tactic(auto, using(crate::proofs::PoolLaws::more_added))]
+fn add_constants(pool: &mut Items, alloc: Global, lines: &[Line]) -> Result<(), NoMemory>
+    ensures { OnOk result (pool.new.says ≡ all_added pool.old.says (flat_map ldc_says lines.now)) }
+{
+    let mut rest = lines;
+    while let [line, others @ ..] = rest {
+        add_ldc_constant(pool, alloc, line)?;
+        rest = others;
+    }
+    Ok(())
+}
+
+/// Adds what lines need.
+#[tactic(auto, using(crate::proofs::PoolLaws::more_added))]
+fn add_all_needs(pool: &mut Items, alloc: Global, lines: &[Line]) -> Result<(), NoMemory>
+    ensures { OnOk result (pool.new.says ≡ all_added pool.old.says (flat_map line_needs lines.now)) }
+{
+    let mut rest = lines;
+    while let [line, others @ ..] = rest {
+        add_needs(pool, alloc, line)?;
+        rest = others;
+    }
+    Ok(())
+}
+
+/// The pool of the lines of a text.
+pub(crate) fn pool_of(alloc: Global, lines: &[Line]) -> Result<Items, NoMemory>
+    requires { AreText lines.now }
+    ensures says { IfOk result (λ pool. pool.says ≡ says_of lines.now) }
+    ensures whole { IfOk result (λ pool. IsWhole pool.says) }
+{
+    let mut pool = Items::new(alloc);
+    add_constants(&mut pool, alloc, lines)?;
+    add_all_needs(&mut pool, alloc, lines)?;
+    if pool.count() > MOST_ENTRIES {
+        return Err(NoMemory);
+    }
+    Ok(pool)
+}

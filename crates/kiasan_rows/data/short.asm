@@ -1,0 +1,3 @@
+class 0021 A java/lang/Object
+method 0009 f ()V 1 1
+return
