@@ -1,7 +1,6 @@
 -- Pieces of code, line by line.
-use Rattle.std.proofs.Common.{◌≡◌, ℕ, ◌+◌, List, [], ◌∷◌, ◌++◌, length, Option, Result, Ok, Err, OnOk, refl, sym, ap, subst, ◌∙◌, append-nil}
+use Rattle.std.proofs.Common.{◌≡◌, ℕ, List, [], ◌∷◌, ◌++◌, length, Option, Result, Ok, Err, OnOk, refl, sym, ap, subst, ◌∙◌, append-nil}
 use mathlib.Core.Path.{fun_ext}
-use Rattle.kb_grammar.specs.Grammar.{Piece, Each}
 use Rattle.kb_classfile.specs.declared.file.PoolEntry.{PoolEntry}
 use Rattle.kb_code.specs.declared.instruction.Instr.{Instr}
 use Rattle.kb_code.specs.Listing.{SpellsInstr}
@@ -15,7 +14,7 @@ use Rattle.kb_asm_text.specs.declared.line.BodyLine.TheVariants as bodies
 use Rattle.kb_asm_text.specs.declared.line.Line.{Line}
 use Rattle.kb_asm_text.specs.declared.line.Line.TheVariants as lines
 use Rattle.kb_asm_body.specs.Layout.{line_size, instr_size}
-use Rattle.kb_asm.specs.Instructions.{IsAsked, SpellsAsked, SpellsCode, EncodesLine}
+use Rattle.kb_asm.specs.Instructions.{IsAsked, SpellsAsked, EncodesLine}
 use Rattle.kb_asm.specs.Working.{Appends, IsFormed}
 use Rattle.kb_asm.proofs.FormLaws.{is_writing, is_sized}
 

@@ -1,17 +1,14 @@
 -- The entries of a pool that has all that its entries name.
-use Rattle.std.proofs.Common.{◌≡◌, ◌⊎◌, inl, inr, ℕ, zero, suc, ◌+◌, ◌<◌, ◌≤◌, ◌^◌, Bool, true, false, true≢false, ◌&&◌, ◌||◌, cond, ltb, if◌then◌else◌, List, [], ◌∷◌, ◌++◌, length, map, slice_get, position, find, Option, None, Some, refl, sym, ap, subst, ◌∙◌, arith, add-one, lt-ltb}
-use Rattle.std.specs.List.{list_any, list_all, position_or_len}
+use Rattle.std.proofs.Common.{◌≡◌, ℕ, suc, ◌+◌, ◌<◌, ◌≤◌, Bool, true, false, true≢false, ◌||◌, cond, ltb, List, [], ◌∷◌, length, slice_get, position, find, Option, None, Some, refl, sym, ap, subst, ◌∙◌, arith, lt-ltb}
+use Rattle.std.specs.List.{list_any, position_or_len}
 use Rattle.std.specs.Option.{option_map}
 use Rattle.std.proofs.lemmas.Bool.{and_parts}
 use Rattle.std.proofs.lemmas.List.Folds.{find_at}
 use Rattle.std.proofs.lemmas.Option.{slice_get-map, slice_get_within}
 use Rattle.kb_classfile.specs.declared.file.PoolEntry.{PoolEntry}
-use Rattle.kb_classfile.specs.declared.file.PoolEntry.TheVariants as entries
 use Rattle.kb_classfile.specs.Pool.{entry_at}
-use Rattle.kb_asm_pool.specs.declared.items.MemberKind.{MemberKind}
-use Rattle.kb_asm_pool.specs.declared.items.MemberKind.TheVariants as kinds
 use Rattle.kb_asm_pool.specs.Says.{Says, text, int, class, string, name_type, member, same, all_added}
-use Rattle.kb_asm_pool.specs.Entries.{number_at, number_in, member_entry, entry_of, entries_of}
+use Rattle.kb_asm_pool.specs.Entries.{number_at, number_in, entry_of, entries_of}
 use Rattle.kb_asm_pool.proofs.ItemLaws.{same-true}
 use Rattle.kb_asm.specs.Pool.{Has}
 use Rattle.kb_asm.specs.Entries.{SaysText, SaysClass, SaysNameType, EntrySays}

@@ -1,6 +1,6 @@
 -- What lines ask for is an instruction, and takes as many bytes as is said.
-use Rattle.std.proofs.Common.{◌≡◌, ◌⊎◌, inl, inr, ℕ, zero, suc, ◌+◌, ◌*◌, ◌<◌, ◌≤◌, Bool, true, false, ◌&&◌, not, cond, eqb, ltb, nat_lt, ◌==◌, if◌then◌else◌, List, [], ◌∷◌, length, Option, None, Some, refl, sym, ap, subst, ◌∙◌, arith}
-use Rattle.std.specs.List.{AllByRecursion, AllZip}
+use Rattle.std.proofs.Common.{◌≡◌, ℕ, zero, suc, ◌+◌, ◌*◌, ◌<◌, ◌≤◌, Bool, true, false, ◌&&◌, not, eqb, ltb, ◌==◌, if◌then◌else◌, List, [], ◌∷◌, length, Option, None, Some, refl, sym, ap, subst, ◌∙◌, arith}
+use Rattle.std.specs.List.{AllZip}
 use Rattle.std.proofs.lemmas.Bool.{and_parts, le-ltb, ltb-false, ltb-true, eqb-true, eqb-false, not-true}
 use Rattle.kb_names.specs.declared.types.MethodType.{MethodType}
 use Rattle.kb_classfile.specs.declared.file.PoolEntry.{PoolEntry}
@@ -18,14 +18,13 @@ use Rattle.kb_code.specs.Forms.{form_of, wide_form_of, local_instr, entry_instr,
 use Rattle.kb_writer.specs.declared.written.Written.{Written}
 use Rattle.kb_writer.specs.declared.written.Written.TheVariants as ways
 use Rattle.kb_writer.specs.Instructions.{Writes, size_of}
-use Rattle.kb_asm_text.specs.declared.shape.Shape.TheVariants as shapes
 use Rattle.kb_asm_text.specs.declared.line.Operand.{Operand}
 use Rattle.kb_asm_text.specs.declared.line.Operand.TheVariants as operands
 use Rattle.kb_asm_text.specs.Shapes.{shape_of, shape_of_entry}
 use Rattle.kb_asm_text.specs.Lines.{SpellsOperand}
 use Rattle.kb_code.specs.Reading.{padding_at}
 use Rattle.kb_asm_body.specs.Layout.{instr_size}
-use Rattle.kb_asm.specs.Instructions.{LeadsTo, IsPair, IsEntry, IsConstant, IsCallBy, IsCall, IsBranch, IsAsked}
+use Rattle.kb_asm.specs.Instructions.{LeadsTo, IsPair, IsEntry, IsCallBy, IsAsked}
 use Rattle.kb_asm.specs.Working.{IsFormed}
 
 -- ---- the opcodes of forms

@@ -1,12 +1,11 @@
 -- Bodies without bytes of their own are listings.
-use Rattle.std.proofs.Common.{◌≡◌, ℕ, ◌+◌, Bool, true, false, true≢false, ◌||◌, List, [], ◌∷◌, ◌++◌, length, Option, refl, sym, ap, subst, ◌∙◌, arith}
+use Rattle.std.proofs.Common.{◌≡◌, ℕ, ◌+◌, false, true≢false, List, [], ◌∷◌, ◌++◌, length, Option, refl, sym, ap, subst, ◌∙◌, arith}
 use Rattle.std.specs.List.{list_any}
 use Rattle.std.proofs.lemmas.Bool.{or_parts}
-use Rattle.kb_grammar.specs.Grammar.{◌⊳◌, Each}
+use Rattle.kb_grammar.specs.Grammar.{Each}
 use Rattle.kb_classfile.specs.declared.file.PoolEntry.{PoolEntry}
 use Rattle.kb_code.specs.declared.instruction.Instr.{Instr}
-use Rattle.kb_code.specs.Listing.{SpellsItem, ListsFrom}
-use Rattle.kb_asm_text.specs.declared.line.Operand.{Operand}
+use Rattle.kb_code.specs.Listing.{ListsFrom}
 use Rattle.kb_asm_text.specs.declared.line.BodyLine.TheVariants as bodies
 use Rattle.kb_asm_text.specs.declared.line.Line.{Line}
 use Rattle.kb_asm_text.specs.declared.line.Line.TheVariants as lines

@@ -1,7 +1,7 @@
 -- Lists that loops make, an item at a time.
-use Rattle.std.proofs.Common.{◌≡◌, ℕ, ◌+◌, List, [], ◌∷◌, ◌++◌, length, Option, None, Some, refl, sym, ap, subst, ◌∙◌, append_assoc, append-nil, length-append, ◌-◌, ◌<◌, ◌≤◌, take, drop, get_or, take_all, arith, true}
+use Rattle.std.proofs.Common.{◌≡◌, ℕ, ◌+◌, List, [], ◌∷◌, ◌++◌, length, Option, None, Some, refl, sym, ap, subst, ◌∙◌, append_assoc, append-nil, length-append, ◌-◌, ◌<◌, ◌≤◌, take, drop, get_or, take_all, arith}
 use Rattle.std.specs.List.{cons_option, AllZip}
-use Rattle.kb_grammar.specs.Grammar.{Piece, ◌⊳◌, Each}
+use Rattle.kb_grammar.specs.Grammar.{Piece, Each}
 use Rattle.kb_asm_text.specs.declared.line.Line.{Line}
 use Rattle.kb_asm_text.specs.declared.line.BodyLine.TheVariants as bodies
 use Rattle.kb_asm_text.specs.declared.line.Line.TheVariants as lines

@@ -1,8 +1,8 @@
 -- No entry of the pool of lines stands twice, each is needed, and the constants of ldc lines are the first.
-use Rattle.std.proofs.Common.{◌≡◌, ◌⊎◌, inl, inr, ℕ, zero, suc, ◌+◌, ◌-◌, ◌<◌, ◌≤◌, Bool, true, false, eqb, if◌then◌else◌, List, [], ◌∷◌, ◌++◌, length, map, slice_get, get_or, Option, None, Some, refl, sym, ap, subst, ◌∙◌, arith, flat_map}
+use Rattle.std.proofs.Common.{◌≡◌, inl, inr, ℕ, zero, suc, ◌+◌, ◌-◌, ◌<◌, ◌≤◌, Bool, true, false, eqb, if◌then◌else◌, List, [], ◌∷◌, length, map, slice_get, Option, None, Some, refl, sym, ap, subst, ◌∙◌, arith, flat_map}
 use Rattle.std.specs.Option.{option_map, option_and_then}
 use Rattle.std.proofs.lemmas.List.{length-map}
-use Rattle.std.proofs.lemmas.Option.{slice_get_within, slice_get-get_or, slice_get-map}
+use Rattle.std.proofs.lemmas.Option.{slice_get_within, slice_get-map}
 use Rattle.kb_classfile.specs.declared.file.PoolEntry.{PoolEntry}
 use Rattle.kb_classfile.specs.declared.file.PoolEntry.TheVariants as entries
 use Rattle.kb_classfile.specs.Pool.{entry_at, text_of}
@@ -14,15 +14,15 @@ use Rattle.kb_asm_text.specs.declared.line.Line.{Line}
 use Rattle.kb_asm_text.specs.declared.line.Line.TheVariants as lines
 use Rattle.kb_asm_pool.specs.declared.items.MemberKind.{MemberKind}
 use Rattle.kb_asm_pool.specs.declared.items.MemberKind.TheVariants as kinds
-use Rattle.kb_asm_pool.specs.Texts.{AreDistinct, Keeps}
-use Rattle.kb_asm_pool.specs.Says.{Says, text, int, class, string, name_type, member, all_added}
+use Rattle.kb_asm_pool.specs.Texts.{AreDistinct}
+use Rattle.kb_asm_pool.specs.Says.{Says, text, int, class, string, name_type, member}
 use Rattle.kb_asm_pool.specs.Entries.{entry_of, entries_of}
 use Rattle.kb_asm_pool.specs.Needs.{constant_says, constant_needs, line_needs}
 use Rattle.kb_asm_check.specs.Limits.{ldc_says}
 use Rattle.kb_asm.specs.Pool.{Has, HasFirst, IsPoolOf}
 use Rattle.kb_asm.specs.Entries.{SaysText, SaysClass, SaysNameType, EntrySays}
 use Rattle.kb_asm.specs.Needs.{named, have, says_of}
-use Rattle.kb_asm.proofs.SaysLaws.{here, there, which, none, in_front, in_back, in_parts, each_there, all_have, all_from, from_place, placed, keeps_all, distinct_all, distinct_none}
+use Rattle.kb_asm.proofs.SaysLaws.{there, none, in_front, in_back, in_parts, each_there, all_have, all_from, from_place, placed, keeps_all, distinct_all, distinct_none}
 use Rattle.kb_asm.proofs.EntryLaws.{says_at, same_entry}
 use Rattle.kb_asm.proofs.PoolLaws.{firsts_of, is_closed}
 

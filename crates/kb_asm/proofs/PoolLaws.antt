@@ -1,15 +1,11 @@
 -- The pool of lines has what they need, each once.
-use Rattle.std.proofs.Common.{◌≡◌, ◌⊎◌, inl, inr, ℕ, zero, suc, ◌+◌, ◌-◌, ◌<◌, ◌≤◌, Bool, true, false, true≢false, ◌&&◌, cond, eqb, if◌then◌else◌, List, [], ◌∷◌, ◌++◌, length, map, slice_get, get_or, Option, None, Some, refl, sym, ap, subst, ◌∙◌, arith, flat_map, fold}
+use Rattle.std.proofs.Common.{◌≡◌, inl, inr, ℕ, ◌+◌, Bool, true, false, ◌&&◌, eqb, if◌then◌else◌, List, [], ◌∷◌, ◌++◌, length, map, Option, None, Some, refl, sym, subst, ◌∙◌, arith, flat_map}
 use Rattle.std.specs.List.{list_any, list_all}
 use Rattle.std.proofs.lemmas.Bool.{and_parts, and_from}
 use Rattle.std.proofs.lemmas.List.Folds.{list_all-append}
 use Rattle.std.proofs.lemmas.List.Sums.{fold-append}
-use Rattle.std.proofs.lemmas.Option.{slice_get_within, slice_get-get_or}
 use Rattle.kb_names.specs.Descriptors.{type_text, method_text}
 use Rattle.kb_names.specs.declared.class_names.Spelling.TheVariants.{Raw}
-use Rattle.kb_classfile.specs.declared.file.PoolEntry.{PoolEntry}
-use Rattle.kb_classfile.specs.declared.file.PoolEntry.TheVariants as entries
-use Rattle.kb_classfile.specs.Pool.{entry_at}
 use Rattle.kb_asm_text.specs.declared.line.Sizes.{Sizes}
 use Rattle.kb_asm_text.specs.declared.line.Constant.{Constant}
 use Rattle.kb_asm_text.specs.declared.line.Constant.TheVariants as constants
@@ -20,14 +16,13 @@ use Rattle.kb_asm_text.specs.declared.line.BodyLine.TheVariants as bodies
 use Rattle.kb_asm_text.specs.declared.line.Line.{Line}
 use Rattle.kb_asm_text.specs.declared.line.Line.TheVariants as lines
 use Rattle.kb_asm_pool.specs.declared.items.MemberKind.{MemberKind}
-use Rattle.kb_asm_pool.specs.Texts.{AreDistinct, Keeps}
 use Rattle.kb_asm_pool.specs.Says.{Says, text, int, class, string, name_type, member, same, added, all_added}
-use Rattle.kb_asm_pool.specs.Needs.{class_needs, member_needs, constant_says, constant_needs, ref_name, operand_needs, code_needs, caught_needs, body_needs, line_needs, ldc_constants}
+use Rattle.kb_asm_pool.specs.Needs.{class_needs, member_needs, constant_says, constant_needs, ref_name, operand_needs, code_needs, caught_needs, body_needs, line_needs}
 use Rattle.kb_asm_check.specs.Limits.{Standing, ldc_says, is_short, is_sound, has_few_words, is_new, are_few, counted, has_room, fits_behind, with_line, nothing, kept_behind}
-use Rattle.kb_asm_check.specs.Faults.{IsSound, IsText}
+use Rattle.kb_asm_check.specs.Faults.{IsSound}
 use Rattle.kb_asm.specs.Pool.{Has}
 use Rattle.kb_asm.specs.Needs.{named, have, have_all, says_of}
-use Rattle.kb_asm.proofs.SaysLaws.{here, there, which, none, in_front, in_back, in_parts, each_there, all_there, both_there, all_keep, all_have, all_from, all_pass}
+use Rattle.kb_asm.proofs.SaysLaws.{here, there, which, none, in_front, in_back, in_parts, each_there, all_there, both_there, all_have, all_from, all_pass}
 
 -- ---- more and more lines
 

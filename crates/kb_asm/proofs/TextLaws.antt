@@ -1,13 +1,13 @@
 -- The lines of a text have operands that words spell.
-use Rattle.std.proofs.Common.{◌≡◌, ℕ, Bool, true, false, List, [], ◌∷◌, Option, Some, refl, sym, subst, if◌then◌else◌}
-use Rattle.std.specs.List.{AllByRecursion, list_all}
+use Rattle.std.proofs.Common.{◌≡◌, ℕ, Bool, true, false, List, [], ◌∷◌, refl, sym, subst, if◌then◌else◌}
+use Rattle.std.specs.List.{AllByRecursion}
 use Rattle.std.proofs.lemmas.Bool.{and_parts, and_from}
 use Rattle.kb_asm_text.specs.declared.keyword.Keyword.{Keyword}
 use Rattle.kb_asm_text.specs.declared.keyword.Keyword.TheVariants as keywords
 use Rattle.kb_asm_text.specs.declared.line.Line.{Line}
-use Rattle.kb_asm_text.specs.Lines.{SpellsBehind, SpellsWords, SpellsLine, keyword_of}
+use Rattle.kb_asm_text.specs.Lines.{SpellsBehind, SpellsWords, keyword_of}
 use Rattle.kb_asm_text.specs.Texts.{SpellEach}
-use Rattle.kb_asm_check.specs.Faults.{IsText, is_body, body_of}
+use Rattle.kb_asm_check.specs.Faults.{is_body, body_of}
 use Rattle.kb_asm_pool.specs.Says.{Says}
 use Rattle.kb_asm_pool.specs.Needs.{line_needs}
 use Rattle.kb_asm.specs.Needs.{have, have_all}

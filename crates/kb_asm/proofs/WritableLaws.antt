@@ -1,6 +1,6 @@
 -- The class file of the lines can be written, and is their class.
-use Rattle.std.proofs.Common.{◌≡◌, ◌⊎◌, inl, inr, ℕ, zero, suc, ◌+◌, ◌<◌, ◌≤◌, ◌^◌, Bool, true, false, ◌&&◌, nat_le, List, [], ◌∷◌, length, map, drop, slice_get, Option, None, Some, refl, sym, ap, subst, ◌∙◌, arith, codes}
-use Rattle.std.specs.List.{list_any, list_all, AllByRecursion, AllZip}
+use Rattle.std.proofs.Common.{◌≡◌, inl, inr, ℕ, zero, suc, ◌≤◌, true, List, [], ◌∷◌, length, map, Option, None, Some, refl, sym, ap, subst, ◌∙◌, arith, codes}
+use Rattle.std.specs.List.{list_all, AllByRecursion, AllZip}
 use Rattle.std.specs.Option.{option_and_then}
 use Rattle.std.proofs.lemmas.Bool.{and_parts, leb-true}
 use Rattle.std.proofs.lemmas.List.{length-map}
@@ -12,7 +12,7 @@ use Rattle.kb_classfile.specs.declared.file.Handler.{Handler}
 use Rattle.kb_classfile.specs.declared.file.Method.{Method}
 use Rattle.kb_classfile.specs.declared.file.ClassFile.{ClassFile}
 use Rattle.kb_classfile.specs.declared.pool.EntryKind.TheVariants as kinds
-use Rattle.kb_classfile.specs.Pool.{entry_at, text_of, utf8_in, NamesEntry, RefersWell}
+use Rattle.kb_classfile.specs.Pool.{text_of, utf8_in, NamesEntry, RefersWell}
 use Rattle.kb_writer.specs.Files.{IsWritten, IsWritablePool, IsWritableHandler, IsWritableCode, IfCode, IsWritableField, IsWritableMethod, IsWritable}
 use Rattle.kb_asm_text.specs.declared.line.Sizes.{Sizes}
 use Rattle.kb_asm_text.specs.declared.line.Catch.{Catch}
@@ -21,7 +21,7 @@ use Rattle.kb_asm_text.specs.declared.line.MethodHead.{MethodHead}
 use Rattle.kb_asm_text.specs.declared.line.Line.{Line}
 use Rattle.kb_asm_text.specs.declared.line.Line.TheVariants as lines
 use Rattle.kb_asm_pool.specs.declared.items.MemberKind.TheVariants as members
-use Rattle.kb_asm_pool.specs.Says.{Says, text, int, class, string, name_type, member, same}
+use Rattle.kb_asm_pool.specs.Says.{Says, text, int, class, string, name_type, member}
 use Rattle.kb_asm_pool.specs.Entries.{number_in, entry_of, entries_of}
 use Rattle.kb_asm_body.specs.Layout.{label_of}
 use Rattle.kb_asm_check.specs.Limits.{is_short}
@@ -29,7 +29,7 @@ use Rattle.kb_asm.specs.Entries.{SaysText, SaysClass, SaysNameType}
 use Rattle.kb_asm.specs.Parts.{parts}
 use Rattle.kb_asm.specs.Pool.{Has, IsPoolOf}
 use Rattle.kb_asm.specs.Needs.{named, have, IsWhole, says_of}
-use Rattle.kb_asm.specs.Class.{interface_in, field_in, method_in, handler_in, IsFieldOf, IsCaught, IsHandlerOf, IsCodeOf, HasCodeOf, IsMethodOf, IsHeadedBy, IsClassOf}
+use Rattle.kb_asm.specs.Class.{interface_in, field_in, method_in, handler_in, IsFieldOf, IsCaught, IsHandlerOf, HasCodeOf, IsMethodOf, IsHeadedBy, IsClassOf}
 use Rattle.kb_asm.specs.Working.{IsReady, IsReadyMethod, IsFileOf}
 use Rattle.kb_asm.proofs.SaysLaws.{here, there}
 use Rattle.kb_asm.proofs.EntryLaws.{first_named, second_named, there_says}

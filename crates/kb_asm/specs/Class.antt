@@ -1,6 +1,6 @@
 -- The class file of the lines of a text (The Java Virtual Machine Specification, Java SE 8 Edition, sections 4.1 and 4.5 to
 -- 4.7).
-use Rattle.std.specs.Prelude.{◌≡◌, ℕ, ◌≤◌, List, [], ◌∷◌, length, Option, None, Some}
+use Rattle.std.specs.Prelude.{◌≡◌, ℕ, List, ◌∷◌, Option, None, Some}
 use Rattle.std.specs.List.{AllZip}
 use Rattle.kb_grammar.specs.Grammar.{Each}
 use Rattle.kb_names.specs.Descriptors.{type_text, method_text}

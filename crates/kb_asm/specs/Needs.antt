@@ -2,7 +2,7 @@
 use Rattle.std.specs.Prelude.{◌≡◌, ◌≤◌, Bool, true, List, [], ◌∷◌, length}
 use Rattle.std.specs.List.{list_all, list_any, flat_map}
 use Rattle.kb_asm_text.specs.declared.line.Line.{Line}
-use Rattle.kb_asm_pool.specs.Says.{Says, text, int, class, string, name_type, member, same, all_added}
+use Rattle.kb_asm_pool.specs.Says.{Says, text, class, string, name_type, member, same, all_added}
 use Rattle.kb_asm_pool.specs.Needs.{line_needs}
 use Rattle.kb_asm_check.specs.Limits.{is_short, ldc_says}
 use Rattle.kb_asm.specs.Pool.{Has}

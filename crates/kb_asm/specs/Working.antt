@@ -1,5 +1,5 @@
 -- What the parts of the assembler hand to one another.
-use Rattle.std.specs.Prelude.{◌≡◌, ◌<◌, ◌≤◌, ◌^◌, ℕ, List, [], ◌∷◌, ◌++◌, length, Option, None, Some, codes}
+use Rattle.std.specs.Prelude.{◌≡◌, ◌<◌, ◌≤◌, ◌^◌, ℕ, List, ◌++◌, length, Option, None, Some, codes}
 use Rattle.std.specs.List.{AllZip}
 use Rattle.kb_grammar.specs.Grammar.{Piece}
 use Rattle.kb_code.specs.Forms.{form_of}
