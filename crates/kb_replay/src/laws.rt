@@ -22,8 +22,7 @@ pub fn tests_have_one_answer()
     ensures replayed { (world : World) → IsLinked world → (tests : List Test) (one other : List Replayed) → AreReplayed world tests one → AreReplayed world tests other → one ≡ other }
 {}
 
-/// No run ends past a bound of explorations, and each leaves a heap that begins with its input's objects and the literals. So
-/// what a run comes to can be written as the end of a test over the same input.
+/// No run ends past a bound of explorations, and each leaves a heap that begins with its input's objects and the literals.
 pub fn runs_end_as_tests()
     ensures ending { (setting : Setting) (id : MethodId) (input : Input) → IsRunEnding (run_of setting id input).ending }
     ensures heap { (setting : Setting) (id : MethodId) (input : Input) → KeepsInput (length setting.world.literals) input.heap.objects (run_of setting id input).heap }
