@@ -1,11 +1,12 @@
 #!/usr/bin/env python3
-"""Times the replay of tests: one test of a long straight method, and many tests of it in one file.
+"""Times the replay of tests: of straight methods of several lengths, of files of several numbers of tests, and of files of up
+to 10,000 tests of a short method, in a world of one class without literals and in one with 10,000 literals.
 
 The method is that of bench/straight.py: iload_0, then iload_1 and iadd again and again, then ireturn. Each test has
 arguments of its own, and the value that it states is computed here, as arithmetic on 32 bits. The verdicts of each run
 are compared with those that are expected. The time of a replay without tests is taken off before the time per
-instruction is computed, since it is that of starting the program. Where the work is linear, the time per instruction is
-about the same in each line.
+instruction or per test is computed, since it is that of starting the program. Where the work is linear, that time is about
+the same in each line of a table. A run over a world of many literals takes time for each of them, since its heap holds them.
 
 Usage: bench/replay.py [--runs N] [--program FILE]
 Build the program first, by running ./kiasan once.
@@ -23,14 +24,18 @@ from straight import TARGET, class_file, read_options
 LENGTHS = [250, 500, 1000, 2000]
 COUNTS = [250, 500, 1000, 2000, 4000]
 LONGEST = 2000
+FILES = [1250, 2500, 5000, 10000]
+SHORT = 10
+LITERALS = 10000
 
 
 @dataclass(frozen=True)
 class Load:
-    """A file of so many tests of a method of so many instructions."""
+    """A file of so many tests of a method of so many instructions, in a world of so many literals."""
 
     instructions: int
     tests: int
+    literals: int = 0
 
     @property
     def sums(self):
@@ -78,7 +83,7 @@ def least_seconds(program, folder, load, runs):
     """The least processor time of the runs of a load."""
     method = folder / "Bench.class"
     tests = folder / "Bench.tests"
-    method.write_bytes(class_file(load.sums))
+    method.write_bytes(class_file(load.sums, load.literals))
     tests.write_text(tests_text(load))
     command = [str(program), "replay", "--tests", str(tests), str(method)]
     seconds = []
@@ -90,12 +95,28 @@ def least_seconds(program, folder, load, runs):
     return min(seconds)
 
 
+def seconds_of_tests(program, folder, load, runs):
+    """The processor time of a load's tests alone."""
+    start = least_seconds(program, folder, Load(load.instructions, 0, load.literals), runs)
+    return least_seconds(program, folder, load, runs) - start
+
+
+def print_files(title, loads, program, folder, runs):
+    print(title)
+    print(f"{'literals':>12} {'tests':>6} {'ms':>9} {'us/test':>9} {'to the line above':>18}")
+    before = None
+    for load in loads:
+        each = seconds_of_tests(program, folder, load, runs) / load.tests
+        ratio = f"{each / before:.2f}" if before and before > 0 else ""
+        print(f"{load.literals:>12} {load.tests:>6} {each * load.tests * 1e3:>9.2f} {each * 1e6:>9.2f} {ratio:>18}")
+        before = each
+
+
 def print_table(title, loads, program, folder, runs):
     print(title)
     print(f"{'instructions':>12} {'tests':>6} {'ms':>9} {'million a second':>17} {'ns/instr':>9}")
     for load in loads:
-        start = least_seconds(program, folder, Load(load.instructions, 0), runs)
-        took = least_seconds(program, folder, load, runs) - start
+        took = seconds_of_tests(program, folder, load, runs)
         each = took / load.carried_out
         rate = 1e-6 / each if each > 0 else float("inf")
         print(f"{load.instructions:>12} {load.tests:>6} {took * 1e3:>9.2f} {rate:>17.1f} {each * 1e9:>9.1f}")
@@ -109,6 +130,9 @@ def main():
         counts = [Load(LONGEST, count) for count in COUNTS]
         print_table("Methods of several lengths", lengths, options.program, folder, options.runs)
         print_table("Files of several numbers of tests", counts, options.program, folder, options.runs)
+        for literals in [0, LITERALS]:
+            files = [Load(SHORT, count, literals) for count in FILES]
+            print_files(f"Files of short tests, {literals} literals", files, options.program, folder, options.runs)
 
 
 if __name__ == "__main__":

@@ -38,8 +38,15 @@ def class_entry(name):
     return struct.pack(">BH", 7, name)
 
 
-def class_file(sums):
-    """The bytes of class Bench with the static method f, which adds its second argument so many times."""
+def string_entry(text):
+    return struct.pack(">BH", 8, text)
+
+
+def class_file(sums, literals=0):
+    """The bytes of class Bench with the static method f, which adds its second argument so many times.
+
+    The class holds so many string literals, which f does not use.
+    """
     code = bytes([ILOAD_0]) + bytes([ILOAD_1, IADD]) * sums + bytes([IRETURN])
     pool = [
         utf8("Bench"),
@@ -50,6 +57,8 @@ def class_file(sums):
         utf8("(II)I"),
         utf8("Code"),
     ]
+    for number in range(literals):
+        pool += [utf8(f"literal {number}"), string_entry(len(pool) + 1)]
     content = struct.pack(">HHI", 2, 2, len(code)) + code + struct.pack(">HH", 0, 0)
     attribute = struct.pack(">HI", 7, len(content)) + content
     method = struct.pack(">HHHH", 0x0009, 5, 6, 1) + attribute

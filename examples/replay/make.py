@@ -23,7 +23,7 @@ def run(*words, **options):
 def main():
     sources = [HERE / name for name in SOURCES]
     run("javac", "-g:none", "-nowarn", "--release", "8", "-d", DATA, *sources, stderr=subprocess.DEVNULL)
-    run("java", *EXPORTS, ASSEMBLER, DATA, HERE / "Small.text")
+    run("java", *EXPORTS, ASSEMBLER, DATA, HERE / "Small.text", HERE / "Odd.text")
     tests = run("java", HERE / "Written.java", HERE / "heaps.tests", DATA, stdout=subprocess.PIPE)
     (DATA / "heaps.tests").write_bytes(tests.stdout)
 
