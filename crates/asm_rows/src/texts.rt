@@ -18,12 +18,16 @@ pub fn read_text<S: Shelf>(alloc: Global, spelled: &str, shelf: &mut S) -> io::R
             Err(_) => Err(Error::from(ErrorKind::NotFound)),
         };
     }
-    let mut rest = spelled;
-    while let Some((line, others)) = rest.split_once('|') {
-        append_lines(alloc, line, &mut text)?;
-        rest = others;
-    }
-    append_line(alloc, rest, 0, &mut text)?;
+    let last = match spelled.rsplit_once('|') {
+        Some((lines, last)) => {
+            for line in lines.split('|') {
+                append_lines(alloc, line, &mut text)?;
+            }
+            last
+        }
+        None => spelled,
+    };
+    append_line(alloc, last, 0, &mut text)?;
     Ok(text)
 }
 
