@@ -1,1 +1,4 @@
 pub mod StartLaws
+pub mod TruthLaws
+pub mod Renumbering
+pub mod NextLaws

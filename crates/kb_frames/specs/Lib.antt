@@ -1,2 +1,7 @@
 pub mod State
 pub mod StandsFor
+pub mod Cuts
+pub mod Truths
+pub mod Next
+pub mod Stated
+pub mod Paths

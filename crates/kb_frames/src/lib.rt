@@ -3,12 +3,16 @@
 //! `specs/State.antt` has what a state is, `specs/StandsFor.antt` of which configurations of the machine it speaks.
 #![tactic(auto)]
 
+mod conditions;
 mod frame;
+mod next;
 mod state;
+mod stated;
 #[cfg(test)]
 mod tests;
 mod value;
 
+pub use next::instruction_at;
 pub use state::{SymState, start};
 use std::alloc::AllocError;
 pub use value::{Outcome, SymValue};

@@ -8,13 +8,14 @@ ghost use Rattle.kb_frames.specs.State.{start_state};
 ghost use Rattle.kb_frames.specs.StandsFor.{StandsFor};
 
 use crate::NoMemory;
+use crate::conditions::Conditions;
 use crate::frame::{SymCallers, SymFrame};
 use crate::value::{Cell, SymValue};
 use kb_class::MethodId;
 use kb_names::ExactType;
 use kb_picture::{Init, Picture};
 use kb_rows::Row;
-use kb_terms::{Pool, TermId};
+use kb_terms::Pool;
 use kb_world::World;
 use std::alloc::Global;
 use std::marker::Model;
@@ -85,20 +86,20 @@ impl Stage {
 /// A state of the runs of a method over all inputs of a path at once.
 #[derive(Drop)]
 pub struct SymState {
-    alloc: Global,
-    init: Init,
-    method: MethodId,
-    stage: Stage,
+    pub(crate) alloc: Global,
+    pub(crate) init: Init,
+    pub(crate) method: MethodId,
+    pub(crate) stage: Stage,
     /// How many instructions were carried out.
-    carried: u32,
-    picture: Picture,
+    pub(crate) carried: u32,
+    pub(crate) picture: Picture,
     /// Of each object of the picture what its slots or elements hold.
-    cells: Row<Row<Cell>>,
+    pub(crate) cells: Row<Row<Cell>>,
     /// The objects that the run has made.
-    made: Row<SymObject>,
-    pool: Pool,
+    pub(crate) made: Row<SymObject>,
+    pub(crate) pool: Pool,
     /// The conditions, in the order in which they were met.
-    when: Row<(TermId, bool)>,
+    pub(crate) when: Conditions,
 }
 
 impl Model for SymState {
@@ -135,7 +136,7 @@ fn first_state(alloc: Global, method: MethodId, init: Init) -> SymState
         cells: Row::new(alloc),
         made: Row::new(alloc),
         pool: Pool::new(alloc),
-        when: Row::new(alloc),
+        when: Conditions::new(alloc),
     }
 }
 
@@ -155,7 +156,7 @@ impl SymState {
             cells: copied_cells(alloc, self.cells.as_slice())?,
             made: copied_objects(alloc, self.made.as_slice())?,
             pool: self.pool.copy()?,
-            when: Row::from_vec(self.when.as_slice().to_vec(alloc)?),
+            when: self.when.copied(alloc)?,
         })
     }
 }
