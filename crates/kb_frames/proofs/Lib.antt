@@ -2,3 +2,4 @@ pub mod StartLaws
 pub mod TruthLaws
 pub mod Renumbering
 pub mod NextLaws
+pub mod SetLaws

@@ -6,6 +6,7 @@
 mod conditions;
 mod frame;
 mod next;
+mod path;
 mod state;
 mod stated;
 #[cfg(test)]
@@ -13,6 +14,7 @@ mod tests;
 mod value;
 
 pub use next::instruction_at;
+pub use path::PathStop;
 pub use state::{SymState, start};
 use std::alloc::AllocError;
 pub use value::{Outcome, SymValue};
