@@ -3,3 +3,5 @@ pub mod TruthLaws
 pub mod Renumbering
 pub mod NextLaws
 pub mod SetLaws
+pub mod PathLaws
+pub mod FormedPaths

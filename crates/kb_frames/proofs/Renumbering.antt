@@ -152,11 +152,11 @@ module _ (nodes : List Node) where
 -- ---- the listed terms
 
 module _ (nodes : List Node) (numbered : List TermId) where
-  abbrev term_of : Op → TermId → Option TermId → Term
+  abbrev pub term_of : Op → TermId → Option TermId → Term
   term_of op left right = record { op = op; left = operand_of nodes numbered left; right = operands_of nodes numbered right }
 
   -- the listed term of that number
-  listed-at : (ts : List TermId) (i : ℕ) (t : TermId) (op : Op) (left : TermId) (right : Option TermId)
+  pub listed-at : (ts : List TermId) (i : ℕ) (t : TermId) (op : Op) (left : TermId) (right : Option TermId)
       → ((j : ℕ) (u : TermId) → slice_get ts j ≡ Some u → is_operation (node_at nodes u) ≡ true)
       → slice_get ts i ≡ Some t → node_at nodes t ≡ Some (Apply op left right) → slice_get (listed nodes numbered ts) i ≡ Some (term_of op left right)
   listed-at [] i t op left right all at e = absurd (cc)
@@ -172,7 +172,7 @@ module _ (nodes : List Node) (numbered : List TermId) where
       go (Some (Var v kind)) f is rec = absurd (true≢false (sym is ∙ ap is_operation f))
       go (Some (Apply o l r)) f is rec = ap (λ n. slice_get (cons_option (listed_from nodes numbered n) (listed nodes numbered us)) (suc i)) f ∙ rec
 
-  listed-length : (ts : List TermId) → ((j : ℕ) (u : TermId) → slice_get ts j ≡ Some u → is_operation (node_at nodes u) ≡ true)
+  pub listed-length : (ts : List TermId) → ((j : ℕ) (u : TermId) → slice_get ts j ≡ Some u → is_operation (node_at nodes u) ≡ true)
       → length (listed nodes numbered ts) ≡ length ts
   listed-length [] all = refl
   listed-length (u ∷ us) all = go (node_at nodes u) refl (all 0 u refl) (listed-length us (λ j w. all (suc j) w))

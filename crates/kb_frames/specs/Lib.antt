@@ -5,3 +5,4 @@ pub mod Truths
 pub mod Next
 pub mod Stated
 pub mod Paths
+pub mod States

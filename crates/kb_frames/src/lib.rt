@@ -16,7 +16,7 @@ mod value;
 pub use next::instruction_at;
 pub use path::PathStop;
 pub use state::{SymState, start};
-use std::alloc::AllocError;
+use std::alloc::{AllocError, AllocFailed};
 pub use value::{Outcome, SymValue};
 
 /// Memory ran out.
@@ -25,6 +25,12 @@ pub struct NoMemory;
 
 impl From<AllocError> for NoMemory {
     fn from(_error: AllocError) -> NoMemory {
+        NoMemory
+    }
+}
+
+impl<T: Drop> From<AllocFailed<T>> for NoMemory {
+    fn from(_error: AllocFailed<T>) -> NoMemory {
         NoMemory
     }
 }
