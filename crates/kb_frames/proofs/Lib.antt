@@ -5,3 +5,5 @@ pub mod NextLaws
 pub mod SetLaws
 pub mod PathLaws
 pub mod FormedPaths
+pub mod StateLaws
+pub mod StackLaws

@@ -6,3 +6,4 @@ pub mod Next
 pub mod Stated
 pub mod Paths
 pub mod States
+pub mod Lent

@@ -3,8 +3,11 @@
 //! `specs/State.antt` has what a state is, `specs/StandsFor.antt` of which configurations of the machine it speaks.
 #![tactic(auto)]
 
+mod beginning;
 mod conditions;
 mod frame;
+mod laws;
+mod lent;
 mod next;
 mod path;
 mod state;
@@ -13,6 +16,7 @@ mod stated;
 mod tests;
 mod value;
 
+pub use laws::{paths_are_well_formed, states_begin};
 pub use next::instruction_at;
 pub use path::PathStop;
 pub use state::{SymState, start};

@@ -53,7 +53,7 @@ fn add_object(
     slots: &[Cell],
     writes: &mut Row<Write>,
 ) -> Result<(), NoMemory>
-    ensures { OnOk result (writes.new ≡ writes.old ++ object_writes locs.now (option_copied object) number slots.now) }
+    ensures { OnOk result (writes.new ≡ writes.old ++ object_writes locs.now (option_copied object.entry) number slots.now) }
 {
     match object {
         Some(object) => add_slots(locs, &object.kind, number, slots, writes),
