@@ -30,7 +30,7 @@ use Rattle.kb_picture.specs.declared.path.Leaf.TheVariants.{Ended as EndedLeaf, 
 use Rattle.kb_picture.specs.declared.path.Path.{Path}
 use Rattle.kb_picture.specs.Numbering.{terms_of_out, ended_outs, leaf_outs, met_from}
 use Rattle.kb_picture.specs.Queries.{kind_for, type_of_slot, kind_seen, kinds_seen}
-use Rattle.kb_picture.specs.WellFormed.{variable_seen, variables_seen, IsOut, IsObjectOut, IsThrown, written_slot, written_slots, AreWrites, HasValues, IsEnded, IsLeaf, IsWellFormed}
+use Rattle.kb_picture.specs.WellFormed.{variable_seen, variables_seen, IsSlot, IsOut, IsObjectOut, IsThrown, written_slot, written_slots, AreWrites, HasValues, IsEnded, IsLeaf, IsWellFormed}
 use Rattle.kb_frames.specs.State.{State}
 use Rattle.kb_frames.specs.States.{IsState, IsOutIn, IsEndedIn, IsLeafIn}
 use Rattle.kb_frames.specs.Paths.{term_id, terms_stated, path_roots, path_numbering, numbered_out, numbered_ending, numbered_write, numbered_made, numbered_ended, numbered_leaf, numbered_path, path_of}
@@ -78,7 +78,9 @@ from-map {A} {B} f xs i y e = go (slice_get xs i) refl (sym (slice_get-map f xs 
 
 behind : {A : Type 0} (xs ys : List A) (i : ℕ) (y : A) → slice_get ys i ≡ Some y → slice_get (xs ++ ys) (length xs + i) ≡ Some y
 behind [] ys i y e = e
-behind {A} (x ∷ xs) ys i y e = ap (slice_get {X = A} (x ∷ (xs ++ ys))) (omega arith) ∙ behind xs ys i y e
+behind {A} (x ∷ xs) ys i y e =
+    let shift : suc (length xs) + i ≡ suc (length xs + i) = omega arith in
+    ap (λ n. slice_get (x ∷ (xs ++ ys)) n) shift ∙ behind xs ys i y e
 
 -- a term that a value states is among those stated
 stated-at : (outs : List Out) (i k : ℕ) → slice_get outs i ≡ Some (Int (TermOperand k)) → (j : ℕ) × (slice_get (terms_stated outs) j ≡ Some (term_id k))
@@ -117,7 +119,7 @@ module _ (nodes : List Node) (numbered : List TermId) where
   writes-same world picture writes h = record {
     there = λ i write at.
       let from = from-map (numbered_write nodes numbered) writes i write at in
-      subst (λ (w : Write). (written_slot w.slot ≢ None) × _) from.changed (h.there i from.item from.there);
+      subst (λ (w : Write). (written_slot w.slot ≢ None) × IsSlot world 0 picture.objects w.slot) from.changed (h.there i from.item from.there);
     rising = λ i one other p q.
       h.rising i one other (ap (λ (l : List (Option (ℕ × ℕ))). slice_get l i) (sym (slots-same writes)) ∙ p)
       (ap (λ (l : List (Option (ℕ × ℕ))). slice_get l (suc i)) (sym (slots-same writes)) ∙ q);

@@ -7,3 +7,4 @@ pub mod PathLaws
 pub mod FormedPaths
 pub mod StateLaws
 pub mod StackLaws
+pub mod PathSteps

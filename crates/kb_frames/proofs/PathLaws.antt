@@ -1,6 +1,6 @@
 -- The path of a state is well-formed: its terms are those that a walk from its conditions and its leaf meets, in its order, each with
 -- the operands that its operation has.
-use Rattle.std.proofs.Common.{◌≡◌, ◌≢◌, ℕ, zero, suc, ◌+◌, ◌<◌, ◌≤◌, pos, Bool, true, false, List, [], ◌∷◌, ◌++◌, length, map, get_or, slice_get, Option, Some, None, refl, sym, ap, subst, ◌∙◌, arith, true≢false, inl, inr, append_assoc}
+use Rattle.std.proofs.Common.{◌≡◌, ◌≢◌, ℕ, zero, suc, ◌+◌, ◌<◌, ◌≤◌, pos, Bool, true, false, List, [], ◌∷◌, ◌++◌, length, map, take, get_or, slice_get, Option, Some, None, refl, sym, ap, subst, ◌∙◌, arith, true≢false, inl, inr, append_assoc}
 use Rattle.std.specs.Prelude.{unwrap_or, replicate, ◌==◌}
 use Rattle.std.specs.List.{flat_map, list_all}
 use Rattle.std.proofs.lemmas.Bool.{and_parts}
@@ -113,7 +113,7 @@ module _ (nodes : List Node) (formed : IsPool nodes) (roots numbered : List Term
       some-same (sym (listed-at nodes numbered numbered i t shape.0 shape.1 shape.2 is.operation there shape.3) ∙ at) in
       subst (IsTermAt picture i) same (record {
         left = operand-in i shape.1 (operand-before i t shape.1 there (subst (λ n. IsOperandOf n shape.1) (sym shape.3) (inl refl)));
-        right = seconds i _ (is_binary shape.0) shape.2 ((formed.fits t.0 (Apply shape.0 shape.1 shape.2) shape.3).0.second)
+        right = seconds i (take t.0 nodes) (is_binary shape.0) shape.2 ((formed.fits t.0 (Apply shape.0 shape.1 shape.2) shape.3).0.second)
         (λ o e. operand-before i t o there (subst (λ n. IsOperandOf n o) (sym shape.3) (inr e)));
       })
 
@@ -202,8 +202,8 @@ module _ (nodes : List Node) (numbered : List TermId) where
       ap (λ (l : List Out). l ++ map (λ (write : Write). write.value) (map (numbered_write nodes numbered) ended.writes) ++ flat_map (λ (object : Made). object.values) (map (numbered_made nodes numbered) ended.made)) (ending-outs ended.ending)
       ∙ ap (λ (l : List Out). map f (ending_outs ended.ending) ++ l ++ flat_map (λ (object : Made). object.values) (map (numbered_made nodes numbered) ended.made)) (write-outs ended.writes)
       ∙ ap (λ (l : List Out). map f (ending_outs ended.ending) ++ map f writes ++ l) (made-outs ended.made)
-      ∙ ap (λ (l : List Out). map f (ending_outs ended.ending) ++ l) (sym (map-append f writes made))
-      ∙ sym (map-append f (ending_outs ended.ending) (writes ++ made))
+      ∙ ap (λ (l : List Out). l ++ map f made) (sym (map-append f (ending_outs ended.ending) writes))
+      ∙ sym (map-append f (ending_outs ended.ending ++ writes) made)
 
   leaf-outs : (leaf : Leaf) → leaf_outs (numbered_leaf nodes numbered leaf) ≡ numbered_outs nodes numbered (leaf_outs leaf)
   leaf-outs (EndedLeaf ended) = ended-outs ended

@@ -10,7 +10,9 @@ changed f xs i = map f (take i xs) ++ drop i xs
 pub set_next : {X : Type 0} (f : X → X) (xs : List X) (i : ℕ) (x : X) → slice_get xs i ≡ Some x → slice_set (changed f xs i) i (f x) ≡ changed f xs (i + 1)
 set_next f [] i x e = absurd (cc)
 set_next f (y ∷ ys) zero x e = let same : y ≡ x = cc in ap (λ z. f z ∷ ys) (sym same)
-set_next {X} f (y ∷ ys) (suc i) x e = ap (λ (l : List X). f y ∷ l) (set_next f ys i x e) ∙ ap (changed f (y ∷ ys)) (omega arith)
+set_next {X} f (y ∷ ys) (suc i) x e =
+    let shift : suc (i + 1) ≡ suc i + 1 = omega arith in
+    ap (λ (l : List X). f y ∷ l) (set_next f ys i x e) ∙ ap (changed f (y ∷ ys)) shift
 
 -- the next one is not changed yet
 pub next_is : {X : Type 0} (f : X → X) (xs : List X) (i : ℕ) → i ≤ length xs → slice_get (changed f xs i) i ≡ slice_get xs i

@@ -69,11 +69,11 @@ IsCell world state Untouched = Unit {0}
 IsCell world state (Read value) = IsSymValue world state value
 IsCell world state (Written value) = IsSymValue world state value
 
--- an object of the exact type and the length has so many cells: one that is longer than n is never looked into
+-- an object of the exact type and the length has so many cells; one that is longer than n is never looked into, and has none
 abbrev pub HasCells : World → ExactType → Length → ℕ → Type 0
 HasCells world (exact.Class name) len count = count ≡ length (slots_of_class world name)
 HasCells world (exact.Array component) (Is n) count = count ≡ n
-HasCells world (exact.Array component) (Above n) count = Unit {0}
+HasCells world (exact.Array component) (Above n) count = count ≡ 0
 HasCells world (exact.Array component) Plain count = ⊥
 
 pub record AreCells (world : World) (state : State) : Type 0 where

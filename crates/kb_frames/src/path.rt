@@ -1,13 +1,13 @@
 //! The path of a state.
-ghost use Rattle.std.specs.Prelude.{◌≡◌, ◌++◌, map, IfOk, IfErr, OnOk};
-ghost use Rattle.std.specs.List.{flat_map};
+ghost use Rattle.std.specs.Prelude.{◌≡◌, [], ◌++◌, map, IfOk, IfErr, OnOk};
+ghost use Rattle.std.specs.List.{flat_map, cons_option};
 ghost use Rattle.kb_terms.specs.Terms.{AreTerms, IsPool};
 ghost use Rattle.kb_blast.specs.Query.{number_in, operand_of, operands_of, listed_from, listed, numbered_conditions};
 ghost use Rattle.kb_terms.specs.Terms.{node_at};
 ghost use Rattle.kb_picture.specs.declared.path.Write.{Write as PlainWrite};
 ghost use Rattle.kb_picture.specs.declared.path.Made.{Made as PlainMade};
-ghost use Rattle.kb_picture.specs.Numbering.{ending_outs, ended_outs, leaf_outs};
-ghost use Rattle.kb_frames.specs.Paths.{terms_stated, path_roots, path_numbering, numbered_operand, numbered_out, numbered_outs, numbered_ending, numbered_write, numbered_made, numbered_ended, numbered_leaf, path_of};
+ghost use Rattle.kb_picture.specs.Numbering.{ending_outs, ended_outs, leaf_outs, terms_of_out};
+ghost use Rattle.kb_frames.specs.Paths.{term_id, terms_stated, path_roots, path_numbering, numbered_operand, numbered_out, numbered_outs, numbered_ending, numbered_write, numbered_made, numbered_ended, numbered_leaf, path_of};
 
 use crate::NoMemory;
 use crate::state::SymState;
@@ -110,12 +110,19 @@ fn condition_roots(alloc: Global, when: &[(TermId, bool)]) -> Result<Vec<TermId>
 fn leaf_outs(alloc: Global, leaf: &Leaf) -> Result<Vec<Out>, NoMemory>
     ensures { IfOk result (λ values. values.items ≡ leaf_outs leaf.now) }
 {
-    let mut values = Vec::new(alloc);
-    if let Leaf::Ended(ended) = leaf {
-        add_ending(&ended.ending, &mut values)?;
-        add_writes(ended.writes.as_slice(), &mut values)?;
-        add_made(ended.made.as_slice(), &mut values)?;
+    match leaf {
+        Leaf::Ended(ended) => ended_outs(alloc, ended),
+        Leaf::Cut(..) | Leaf::Undecided(_) | Leaf::Open => Ok(Vec::new(alloc)),
     }
+}
+
+fn ended_outs(alloc: Global, ended: &Ended) -> Result<Vec<Out>, NoMemory>
+    ensures { IfOk result (λ values. values.items ≡ ended_outs ended.now) }
+{
+    let mut values = Vec::new(alloc);
+    add_ending(&ended.ending, &mut values)?;
+    add_writes(ended.writes.as_slice(), &mut values)?;
+    add_made(ended.made.as_slice(), &mut values)?;
     Ok(values)
 }
 
@@ -154,32 +161,55 @@ fn add_made(made: &[Made], values: &mut Vec<Out>) -> Result<(), NoMemory>
 }
 
 // Adds the terms of the pool that the values state.
+#[tactic(auto, using(crate::proofs::PathSteps::next_stated))]
 fn add_terms(values: &[Out], roots: &mut Vec<TermId>) -> Result<(), NoMemory>
     ensures { OnOk result (roots.new.items ≡ roots.old.items ++ terms_stated values.now) }
 {
     let mut rest = values;
     while let [value, others @ ..] = rest {
-        if let Out::Int(Operand::Term(number)) = value {
-            roots.push(TermId(*number))?;
-        }
+        add_term(*value, roots)?;
         rest = others;
     }
     Ok(())
 }
 
+fn add_term(value: Out, roots: &mut Vec<TermId>) -> Result<(), NoMemory>
+    ensures { OnOk result (roots.new.items ≡ roots.old.items ++ map term_id (terms_of_out value)) }
+{
+    match value {
+        Out::Int(Operand::Term(number)) => {
+            roots.push(TermId(number))?;
+            Ok(())
+        }
+        Out::Int(Operand::Const(_)) | Out::Int(Operand::Var(_)) => Ok(()),
+        Out::Null | Out::Loc(_) | Out::Obj(_) | Out::Literal(_) | Out::New(_) => Ok(()),
+    }
+}
+
 // The numbered terms of the pool, listed.
+#[tactic(auto, using(crate::proofs::PathSteps::push_option))]
 fn listed(alloc: Global, nodes: &[Node], numbering: &Numbering) -> Result<Row<Term>, NoMemory>
     ensures { IfOk result (λ terms. terms ≡ listed nodes.now numbering.now numbering.now) }
 {
     let mut terms = Row::new(alloc);
     let mut rest = numbering.terms();
     while let [term, others @ ..] = rest {
-        if let Some(listed) = listed_term(nodes, numbering, *term) {
-            terms.push(listed)?;
-        }
+        add_listed(listed_term(nodes, numbering, *term), &mut terms)?;
         rest = others;
     }
     Ok(terms)
+}
+
+fn add_listed(term: Option<Term>, terms: &mut Row<Term>) -> Result<(), NoMemory>
+    ensures { OnOk result (terms.new ≡ terms.old ++ cons_option term []) }
+{
+    match term {
+        Some(term) => {
+            terms.push(term)?;
+            Ok(())
+        }
+        None => Ok(()),
+    }
 }
 
 fn listed_term(nodes: &[Node], numbering: &Numbering, term: TermId) -> Option<Term>
@@ -271,6 +301,7 @@ fn numbered_ending(nodes: &[Node], numbering: &Numbering, ending: SymEnding) -> 
     }
 }
 
+#[tactic(auto, using(crate::proofs::SetLaws::set_next, crate::proofs::SetLaws::next_is, crate::proofs::SetLaws::changed_all, crate::proofs::SetLaws::changed_length))]
 fn numbered_writes(nodes: &[Node], numbering: &Numbering, writes: Row<Write>) -> Row<Write>
     ensures { result ≡ map (numbered_write nodes.now numbering.now) writes }
 {
@@ -290,6 +321,7 @@ fn numbered_writes(nodes: &[Node], numbering: &Numbering, writes: Row<Write>) ->
     writes
 }
 
+#[tactic(auto, using(crate::proofs::SetLaws::set_next, crate::proofs::SetLaws::next_is, crate::proofs::SetLaws::changed_all, crate::proofs::SetLaws::changed_length))]
 fn numbered_made(nodes: &[Node], numbering: &Numbering, made: Row<Made>) -> Row<Made>
     ensures { result ≡ map (numbered_made nodes.now numbering.now) made }
 {
@@ -301,6 +333,7 @@ fn numbered_made(nodes: &[Node], numbering: &Numbering, made: Row<Made>) -> Row<
     Row::from_vec(objects)
 }
 
+#[tactic(auto, using(crate::proofs::SetLaws::set_next, crate::proofs::SetLaws::next_is, crate::proofs::SetLaws::changed_all, crate::proofs::SetLaws::changed_length))]
 fn number_outs(nodes: &[Node], numbering: &Numbering, values: &mut Row<Out>)
     ensures { values.new ≡ numbered_outs nodes.now numbering.now values.old }
 {

@@ -1,7 +1,8 @@
 //! What a state's heap states at the end of a run.
-ghost use Rattle.std.specs.Prelude.{◌≡◌, ◌++◌, slice_get, IfOk, OnOk};
+ghost use Rattle.std.specs.Prelude.{◌≡◌, [], ◌++◌, slice_get, IfOk, OnOk};
+ghost use Rattle.std.specs.List.{cons_option};
 ghost use Rattle.std.specs.Option.{option_copied};
-ghost use Rattle.kb_frames.specs.Stated.{stated_loc, stated, stated_values, stated_object, made_of, slot_in, slot_writes, object_writes, writes_of};
+ghost use Rattle.kb_frames.specs.Stated.{stated_loc, stated, stated_values, stated_object, made_of, slot_in, write_of, slot_writes, object_writes, writes_of};
 
 use crate::NoMemory;
 use crate::state::{SymObject, SymState};
@@ -62,6 +63,7 @@ fn add_object(
 }
 
 // Adds the written slots of an object of the exact type.
+#[tactic(auto, using(crate::proofs::PathSteps::push_option))]
 fn add_slots(
     locs: &[PicLoc],
     kind: &ExactType,
@@ -74,16 +76,32 @@ fn add_slots(
     let mut slot: u32 = 0;
     let mut rest = slots;
     while let [cell, others @ ..] = rest {
-        if let Cell::Written(value) = cell {
-            writes.push(Write {
-                slot: slot_in(kind, number, slot),
-                value: stated(locs, *value),
-            })?;
-        }
+        add_slot(locs, slot_in(kind, number, slot), *cell, writes)?;
         slot = slot.checked_add(1).ok_or(NoMemory)?;
         rest = others;
     }
     Ok(())
+}
+
+// Adds a slot that was written.
+fn add_slot(
+    locs: &[PicLoc],
+    slot: Origin,
+    cell: Cell,
+    writes: &mut Row<Write>,
+) -> Result<(), NoMemory>
+    ensures { OnOk result (writes.new ≡ writes.old ++ cons_option (write_of locs.now slot cell) []) }
+{
+    match cell {
+        Cell::Written(value) => {
+            writes.push(Write {
+                slot,
+                value: stated(locs, value),
+            })?;
+            Ok(())
+        }
+        Cell::Read(_) | Cell::Untouched => Ok(()),
+    }
 }
 
 fn slot_in(kind: &ExactType, object: u32, slot: u32) -> Origin
