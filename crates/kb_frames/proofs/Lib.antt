@@ -8,3 +8,4 @@ pub mod FormedPaths
 pub mod StateLaws
 pub mod StackLaws
 pub mod PathSteps
+pub mod BeginLaws

@@ -1,5 +1,5 @@
 //! How a run begins: its arguments are read, and it has its first frame.
-ghost use Rattle.std.specs.Prelude.{◌≡◌, ◌-◌, ◌<◌, ◌^◌, length, map, replicate, Some, None, IfOk, OnOk};
+ghost use Rattle.std.specs.Prelude.{◌≡◌, ◌++◌, map, replicate, Some, None, IfOk, OnOk};
 ghost use Rattle.kb_frames.specs.Lent.{begun, begun_locals, read_count, read_int};
 
 use crate::NoMemory;
@@ -69,7 +69,7 @@ impl SymState {
     }
 }
 
-// The locals of a frame that begins with these arguments.
+// The locals of a frame that begins with these arguments, the others not written.
 fn begun_locals(
     alloc: Global,
     read: &[SymValue],
@@ -77,12 +77,28 @@ fn begun_locals(
 ) -> Result<Row<Option<SymValue>>, NoMemory>
     ensures { IfOk result (λ locals. locals ≡ begun_locals read.now limit) }
 {
+    let mut locals = written_locals(alloc, read)?;
+    add_missing(limit.saturating_sub(read.len()), &mut locals)?;
+    Ok(locals)
+}
+
+fn written_locals(alloc: Global, read: &[SymValue]) -> Result<Row<Option<SymValue>>, NoMemory>
+    ensures { IfOk result (λ locals. locals ≡ map (λ value. Some value) read.now) }
+{
     let mut locals = Row::new(alloc);
     for value in read {
         locals.push(Some(*value))?;
     }
-    for _ in read.len()..limit {
+    Ok(locals)
+}
+
+#[tactic(auto, using(crate::proofs::BeginLaws::one_more))]
+fn add_missing(missing: usize, locals: &mut Row<Option<SymValue>>) -> Result<(), NoMemory>
+    ensures { OnOk result (locals.new ≡ locals.old ++ replicate missing None) }
+{
+    for place in 0..missing {
+        let _ = place;
         locals.push(None)?;
     }
-    Ok(locals)
+    Ok(())
 }

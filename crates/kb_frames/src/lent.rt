@@ -1,6 +1,6 @@
 //! What steps read of a state and write into it.
-ghost use Rattle.std.specs.Prelude.{◌≡◌, ◌<◌, ◌^◌, length, slice_get, IfOk, OnOk, OnErr};
-ghost use Rattle.kb_terms.specs.Terms.{IsTerm, AreOperands, HasNode, Extends, made_node, variables_of};
+ghost use Rattle.std.specs.Prelude.{◌≡◌, ◌+◌, ◌<◌, ◌^◌, length, slice_get, IfOk, OnOk, OnErr};
+ghost use Rattle.kb_terms.specs.Terms.{IsTerm, AreOperands, HasNode, Extends, made_node};
 ghost use Rattle.kb_terms.specs.declared.node.Node.TheVariants.{Const};
 ghost use Rattle.kb_frames.specs.Truths.{truth_in};
 ghost use Rattle.kb_frames.specs.Lent.{stack_of, locals_of, local_in, transfers_of, pushed, popped, stored, moved, transferred, carried_on, conditioned, with_nodes};
