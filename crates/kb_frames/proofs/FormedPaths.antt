@@ -118,11 +118,11 @@ module _ (nodes : List Node) (numbered : List TermId) where
   writes-same : (world : World) (picture : Picture) (writes : List Write) → AreWrites world picture writes → AreWrites world picture (map (numbered_write nodes numbered) writes)
   writes-same world picture writes h = record {
     there = λ i write at.
-      let from = from-map (numbered_write nodes numbered) writes i write at in
-      subst (λ (w : Write). (written_slot w.slot ≢ None) × IsSlot world 0 picture.objects w.slot) from.changed (h.there i from.item from.there);
+        let from = from-map (numbered_write nodes numbered) writes i write at in
+        subst (λ (w : Write). (written_slot w.slot ≢ None) × IsSlot world 0 picture.objects w.slot) from.changed (h.there i from.item from.there);
     rising = λ i one other p q.
-      h.rising i one other (ap (λ (l : List (Option (ℕ × ℕ))). slice_get l i) (sym (slots-same writes)) ∙ p)
-      (ap (λ (l : List (Option (ℕ × ℕ))). slice_get l (suc i)) (sym (slots-same writes)) ∙ q);
+        h.rising i one other (ap (λ (l : List (Option (ℕ × ℕ))). slice_get l i) (sym (slots-same writes)) ∙ p)
+        (ap (λ (l : List (Option (ℕ × ℕ))). slice_get l (suc i)) (sym (slots-same writes)) ∙ q);
   }
 
   made-same : (world : World) (made : List Made) → ((i : ℕ) (object : Made) → slice_get made i ≡ Some object → HasValues world object.kind (length object.values))
@@ -167,9 +167,9 @@ module _ (world : World) (state : State) (decisions : List ℕ) (leaf : Leaf) (s
   ended-there : (ended : Ended) → leaf ≡ EndedLeaf ended → IsEndedIn world state ended → IsEnded world path (numbered_ended state.nodes numbered ended)
   ended-there ended same h = record {
     outs = λ i out at.
-      let from = from-map (numbered_out state.nodes numbered) (ended_outs ended) i out (ap (λ (l : List Out). slice_get l i) (sym (ended-outs state.nodes numbered ended)) ∙ at) in
-      subst (IsOut world path (length (map (numbered_made state.nodes numbered) ended.made))) from.changed
-      (subst (λ n. IsOut world path n (numbered_out state.nodes numbered from.item)) (sym (length-map ended.made (numbered_made state.nodes numbered)))
+        let from = from-map (numbered_out state.nodes numbered) (ended_outs ended) i out (ap (λ (l : List Out). slice_get l i) (sym (ended-outs state.nodes numbered ended)) ∙ at) in
+        subst (IsOut world path (length (map (numbered_made state.nodes numbered) ended.made))) from.changed
+        (subst (λ n. IsOut world path n (numbered_out state.nodes numbered from.item)) (sym (length-map ended.made (numbered_made state.nodes numbered)))
         (out-there (ended_outs ended) (ap leaf_outs same) i (length ended.made) from.item from.there (h.outs i from.item from.there)));
     thrown = thrown-same state.nodes numbered ended.ending h.thrown;
     writes = writes-same state.nodes numbered world state.picture ended.writes h.writes;
@@ -192,7 +192,7 @@ module _ (world : World) (state : State) (decisions : List ℕ) (leaf : Leaf) (s
     terms = record {
       each = terms-there state.nodes s.pool (path_roots state leaf) numbered is state.picture variables;
       met = ap (met_from (listed state.nodes numbered numbered)) (roots-same state.nodes numbered state.when leaf s.conditions)
-      ∙ met-is state.nodes (path_roots state leaf) s.pool inside is;
+          ∙ met-is state.nodes (path_roots state leaf) s.pool inside is;
       conditions = conditions-there state.nodes s.pool (path_roots state leaf) numbered is state.picture variables state.when (terms_stated (leaf_outs leaf)) s.conditions refl;
     };
     leaf = leaf-there leaf refl h;

@@ -73,7 +73,6 @@ some-same {A} {a} {b} h = cc
 
 module _ (nodes : List Node) (formed : IsPool nodes) (roots numbered : List TermId) (is : IsNumbering nodes roots numbered)
     (picture : Picture) (variables : variables_of nodes ≡ length (variables_seen picture)) where
-
   number-is : (t : TermId) (j : ℕ) → place_of numbered t ≡ Some j → number_in numbered t ≡ j
   number-is t j e = ap (λ p. unwrap_or p 0) e
 
@@ -114,7 +113,7 @@ module _ (nodes : List Node) (formed : IsPool nodes) (roots numbered : List Term
       subst (IsTermAt picture i) same (record {
         left = operand-in i shape.1 (operand-before i t shape.1 there (subst (λ n. IsOperandOf n shape.1) (sym shape.3) (inl refl)));
         right = seconds i (take t.0 nodes) (is_binary shape.0) shape.2 ((formed.fits t.0 (Apply shape.0 shape.1 shape.2) shape.3).0.second)
-        (λ o e. operand-before i t o there (subst (λ n. IsOperandOf n o) (sym shape.3) (inr e)));
+            (λ o e. operand-before i t o there (subst (λ n. IsOperandOf n o) (sym shape.3) (inr e)));
       })
 
   -- a root's number is that of a listed term

@@ -275,7 +275,7 @@ module _ (nodes : List Node) (formed : IsPool nodes) (roots numbered : List Term
   emit-same : (depth : ℕ) (done inner rest : List TermId) (t : TermId) (op : Op) (left : TermId) (right : Option TermId) → node_at nodes t ≡ Some (Apply op left right)
       → with_term inner t ++ rest ≡ numbered → has_term inner t ≡ false → length done ≤ length inner → IsDeep depth t
       → (inner ++ t ∷ rest ≡ numbered → slice_get numbered (length inner) ≡ Some t → (d : ℕ) → length inner < suc d
-        → fold (met_below d terms) (numbers_below (length done)) (terms_below (term_of nodes numbered op left right)) ≡ numbers_below (length inner))
+      → fold (met_below d terms) (numbers_below (length done)) (terms_below (term_of nodes numbered op left right)) ≡ numbers_below (length inner))
       → fold (met_below depth terms) (numbers_below (length done)) (number_in numbered t ∷ []) ≡ numbers_below (length (with_term inner t))
   emit-same depth done inner rest t op left right e front fresh grown deep below =
       let added : with_term inner t ≡ inner ++ t ∷ [] = ap (λ b. if b then inner else inner ++ t ∷ []) fresh in
@@ -317,8 +317,8 @@ module _ (nodes : List Node) (formed : IsPool nodes) (roots numbered : List Term
           emit-same depth done inner rest t op left None e fr (visit-apart nodes formed d done left t l ∙ f)
           (grows-length done inner (visit-grows nodes d done left)) deep
           (λ whole at dp deeper.
-            ap (fold (met_below dp terms) (numbers_below (length done))) (append-nil (named left))
-            ∙ rec dp done (t ∷ rest) left (omega arith) whole (left-deep t op left None (length inner) dp e at deeper))
+          ap (fold (met_below dp terms) (numbers_below (length done))) (append-nil (named left))
+          ∙ rec dp done (t ∷ rest) left (omega arith) whole (left-deep t op left None (length inner) dp e at deeper))
       go (Some (Apply op left (Some right))) e false f fr rec =
           let l : left.0 < t.0 = first-before nodes t op left (Some right) formed e in
           let r : right.0 < t.0 = second-before nodes t op left right formed e in
@@ -329,11 +329,11 @@ module _ (nodes : List Node) (formed : IsPool nodes) (roots numbered : List Term
           (visit-apart nodes formed d middle right t r ∙ visit-apart nodes formed d done left t l ∙ f)
           (grows-length done inner (grows-on done middle inner (visit-grows nodes d done left) more)) deep
           (λ whole at dp deeper.
-            fold-append (met_below dp terms) (numbers_below (length done)) (named left) (named right)
-            ∙ ap (λ met. fold (met_below dp terms) met (named right))
-            (rec dp done (more.0 ++ t ∷ rest) left (omega arith) (sym (append_assoc middle more.0 (t ∷ rest)) ∙ ap (λ xs. xs ++ t ∷ rest) (sym more.1) ∙ whole)
-              (left-deep t op left (Some right) (length inner) dp e at deeper))
-            ∙ rec dp middle (t ∷ rest) right (omega arith) whole (right-deep t op left right (length inner) dp e at deeper))
+          fold-append (met_below dp terms) (numbers_below (length done)) (named left) (named right)
+          ∙ ap (λ met. fold (met_below dp terms) met (named right))
+          (rec dp done (more.0 ++ t ∷ rest) left (omega arith) (sym (append_assoc middle more.0 (t ∷ rest)) ∙ ap (λ xs. xs ++ t ∷ rest) (sym more.1) ∙ whole)
+          (left-deep t op left (Some right) (length inner) dp e at deeper))
+          ∙ rec dp middle (t ∷ rest) right (omega arith) whole (right-deep t op left right (length inner) dp e at deeper))
 
   -- the walk from all of some roots
   roots-same : (d depth : ℕ) (done rest more : List TermId) → ((i : ℕ) (t : TermId) → slice_get more i ≡ Some t → t.0 < d) → fold (visit d nodes) done more ++ rest ≡ numbered
