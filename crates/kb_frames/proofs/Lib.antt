@@ -1,11 +1,3 @@
 pub mod StartLaws
 pub mod TruthLaws
 pub mod Renumbering
-pub mod NextLaws
-pub mod SetLaws
-pub mod PathLaws
-pub mod FormedPaths
-pub mod StateLaws
-pub mod StackLaws
-pub mod PathSteps
-pub mod BeginLaws

@@ -23,3 +23,7 @@ decided None among = among
 -- the truth of a term in a state
 abbrev pub truth_in : State → TermId → Option Bool
 truth_in state t = decided (constant_at state.nodes t) (truth_among state.when t)
+
+-- the state with one condition more, unless its term stands among the conditions
+abbrev pub conditioned : State → TermId → Bool → State
+conditioned state t truth = record state { when = with_condition state.when t truth }
