@@ -1,3 +1,2 @@
 pub mod StartLaws
 pub mod TruthLaws
-pub mod Renumbering
