@@ -1,7 +1,7 @@
 //! The block of a path is written, but for its leaf.
 ghost use Rattle.std.specs.Prelude.{◌≡◌, ◌++◌, ◌∷◌, [], map, OnOk};
 ghost use Rattle.kb_grammar.specs.Lines.{lines_text};
-ghost use Rattle.kb_report.specs.Blocks.{numbered_lines, path_line, further_decisions, see_line, loc_line, obj_line, picture_lines, let_line, when_line, path_lines};
+ghost use Rattle.kb_report.specs.Blocks.{numbered_lines, path_line, decisions_text, further_decisions, see_line, loc_line, obj_line, picture_lines, let_line, when_line, path_lines};
 
 use crate::NoMemory;
 use crate::leaves::write_leaf;
@@ -22,19 +22,26 @@ pub(crate) fn write_path(text: &mut Text, world: &World, path: &Path) -> Result<
     write_leaf(text, world, path.picture.objects.as_slice(), &path.leaf)
 }
 
-#[tactic(auto, unfolding(crate::specs::Blocks::path_line, crate::specs::Blocks::decisions_text))]
+#[tactic(auto, unfolding(crate::specs::Blocks::path_line))]
 fn write_path_line(text: &mut Text, decisions: &[u32]) -> Result<(), NoMemory>
     ensures { OnOk result (text.new ≡ text.old ++ (path_line decisions.now ++ 10 ∷ [])) }
 {
     text.put("path ")?;
+    write_decisions(text, decisions)?;
+    text.end_line()
+}
+
+#[tactic(auto, unfolding(crate::specs::Blocks::decisions_text))]
+fn write_decisions(text: &mut Text, decisions: &[u32]) -> Result<(), NoMemory>
+    ensures { OnOk result (text.new ≡ text.old ++ decisions_text decisions.now) }
+{
     match decisions {
-        [] => text.put("-")?,
+        [] => text.put("-"),
         [first, others @ ..] => {
             text.number(*first)?;
-            write_further(text, others)?;
+            write_further(text, others)
         }
     }
-    text.end_line()
 }
 
 #[tactic(auto, unfolding(crate::specs::Blocks::further_decisions))]

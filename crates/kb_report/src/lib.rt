@@ -8,8 +8,6 @@ mod blocks;
 mod kinds;
 mod leaves;
 mod report;
-#[cfg(test)]
-mod tests;
 mod text;
 mod words;
 

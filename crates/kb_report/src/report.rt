@@ -57,8 +57,7 @@ fn write_head(text: &mut Text, report: &Report) -> Result<(), NoMemory>
 fn write_title(text: &mut Text) -> Result<(), NoMemory>
     ensures { OnOk result (text.new ≡ text.old ++ (title_line ++ 10 ∷ [])) }
 {
-    text.put("kiasan report 1")?;
-    text.end_line()
+    text.put("kiasan report 1\n")
 }
 
 #[tactic(auto, unfolding(crate::specs::Report::target_line))]
