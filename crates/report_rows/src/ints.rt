@@ -100,7 +100,7 @@ pub fn operations(alloc: Global) -> io::Result<Report> {
 fn chain(alloc: Global) -> io::Result<Row<Term>> {
     let mut terms = Row::new(alloc);
     let mut last = Operand::Var(0);
-    let mut number = 0;
+    let mut number: u32 = 0;
     for op in OPERATIONS.as_slice() {
         let right = if op.is_binary() {
             Some(Operand::Const(-1))
@@ -109,7 +109,7 @@ fn chain(alloc: Global) -> io::Result<Row<Term>> {
         };
         terms.push(term(*op, last, right))?;
         last = Operand::Term(number);
-        number = u32::saturating_add(number, 1);
+        number = number.saturating_add(1);
     }
     Ok(terms)
 }

@@ -10,21 +10,36 @@ use kb_rows::Row;
 use std::alloc::Global;
 use std::io;
 
-/// A path for each leaf, and one for each bound.
+/// A path for each leaf, and one for each bound on arrays and runs.
 pub fn leaves(alloc: Global) -> io::Result<Report> {
     let mut paths = Vec::new(alloc);
     paths.push(path_with(alloc, 0, ill_typed(alloc)?)?)?;
     paths.push(path_with(alloc, 1, made(alloc)?)?)?;
     paths.push(path_with(alloc, 2, thrown(alloc)?)?)?;
     paths.push(path_with(alloc, 3, Leaf::Undecided(log(alloc)?))?)?;
-    paths.push(path_with(alloc, 4, Leaf::Cut(Bound::Array, ints(alloc, &[5])?))?)?;
-    paths.push(path_with(alloc, 5, Leaf::Cut(Bound::Alloc, ints(alloc, &[-6])?))?)?;
-    paths.push(path_with(alloc, 6, Leaf::Cut(Bound::Loops, ints(alloc, &[])?))?)?;
-    paths.push(path_with(alloc, 7, Leaf::Cut(Bound::Depth, ints(alloc, &[])?))?)?;
-    paths.push(path_with(alloc, 8, Leaf::Cut(Bound::Steps, ints(alloc, &[])?))?)?;
+    push_cuts(alloc, &mut paths)?;
     paths.push(path_with(alloc, 10, Leaf::Open)?)?;
     paths.push(path_with(alloc, 4294967295, Leaf::Open)?)?;
     report(alloc, b"A.f([I)V", Init::Lazy, paths)
+}
+
+/// A path that is cut by each of these bounds; decisions from 4 on.
+fn push_cuts(alloc: Global, paths: &mut Vec<Path>) -> io::Result<()> {
+    let mut decision: u32 = 4;
+    for bound in [
+        Bound::Array,
+        Bound::Alloc,
+        Bound::Loops,
+        Bound::Depth,
+        Bound::Steps,
+    ]
+    .as_slice()
+    {
+        let leaf = Leaf::Cut(*bound, ints(alloc, &[5])?);
+        paths.push(path_with(alloc, decision, leaf)?)?;
+        decision = decision.saturating_add(1);
+    }
+    Ok(())
 }
 
 fn path_with(alloc: Global, decision: u32, leaf: Leaf) -> io::Result<Path> {

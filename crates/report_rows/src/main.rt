@@ -5,6 +5,7 @@
 #![tactic(auto)]
 
 mod arrays;
+mod classes;
 mod ints;
 mod leaves;
 mod locations;
@@ -24,9 +25,7 @@ use worlds::world;
 fn main(rt: HostRuntime) -> io::Result<ExitCode> {
     let alloc = rt.alloc();
     let mut out = OutSink::new(io::writer(&rt));
-    let Some(world) = world(alloc) else {
-        return Err(Error::from(ErrorKind::InvalidData));
-    };
+    let world = world(alloc)?;
     write_text(alloc, &world, &ints::abs(alloc)?, &mut out)?;
     write_text(alloc, &world, &ints::div(alloc)?, &mut out)?;
     write_text(alloc, &world, &ints::operations(alloc)?, &mut out)?;

@@ -1,12 +1,9 @@
 //! The world of the reports: two classes without methods, by the bytes of their files (JVMS 8 section 4.1).
-ghost use Rattle.std.specs.Prelude.{IfSome};
-ghost use Rattle.kb_class.specs.Given.{IsGiven};
 
-use kb_class::GivenClass;
-use kb_classfile::read_class;
-use kb_rows::Row;
-use kb_world::{World, link};
+use crate::classes::world_of;
+use kb_world::World;
 use std::alloc::Global;
+use std::io::{self, Error, ErrorKind};
 
 /// class Node: int elem; Node next;
 const NODE: &[u8] = b"\xca\xfe\xba\xbe\x00\x00\x00\x34\x00\x09\
@@ -22,30 +19,11 @@ const NAMESAKES: &[u8] = b"\xca\xfe\xba\xbe\x00\x00\x00\x34\x00\x08\
     \x00\x21\x00\x02\x00\x04\x00\x00\
     \x00\x02\x00\x00\x00\x05\x00\x06\x00\x00\x00\x00\x00\x05\x00\x07\x00\x00\x00\x00\x00\x00";
 
-/// The world of the two classes; None for want of memory.
-pub fn world(alloc: Global) -> Option<World> {
-    let mut given = Vec::new(alloc);
-    let Ok(()) = given.push(given_class(alloc, NODE)?) else {
-        return None;
-    };
-    let Ok(()) = given.push(given_class(alloc, NAMESAKES)?) else {
-        return None;
-    };
-    link(alloc, given).ok()
-}
-
-/// A class without methods; None where the file has one.
-fn given_class(alloc: Global, bytes: &[u8]) -> Option<GivenClass>
-    ensures { IfSome result IsGiven }
-{
-    let Ok(file) = read_class(alloc, bytes) else {
-        return None;
-    };
-    match file.methods.as_slice() {
-        [] => Some(GivenClass {
-            file,
-            listings: Row::new(alloc),
-        }),
-        _ => None,
+/// The world of the two classes.
+pub fn world(alloc: Global) -> io::Result<World> {
+    let files = vec![in alloc; NODE.to_vec(alloc)?, NAMESAKES.to_vec(alloc)?]?;
+    match world_of(alloc, files.as_slice()) {
+        Some(world) => Ok(world),
+        None => Err(Error::from(ErrorKind::InvalidData)),
     }
 }
