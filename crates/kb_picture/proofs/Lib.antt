@@ -1,2 +1,4 @@
 pub mod PlaceLaws
+pub mod TableLaws
+pub mod ShapeLaws
 pub mod InstanceLaws

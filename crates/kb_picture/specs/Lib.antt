@@ -1,8 +1,10 @@
 pub mod Places
 pub mod Shapes
+pub mod Tables
 pub mod Instances
 pub mod Endings
 pub mod Numbering
 pub mod WellFormed
 pub mod Queries
 pub mod Depths
+pub mod Laws

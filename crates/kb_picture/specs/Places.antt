@@ -16,12 +16,16 @@ use Rattle.kb_picture.specs.declared.picture.PicObject.{PicObject}
 use Rattle.kb_picture.specs.declared.picture.Picture.{Picture}
 use Rattle.kb_picture.specs.declared.picture.PlaceLists.{PlaceLists}
 
+-- the value of that slot or element of the place of an object of the picture
+abbrev pub value_in : Heap → List ℕ → ℕ → ℕ → Option Value
+value_in heap places object slot = option_and_then (λ place. value_at heap place slot) (slice_get places object)
+
 -- What a slot of the first heap holds, where `places` are the places of the picture's objects: an argument by its number, a slot
 -- or an element of an object in the object's place. None where there is no such argument, object, slot or element.
 abbrev pub slot_value : Input → List ℕ → Origin → Option Value
 slot_value input places (Arg number) = slice_get input.args number
-slot_value input places (Field object slot) = option_and_then (λ place. value_at input.heap place slot) (slice_get places object)
-slot_value input places (Element array index) = option_and_then (λ place. value_at input.heap place index) (slice_get places array)
+slot_value input places (Field object slot) = value_in input.heap places object slot
+slot_value input places (Element array index) = value_in input.heap places array index
 
 -- the object of the heap that a value names
 abbrev pub object_named : Heap → Option Value → Option ℕ
