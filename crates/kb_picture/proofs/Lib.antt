@@ -1,4 +1,6 @@
 pub mod PlaceLaws
 pub mod TableLaws
 pub mod ShapeLaws
+pub mod ChainLaws
+pub mod EndingLaws
 pub mod InstanceLaws

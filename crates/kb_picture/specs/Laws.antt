@@ -1,9 +1,16 @@
--- What holds of the places, the shapes and the instances of every picture and path.
-use Rattle.std.specs.Prelude.{◌≡◌, ℕ, ◌<◌, List, [], ◌∷◌, ◌++◌, length, map, Option, Some, slice_get, option_map}
+-- What holds of the places, the shapes, the instances and the endings of every picture and path.
+use Rattle.std.specs.Prelude.{◌≡◌, ℕ, ◌<◌, List, [], ◌∷◌, ◌++◌, length, map, replicate, Option, Some, None, slice_get, option_map}
+use Rattle.kb_names.specs.declared.types.ExactType.{ExactType}
+use Rattle.kb_class.specs.Naming.{Has}
 use Rattle.kb_class.specs.declared.ids.MethodId.{MethodId}
+use Rattle.kb_heap.specs.declared.heap.Value.{Value}
+use Rattle.kb_heap.specs.declared.heap.Object.{Object}
 use Rattle.kb_heap.specs.declared.heap.Input.{Input}
+use Rattle.kb_heap.specs.declared.ending.Ending.{Ending}
+use Rattle.kb_heap.specs.declared.ending.Ending.TheVariants.{Returned, Threw, IllTyped, Past}
 use Rattle.kb_link.specs.World.{World}
 use Rattle.kb_semantics.specs.Inputs.{IsTypeCorrect}
+use Rattle.kb_semantics.specs.Values.{literal}
 use Rattle.kb_semantics.specs.Past.{IsChain, IsPastK, IsPastArray}
 use Rattle.kb_picture.specs.declared.picture.Origin.{Origin}
 use Rattle.kb_picture.specs.declared.picture.Seen.{Seen}
@@ -12,12 +19,16 @@ use Rattle.kb_picture.specs.declared.picture.PicLoc.{PicLoc}
 use Rattle.kb_picture.specs.declared.picture.PicObject.{PicObject}
 use Rattle.kb_picture.specs.declared.picture.Picture.{Picture}
 use Rattle.kb_picture.specs.declared.picture.PlaceLists.{PlaceLists}
+use Rattle.kb_picture.specs.declared.path.Made.{Made}
+use Rattle.kb_picture.specs.declared.path.Ended.{Ended}
+use Rattle.kb_picture.specs.declared.path.Leaf.TheVariants.{Ended as EndedLeaf}
 use Rattle.kb_picture.specs.declared.path.Path.{Path}
 use Rattle.kb_picture.specs.Depths.{depths_of, IsBeyondK}
+use Rattle.kb_picture.specs.Endings.{ending_of, final_heap_of}
 use Rattle.kb_picture.specs.Instances.{IsInstance, IsShortInstance, with_conditions}
 use Rattle.kb_picture.specs.Places.{place_of, places_of}
 use Rattle.kb_picture.specs.Shapes.{HasShape}
-use Rattle.kb_picture.specs.WellFormed.{IsLengthOf}
+use Rattle.kb_picture.specs.WellFormed.{IsLengthOf, IsWithin, IsWellFormed}
 
 -- ---- pictures that grow
 
@@ -79,3 +90,36 @@ pub record DepthsAreChains : Type 0 where
   pub k : (picture : Picture) (input : Input) (k : ℕ) → HasShape picture input → IsBeyondK picture k → IsPastK input k
   pub array : (picture : Picture) (input : Input) (number n : ℕ) (object : PicObject) → HasShape picture input
       → slice_get picture.objects number ≡ Some object → IsLengthOf object.kind object.length → object.length ≡ Above n → IsPastArray input n
+
+-- ---- final heaps
+
+-- the exact type of an object, and how many values it has
+abbrev pub form_of : Object → ExactType × ℕ
+form_of object = (object.kind, length object.values)
+
+abbrev pub form_of_made : Made → ExactType × ℕ
+form_of_made made = (made.kind, length made.values)
+
+-- an ending names objects that there are, where there are so many
+abbrev pub IsEndingWithin : ℕ → Ending → Type 0
+IsEndingWithin objects (Returned None) = Unit {0}
+IsEndingWithin objects (Returned (Some value)) = IsWithin objects value
+IsEndingWithin objects (Threw object) = object < objects
+IsEndingWithin objects (IllTyped place) = Unit {0}
+IsEndingWithin objects (Past bound) = ⊥
+
+-- The heap that an ended path states begins with objects of the exact types and lengths of the input's, and goes on with the
+-- literals and the objects that the run made; and every reference in it and in the ending is to one of its objects.
+pub record HasWholeHeap (world : World) (path : Path) (ended : Ended) (input : Input) : Type 0 where
+  pub first : List Object
+  pub made : List Object
+  pub objects : (final_heap_of world path ended input).objects ≡ first ++ replicate (length world.literals) literal ++ made
+  pub kept : map form_of first ≡ map form_of input.heap.objects
+  pub new : map form_of made ≡ map form_of_made ended.made
+  pub values : (object : Object) (value : Value) → Has (final_heap_of world path ended input).objects object → Has object.values value
+      → IsWithin (length (final_heap_of world path ended input).objects) value
+  pub ending : IsEndingWithin (length (final_heap_of world path ended input).objects) (ending_of world path ended input)
+
+abbrev pub FinalHeapsAreWhole : Type 0
+FinalHeapsAreWhole = (world : World) (id : MethodId) (path : Path) (ended : Ended) (input : Input) → IsWellFormed world id path → path.leaf ≡ EndedLeaf ended
+    → IsTypeCorrect world id input → IsInstance path input → HasWholeHeap world path ended input

@@ -1,6 +1,6 @@
 //! Where the objects and locations of a picture lie in an input.
 ghost use Rattle.std.specs.Prelude.{◌≡◌, [], IfOk};
-ghost use Rattle.kb_picture.specs.Places.{slot_value, object_named, place_of, objects_placed, locs_placed, places_of};
+ghost use Rattle.kb_picture.specs.Places.{value_in, slot_value, object_named, place_of, objects_placed, locs_placed, places_of};
 
 use crate::NoMemory;
 use crate::path::Path;
