@@ -161,11 +161,12 @@ front_pushed input all places depths place depth size each front = λ number p d
 extends : (input : Input) (before : List ℕ) (rest : List PicObject) (all : List ℕ) → objects_placed input before rest ≡ Some all
     → (i x : ℕ) → slice_get before i ≡ Some x → slice_get all i ≡ Some x
 extends input before [] all e i x at = ap (λ (xs : List ℕ). slice_get xs i) (let same : all ≡ before = cc in same) ∙ at
-extends input before (object ∷ rest) all e i x at = go (place_of input before object.origin) e
+extends input before (object ∷ rest) all e i x at =
+    go (λ (p : ℕ) (placed : objects_placed input (before ++ p ∷ []) rest ≡ Some all). extends input (before ++ p ∷ []) rest all placed i x (get_kept before p i x at)) (place_of input before object.origin) e
   where
-    go : (place : Option ℕ) → option_and_then (λ (p : ℕ). objects_placed input (before ++ p ∷ []) rest) place ≡ Some all → slice_get all i ≡ Some x
-    go None e = absurd cc
-    go (Some p) e = extends input (before ++ p ∷ []) rest all e i x (get_kept before p i x at)
+    go : ((p : ℕ) → objects_placed input (before ++ p ∷ []) rest ≡ Some all → slice_get all i ≡ Some x) → (place : Option ℕ) → option_and_then (λ (p : ℕ). objects_placed input (before ++ p ∷ []) rest) place ≡ Some all → slice_get all i ≡ Some x
+    go again None e = absurd cc
+    go again (Some p) e = again p e
 
 -- as many depths as places, and a chain before each
 abbrev Fronts : Input → List ℕ → List ℕ → List ℕ → Type 0
@@ -174,18 +175,23 @@ Fronts input all places depths = (length places ≡ length depths) × EachFront 
 all_fronts : (input : Input) (all before depths : List ℕ) (rest : List PicObject) → AreApart all → objects_placed input before rest ≡ Some all
     → Fronts input all before depths → Fronts input all all (fold with_depth depths rest)
 all_fronts input all before depths [] apart e fronts = subst (λ (xs : List ℕ). Fronts input all xs depths) (let same : before ≡ all = cc in same) fronts
-all_fronts input all before depths (object ∷ rest) apart e fronts = go (place_of input before object.origin) refl e
+all_fronts input all before depths (object ∷ rest) apart e fronts =
+    go (λ (p : ℕ) (placed : objects_placed input (before ++ p ∷ []) rest ≡ Some all) (more : Fronts input all (before ++ p ∷ []) (with_depth depths object)).
+        all_fronts input all (before ++ p ∷ []) (with_depth depths object) rest apart placed more)
+    (place_of input before object.origin) refl e
   where
-    go : (place : Option ℕ) → place_of input before object.origin ≡ place → option_and_then (λ (p : ℕ). objects_placed input (before ++ p ∷ []) rest) place ≡ Some all
+    go : ((p : ℕ) → objects_placed input (before ++ p ∷ []) rest ≡ Some all → Fronts input all (before ++ p ∷ []) (with_depth depths object)
+            → Fronts input all all (fold with_depth (with_depth depths object) rest))
+        → (place : Option ℕ) → place_of input before object.origin ≡ place → option_and_then (λ (p : ℕ). objects_placed input (before ++ p ∷ []) rest) place ≡ Some all
         → Fronts input all all (fold with_depth (with_depth depths object) rest)
-    go None at e = absurd cc
-    go (Some p) at e =
+    go again None at e = absurd cc
+    go again (Some p) at e =
         let kept = (λ (i x : ℕ) (there : slice_get before i ≡ Some x). extends input (before ++ p ∷ []) rest all e i x (get_kept before p i x there)) in
         let front = front_of input all before depths object.origin p apart fronts.0 kept fronts.1 (place_inside input before object.origin p at).0 in
         let one : length (before ++ p ∷ []) ≡ length before + 1 = length-append before (p ∷ []) in
         let other : length (depths ++ depth_in depths object.origin ∷ []) ≡ length depths + 1 = length-append depths (depth_in depths object.origin ∷ []) in
         let size : length (before ++ p ∷ []) ≡ length (depths ++ depth_in depths object.origin ∷ []) = omega (arith, one, other, fronts.0) in
-        all_fronts input all (before ++ p ∷ []) (with_depth depths object) rest apart e
+        again p e
             (size, front_pushed input all before depths p (depth_in depths object.origin) fronts.0 fronts.1 front)
 
 fronts_of : (picture : Picture) (input : Input) (shape : HasShape picture input) → Fronts input shape.places.objects shape.places.objects (depths_of picture.objects)
@@ -249,20 +255,24 @@ hold_at input places (first ∷ seen) (suc i) slot each at = hold_at input place
 pub loc_at : (input : Input) (objects : List ℕ) (locs : List PicLoc) (found : List ℕ) (i : ℕ) (loc : PicLoc) → locs_placed input objects locs ≡ Some found → slice_get locs i ≡ Some loc
     → (place : ℕ) × (slice_get found i ≡ Some place) × (place_of input objects loc.origin ≡ Some place)
 loc_at input objects [] found i loc e at = absurd cc
-loc_at input objects (first ∷ locs) found i loc e at = go (place_of input objects first.origin) refl (locs_placed input objects locs) refl e i at
+loc_at input objects (first ∷ locs) found i loc e at =
+    go (λ (ls : List ℕ) (n : ℕ) (placed : locs_placed input objects locs ≡ Some ls) (there : slice_get locs n ≡ Some loc). loc_at input objects locs ls n loc placed there)
+    (place_of input objects first.origin) refl (locs_placed input objects locs) refl e i at
   where
-    go : (place : Option ℕ) → place_of input objects first.origin ≡ place → (later : Option (List ℕ)) → locs_placed input objects locs ≡ later
+    go : ((ls : List ℕ) (n : ℕ) → locs_placed input objects locs ≡ Some ls → slice_get locs n ≡ Some loc
+            → (p : ℕ) × (slice_get ls n ≡ Some p) × (place_of input objects loc.origin ≡ Some p))
+        → (place : Option ℕ) → place_of input objects first.origin ≡ place → (later : Option (List ℕ)) → locs_placed input objects locs ≡ later
         → option_and_then (λ (p : ℕ). option_map (λ (more : List ℕ). p ∷ more) later) place ≡ Some found
         → (n : ℕ) → slice_get (first ∷ locs) n ≡ Some loc → (p : ℕ) × (slice_get found n ≡ Some p) × (place_of input objects loc.origin ≡ Some p)
-    go None one later other e n at = absurd cc
-    go (Some p) one None other e n at = absurd cc
-    go (Some p) one (Some ls) other e zero at =
+    go again None one later other e n at = absurd cc
+    go again (Some p) one None other e n at = absurd cc
+    go again (Some p) one (Some ls) other e zero at =
         let list : p ∷ ls ≡ found = cc in
         let same : first ≡ loc = cc in
         (p, ap (λ (xs : List ℕ). slice_get xs 0) (sym list), ap (λ (l : PicLoc). place_of input objects l.origin) (sym same) ∙ one)
-    go (Some p) one (Some ls) other e (suc n) at =
+    go again (Some p) one (Some ls) other e (suc n) at =
         let list : p ∷ ls ≡ found = cc in
-        let later = loc_at input objects locs ls n loc other at in
+        let later = again ls n other at in
         (later.0, ap (λ (xs : List ℕ). slice_get xs (suc n)) (sym list) ∙ later.1, later.2)
 
 pub past_k : (picture : Picture) (input : Input) (k : ℕ) → HasShape picture input → IsBeyondK picture k → IsPastK input k
@@ -288,12 +298,13 @@ pub has_place : (input : Input) (before : List ℕ) (rest : List PicObject) (all
 has_place input before [] all e =
     let same : length before ≡ length all = ap length (let one : before ≡ all = cc in one) in
     omega (arith, same)
-has_place input before (object ∷ rest) all e = go (place_of input before object.origin) e
+has_place input before (object ∷ rest) all e =
+    go (λ (p : ℕ) (placed : objects_placed input (before ++ p ∷ []) rest ≡ Some all). has_place input (before ++ p ∷ []) rest all placed) (place_of input before object.origin) e
   where
-    go : (place : Option ℕ) → option_and_then (λ (p : ℕ). objects_placed input (before ++ p ∷ []) rest) place ≡ Some all → length all ≡ length before + suc (length rest)
-    go None e = absurd cc
-    go (Some p) e =
-        let more : length all ≡ length (before ++ p ∷ []) + length rest = has_place input (before ++ p ∷ []) rest all e in
+    go : ((p : ℕ) → objects_placed input (before ++ p ∷ []) rest ≡ Some all → length all ≡ length (before ++ p ∷ []) + length rest) → (place : Option ℕ) → option_and_then (λ (p : ℕ). objects_placed input (before ++ p ∷ []) rest) place ≡ Some all → length all ≡ length before + suc (length rest)
+    go again None e = absurd cc
+    go again (Some p) e =
+        let more : length all ≡ length (before ++ p ∷ []) + length rest = again p e in
         let one : length (before ++ p ∷ []) ≡ length before + 1 = length-append before (p ∷ []) in
         omega (arith, more, one)
 

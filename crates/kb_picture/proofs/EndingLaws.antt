@@ -246,11 +246,11 @@ module _ (world : World) (path : Path) (input : Input) (shape : HasShape path.pi
 
 has_flat : {A B : Type 0} (f : A → List B) (xs : List A) (x : A) (y : B) → Has xs x → Has (f x) y → Has (flat_map f xs) y
 has_flat f [] x y has of = absurd (let e : None ≡ Some x = has.1 in cc)
-has_flat f (first ∷ xs) x y has of = go has.0 has.1
+has_flat f (first ∷ xs) x y has of = go (λ (later : Has xs x). has_flat f xs x y later of) has.0 has.1
   where
-    go : (place : ℕ) → slice_get (first ∷ xs) place ≡ Some x → Has (f first ++ flat_map f xs) y
-    go zero at = has_left (f first) (flat_map f xs) y (subst (λ z. Has (f z) y) (sym (let same : first ≡ x = cc in same)) of)
-    go (suc place) at = has_right (f first) (flat_map f xs) y (has_flat f xs x y (place, at) of)
+    go : (Has xs x → Has (flat_map f xs) y) → (place : ℕ) → slice_get (first ∷ xs) place ≡ Some x → Has (f first ++ flat_map f xs) y
+    go again zero at = has_left (f first) (flat_map f xs) y (subst (λ z. Has (f z) y) (sym (let same : first ≡ x = cc in same)) of)
+    go again (suc place) at = has_right (f first) (flat_map f xs) y (again (place, at))
 
 module _ (ended : Ended) where
   writes_listed : (write : Write) → Has ended.writes write → Has (ended_outs ended) write.value

@@ -52,16 +52,18 @@ place_stays input places more slot place e = go (slot_value input places slot) r
 
 locs_stay : (input : Input) (places more : List ℕ) (locs : List PicLoc) (found : List ℕ) → locs_placed input places locs ≡ Some found → locs_placed input (places ++ more) locs ≡ Some found
 locs_stay input places more [] found e = e
-locs_stay input places more (loc ∷ locs) found e = go (place_of input places loc.origin) refl (locs_placed input places locs) refl e
+locs_stay input places more (loc ∷ locs) found e =
+    go (λ (ls : List ℕ) (after : locs_placed input places locs ≡ Some ls). locs_stay input places more locs ls after) (place_of input places loc.origin) refl (locs_placed input places locs) refl e
   where
-    go : (place : Option ℕ) → place_of input places loc.origin ≡ place → (later : Option (List ℕ)) → locs_placed input places locs ≡ later
+    go : ((ls : List ℕ) → locs_placed input places locs ≡ Some ls → locs_placed input (places ++ more) locs ≡ Some ls)
+        → (place : Option ℕ) → place_of input places loc.origin ≡ place → (later : Option (List ℕ)) → locs_placed input places locs ≡ later
         → option_and_then (λ (p : ℕ). option_map (λ (more : List ℕ). p ∷ more) later) place ≡ Some found
         → locs_placed input (places ++ more) (loc ∷ locs) ≡ Some found
-    go None at later after e = absurd cc
-    go (Some p) at None after e = absurd cc
-    go (Some p) at (Some ls) after e =
+    go again None at later after e = absurd cc
+    go again (Some p) at None after e = absurd cc
+    go again (Some p) at (Some ls) after e =
         let one : place_of input (places ++ more) loc.origin ≡ Some p = place_stays input places more loc.origin p at in
-        let other : locs_placed input (places ++ more) locs ≡ Some ls = locs_stay input places more locs ls after in
+        let other : locs_placed input (places ++ more) locs ≡ Some ls = again ls after in
         ap (option_and_then (λ (p : ℕ). option_map (λ (m : List ℕ). p ∷ m) (locs_placed input (places ++ more) locs))) one
         ∙ ap (option_map (λ (m : List ℕ). p ∷ m)) other ∙ e
 
@@ -134,17 +136,19 @@ locs_behind input objects [] loc found e = go (place_of input objects loc.origin
     go : (place : Option ℕ) → [] ≡ found → option_and_then (λ (p : ℕ). Some (p ∷ [])) place ≡ option_map (λ (p : ℕ). found ++ p ∷ []) place
     go None none = refl
     go (Some p) none = ap (λ (f : List ℕ). Some (f ++ p ∷ [])) none
-locs_behind input objects (first ∷ locs) loc found e = go (place_of input objects first.origin) refl (locs_placed input objects locs) refl e
+locs_behind input objects (first ∷ locs) loc found e =
+    go (λ (ls : List ℕ) (after : locs_placed input objects locs ≡ Some ls). locs_behind input objects locs loc ls after) (place_of input objects first.origin) refl (locs_placed input objects locs) refl e
   where
-    go : (place : Option ℕ) → place_of input objects first.origin ≡ place → (later : Option (List ℕ)) → locs_placed input objects locs ≡ later
+    go : ((ls : List ℕ) → locs_placed input objects locs ≡ Some ls → locs_placed input objects (locs ++ loc ∷ []) ≡ option_map (λ (p : ℕ). ls ++ p ∷ []) (place_of input objects loc.origin))
+        → (place : Option ℕ) → place_of input objects first.origin ≡ place → (later : Option (List ℕ)) → locs_placed input objects locs ≡ later
         → option_and_then (λ (p : ℕ). option_map (λ (more : List ℕ). p ∷ more) later) place ≡ Some found
         → locs_placed input objects (first ∷ (locs ++ loc ∷ [])) ≡ option_map (λ (p : ℕ). found ++ p ∷ []) (place_of input objects loc.origin)
-    go None at later after e = absurd cc
-    go (Some p) at None after e = absurd cc
-    go (Some p) at (Some ls) after e =
+    go again None at later after e = absurd cc
+    go again (Some p) at None after e = absurd cc
+    go again (Some p) at (Some ls) after e =
         let whole : p ∷ ls ≡ found = cc in
         ap (option_and_then (λ (p : ℕ). option_map (λ (m : List ℕ). p ∷ m) (locs_placed input objects (locs ++ loc ∷ [])))) at
-        ∙ ap (option_map (λ (m : List ℕ). p ∷ m)) (locs_behind input objects locs loc ls after)
+        ∙ ap (option_map (λ (m : List ℕ). p ∷ m)) (again ls after)
         ∙ last (place_of input objects loc.origin) whole
       where
         last : (place : Option ℕ) → p ∷ ls ≡ found → option_map (λ (m : List ℕ). p ∷ m) (option_map (λ (q : ℕ). ls ++ q ∷ []) place) ≡ option_map (λ (q : ℕ). found ++ q ∷ []) place

@@ -1,6 +1,6 @@
--- Laws of shapes: what the tests of slots and places tell, and of which parts a shape consists.
-use Rattle.std.proofs.Common.{◌≡◌, ◌↔◌, ◌==◌, ℕ, zero, suc, ℤ, ◌<◌, nat_lt, Bool, true, false, not, IsTrue, is_some, List, [], ◌∷◌, ◌++◌, length, Option, Some, None, slice_get, refl, sym, ap, subst, ◌∙◌, option_and_then, arith}
-use Rattle.std.proofs.lemmas.Bool.{ltb-true, lt-ltb, eq-eqb, eqb-true}
+-- Laws of shapes: of which parts a shape consists, at places that are known.
+use Rattle.std.proofs.Common.{◌≡◌, ◌↔◌, ℕ, zero, suc, ◌<◌, nat_lt, Bool, true, false, List, [], ◌∷◌, ◌++◌, length, Option, Some, None, slice_get, refl, sym, ap, subst, ◌∙◌, option_and_then, arith}
+use Rattle.std.proofs.lemmas.Bool.{ltb-true, lt-ltb}
 use Rattle.kb_heap.specs.declared.heap.Value.{Value}
 use Rattle.kb_heap.specs.declared.heap.Value.TheVariants.{Int, Null, Ref}
 use Rattle.kb_heap.specs.declared.heap.Heap.{Heap}
@@ -11,25 +11,13 @@ use Rattle.kb_picture.specs.declared.picture.PicLoc.{PicLoc}
 use Rattle.kb_picture.specs.declared.picture.PicObject.{PicObject}
 use Rattle.kb_picture.specs.declared.picture.Picture.{Picture}
 use Rattle.kb_picture.specs.declared.picture.PlaceLists.{PlaceLists}
-use Rattle.kb_picture.specs.declared.path.Path.{Path}
 use Rattle.kb_picture.specs.Places.{object_named, slot_value, place_of, objects_placed, places_of}
-use Rattle.kb_picture.specs.Shapes.{IsNoPlace, IsSomeObject, IsFurtherObject, IsObjectOfPicture, HoldEach, IsSuch, AreSuch, AreApart, Stands, EachStands, HasShape}
-use Rattle.kb_picture.specs.Tables.{is_marked, is_int, is_null, is_place, is_further, Tells, EachPair}
-use Rattle.kb_picture.proofs.TableLaws.{AreBelow}
+use Rattle.kb_picture.specs.Shapes.{HoldEach, IsSuch, AreSuch, AreApart, Stands, EachStands, HasShape}
+use Rattle.kb_picture.specs.Tables.{marks_of, EachPair}
+use Rattle.kb_picture.proofs.PlaceLaws.{placed_parts}
+use Rattle.kb_picture.proofs.TableLaws.{AreBelow, no_marks}
 
--- ---- slots
-
-pub int_exactly : (value : Option Value) → IsTrue (is_int value) ↔ ((z : ℤ) × (value ≡ Some (Int z)))
-int_exactly (Some (Int z)) = ((λ h. (z, refl)), (λ h. refl))
-int_exactly (Some Null) = ((λ h. absurd cc), (λ h. (let e : Some Null ≡ Some (Int h.0) = h.1 in absurd cc)))
-int_exactly (Some (Ref o)) = ((λ h. absurd cc), (λ h. (let e : Some (Ref o) ≡ Some (Int h.0) = h.1 in absurd cc)))
-int_exactly None = ((λ h. absurd cc), (λ h. (let e : None ≡ Some (Int h.0) = h.1 in absurd cc)))
-
-pub null_exactly : (value : Option Value) → IsTrue (is_null value) ↔ (value ≡ Some Null)
-null_exactly (Some (Int z)) = ((λ h. absurd cc), (λ h. absurd cc))
-null_exactly (Some Null) = ((λ h. refl), (λ h. refl))
-null_exactly (Some (Ref o)) = ((λ h. absurd cc), (λ h. absurd cc))
-null_exactly None = ((λ h. absurd cc), (λ h. absurd cc))
+-- ---- values
 
 -- the object that a value names, and no other
 pub named_exactly : (heap : Heap) (value : Option Value) (object : ℕ) → (object_named heap value ≡ Some object) ↔ ((value ≡ Some (Ref object)) × (object < length heap.objects))
@@ -48,65 +36,6 @@ named_exactly heap (Some (Ref o)) object = go (nat_lt o (length heap.objects)) r
             let below : o < length heap.objects = subst (λ (n : ℕ). n < length heap.objects) (sym same) h.1 in
             let test : nat_lt o (length heap.objects) ≡ true = lt-ltb o (length heap.objects) below in
             absurd cc)))
-
-is_some_some : {A : Type 0} (o : Option A) → IsTrue (is_some o) → (x : A) × (o ≡ Some x)
-is_some_some (Some x) h = (x, refl)
-is_some_some None h = absurd cc
-
-some_is_some : {A : Type 0} (o : Option A) (x : A) → o ≡ Some x → IsTrue (is_some o)
-some_is_some (Some y) x e = refl
-some_is_some None x e = absurd cc
-
-pub object_exactly : (heap : Heap) (value : Option Value) → IsTrue (is_some (object_named heap value)) ↔ IsSomeObject heap value
-object_exactly heap value =
-    ((λ h. (let found = is_some_some (object_named heap value) h in
-        let named = (named_exactly heap value found.0).0 found.1 in
-        (found.0, named.0, named.1))),
-    (λ h. some_is_some (object_named heap value) h.0 ((named_exactly heap value h.0).1 (h.1, h.2))))
-
-pub place_exactly : (places : List ℕ) (number : ℕ) (value : Option Value) → IsTrue (is_place (slice_get places number) value) ↔ IsObjectOfPicture places number value
-place_exactly places number value = go (slice_get places number) refl value
-  where
-    go : (place : Option ℕ) → slice_get places number ≡ place → (v : Option Value)
-        → IsTrue (is_place place v) ↔ ((p : ℕ) × (slice_get places number ≡ Some p) × (v ≡ Some (Ref p)))
-    go (Some p) at (Some (Ref o)) =
-        ((λ h. (p, at, ap (λ (n : ℕ). Some (Ref n)) (sym (eqb-true p o h)))),
-        (λ h. (let one : p ≡ h.0 = (let e : Some p ≡ Some h.0 = sym at ∙ h.1 in cc) in
-            let other : o ≡ h.0 = (let e : Some (Ref o) ≡ Some (Ref h.0) = h.2 in cc) in
-            eq-eqb p o (one ∙ sym other))))
-    go (Some p) at (Some (Int z)) = ((λ h. absurd cc), (λ h. (let e : Some (Int z) ≡ Some (Ref h.0) = h.2 in absurd cc)))
-    go (Some p) at (Some Null) = ((λ h. absurd cc), (λ h. (let e : Some Null ≡ Some (Ref h.0) = h.2 in absurd cc)))
-    go (Some p) at None = ((λ h. absurd cc), (λ h. (let e : None ≡ Some (Ref h.0) = h.2 in absurd cc)))
-    go None at v = ((λ h. absurd cc), (λ h. (let e : None ≡ Some h.0 = sym at ∙ h.1 in absurd cc)))
-
-not_true : (b : Bool) → IsTrue (not b) → b ≡ false
-not_true true h = absurd cc
-not_true false h = refl
-
-true_not : (b : Bool) → b ≡ false → IsTrue (not b)
-true_not true e = absurd cc
-true_not false e = refl
-
-pub elsewhere_exactly : (table : List Bool) (places : List ℕ) (object : ℕ) → Tells table places → IsTrue (not (is_marked table object)) ↔ IsNoPlace places object
-elsewhere_exactly table places object tells =
-    ((λ h. (tells.elsewhere object).0 (not_true (is_marked table object) h)), (λ h. true_not (is_marked table object) ((tells.elsewhere object).1 h)))
-
-pub further_exactly : (heap : Heap) (table : List Bool) (places : List ℕ) (value : Option Value) → Tells table places
-    → IsTrue (is_further table (object_named heap value)) ↔ IsFurtherObject heap places value
-further_exactly heap table places value tells = (first, second)
-  where
-    first : IsTrue (is_further table (object_named heap value)) → IsFurtherObject heap places value
-    first h = go (object_named heap value) refl h
-      where
-        go : (found : Option ℕ) → object_named heap value ≡ found → IsTrue (is_further table found) → IsFurtherObject heap places value
-        go None e h = absurd cc
-        go (Some object) e h =
-            let named = (named_exactly heap value object).0 e in
-            (object, named.0, named.1, (elsewhere_exactly table places object tells).0 h)
-    second : IsFurtherObject heap places value → IsTrue (is_further table (object_named heap value))
-    second h =
-        let named : object_named heap value ≡ Some h.0 = (named_exactly heap value h.0).1 (h.1, h.2) in
-        ap (is_further table) named ∙ (elsewhere_exactly table places h.0 tells).1 h.3
 
 -- ---- lists by pairs
 
@@ -185,3 +114,11 @@ same_places picture input places placed shape =
 
 pub parts_of_shape : (picture : Picture) (input : Input) (places : PlaceLists) → places_of picture input ≡ Some places → HasShape picture input → HasShapeAt picture input places
 parts_of_shape picture input places placed shape = subst (HasShapeAt picture input) (same_places picture input places placed shape) (parts_of picture input shape)
+
+-- an input in which two objects of the picture would have one place has not its shape
+pub not_apart : (picture : Picture) (input : Input) (places : PlaceLists) → places_of picture input ≡ Some places → marks_of (length input.heap.objects) places.objects ≡ None
+    → HasShape picture input → ⊥
+not_apart picture input places placed none shape =
+    let parts = parts_of_shape picture input places placed shape in
+    let found = placed_parts picture input places placed in
+    no_marks (length input.heap.objects) places.objects none (objects_inside input [] picture.objects places.objects found.objects tt) parts.apart

@@ -112,17 +112,17 @@ apart_by (first ∷ others) apart =
 
 by_apart : (places : List ℕ) → AreApartBy places → AreApart places
 by_apart [] apart = λ one other place here there. absurd cc
-by_apart (first ∷ others) apart = λ one other place here there. at one other place here there
+by_apart (first ∷ others) apart = λ one other place here there. at (by_apart others apart.1) one other place here there
   where
-    at : (one other place : ℕ) → slice_get (first ∷ others) one ≡ Some place → slice_get (first ∷ others) other ≡ Some place → one ≡ other
-    at zero zero place here there = refl
-    at zero (suc other) place here there =
+    at : AreApart others → (one other place : ℕ) → slice_get (first ∷ others) one ≡ Some place → slice_get (first ∷ others) other ≡ Some place → one ≡ other
+    at later zero zero place here there = refl
+    at later zero (suc other) place here there =
         let same : first ≡ place = cc in
         absurd (no_place_at others first other place apart.0 there same)
-    at (suc one) zero place here there =
+    at later (suc one) zero place here there =
         let same : first ≡ place = cc in
         absurd (no_place_at others first one place apart.0 here same)
-    at (suc one) (suc other) place here there = ap suc (by_apart others apart.1 one other place here there)
+    at later (suc one) (suc other) place here there = ap suc (later one other place here there)
 
 -- ---- the whole table
 
