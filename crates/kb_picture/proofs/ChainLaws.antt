@@ -283,7 +283,7 @@ past_k picture input k shape beyond = go beyond.beyond
         let holds = hold_at input shape.places.objects picture.seen seen.0 (beyond.slot, seens.Beyond) shape.seen seen.1 in
         further_chain picture input k shape beyond.slot holds.0 beyond.deeper holds.1 holds.2 holds.3
     go (inr there) =
-        let loc = record { origin = beyond.slot; standing = standings.Beyond } in
+        let loc : PicLoc = record { origin = beyond.slot; standing = standings.Beyond } in
         let parts = placed_parts picture input shape.places shape.placed in
         let found = loc_at input shape.places.objects picture.locs shape.places.locs there.0 loc parts.locs there.1 in
         let inside = place_inside input shape.places.objects beyond.slot found.0 found.2 in

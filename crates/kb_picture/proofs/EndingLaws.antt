@@ -278,6 +278,10 @@ module _ (world : World) (path : Path) (input : Input) (shape : HasShape path.pi
   out_is : (out : Out) → Has (ended_outs ended) out → IsWithin (total world path input shape r reads (length ended.made)) (out_value r out)
   out_is out has = out_within world path input shape r reads (length ended.made) out (is.outs has.0 out has.1)
 
+  less_total : length input.heap.objects ≤ total world path input shape r reads (length ended.made)
+  unfolding total
+  less_total = omega (arith, reads.inputs)
+
   heap_closed : AreClosed (total world path input shape r reads (length ended.made)) (heap_at r input.heap ended.writes ended.made).objects
   heap_closed =
       let n = total world path input shape r reads (length ended.made) in
@@ -287,10 +291,6 @@ module _ (world : World) (path : Path) (input : Input) (shape : HasShape path.pi
               (closed_writes n r input.heap ended.writes (closed_more (length input.heap.objects) n input.heap.objects less closed) (λ write has. out_is write.value (writes_listed ended write has)))
               (all_same (HasWithin n) r.literals literal tt))
           (all_made (HasWithin n) (made_object r) ended.made (λ one has. all_made (IsWithin n) (out_value r) one.values (λ out of. out_is out (made_listed ended one out has of))))
-    where
-      less_total : length input.heap.objects ≤ total world path input shape r reads (length ended.made)
-      unfolding total
-      less_total = omega (arith, reads.inputs)
 
   heap_size : length (heap_at r input.heap ended.writes ended.made).objects ≡ total world path input shape r reads (length ended.made)
   unfolding total
