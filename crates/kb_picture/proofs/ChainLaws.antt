@@ -73,14 +73,15 @@ EachFront input all places depths =
 -- a front with its object
 whole : (input : Input) (all : List ℕ) (number depth place : ℕ) → AreApart all → slice_get all number ≡ Some place → (front : Front input all number depth place)
     → AreDifferent (front.before ++ place ∷ []) × ((i o : ℕ) → slice_get (front.before ++ place ∷ []) i ≡ Some o → (j : ℕ) × (j < suc number) × (slice_get all j ≡ Some o))
-whole input all number depth place apart at front =
-    (different_more front.before place front.different (λ i o there e. (let found = front.among i o there in
-        let same : number ≡ found.0 = apart number found.0 place at (found.2 ∙ ap Some (sym e)) in
-        omega (arith, same, found.1))),
-    λ i o there. elim (get_pushed front.before place i o there) [
-      | inl old ↦ (let found = front.among i o old in (found.0, (let below : found.0 < suc number = omega (arith, found.1) in below), found.2))
-      | inr last ↦ (number, (let below : number < suc number = omega arith in below), at ∙ ap Some last.1)
-    ])
+whole input all number depth place apart at front = (
+  different_more front.before place front.different (λ i o there e. (let found = front.among i o there in
+      let same : number ≡ found.0 = apart number found.0 place at (found.2 ∙ ap Some (sym e)) in
+      omega (arith, same, found.1))),
+  λ i o there. elim (get_pushed front.before place i o there) [
+    | inl old ↦ (let found = front.among i o old in (found.0, (let below : found.0 < suc number = omega (arith, found.1) in below), found.2))
+    | inr last ↦ (number, (let below : number < suc number = omega arith in below), at ∙ ap Some last.1)
+  ],
+)
 
 there_too : (places depths : List ℕ) (number place : ℕ) → length places ≡ length depths → slice_get places number ≡ Some place → (depth : ℕ) × (slice_get depths number ≡ Some depth)
 there_too [] depths number place size at = absurd cc
@@ -147,15 +148,15 @@ front_pushed : (input : Input) (all places depths : List ℕ) (place depth : ℕ
 front_pushed input all places depths place depth size each front = λ number p d at deep.
     elim (get_pushed places place number p at) [
       | inl old ↦ elim (get_pushed depths depth number d deep) [
-          | inl older ↦ each number p d old older
-          | inr last ↦ (let inside : number < length places = get_inside places number p old in absurd (omega (arith, inside, last.0, size)))
-        ]
+        | inl older ↦ each number p d old older
+        | inr last ↦ (let inside : number < length places = get_inside places number p old in absurd (omega (arith, inside, last.0, size)))
+      ]
       | inr last ↦ elim (get_pushed depths depth number d deep) [
-          | inl older ↦ (let inside : number < length depths = get_inside depths number d older in absurd (omega (arith, inside, last.0, size)))
-          | inr also ↦
-              subst (λ (n : ℕ). Front input all n d p) (sym last.0)
-              (subst (λ (k : ℕ). Front input all (length places) k p) also.1 (subst (λ (q : ℕ). Front input all (length places) depth q) last.1 front))
-        ]
+        | inl older ↦ (let inside : number < length depths = get_inside depths number d older in absurd (omega (arith, inside, last.0, size)))
+        | inr also ↦
+            subst (λ (n : ℕ). Front input all n d p) (sym last.0)
+            (subst (λ (k : ℕ). Front input all (length places) k p) also.1 (subst (λ (q : ℕ). Front input all (length places) depth q) last.1 front))
+      ]
     ]
 
 extends : (input : Input) (before : List ℕ) (rest : List PicObject) (all : List ℕ) → objects_placed input before rest ≡ Some all
@@ -177,11 +178,11 @@ all_fronts : (input : Input) (all before depths : List ℕ) (rest : List PicObje
 all_fronts input all before depths [] apart e fronts = subst (λ (xs : List ℕ). Fronts input all xs depths) (let same : before ≡ all = cc in same) fronts
 all_fronts input all before depths (object ∷ rest) apart e fronts =
     go (λ (p : ℕ) (placed : objects_placed input (before ++ p ∷ []) rest ≡ Some all) (more : Fronts input all (before ++ p ∷ []) (with_depth depths object)).
-        all_fronts input all (before ++ p ∷ []) (with_depth depths object) rest apart placed more)
+    all_fronts input all (before ++ p ∷ []) (with_depth depths object) rest apart placed more)
     (place_of input before object.origin) refl e
   where
     go : ((p : ℕ) → objects_placed input (before ++ p ∷ []) rest ≡ Some all → Fronts input all (before ++ p ∷ []) (with_depth depths object)
-            → Fronts input all all (fold with_depth (with_depth depths object) rest))
+        → Fronts input all all (fold with_depth (with_depth depths object) rest))
         → (place : Option ℕ) → place_of input before object.origin ≡ place → option_and_then (λ (p : ℕ). objects_placed input (before ++ p ∷ []) rest) place ≡ Some all
         → Fronts input all all (fold with_depth (with_depth depths object) rest)
     go again None at e = absurd cc
@@ -192,7 +193,7 @@ all_fronts input all before depths (object ∷ rest) apart e fronts =
         let other : length (depths ++ depth_in depths object.origin ∷ []) ≡ length depths + 1 = length-append depths (depth_in depths object.origin ∷ []) in
         let size : length (before ++ p ∷ []) ≡ length (depths ++ depth_in depths object.origin ∷ []) = omega (arith, one, other, fronts.0) in
         again p e
-            (size, front_pushed input all before depths p (depth_in depths object.origin) fronts.0 fronts.1 front)
+        (size, front_pushed input all before depths p (depth_in depths object.origin) fronts.0 fronts.1 front)
 
 fronts_of : (picture : Picture) (input : Input) (shape : HasShape picture input) → Fronts input shape.places.objects shape.places.objects (depths_of picture.objects)
 unfolding depths_of
@@ -260,7 +261,7 @@ loc_at input objects (first ∷ locs) found i loc e at =
     (place_of input objects first.origin) refl (locs_placed input objects locs) refl e i at
   where
     go : ((ls : List ℕ) (n : ℕ) → locs_placed input objects locs ≡ Some ls → slice_get locs n ≡ Some loc
-            → (p : ℕ) × (slice_get ls n ≡ Some p) × (place_of input objects loc.origin ≡ Some p))
+        → (p : ℕ) × (slice_get ls n ≡ Some p) × (place_of input objects loc.origin ≡ Some p))
         → (place : Option ℕ) → place_of input objects first.origin ≡ place → (later : Option (List ℕ)) → locs_placed input objects locs ≡ later
         → option_and_then (λ (p : ℕ). option_map (λ (more : List ℕ). p ∷ more) later) place ≡ Some found
         → (n : ℕ) → slice_get (first ∷ locs) n ≡ Some loc → (p : ℕ) × (slice_get found n ≡ Some p) × (place_of input objects loc.origin ≡ Some p)

@@ -18,8 +18,9 @@ use Rattle.kb_heap.specs.declared.heap.Heap.{Heap}
 use Rattle.kb_heap.specs.declared.heap.Input.{Input}
 use Rattle.kb_heap.specs.Heap.{object_at, object_with, with_object_at, with_value}
 use Rattle.kb_link.specs.World.{World}
+use Rattle.kb_link.specs.declared.slots.FieldSlot.{FieldSlot}
 use Rattle.kb_semantics.specs.Inputs.{IsInputObject, HasValuesOf, IsTypeCorrect}
-use Rattle.kb_semantics.specs.Values.{IsObjectOf, IsValueOf, AreValuesOf, literal}
+use Rattle.kb_semantics.specs.Values.{IsObjectOf, IsValueOf, AreValuesOf, slots_of_class, literal}
 use Rattle.kb_picture.specs.declared.picture.Origin.{Origin}
 use Rattle.kb_picture.specs.declared.picture.Origin.TheVariants.{Arg, Field, Element}
 use Rattle.kb_picture.specs.declared.picture.PlaceLists.{PlaceLists}
@@ -166,7 +167,7 @@ values_within world heap (type ∷ of) [] fit = tt
 values_within world heap (type ∷ of) (value ∷ values) fit = (value_within world heap type value fit.0, values_within world heap of values fit.1)
 
 has_within : (world : World) (heap : Heap) (kind : ExactType) (values : List Value) → HasValuesOf world heap kind values → AllByRecursion (IsWithin (length heap.objects)) values
-has_within world heap (exact.Class name) values fit = values_within world heap _ values fit
+has_within world heap (exact.Class name) values fit = values_within world heap (map (λ (slot : FieldSlot). slot.kind) (slots_of_class world name)) values fit
 has_within world heap (exact.Array of) values fit =
     all_more (IsValueOf world heap of) (IsWithin (length heap.objects)) values (λ value one. value_within world heap of value one) fit.1
 
@@ -208,7 +209,7 @@ module _ (world : World) (path : Path) (input : Input) (shape : HasShape path.pi
       let found = loc_at input shape.places.objects path.picture.locs shape.places.locs number there.0 parts.locs there.1 in
       let inside = place_inside input shape.places.objects there.0.origin found.0 found.2 in
       subst (λ (p : PlaceLists). place_at p.locs number < length input.heap.objects) (sym reads.places)
-          (place_inside_at input shape.places.locs number (length input.heap.objects) found.0 found.1 inside.1)
+      (place_inside_at input shape.places.locs number (length input.heap.objects) found.0 found.1 inside.1)
 
   object_below : (number : ℕ) → number < length path.picture.objects → place_at r.places.objects number < length input.heap.objects
   object_below number there =
@@ -217,7 +218,7 @@ module _ (world : World) (path : Path) (input : Input) (shape : HasShape path.pi
       let placed = inside_there shape.places.objects number (let less : number < length shape.places.objects = omega (arith, size, there) in less) in
       let below = below_at (length input.heap.objects) shape.places.objects number placed.0 (all_below path.picture input shape) placed.1 in
       subst (λ (p : PlaceLists). place_at p.objects number < length input.heap.objects) (sym reads.places)
-          (place_inside_at input shape.places.objects number (length input.heap.objects) placed.0 placed.1 below)
+      (place_inside_at input shape.places.objects number (length input.heap.objects) placed.0 placed.1 below)
 
   out_within : (out : Out) → IsOut world path made out → IsWithin total (out_value r out)
   unfolding total
@@ -256,17 +257,17 @@ module _ (ended : Ended) where
   writes_listed : (write : Write) → Has ended.writes write → Has (ended_outs ended) write.value
   writes_listed write has =
       has_left (ending_outs ended.ending ++ map (λ (w : Write). w.value) ended.writes) (flat_map (λ (m : Made). m.values) ended.made) write.value
-          (has_right (ending_outs ended.ending) (map (λ (w : Write). w.value) ended.writes) write.value (map_has (λ (w : Write). w.value) ended.writes write has))
+      (has_right (ending_outs ended.ending) (map (λ (w : Write). w.value) ended.writes) write.value (map_has (λ (w : Write). w.value) ended.writes write has))
 
   made_listed : (one : Made) (out : Out) → Has ended.made one → Has one.values out → Has (ended_outs ended) out
   made_listed one out has of =
       has_right (ending_outs ended.ending ++ map (λ (w : Write). w.value) ended.writes) (flat_map (λ (m : Made). m.values) ended.made) out
-          (has_flat (λ (m : Made). m.values) ended.made one out has of)
+      (has_flat (λ (m : Made). m.values) ended.made one out has of)
 
   ending_listed : (out : Out) → Has (ending_outs ended.ending) out → Has (ended_outs ended) out
   ending_listed out has =
       has_left (ending_outs ended.ending ++ map (λ (w : Write). w.value) ended.writes) (flat_map (λ (m : Made). m.values) ended.made) out
-          (has_left (ending_outs ended.ending) (map (λ (w : Write). w.value) ended.writes) out has)
+      (has_left (ending_outs ended.ending) (map (λ (w : Write). w.value) ended.writes) out has)
 
 -- ---- the whole heap
 
@@ -287,24 +288,24 @@ module _ (world : World) (path : Path) (input : Input) (shape : HasShape path.pi
       let n = total world path input shape r reads (length ended.made) in
       let less : length input.heap.objects ≤ total world path input shape r reads (length ended.made) = less_total in
       all_both (HasWithin n) ((fold (with_write r) input.heap ended.writes).objects ++ replicate r.literals literal) (map (made_object r) ended.made)
-          (all_both (HasWithin n) (fold (with_write r) input.heap ended.writes).objects (replicate r.literals literal)
-              (closed_writes n r input.heap ended.writes (closed_more (length input.heap.objects) n input.heap.objects less closed) (λ write has. out_is write.value (writes_listed ended write has)))
-              (all_same (HasWithin n) r.literals literal tt))
-          (all_made (HasWithin n) (made_object r) ended.made (λ one has. all_made (IsWithin n) (out_value r) one.values (λ out of. out_is out (made_listed ended one out has of))))
+      (all_both (HasWithin n) (fold (with_write r) input.heap ended.writes).objects (replicate r.literals literal)
+      (closed_writes n r input.heap ended.writes (closed_more (length input.heap.objects) n input.heap.objects less closed) (λ write has. out_is write.value (writes_listed ended write has)))
+      (all_same (HasWithin n) r.literals literal tt))
+      (all_made (HasWithin n) (made_object r) ended.made (λ one has. all_made (IsWithin n) (out_value r) one.values (λ out of. out_is out (made_listed ended one out has of))))
 
   heap_size : length (heap_at r input.heap ended.writes ended.made).objects ≡ total world path input shape r reads (length ended.made)
   unfolding total
   heap_size =
       let first : length (fold (with_write r) input.heap ended.writes).objects ≡ length input.heap.objects =
-          forms_size (fold (with_write r) input.heap ended.writes).objects input.heap.objects (all_forms r input.heap ended.writes) in
+      forms_size (fold (with_write r) input.heap ended.writes).objects input.heap.objects (all_forms r input.heap ended.writes) in
       let literals : length (replicate r.literals literal) ≡ r.literals = length-replicate r.literals literal in
       let made : length (map (made_object r) ended.made) ≡ length ended.made = length-map ended.made (made_object r) in
       let front : length ((fold (with_write r) input.heap ended.writes).objects ++ replicate r.literals literal)
-          ≡ length (fold (with_write r) input.heap ended.writes).objects + length (replicate r.literals literal) =
-          length-append (fold (with_write r) input.heap ended.writes).objects (replicate r.literals literal) in
+      ≡ length (fold (with_write r) input.heap ended.writes).objects + length (replicate r.literals literal) =
+      length-append (fold (with_write r) input.heap ended.writes).objects (replicate r.literals literal) in
       let all : length (((fold (with_write r) input.heap ended.writes).objects ++ replicate r.literals literal) ++ map (made_object r) ended.made)
-          ≡ length ((fold (with_write r) input.heap ended.writes).objects ++ replicate r.literals literal) + length (map (made_object r) ended.made) =
-          length-append ((fold (with_write r) input.heap ended.writes).objects ++ replicate r.literals literal) (map (made_object r) ended.made) in
+      ≡ length ((fold (with_write r) input.heap ended.writes).objects ++ replicate r.literals literal) + length (map (made_object r) ended.made) =
+      length-append ((fold (with_write r) input.heap ended.writes).objects ++ replicate r.literals literal) (map (made_object r) ended.made) in
       omega (arith, first, literals, made, front, all, reads.inputs)
 
 ended_leaf : (world : World) (path : Path) (leaf : Leaf) (ended : Ended) → leaf ≡ EndedLeaf ended → IsLeaf world path leaf → IsEnded world path ended
@@ -321,7 +322,7 @@ whole_heap world id path ended input formed leaf correct instance_of =
     let size = heap_size world path input instance_of.shape r reads ended is (input_closed world id input correct) in
     let n = length (heap_at r input.heap ended.writes ended.made).objects in
     let bounded : AreClosed n (heap_at r input.heap ended.writes ended.made).objects =
-        subst (λ (k : ℕ). AreClosed k (heap_at r input.heap ended.writes ended.made).objects) (sym size) closed in
+    subst (λ (k : ℕ). AreClosed k (heap_at r input.heap ended.writes ended.made).objects) (sym size) closed in
     let ends = ending_within world path input instance_of.shape r reads (length ended.made) ended.ending is.thrown (λ out has. (let listed = ending_listed ended out has in is.outs listed.0 out listed.1)) in
     record {
       first = (fold (with_write r) input.heap ended.writes).objects;

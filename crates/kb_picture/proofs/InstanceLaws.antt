@@ -32,9 +32,10 @@ short_instance world id path count input correct instance_of = record { correct 
 -- what is told of the conditions at the places of the picture is told of the instance
 pub instance_exactly : (path : Path) (input : Input) (places : PlaceLists) → places_of path.picture input ≡ Some places → HasShape path.picture input
     → (b : Bool) → (IsTrue b ↔ AreMet (term_values path input places.objects) path.when) → (IsTrue b ↔ IsInstance path input)
-instance_exactly path input places placed shape b met =
-    ((λ h. record {
-      shape = shape;
-      conditions = subst (λ (p : PlaceLists). AreMet (term_values path input p.objects) path.when) (sym (same_places path.picture input places placed shape)) (met.0 h);
-    }),
-    (λ i. met.1 (subst (λ (p : PlaceLists). AreMet (term_values path input p.objects) path.when) (same_places path.picture input places placed i.shape) i.conditions)))
+instance_exactly path input places placed shape b met = (
+  (λ h. record {
+    shape = shape;
+    conditions = subst (λ (p : PlaceLists). AreMet (term_values path input p.objects) path.when) (sym (same_places path.picture input places placed shape)) (met.0 h);
+  }),
+  (λ i. met.1 (subst (λ (p : PlaceLists). AreMet (term_values path input p.objects) path.when) (same_places path.picture input places placed i.shape) i.conditions)),
+)

@@ -3,4 +3,5 @@ pub mod TableLaws
 pub mod ShapeLaws
 pub mod ChainLaws
 pub mod EndingLaws
+pub mod WriteLaws
 pub mod InstanceLaws

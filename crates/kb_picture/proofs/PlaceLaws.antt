@@ -122,6 +122,7 @@ places_object picture input places object e =
   where
     parts : ArePlaced picture input places
     parts = placed_parts picture input places e
+
     go : (place : Option ℕ)
         → option_and_then (with_locs_placed input picture.locs) (option_and_then (λ (p : ℕ). Some (places.objects ++ p ∷ [])) place)
         ≡ option_map (object_placed_behind places) place
@@ -165,6 +166,7 @@ places_loc picture input places loc e =
   where
     parts : ArePlaced picture input places
     parts = placed_parts picture input places e
+
     go : (place : Option ℕ) → option_map (λ (ls : List ℕ). record { objects = places.objects; locs = ls }) (option_map (λ (p : ℕ). places.locs ++ p ∷ []) place) ≡ option_map (loc_placed_behind places) place
     go None = refl
     go (Some p) = refl

@@ -31,11 +31,13 @@ named_exactly heap (Some (Ref o)) object = go (nat_lt o (length heap.objects)) r
     go true e =
         let below : o < length heap.objects = ltb-true o (length heap.objects) e in
         ((λ h. (let same : o ≡ object = cc in (ap (λ (n : ℕ). Some (Ref n)) same, subst (λ (n : ℕ). n < length heap.objects) same below))), (λ h. (let same : o ≡ object = (let whole : Some (Ref o) ≡ Some (Ref object) = h.0 in cc) in ap Some same)))
-    go false e =
-        ((λ h. absurd cc), (λ h. (let same : o ≡ object = (let whole : Some (Ref o) ≡ Some (Ref object) = h.0 in cc) in
-            let below : o < length heap.objects = subst (λ (n : ℕ). n < length heap.objects) (sym same) h.1 in
-            let test : nat_lt o (length heap.objects) ≡ true = lt-ltb o (length heap.objects) below in
-            absurd cc)))
+    go false e = (
+      (λ h. absurd cc),
+      (λ h. (let same : o ≡ object = (let whole : Some (Ref o) ≡ Some (Ref object) = h.0 in cc) in
+          let below : o < length heap.objects = subst (λ (n : ℕ). n < length heap.objects) (sym same) h.1 in
+          let test : nat_lt o (length heap.objects) ≡ true = lt-ltb o (length heap.objects) below in
+          absurd cc)),
+    )
 
 -- ---- lists by pairs
 

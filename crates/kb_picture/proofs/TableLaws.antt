@@ -106,9 +106,10 @@ no_place_at (first ∷ others) place (suc i) x apart at = no_place_at others pla
 
 apart_by : (places : List ℕ) → AreApart places → AreApartBy places
 apart_by [] apart = tt
-apart_by (first ∷ others) apart =
-    (no_place others first (λ i x at e. (let same : 0 ≡ suc i = apart 0 (suc i) first refl (at ∙ ap Some (sym e)) in absurd (omega (arith, same)))),
-    apart_by others (λ one other place here there. (let same : suc one ≡ suc other = apart (suc one) (suc other) place here there in omega (arith, same))))
+apart_by (first ∷ others) apart = (
+  no_place others first (λ i x at e. (let same : 0 ≡ suc i = apart 0 (suc i) first refl (at ∙ ap Some (sym e)) in absurd (omega (arith, same)))),
+  apart_by others (λ one other place here there. (let same : suc one ≡ suc other = apart (suc one) (suc other) place here there in omega (arith, same))),
+)
 
 by_apart : (places : List ℕ) → AreApartBy places → AreApart places
 by_apart [] apart = λ one other place here there. absurd cc
@@ -147,9 +148,10 @@ all_free n (place ∷ others) below = (free_at_first n place below.0, all_free n
 
 -- a table tells which objects are places, and no two places are one
 pub marks_tell : (n : ℕ) (places : List ℕ) (table : List Bool) → marks_of n places ≡ Some table → Tells table places × AreApart places
-marks_tell n places table e =
-    (record { elsewhere = λ o. ((λ h. ((marked_tells (replicate n false) places table e o).0 h).1), (λ h. (marked_tells (replicate n false) places table e o).1 (nothing_marked n o, h))) },
-    by_apart places (marked_apart (replicate n false) places table e).0)
+marks_tell n places table e = (
+  record { elsewhere = λ o. ((λ h. ((marked_tells (replicate n false) places table e o).0 h).1), (λ h. (marked_tells (replicate n false) places table e o).1 (nothing_marked n o, h))) },
+  by_apart places (marked_apart (replicate n false) places table e).0,
+)
 
 -- where there is none, two places are one
 pub no_marks : (n : ℕ) (places : List ℕ) → marks_of n places ≡ None → AreBelow n places → AreApart places → ⊥

@@ -3,6 +3,7 @@ pub mod Shapes
 pub mod Tables
 pub mod Instances
 pub mod Endings
+pub mod Readings
 pub mod Numbering
 pub mod WellFormed
 pub mod Queries

@@ -5,7 +5,8 @@ ghost use Rattle.kb_semantics.specs.Values.{literal};
 ghost use Rattle.kb_picture.specs.declared.path.Ended.{Ended as Stated};
 ghost use Rattle.kb_picture.specs.declared.path.Leaf.TheVariants.{Ended as EndedLeaf};
 ghost use Rattle.kb_picture.specs.Places.{places_of};
-ghost use Rattle.kb_picture.specs.Endings.{place_at, out_value, number_of, ending_at, with_write, with_write_in, made_object, heap_at, ending_of, final_heap_of};
+ghost use Rattle.kb_picture.specs.Endings.{place_at, out_value, number_of, ending_at, with_write, with_write_in, made_object, heap_at, reading_of, ending_of, final_heap_of};
+ghost use Rattle.kb_picture.specs.Readings.{as_read};
 
 use crate::NoMemory;
 use crate::path::{Ended, Leaf, Made, Out, Path, SymEnding, Write};
@@ -16,25 +17,16 @@ use kb_names::{ExactType, Name};
 use kb_rows::Row;
 use kb_world::World;
 use std::alloc::Global;
-use std::marker::Model;
 
 /// What an input gives to the symbolic values of a path: the places of the picture's objects and locations, the values of the
 /// variables and the terms, and how many objects and literals stand before those that the run makes.
 #[derive(Drop)]
 struct Reading<'a> {
     places: &'a PlaceLists,
-    variables: &'a [i32],
-    terms: &'a [i32],
+    variables: Row<i32>,
+    terms: Row<i32>,
     inputs: u32,
     literals: u32,
-}
-
-impl<'a> Model for Reading<'a> {
-    ghost use Rattle.kb_picture.specs.Endings.{Reading};
-
-    ghost Value = { Reading };
-
-    ghost view = { λ r. record { places = r.places.now; variables = r.variables.now; terms = r.terms.now; inputs = r.inputs; literals = r.literals } };
 }
 
 /// How the run ends and the heap that it leaves, as the ended path states them for an instance, where `places` are those that
@@ -48,32 +40,45 @@ pub fn ending_at(
 ) -> Result<(Ending, Heap), NoMemory>
     requires ended { (ended : Stated) × (path.now.leaf ≡ EndedLeaf ended) }
     requires placed { places_of path.now.picture input.now ≡ Some places.now }
-    ensures { IfOk result (λ end. (ended : Stated) → path.now.leaf ≡ EndedLeaf ended
-        → (end.0 ≡ ending_of world.now path.now ended input.now) × (end.1 ≡ final_heap_of world.now path.now ended input.now)) }
+    ensures ending { IfOk result (λ end. (ended : Stated) → path.now.leaf ≡ EndedLeaf ended → end.0 ≡ ending_of world.now path.now ended input.now) }
+    ensures heap { IfOk result (λ end. (ended : Stated) → path.now.leaf ≡ EndedLeaf ended → end.1 ≡ final_heap_of world.now path.now ended input.now) }
 {
     let Leaf::Ended(ended) = &path.leaf else {
         unreachable!()
     };
-    let variables = variable_values(alloc, &path.picture, input, places.objects.as_slice())?;
-    let terms = term_values(alloc, variables.as_slice(), path.terms.as_slice())?;
-    let Ok(inputs) = u32::try_from(input.heap.objects.as_slice().len()) else {
-        return Err(NoMemory);
-    };
-    let reading = Reading {
-        places,
-        variables: variables.as_slice(),
-        terms: terms.as_slice(),
-        inputs,
-        literals: world.literals(),
-    };
+    let reading = reading_of(alloc, world, path, input, places)?;
     let ending = reading.ending(alloc, &ended.ending)?;
     let heap = reading.heap(alloc, &input.heap, ended)?;
     Ok((ending, heap))
 }
 
+fn reading_of<'a>(
+    alloc: Global,
+    world: &World,
+    path: &Path,
+    input: &Input,
+    places: &'a PlaceLists,
+) -> Result<Reading<'a>, NoMemory>
+    requires { places_of path.now.picture input.now ≡ Some places.now }
+    ensures { IfOk result (λ reading. as_read reading ≡ reading_of world.now path.now input.now) }
+{
+    let variables = variable_values(alloc, &path.picture, input, places.objects.as_slice())?;
+    let terms = term_values(alloc, variables.as_slice(), path.terms.as_slice())?;
+    let Ok(inputs) = u32::try_from(input.heap.objects.as_slice().len()) else {
+        return Err(NoMemory);
+    };
+    Ok(Reading {
+        places,
+        variables,
+        terms,
+        inputs,
+        literals: world.literals(),
+    })
+}
+
 impl<'a> Reading<'a> {
     fn ending(&self, alloc: Global, ending: &SymEnding) -> Result<Ending, NoMemory>
-        ensures { IfOk result (λ end. end ≡ ending_at self.now ending.now) }
+        ensures { IfOk result (λ end. end ≡ ending_at (as_read self.now) ending.now) }
     {
         match ending {
             SymEnding::Returned(None) => Ok(Ending::Returned(None)),
@@ -85,7 +90,7 @@ impl<'a> Reading<'a> {
 
     // The objects of the first heap with all that the run wrote, the literals, and what the run made.
     fn heap(&self, alloc: Global, first: &Heap, ended: &Ended) -> Result<Heap, NoMemory>
-        ensures { IfOk result (λ heap. heap ≡ heap_at self.now first.now ended.now.writes ended.now.made) }
+        ensures { IfOk result (λ heap. heap ≡ heap_at (as_read self.now) first.now ended.now.writes ended.now.made) }
     {
         let mut heap = first.copied(alloc)?;
         self.write(&mut heap, ended.writes.as_slice())?;
@@ -95,7 +100,7 @@ impl<'a> Reading<'a> {
     }
 
     fn write(&self, heap: &mut Heap, writes: &[Write]) -> Result<(), NoMemory>
-        ensures { OnOk result (heap.new ≡ fold (with_write self.now) heap.old writes.now) }
+        ensures { OnOk result (heap.new ≡ fold (with_write (as_read self.now)) heap.old writes.now) }
     {
         let mut rest = writes;
         while let [write, others @ ..] = rest {
@@ -108,19 +113,22 @@ impl<'a> Reading<'a> {
 
     // Puts the value in the slot or the element of the object of the picture, at its place.
     fn put(&self, heap: &mut Heap, slot: Origin, value: Value)
-        ensures { heap.new ≡ with_write_in self.now heap.old slot value }
+        ensures { heap.new ≡ with_write_in (as_read self.now) heap.old slot value }
     {
         match slot {
             Origin::Arg(_) => (),
-            Origin::Field(object, slot) | Origin::Element(object, slot) => {
+            Origin::Field(object, slot) => {
                 put_where_there(heap, self.object(object), slot, value);
+            }
+            Origin::Element(array, index) => {
+                put_where_there(heap, self.object(array), index, value);
             }
         }
     }
 
     // The objects that the run made, behind the others.
     fn make(&self, alloc: Global, heap: &mut Heap, made: &[Made]) -> Result<(), NoMemory>
-        ensures { OnOk result (heap.new.objects ≡ heap.old.objects ++ map (made_object self.now) made.now) }
+        ensures { OnOk result (heap.new.objects ≡ heap.old.objects ++ map (made_object (as_read self.now)) made.now) }
     {
         let mut rest = made;
         while let [object, others @ ..] = rest {
@@ -131,7 +139,7 @@ impl<'a> Reading<'a> {
     }
 
     fn made_object(&self, alloc: Global, made: &Made) -> Result<Object, NoMemory>
-        ensures { IfOk result (λ object. object ≡ made_object self.now made.now) }
+        ensures { IfOk result (λ object. object ≡ made_object (as_read self.now) made.now) }
     {
         let kind = made.kind.copied(alloc)?;
         let values = self.values(alloc, made.values.as_slice())?;
@@ -139,7 +147,7 @@ impl<'a> Reading<'a> {
     }
 
     fn values(&self, alloc: Global, outs: &[Out]) -> Result<Row<Value>, NoMemory>
-        ensures { IfOk result (λ values. values ≡ map (out_value self.now) outs.now) }
+        ensures { IfOk result (λ values. values ≡ map (out_value (as_read self.now)) outs.now) }
     {
         let mut values = Row::new(alloc);
         let mut rest = outs;
@@ -152,10 +160,14 @@ impl<'a> Reading<'a> {
 
     // The value that a symbolic one has. A number past a `u32` is want of memory: no heap has such an object.
     fn value(&self, out: Out) -> Result<Value, NoMemory>
-        ensures { IfOk result (λ value. value ≡ out_value self.now out) }
+        ensures { IfOk result (λ value. value ≡ out_value (as_read self.now) out) }
     {
         match out {
-            Out::Int(operand) => Ok(Value::Int(operand_value(self.variables, self.terms, operand))),
+            Out::Int(operand) => Ok(Value::Int(operand_value(
+                self.variables.as_slice(),
+                self.terms.as_slice(),
+                operand,
+            ))),
             Out::Null => Ok(Value::Null),
             Out::Loc(number) => Ok(Value::Ref(place_at(self.places.locs.as_slice(), number))),
             Out::Obj(number) => Ok(Value::Ref(self.object(number))),
@@ -169,7 +181,7 @@ impl<'a> Reading<'a> {
 
     // The place of the picture's object of that number.
     fn object(&self, number: u32) -> u32
-        ensures { result ≡ place_at self.now.places.objects number }
+        ensures { result ≡ place_at (as_read self.now).places.objects number }
     {
         place_at(self.places.objects.as_slice(), number)
     }
@@ -207,9 +219,10 @@ fn sum(one: u32, other: u32) -> Result<u32, NoMemory>
 fn put_where_there(heap: &mut Heap, object: u32, slot: u32, value: Value)
     ensures { heap.new ≡ with_value heap.old object slot value }
 {
-    if heap.find(object, slot).is_some() {
-        heap.put(object, slot, value);
-    }
+    let Some(_) = heap.find(object, slot) else {
+        return;
+    };
+    heap.put(object, slot, value);
 }
 
 // So many string literals, behind the other objects.

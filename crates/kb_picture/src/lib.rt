@@ -23,7 +23,9 @@ pub use ending::ending_at;
 pub use instance::is_instance;
 pub use kb_rows::Row;
 pub use kb_terms::{Operand, Term};
-pub use laws::{depths_are_chains, final_heaps_are_whole, fronts_have_instances, one_places, places_stay};
+pub use laws::{
+    depths_are_chains, final_heaps_are_whole, fronts_have_instances, one_places, places_stay,
+};
 pub use path::{Ended, Leaf, Made, Out, Path, SymEnding, Write};
 pub use picture::{Length, Origin, PicLoc, PicObject, Picture, PlaceLists, Seen, Standing};
 pub use placing::places;

@@ -19,9 +19,11 @@ hold_each-requires c =
 
 pub returns-then-not-are_such : goal.returns-then-not-are_such
 returns-then-not-are_such c =
-    let such = rw (c.as_slice-4.ensures, c.as_slice-objects.ensures) at c.are_such.ensures in
-    ((λ h. absurd cc), (λ shape. (let told : IsTrue c.are_such.result = such.1 (parts_of_shape c.args.picture.now c.args.input.now c.args.places.now c.requires shape).such in
-        absurd cc)))
+    let such = rw (c.as_slice-4.ensures, c.as_slice-objects.ensures) at c.are_such.ensures in (
+      (λ h. absurd cc),
+      (λ shape. (let told : IsTrue c.are_such.result = such.1 (parts_of_shape c.args.picture.now c.args.input.now c.args.places.now c.requires shape).such in
+          absurd cc)),
+    )
 
 pub each_stands-requires : goal.each_stands-requires
 each_stands-requires c =
@@ -35,11 +37,12 @@ returns c =
     let some : marks_of (length c.args.input.now.heap.objects) c.args.places.now.objects ≡ Some c.in-Some.table = sym told ∙ c.in-Some.is in
     let seen = rw (c.as_slice-3.ensures, c.as_slice-objects.ensures) at c.hold_each.ensures in
     let such = rw (c.as_slice-4.ensures, c.as_slice-objects.ensures) at c.are_such.ensures in
-    let stands = simp (c.as_slice-6.ensures, c.as_slice-7.ensures, c.as_slice-objects.ensures) at c.each_stands.ensures in
-    ((λ h. shape_of_parts c.args.picture.now c.args.input.now c.args.places.now c.requires (record {
-      seen = seen.0 c.if-not-hold_each.false;
-      apart = (marks_tell (length c.args.input.now.heap.objects) c.args.places.now.objects c.in-Some.table some).1;
-      such = such.0 c.if-not-are_such.false;
-      stands = stands.0 h;
-    })),
-    (λ shape. stands.1 (parts_of_shape c.args.picture.now c.args.input.now c.args.places.now c.requires shape).stands))
+    let stands = simp (c.as_slice-6.ensures, c.as_slice-7.ensures, c.as_slice-objects.ensures) at c.each_stands.ensures in (
+      (λ h. shape_of_parts c.args.picture.now c.args.input.now c.args.places.now c.requires (record {
+        seen = seen.0 c.if-not-hold_each.false;
+        apart = (marks_tell (length c.args.input.now.heap.objects) c.args.places.now.objects c.in-Some.table some).1;
+        such = such.0 c.if-not-are_such.false;
+        stands = stands.0 h;
+      })),
+      (λ shape. stands.1 (parts_of_shape c.args.picture.now c.args.input.now c.args.places.now c.requires shape).stands),
+    )
