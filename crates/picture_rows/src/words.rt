@@ -18,7 +18,10 @@ pub fn numbered(word: &str, letter: &str) -> Option<u32> {
 }
 
 pub fn number(word: &str) -> io::Result<u32> {
-    word.parse::<u32>().map_err(|_| malformed())
+    match word.parse::<u32>() {
+        Ok(number) => Ok(number),
+        Err(_) => Err(malformed()),
+    }
 }
 
 /// `a0` for an argument, `o0.1` for a slot by its number, `o0[1]` for an element.
