@@ -1,5 +1,5 @@
 #!/usr/bin/env python3
-"""Times the built program on assembler texts of about 20,000, 40,000, 80,000 and 160,000 lines.
+"""Prints the processor time of the built program on assembler texts of about 20,000, 40,000, 80,000 and 160,000 lines.
 
 A text is a class of methods of 500 lines: blocks that compare two arguments, jump over an addition and read a field whose name
 no other block has, so that labels, branches and the constant pool grow with the text. Each class file is compared with the one
@@ -10,12 +10,11 @@ Usage: bench/assemble.py [--runs N] [--program FILE]
 Build the program first, by running ./kiasan once.
 """
 
-import subprocess
 import sys
 import tempfile
-import time
 from pathlib import Path
 
+from replay import processor_seconds
 from straight import ROOT, read_options
 
 sys.path.insert(0, str(ROOT / "examples" / "assemble"))
@@ -39,20 +38,13 @@ def text_of(size):
     return "".join(f"{line}\n" for line in lines)
 
 
-def timed_run(program, file):
-    """The seconds of one run, its exit status and what it wrote."""
-    start = time.perf_counter()
-    run = subprocess.run([str(program), "assemble", str(file)], stdin=subprocess.DEVNULL, capture_output=True)
-    return time.perf_counter() - start, run.returncode, run.stdout
-
-
 def least_time(program, file, text, runs):
-    """The least seconds of so many runs on a text."""
+    """The least processor seconds of so many runs on a text."""
     file.write_text(text)
     expected = assemble(text)
     seconds = []
     for _ in range(runs):
-        took, status, written = timed_run(program, file)
+        took, status, written = processor_seconds([str(program), "assemble", str(file)])
         if status != 0 or written != expected:
             sys.exit(f"status {status}, {len(written)} bytes that are not the {len(expected)} that are expected")
         seconds.append(took)
