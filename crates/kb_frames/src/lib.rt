@@ -1,0 +1,58 @@
+//! Symbolic states: a run over all inputs of a path at once.
+//!
+//! `specs/State.antt` has what a state is, `specs/StandsFor.antt` of which configurations of the machine it speaks.
+#![tactic(auto)]
+
+mod beginning;
+mod code;
+mod conditions;
+mod frame;
+mod laws;
+mod lent;
+mod next;
+mod path;
+mod state;
+mod stated;
+mod truths;
+mod value;
+
+pub use code::{Found, instruction_at};
+pub use laws::{paths_are_well_formed, states_begin};
+pub use path::PathStop;
+pub use state::{SymState, start};
+use std::alloc::{AllocError, AllocFailed};
+pub use value::{Outcome, SymValue};
+
+/// Memory ran out.
+#[derive(Clone, Copy, Debug, PartialEq, Eq)]
+pub struct NoMemory;
+
+impl From<AllocError> for NoMemory {
+    fn from(_error: AllocError) -> NoMemory {
+        NoMemory
+    }
+}
+
+impl<T: Drop> From<AllocFailed<T>> for NoMemory {
+    fn from(_error: AllocFailed<T>) -> NoMemory {
+        NoMemory
+    }
+}
+
+impl From<kb_names::NoMemory> for NoMemory {
+    fn from(_error: kb_names::NoMemory) -> NoMemory {
+        NoMemory
+    }
+}
+
+impl From<kb_picture::NoMemory> for NoMemory {
+    fn from(_error: kb_picture::NoMemory) -> NoMemory {
+        NoMemory
+    }
+}
+
+impl From<kb_terms::NoMemory> for NoMemory {
+    fn from(_error: kb_terms::NoMemory) -> NoMemory {
+        NoMemory
+    }
+}

@@ -1,0 +1,165 @@
+//! What a state's heap states at the end of a run.
+ghost use Rattle.std.specs.Prelude.{◌≡◌, [], ◌++◌, slice_get, IfOk, OnOk};
+ghost use Rattle.std.specs.List.{cons_option};
+ghost use Rattle.std.specs.Option.{option_copied};
+ghost use Rattle.kb_frames.specs.Stated.{stated_loc, stated, stated_values, stated_object, made_of, slot_in, write_of, slot_writes, object_writes, writes_of};
+
+use crate::NoMemory;
+use crate::state::{SymObject, SymState};
+use crate::value::{Cell, SymValue};
+use kb_names::ExactType;
+use kb_picture::{Made, Origin, Out, PicLoc, PicObject, Standing, Write};
+use kb_rows::Row;
+use kb_terms::Operand;
+use std::alloc::Global;
+
+impl SymState {
+    /// The slots of the picture's objects that the run has written, each with its present value, by rising object and slot. The
+    /// terms have their numbers in the state's pool.
+    pub fn writes(&self) -> Result<Row<Write>, NoMemory>
+        ensures { IfOk result (λ writes. writes ≡ writes_of self.now) }
+    {
+        let locs = self.picture.locs.as_slice();
+        let objects = self.picture.objects.as_slice();
+        let mut writes = Row::new(self.alloc);
+        let mut number: u32 = 0;
+        let mut rest = self.cells.as_slice();
+        while let [slots, others @ ..] = rest {
+            let object = object_at(objects, number);
+            add_object(locs, object, number, slots.as_slice(), &mut writes)?;
+            number = number.checked_add(1).ok_or(NoMemory)?;
+            rest = others;
+        }
+        Ok(writes)
+    }
+
+    /// The objects that the run has made, in order, each with the present values of its slots or elements.
+    pub fn made(&self) -> Result<Row<Made>, NoMemory>
+        ensures { IfOk result (λ made. made ≡ made_of self.now) }
+    {
+        let locs = self.picture.locs.as_slice();
+        let mut made = Row::new(self.alloc);
+        for object in self.made.as_slice() {
+            made.push(stated_object(self.alloc, locs, object)?)?;
+        }
+        Ok(made)
+    }
+}
+
+// The object of the picture of that number.
+fn object_at(objects: &[PicObject], number: u32) -> Option<&PicObject>
+    ensures { option_copied result ≡ slice_get objects.now number }
+{
+    objects.get(number as usize)
+}
+
+// Adds the written slots of an object of the picture.
+fn add_object(
+    locs: &[PicLoc],
+    object: Option<&PicObject>,
+    number: u32,
+    slots: &[Cell],
+    writes: &mut Row<Write>,
+) -> Result<(), NoMemory>
+    ensures { OnOk result (writes.new ≡ writes.old ++ object_writes locs.now (option_copied object.entry) number slots.now) }
+{
+    match object {
+        Some(object) => add_slots(locs, &object.kind, number, slots, writes),
+        None => Ok(()),
+    }
+}
+
+// Adds the written slots of an object of the exact type.
+#[tactic(auto, using(crate::proofs::StatedLaws::push_option))]
+fn add_slots(
+    locs: &[PicLoc],
+    kind: &ExactType,
+    number: u32,
+    slots: &[Cell],
+    writes: &mut Row<Write>,
+) -> Result<(), NoMemory>
+    ensures { OnOk result (writes.new ≡ writes.old ++ slot_writes locs.now kind.now number 0 slots.now) }
+{
+    let mut slot: u32 = 0;
+    let mut rest = slots;
+    while let [cell, others @ ..] = rest {
+        add_slot(locs, slot_in(kind, number, slot), *cell, writes)?;
+        slot = slot.checked_add(1).ok_or(NoMemory)?;
+        rest = others;
+    }
+    Ok(())
+}
+
+// Adds a slot that was written.
+fn add_slot(
+    locs: &[PicLoc],
+    slot: Origin,
+    cell: Cell,
+    writes: &mut Row<Write>,
+) -> Result<(), NoMemory>
+    ensures { OnOk result (writes.new ≡ writes.old ++ cons_option (write_of locs.now slot cell) []) }
+{
+    match cell {
+        Cell::Written(value) => {
+            writes.push(Write {
+                slot,
+                value: stated(locs, value),
+            })?;
+            Ok(())
+        }
+        Cell::Read(_) | Cell::Untouched => Ok(()),
+    }
+}
+
+fn slot_in(kind: &ExactType, object: u32, slot: u32) -> Origin
+    ensures { result ≡ slot_in kind.now object slot }
+{
+    match kind {
+        ExactType::Class(_) => Origin::Field(object, slot),
+        ExactType::Array(_) => Origin::Element(object, slot),
+    }
+}
+
+// A value, as a path states it: a location that is known to be an object of the picture is that object.
+fn stated(locs: &[PicLoc], value: SymValue) -> Out
+    ensures { result ≡ stated locs.now value }
+{
+    match value {
+        SymValue::Int(term) => Out::Int(Operand::Term(term.0)),
+        SymValue::Null => Out::Null,
+        SymValue::Obj(number) => Out::Obj(number),
+        SymValue::Literal(number) => Out::Literal(number),
+        SymValue::New(number) => Out::New(number),
+        SymValue::Loc(number) => stated_loc(locs, number),
+    }
+}
+
+fn stated_loc(locs: &[PicLoc], number: u32) -> Out
+    ensures { result ≡ stated_loc locs.now number }
+{
+    match locs.get(number as usize) {
+        Some(loc) => match loc.standing {
+            Standing::Obj(object) => Out::Obj(object),
+            Standing::Open | Standing::Beyond => Out::Loc(number),
+        },
+        None => Out::Loc(number),
+    }
+}
+
+fn stated_object(alloc: Global, locs: &[PicLoc], object: &SymObject) -> Result<Made, NoMemory>
+    ensures { IfOk result (λ made. made ≡ stated_object locs.now object.now) }
+{
+    let kind = object.kind.copied(alloc)?;
+    let values = stated_values(alloc, locs, object.values.as_slice())?;
+    Ok(Made { kind, values })
+}
+
+fn stated_values(alloc: Global, locs: &[PicLoc], values: &[SymValue]) -> Result<Row<Out>, NoMemory>
+    ensures { IfOk result (λ outs. outs ≡ stated_values locs.now values.now) }
+{
+    let mut outs = Row::new(alloc);
+    for value in values {
+        outs.push(stated(locs, *value))?;
+    }
+    Ok(outs)
+}

@@ -1,0 +1,52 @@
+//! What a path of an exploration says of an input: the picture of its first heap, the conditions on its ints, and how its run
+//! ends.
+//!
+//! `specs/` has the definitions: where the objects of a picture lie in an input (`Places`), which inputs are instances of a path
+//! (`Shapes`, `Instances`), the ending and the heap that an ended path states (`Endings`), and when a path is well-formed
+//! (`WellFormed`).
+#![tactic(auto)]
+
+mod choice;
+mod ending;
+mod instance;
+mod laws;
+mod marks;
+mod path;
+mod picture;
+mod placing;
+mod values;
+
+pub use choice::{Choice, Init};
+pub use ending::ending_at;
+pub use instance::is_instance;
+pub use kb_rows::Row;
+pub use kb_terms::{Operand, Term};
+pub use laws::{
+    depths_are_chains, final_heaps_are_whole, fronts_have_instances, one_places, places_stay,
+};
+pub use path::{Ended, Leaf, Made, Out, Path, SymEnding, Write};
+pub use picture::{Length, Origin, PicLoc, PicObject, Picture, PlaceLists, Seen, Standing};
+pub use placing::places;
+use std::alloc::AllocError;
+
+/// Memory ran out.
+#[derive(Clone, Copy, Debug, PartialEq, Eq)]
+pub struct NoMemory;
+
+impl From<AllocError> for NoMemory {
+    fn from(_error: AllocError) -> NoMemory {
+        NoMemory
+    }
+}
+
+impl From<kb_heap::NoMemory> for NoMemory {
+    fn from(_error: kb_heap::NoMemory) -> NoMemory {
+        NoMemory
+    }
+}
+
+impl From<kb_names::NoMemory> for NoMemory {
+    fn from(_error: kb_names::NoMemory) -> NoMemory {
+        NoMemory
+    }
+}

@@ -1,0 +1,9 @@
+pub mod Lacking
+pub mod Reading
+pub mod FieldLaws
+pub mod WordLaws
+pub mod Sections
+pub mod LineLaws
+pub mod LocLaws
+pub mod PathLaws
+pub mod ReportLaws

@@ -1,0 +1,207 @@
+-- What the types of a report's parts keep: numbers of 32 bits, ints of 32 bits with sign, names of bytes. And what a text can
+-- hold: no class's name is empty, and no type has more than 255 dimensions.
+use Rattle.std.specs.Prelude.{ℕ, ◌<◌, ◌^◌, Bool, length, Option, Some, None}
+use Rattle.std.specs.List.{AllByRecursion}
+use Rattle.std.specs.Int.{w32}
+use Rattle.std.specs.Int.RustNames.{FitsSigned}
+use Rattle.kb_names.specs.Bytes.{AreBytes}
+use Rattle.kb_names.specs.Descriptors.{IsClassName, IsType}
+use Rattle.kb_names.specs.Targets.{IsTarget}
+use Rattle.kb_names.specs.declared.class_names.Spelling.TheVariants.{Escaped}
+use Rattle.kb_names.specs.declared.types.ExactType.{ExactType}
+use Rattle.kb_names.specs.declared.types.ExactType.TheVariants as exact
+use Rattle.kb_heap.specs.declared.bounds.Bounds.{Bounds}
+use Rattle.kb_heap.specs.declared.ending.Place.{Place}
+use Rattle.kb_heap.specs.declared.heap.Value.{Value}
+use Rattle.kb_heap.specs.declared.heap.Value.TheVariants as values
+use Rattle.kb_heap.specs.declared.heap.Object.{Object}
+use Rattle.kb_heap.specs.declared.heap.Input.{Input}
+use Rattle.kb_class.specs.Class.{Class}
+use Rattle.kb_class.specs.declared.members.FieldInfo.{FieldInfo}
+use Rattle.kb_link.specs.World.{World}
+use Rattle.kb_log_text.specs.Lines.{IsChain}
+use Rattle.kb_terms.specs.declared.listing.Operand.{Operand}
+use Rattle.kb_terms.specs.declared.listing.Operand.TheVariants.{Const, Var, Term as TermOperand}
+use Rattle.kb_terms.specs.declared.listing.Term.{Term}
+use Rattle.kb_picture.specs.declared.path.Out.{Out}
+use Rattle.kb_picture.specs.declared.path.Out.TheVariants as outs
+use Rattle.kb_picture.specs.declared.path.Write.{Write}
+use Rattle.kb_picture.specs.declared.path.Made.{Made}
+use Rattle.kb_picture.specs.declared.path.SymEnding.{SymEnding}
+use Rattle.kb_picture.specs.declared.path.SymEnding.TheVariants.{Returned, Threw, IllTyped}
+use Rattle.kb_picture.specs.declared.path.Ended.{Ended}
+use Rattle.kb_picture.specs.declared.path.Leaf.{Leaf}
+use Rattle.kb_picture.specs.declared.path.Leaf.TheVariants.{Ended as EndedLeaf, Cut, Undecided, Open}
+use Rattle.kb_picture.specs.declared.path.Path.{Path}
+use Rattle.kb_picture.specs.declared.picture.Length.{Length}
+use Rattle.kb_picture.specs.declared.picture.Length.TheVariants.{Plain, Is, Above}
+use Rattle.kb_picture.specs.declared.picture.Origin.{Origin}
+use Rattle.kb_picture.specs.declared.picture.Origin.TheVariants.{Arg, Field, Element}
+use Rattle.kb_picture.specs.declared.picture.PicLoc.{PicLoc}
+use Rattle.kb_picture.specs.declared.picture.PicObject.{PicObject}
+use Rattle.kb_picture.specs.declared.picture.Seen.{Seen}
+use Rattle.kb_picture.specs.declared.picture.Seen.TheVariants as seens
+use Rattle.kb_picture.specs.declared.picture.Standing.{Standing}
+use Rattle.kb_picture.specs.declared.picture.Standing.TheVariants as standings
+use Rattle.kb_report.specs.declared.report.Report.{Report}
+
+abbrev pub IsSmall : ℕ → Type 0
+IsSmall n = n < 2 ^ 32
+
+-- how many items a list has
+abbrev pub IsCount : ℕ → Type 0
+IsCount n = n < 2 ^ 64
+
+-- ---- the words of a line
+
+abbrev pub OriginFits : Origin → Type 0
+OriginFits (Arg number) = IsSmall number
+OriginFits (Field object slot) = IsSmall object × IsSmall slot
+OriginFits (Element array index) = IsSmall array × IsSmall index
+
+abbrev pub SeenFits : Seen → Type 0
+SeenFits (seens.Int number) = IsSmall number
+SeenFits seens.Null = Unit {0}
+SeenFits (seens.Loc number) = IsSmall number
+SeenFits (seens.Obj number) = IsSmall number
+SeenFits seens.Beyond = Unit {0}
+
+abbrev pub StandingFits : Standing → Type 0
+StandingFits standings.Open = Unit {0}
+StandingFits (standings.Obj number) = IsSmall number
+StandingFits standings.Beyond = Unit {0}
+
+abbrev pub LengthFits : Length → Type 0
+LengthFits Plain = Unit {0}
+LengthFits (Is n) = IsSmall n
+LengthFits (Above n) = IsSmall n
+
+abbrev pub OperandFits : Operand → Type 0
+OperandFits (Const z) = FitsSigned w32 z
+OperandFits (Var number) = IsSmall number
+OperandFits (TermOperand number) = IsSmall number
+
+abbrev pub SecondFits : Option Operand → Type 0
+SecondFits None = Unit {0}
+SecondFits (Some operand) = OperandFits operand
+
+abbrev pub OutFits : Out → Type 0
+OutFits (outs.Int operand) = OperandFits operand
+OutFits outs.Null = Unit {0}
+OutFits (outs.Loc number) = IsSmall number
+OutFits (outs.Obj number) = IsSmall number
+OutFits (outs.Literal number) = IsSmall number
+OutFits (outs.New number) = IsSmall number
+
+abbrev pub ValueFits : Value → Type 0
+ValueFits (values.Int z) = FitsSigned w32 z
+ValueFits values.Null = Unit {0}
+ValueFits (values.Ref object) = IsSmall object
+
+-- a class's name that is not empty, a component with at most 255 dimensions
+abbrev pub ExactFits : ExactType → Type 0
+ExactFits (exact.Class name) = IsClassName Escaped name
+ExactFits (exact.Array component) = IsType Escaped component
+
+pub record PlaceFits (place : Place) : Type 0 where
+  pub method : IsTarget place.method
+  pub at : IsSmall place.at
+
+-- ---- the parts of a path
+
+abbrev pub SlotFits : Origin × Seen → Type 0
+SlotFits slot = OriginFits slot.0 × SeenFits slot.1
+
+pub record ObjectFits (object : PicObject) : Type 0 where
+  pub kind : ExactFits object.kind
+  pub length : LengthFits object.length
+  pub origin : OriginFits object.origin
+
+abbrev pub LocFits : PicLoc → Type 0
+LocFits loc = StandingFits loc.standing
+
+pub record TermFits (term : Term) : Type 0 where
+  pub left : OperandFits term.left
+  pub right : SecondFits term.right
+
+abbrev pub ConditionFits : ℕ × Bool → Type 0
+ConditionFits condition = IsSmall condition.0
+
+abbrev pub WriteFits : Write → Type 0
+WriteFits write = OriginFits write.slot × OutFits write.value
+
+pub record MadeFits (made : Made) : Type 0 where
+  pub kind : ExactFits made.kind
+  pub values : AllByRecursion OutFits made.values
+
+pub record InputObjectFits (object : Object) : Type 0 where
+  pub kind : ExactFits object.kind
+  pub values : AllByRecursion ValueFits object.values
+
+pub record InputFits (input : Input) : Type 0 where
+  pub args : AllByRecursion ValueFits input.args
+  pub objects : AllByRecursion InputObjectFits input.heap.objects
+  pub count : IsCount (length input.heap.objects)
+
+abbrev pub EndingFits : SymEnding → Type 0
+EndingFits (Returned None) = Unit {0}
+EndingFits (Returned (Some value)) = OutFits value
+EndingFits (Threw value) = OutFits value
+EndingFits (IllTyped place) = PlaceFits place
+
+pub record EndedFits (ended : Ended) : Type 0 where
+  pub ending : EndingFits ended.ending
+  pub writes : AllByRecursion WriteFits ended.writes
+  pub made : AllByRecursion MadeFits ended.made
+  pub count : IsCount (length ended.made)
+  pub input : InputFits ended.input
+
+abbrev pub LeafFits : Leaf → Type 0
+LeafFits (EndedLeaf ended) = EndedFits ended
+LeafFits (Cut bound input) = InputFits input
+LeafFits (Undecided log) = AllByRecursion IsChain log.entries × IsCount (length log.entries)
+LeafFits Open = Unit {0}
+
+pub record HasCounts (path : Path) : Type 0 where
+  pub locs : IsCount (length path.picture.locs)
+  pub objects : IsCount (length path.picture.objects)
+  pub terms : IsCount (length path.terms)
+
+pub record PathFits (path : Path) : Type 0 where
+  pub counts : HasCounts path
+  pub decisions : AllByRecursion IsSmall path.decisions
+  pub seen : AllByRecursion SlotFits path.picture.seen
+  pub locs : AllByRecursion LocFits path.picture.locs
+  pub objects : AllByRecursion ObjectFits path.picture.objects
+  pub terms : AllByRecursion TermFits path.terms
+  pub when : AllByRecursion ConditionFits path.when
+  pub leaf : LeafFits path.leaf
+
+-- ---- reports and worlds
+
+pub record BoundsFit (bounds : Bounds) : Type 0 where
+  pub k : IsSmall bounds.k
+  pub array : IsSmall bounds.array
+  pub alloc : IsSmall bounds.run.alloc
+  pub loops : IsSmall bounds.run.loops
+  pub depth : IsSmall bounds.run.depth
+  pub steps : IsSmall bounds.run.steps
+
+pub record ReportFits (report : Report) : Type 0 where
+  pub target : IsTarget report.target
+  pub bounds : BoundsFit report.bounds
+  pub paths : IsSmall report.paths
+  pub budget : IsSmall report.budget
+  pub leaves : AllByRecursion PathFits report.leaves
+  pub count : IsCount (length report.leaves)
+
+pub record FieldFits (field : FieldInfo) : Type 0 where
+  pub name : AreBytes field.name
+  pub kind : IsType Escaped field.kind
+
+pub record ClassFits (class : Class) : Type 0 where
+  pub name : AreBytes class.name
+  pub fields : AllByRecursion FieldFits class.fields
+
+abbrev pub WorldFits : World → Type 0
+WorldFits world = AllByRecursion ClassFits world.classes
