@@ -14,6 +14,8 @@ mod marks;
 mod path;
 mod picture;
 mod placing;
+#[cfg(test)]
+mod tests;
 mod values;
 
 pub use choice::{Choice, Init};
