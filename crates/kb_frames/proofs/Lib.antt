@@ -1,14 +1,2 @@
 pub mod StartLaws
 pub mod TruthLaws
-pub mod StackLaws
-pub mod CodeLaws
-pub mod NextLaws
-pub mod StatedLaws
-pub mod BeginLaws
-pub mod StateLaws
-pub mod RunLaws
-pub mod SetLaws
-pub mod PathSteps
-pub mod Renumbering
-pub mod PathLaws
-pub mod FormedPaths

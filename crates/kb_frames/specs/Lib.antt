@@ -2,9 +2,3 @@ pub mod State
 pub mod StandsFor
 pub mod Truths
 pub mod Cuts
-pub mod Code
-pub mod Next
-pub mod Stated
-pub mod States
-pub mod Lent
-pub mod Paths

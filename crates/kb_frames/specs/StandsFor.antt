@@ -118,16 +118,6 @@ pub record HeapStandsFor (r : Reading) (state : State) (first heap : Heap) : Typ
   -- an object of the input that no object of the picture is, and a literal, are as at the start
   pub others : (object : ℕ) → object < r.inputs + r.literals → IsNoPlace r.places.objects object → object_at heap object ≡ object_at first object
 
--- ---- the run
-
--- the beginning of the run that the state is in: that of its method over the input
-abbrev pub beginning_of : World → State → Input → Config
-beginning_of world state input = start_of world state.method input
-
--- The configuration is that of the run that the state is in, behind as many instructions as the state has carried out.
-abbrev pub IsOfRun : Setting → State → Input → Config → Type 0
-IsOfRun s state input c = config_at s state.carried (beginning_of s.world state input) ≡ Some c
-
 -- ---- what the run has written
 
 -- the slots that the steps of the first so many configurations of a run write
@@ -144,6 +134,10 @@ pub record IsKept (r : Reading) (state : State) (slot : Slot) : Type 0 where
 
 -- ---- states
 
+-- The configuration is that of the run that the state is in, behind as many instructions as the state has carried out.
+abbrev pub IsOfRun : Setting → State → Input → Config → Type 0
+IsOfRun s state input c = config_at s state.carried (start_of s.world state.method input) ≡ Some c
+
 -- A state stands for a configuration of an input's run.
 pub record StandsFor (s : Setting) (state : State) (input : Input) (c : Config) : Type 0 where
   pub run : IsOfRun s state input c
@@ -152,5 +146,5 @@ pub record StandsFor (s : Setting) (state : State) (input : Input) (c : Config) 
   pub heap : HeapStandsFor (reading_at s.world state input instance_of.shape.places) state (first_heap s.world input.heap) c.heap
   -- what the state keeps as written are those slots of the input that the run has written
   pub written : (slot : Slot) → slot.object < length input.heap.objects
-      → Has (written_by s state.carried (beginning_of s.world state input)) slot
+      → Has (written_by s state.carried (start_of s.world state.method input)) slot
       ↔ IsKept (reading_at s.world state input instance_of.shape.places) state slot

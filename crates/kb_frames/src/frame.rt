@@ -1,5 +1,5 @@
 //! The frames of a state (The Java Virtual Machine Specification, Java SE 8 Edition, section 2.6).
-ghost use Rattle.std.specs.Prelude.{◌≡◌, [], ◌∷◌, drop, length, slice_get, slice_set, Some, IfOk, OnOk, OnErr};
+ghost use Rattle.std.specs.Prelude.{◌≡◌, IfOk};
 
 use crate::NoMemory;
 use crate::value::SymValue;
@@ -30,52 +30,6 @@ impl SymStack {
         let values = self.values.as_slice().to_vec(alloc)?;
         Ok(SymStack { values })
     }
-
-    /// The stack of no values. It takes no memory.
-    pub(crate) fn new(alloc: Global) -> SymStack
-        ensures { result ≡ [] }
-    {
-        SymStack {
-            values: Vec::new(alloc),
-        }
-    }
-
-    pub(crate) fn height(&self) -> usize
-        ensures { result ≡ length self.now }
-    {
-        self.values.len()
-    }
-
-    /// The value so deep, the top being 0.
-    #[tactic(auto, using(crate::proofs::StackLaws::from_top))]
-    pub(crate) fn value_at(&self, depth: usize) -> Option<SymValue>
-        ensures { result ≡ slice_get self.now depth }
-    {
-        let height = self.values.len();
-        if depth >= height {
-            return None;
-        }
-        Some(self.values[height - 1 - depth])
-    }
-
-    pub(crate) fn push(&mut self, value: SymValue) -> Result<(), NoMemory>
-        ensures ok { OnOk result (self.new ≡ value ∷ self.old) }
-        ensures err { OnErr result (self.new ≡ self.old) }
-    {
-        match self.values.push(value) {
-            Ok(()) => Ok(()),
-            Err(_) => Err(NoMemory),
-        }
-    }
-
-    /// Takes so many values off the top.
-    #[tactic(auto, using(crate::proofs::StackLaws::rest_left))]
-    pub(crate) fn pop(&mut self, count: usize)
-        ensures { self.new ≡ drop count self.old }
-    {
-        let kept = self.values.len().saturating_sub(count);
-        self.values.truncate(kept);
-    }
 }
 
 /// A frame. A local that was never written is None. `transfers` counts the transfers of control to an offset not above one's
@@ -104,16 +58,6 @@ impl SymFrame {
             transfers: self.transfers,
         })
     }
-
-    /// Writes a local. One that the frame does not have is left out.
-    #[tactic(auto, using(std::proofs::lemmas::List::set_past))]
-    pub(crate) fn store(&mut self, number: usize, value: SymValue)
-        ensures { self.new ≡ record self.old { locals = slice_set self.old.locals number (Some value) } }
-    {
-        if number < self.locals.as_slice().len() {
-            self.locals.set(number, Some(value));
-        }
-    }
 }
 
 /// The frames of the callers. Contracts see the list of them from the nearest on.
@@ -132,15 +76,6 @@ impl Model for SymCallers {
 }
 
 impl SymCallers {
-    /// No callers. It takes no memory.
-    pub(crate) fn new(alloc: Global) -> SymCallers
-        ensures { result ≡ [] }
-    {
-        SymCallers {
-            frames: Vec::new(alloc),
-        }
-    }
-
     pub(crate) fn copied(&self, alloc: Global) -> Result<SymCallers, NoMemory>
         ensures { IfOk result (λ copy. copy ≡ self.now) }
     {

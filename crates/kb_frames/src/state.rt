@@ -86,17 +86,17 @@ impl Stage {
 /// A state of the runs of a method over all inputs of a path at once.
 #[derive(Drop)]
 pub struct SymState {
-    pub(crate) alloc: Global,
-    pub(crate) init: Init,
-    pub(crate) method: MethodId,
-    pub(crate) stage: Stage,
+    alloc: Global,
+    init: Init,
+    method: MethodId,
+    stage: Stage,
     /// How many instructions were carried out.
-    pub(crate) carried: u32,
-    pub(crate) picture: Picture,
+    carried: u32,
+    picture: Picture,
     /// Of each object of the picture what its slots or elements hold.
-    pub(crate) cells: Row<Row<Cell>>,
+    cells: Row<Row<Cell>>,
     /// The objects that the run has made.
-    pub(crate) made: Row<SymObject>,
+    made: Row<SymObject>,
     pub(crate) pool: Pool,
     /// The conditions, in the order in which they were met.
     pub(crate) when: Conditions,

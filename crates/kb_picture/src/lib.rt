@@ -8,16 +8,20 @@
 
 mod choice;
 mod ending;
+mod growth;
 mod instance;
 mod laws;
 mod marks;
 mod path;
 mod picture;
 mod placing;
+#[cfg(test)]
+mod tests;
 mod values;
 
 pub use choice::{Choice, Init};
 pub use ending::ending_at;
+pub use growth::{pictures_grow, pictures_grow_by_ints};
 pub use instance::is_instance;
 pub use kb_rows::Row;
 pub use kb_terms::{Operand, Term};
