@@ -19,13 +19,9 @@ ExactlyOneHas Has [] input = ⊥
 ExactlyOneHas Has (first ∷ others) input =
     (Has first input × NoneHas Has others input) ⊎ ((Has first input → ⊥) × ExactlyOneHas Has others input)
 
--- each of those inputs is in the set of exactly one of them
-abbrev pub DivideThose : {A : Type 0} → (Input → Type 0) → (A → Input → Type 0) → List A → Type 0
-DivideThose Those Has listed = (input : Input) → Those input → ExactlyOneHas Has listed input
-
--- each input that is type-correct for the method is
+-- each input that is type-correct for the method is in the set of exactly one of them
 abbrev pub Divide : {A : Type 0} → World → MethodId → (A → Input → Type 0) → List A → Type 0
-Divide world method Has listed = DivideThose (IsTypeCorrect world method) Has listed
+Divide world method Has listed = (input : Input) → IsTypeCorrect world method input → ExactlyOneHas Has listed input
 
 -- ---- lists of decisions
 

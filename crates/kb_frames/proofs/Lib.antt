@@ -7,8 +7,3 @@ pub mod StatedLaws
 pub mod BeginLaws
 pub mod StateLaws
 pub mod RunLaws
-pub mod SetLaws
-pub mod PathSteps
-pub mod Renumbering
-pub mod PathLaws
-pub mod FormedPaths

@@ -1,5 +1,5 @@
 -- The state before the arguments are read has nothing yet that could be wrong.
-use Rattle.std.proofs.Common.{◌≡◌, ℕ, [], length, Some, refl, arith}
+use Rattle.std.proofs.Common.{◌≡◌, ℕ, ◌<◌, ◌^◌, [], length, Some, refl, arith}
 use Rattle.std.specs.Prelude.{slice_get}
 use Rattle.std.proofs.lemmas.Option.{slice_get_within}
 use Rattle.kb_class.specs.declared.ids.MethodId.{MethodId}

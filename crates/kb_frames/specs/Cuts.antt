@@ -33,16 +33,11 @@ RunsPast world method bounds bound input = (run_of (setting_of world bounds) met
 
 -- A cut at a bound is licensed for an input with such a picture: by k where the input has a chain of more than k objects, and the
 -- picture a slot or a location that is beyond, where a new object would lie deeper than k; by array where the input has an array
--- longer than the bound at the end of a chain, and the picture one; by each other bound where the runs that count end past it, which
--- `Passes` tells.
-abbrev pub IsLicensedBy : (Bound → Type 0) → Bounds → Picture → Bound → Input → Type 0
-IsLicensedBy Passes bounds picture K input = IsPastK input bounds.k × IsBeyondK picture bounds.k
-IsLicensedBy Passes bounds picture Array input = IsPastArray input bounds.array × HasLonger picture bounds.array
-IsLicensedBy Passes bounds picture Alloc input = Passes Alloc
-IsLicensedBy Passes bounds picture Loops input = Passes Loops
-IsLicensedBy Passes bounds picture Depth input = Passes Depth
-IsLicensedBy Passes bounds picture Steps input = Passes Steps
-
--- by the run of one method
+-- longer than the bound at the end of a chain, and the picture one; by each other bound where the run ends as past it.
 abbrev pub IsLicensed : World → MethodId → Bounds → Picture → Bound → Input → Type 0
-IsLicensed world method bounds picture bound input = IsLicensedBy (λ past. RunsPast world method bounds past input) bounds picture bound input
+IsLicensed world method bounds picture K input = IsPastK input bounds.k × IsBeyondK picture bounds.k
+IsLicensed world method bounds picture Array input = IsPastArray input bounds.array × HasLonger picture bounds.array
+IsLicensed world method bounds picture Alloc input = RunsPast world method bounds Alloc input
+IsLicensed world method bounds picture Loops input = RunsPast world method bounds Loops input
+IsLicensed world method bounds picture Depth input = RunsPast world method bounds Depth input
+IsLicensed world method bounds picture Steps input = RunsPast world method bounds Steps input

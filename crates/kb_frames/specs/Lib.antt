@@ -7,4 +7,5 @@ pub mod Next
 pub mod Stated
 pub mod States
 pub mod Lent
-pub mod Paths
+pub mod Measure
+pub mod Making

@@ -1,6 +1,6 @@
 -- What a state comes to next: an argument that is read, or an instruction; and whether it is one of ints alone (The Java Virtual
 -- Machine Specification, Java SE 8 Edition, sections 2.11 and 6.5; that a run begins by reading its arguments is an own rule).
-use Rattle.std.specs.Prelude.{ℕ, Bool, true, false, not, length, Option, Some, None, option_map, option_and_then, slice_get, is_some}
+use Rattle.std.specs.Prelude.{ℕ, Bool, true, false, not, List, length, Option, Some, None, option_map, option_and_then, slice_get, is_some}
 use Rattle.kb_class.specs.declared.ids.MethodId.{MethodId}
 use Rattle.kb_class.specs.declared.members.MethodInfo.{MethodInfo}
 use Rattle.kb_code.specs.declared.instruction.Instr.{Instr}

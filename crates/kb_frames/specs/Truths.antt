@@ -1,6 +1,6 @@
 -- The truth of a term in a state: its own, where it is a constant, else the one that it has among the conditions. What is decided so
 -- is asked of nobody (path conditions are added only where they are not decided: King, 1976).
-use Rattle.std.specs.Prelude.{ℤ, pos, Bool, not, List, [], ◌∷◌, ◌++◌, Option, Some, None, is_some, ◌==◌, if◌then◌else◌}
+use Rattle.std.specs.Prelude.{ℕ, ℤ, pos, Bool, not, List, [], ◌∷◌, ◌++◌, Option, Some, None, is_some, ◌==◌, if◌then◌else◌}
 use Rattle.std.specs.Ordering.{int_eq}
 use Rattle.std.specs.Map.{lookup}
 use Rattle.kb_terms.specs.declared.node.TermId.{TermId}
@@ -24,6 +24,6 @@ decided None among = among
 abbrev pub truth_in : State → TermId → Option Bool
 truth_in state t = decided (constant_at state.nodes t) (truth_among state.when t)
 
--- the state with one condition more, unless the term has a truth already
+-- the state with one condition more, unless its term stands among the conditions
 abbrev pub conditioned : State → TermId → Bool → State
-conditioned state t truth = if is_some (truth_in state t) then state else record state { when = state.when ++ (t, truth) ∷ [] }
+conditioned state t truth = record state { when = with_condition state.when t truth }

@@ -1,5 +1,5 @@
 //! The frames of a state (The Java Virtual Machine Specification, Java SE 8 Edition, section 2.6).
-ghost use Rattle.std.specs.Prelude.{◌≡◌, [], ◌∷◌, drop, length, slice_get, slice_set, Some, IfOk, OnOk, OnErr};
+ghost use Rattle.std.specs.Prelude.{◌≡◌, [], ◌∷◌, drop, length, slice_get, IfOk, OnOk, OnErr};
 
 use crate::NoMemory;
 use crate::value::SymValue;
@@ -103,16 +103,6 @@ impl SymFrame {
             stack,
             transfers: self.transfers,
         })
-    }
-
-    /// Writes a local. One that the frame does not have is left out.
-    #[tactic(auto, using(std::proofs::lemmas::List::set_past))]
-    pub(crate) fn store(&mut self, number: usize, value: SymValue)
-        ensures { self.new ≡ record self.old { locals = slice_set self.old.locals number (Some value) } }
-    {
-        if number < self.locals.as_slice().len() {
-            self.locals.set(number, Some(value));
-        }
     }
 }
 

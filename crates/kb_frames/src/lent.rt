@@ -2,7 +2,7 @@
 ghost use Rattle.std.specs.Prelude.{◌≡◌, ◌+◌, ◌<◌, ◌^◌, length, slice_get, IfOk, OnOk, OnErr};
 ghost use Rattle.kb_terms.specs.Terms.{AreOperands, HasNode, Extends, made_node};
 ghost use Rattle.kb_terms.specs.declared.node.Node.TheVariants.{Const};
-ghost use Rattle.kb_frames.specs.Lent.{stack_of, local_in, transfers_of, pushed, popped, stored, moved, transferred, carried_on, with_nodes};
+ghost use Rattle.kb_frames.specs.Lent.{stack_of, locals_of, local_in, transfers_of, pushed, popped, stored, moved, transferred, carried_on, with_nodes};
 
 use crate::NoMemory;
 use crate::state::{Stage, SymState};
@@ -99,13 +99,14 @@ impl SymState {
         }
     }
 
-    /// Writes a local of the current frame. A local that it does not have is left out.
+    /// Writes a local of the current frame.
     pub fn store(&mut self, number: u16, value: SymValue)
+        requires { number < length (locals_of self.old.stage) }
         ensures { self.new ≡ stored self.old number value }
     {
         match &mut self.stage {
             Stage::Begins(_) => {}
-            Stage::Runs(frame, _) => frame.store(number as usize, value),
+            Stage::Runs(frame, _) => frame.locals.set(number as usize, Some(value)),
         }
     }
 

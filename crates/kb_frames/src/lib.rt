@@ -9,18 +9,19 @@ mod conditions;
 mod frame;
 mod laws;
 mod lent;
+mod making;
 mod next;
-mod path;
 mod state;
 mod stated;
+#[cfg(test)]
+mod tests;
 mod truths;
 mod value;
 
 pub use code::{Found, instruction_at};
-pub use laws::{paths_are_well_formed, states_begin};
-pub use path::PathStop;
+pub use laws::states_begin;
 pub use state::{SymState, start};
-use std::alloc::{AllocError, AllocFailed};
+use std::alloc::AllocError;
 pub use value::{Outcome, SymValue};
 
 /// Memory ran out.
@@ -29,12 +30,6 @@ pub struct NoMemory;
 
 impl From<AllocError> for NoMemory {
     fn from(_error: AllocError) -> NoMemory {
-        NoMemory
-    }
-}
-
-impl<T: Drop> From<AllocFailed<T>> for NoMemory {
-    fn from(_error: AllocFailed<T>) -> NoMemory {
         NoMemory
     }
 }

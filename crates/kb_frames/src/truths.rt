@@ -27,15 +27,11 @@ impl SymState {
         }
     }
 
-    /// Adds a condition, unless its term has a truth already. Refused for want of memory alone.
+    /// Adds a condition, unless its term has a truth among the conditions already. Refused for want of memory alone.
     pub fn add_condition(&mut self, term: TermId, truth: bool) -> Result<(), NoMemory>
-        requires { IsTerm self.old.nodes term }
         ensures ok { OnOk result (self.new ≡ conditioned self.old term truth) }
         ensures err { OnErr result (self.new ≡ self.old) }
     {
-        if self.truth_of(term).is_some() {
-            return Ok(());
-        }
         self.when.add(term, truth)
     }
 }

@@ -1,9 +1,7 @@
 pub mod Places
 pub mod Shapes
-pub mod Tables
 pub mod Instances
 pub mod Endings
-pub mod Readings
 pub mod Numbering
 pub mod WellFormed
 pub mod Queries

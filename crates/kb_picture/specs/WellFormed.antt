@@ -64,6 +64,12 @@ IsSlot world params objects (Arg number) = number < params
 IsSlot world params objects (Field number slot) = (object : PicObject) × (slice_get objects number ≡ Some object) × HasSlot world object.kind slot
 IsSlot world params objects (Element number index) = (object : PicObject) × (slice_get objects number ≡ Some object) × HasElement object.length index
 
+-- an object is found before its slots are read: its own slot is among those that were
+abbrev pub IsFoundIn : List Origin → List PicObject → Origin → Type 0
+IsFoundIn before objects (Arg number) = Unit {0}
+IsFoundIn before objects (Field number slot) = (object : PicObject) × (slice_get objects number ≡ Some object) × Has before object.origin
+IsFoundIn before objects (Element number index) = (object : PicObject) × (slice_get objects number ≡ Some object) × Has before object.origin
+
 -- ---- what is seen
 
 abbrev pub slots_seen : Picture → List Origin
@@ -113,16 +119,6 @@ pub record IsBound (picture : Picture) (slot : Origin) (number : ℕ) : Type 0 w
 abbrev pub LeadsTo : Picture → Origin → ℕ → Type 0
 LeadsTo picture slot number = Has picture.seen (slot, seens.Obj number) ⊎ IsBound picture slot number
 
--- one of these slots leads to the object
-abbrev pub IsFound : Picture → List Origin → ℕ → Type 0
-IsFound picture before number = (slot : Origin) × Has before slot × LeadsTo picture slot number
-
--- an object is found before its slots are read: a slot that was read before leads to it
-abbrev pub IsFoundIn : Picture → List Origin → Origin → Type 0
-IsFoundIn picture before (Arg number) = Unit {0}
-IsFoundIn picture before (Field number slot) = IsFound picture before number
-IsFoundIn picture before (Element number index) = IsFound picture before number
-
 -- an array has a length, and nothing else has
 abbrev pub IsLengthOf : ExactType → Length → Type 0
 IsLengthOf (exact.Class name) Plain = Unit {0}
@@ -135,7 +131,7 @@ IsLengthOf (exact.Array component) Plain = ⊥
 pub record IsPicture (world : World) (params : ℕ) (picture : Picture) : Type 0 where
   -- a slot that is seen is there, and was found before it was read; none is seen twice
   pub slots : (i : ℕ) (slot : Origin) → slice_get (slots_seen picture) i ≡ Some slot
-      → IsSlot world params picture.objects slot × IsFoundIn picture (take i (slots_seen picture)) slot
+      → IsSlot world params picture.objects slot × IsFoundIn (take i (slots_seen picture)) picture.objects slot
   pub once : (i j : ℕ) (slot : Origin) → slice_get (slots_seen picture) i ≡ Some slot → slice_get (slots_seen picture) j ≡ Some slot → i ≡ j
   pub seen : (i : ℕ) (slot : Origin × Seen) → slice_get picture.seen i ≡ Some slot → IsSeenAs picture slot.1
   -- variables and locations are numbered in the order of reading, so that no two slots are seen as one of them

@@ -7,23 +7,17 @@
 #![tactic(auto)]
 
 mod choice;
-mod ending;
-mod instance;
 mod laws;
-mod marks;
 mod path;
 mod picture;
 mod placing;
-mod values;
+#[cfg(test)]
+mod tests;
 
 pub use choice::{Choice, Init};
-pub use ending::ending_at;
-pub use instance::is_instance;
 pub use kb_rows::Row;
 pub use kb_terms::{Operand, Term};
-pub use laws::{
-    depths_are_chains, final_heaps_are_whole, fronts_have_instances, one_places, places_stay,
-};
+pub use laws::{fronts_have_instances, one_places, places_stay};
 pub use path::{Ended, Leaf, Made, Out, Path, SymEnding, Write};
 pub use picture::{Length, Origin, PicLoc, PicObject, Picture, PlaceLists, Seen, Standing};
 pub use placing::places;
@@ -35,18 +29,6 @@ pub struct NoMemory;
 
 impl From<AllocError> for NoMemory {
     fn from(_error: AllocError) -> NoMemory {
-        NoMemory
-    }
-}
-
-impl From<kb_heap::NoMemory> for NoMemory {
-    fn from(_error: kb_heap::NoMemory) -> NoMemory {
-        NoMemory
-    }
-}
-
-impl From<kb_names::NoMemory> for NoMemory {
-    fn from(_error: kb_names::NoMemory) -> NoMemory {
         NoMemory
     }
 }

@@ -1,18 +1,21 @@
 -- The block of a path, line by line: its decisions, what it sees, its locations and objects, its terms and conditions, and its
 -- leaf. A line has no line feed in it; the text of lines puts one behind each.
-use Rattle.std.specs.Prelude.{ℕ, ◌+◌, Bool, cond, List, [], ◌∷◌, ◌++◌, codes, map, length, Some, None}
+use Rattle.std.specs.Prelude.{ℕ, ◌+◌, Bool, cond, List, [], ◌∷◌, ◌++◌, codes, map, length, Option, Some, None}
 use Rattle.std.specs.List.{flat_map}
 use Rattle.std.specs.Fmt.{decimal}
+use Rattle.kb_chain.specs.declared.log.Log.{Log}
 use Rattle.kb_heap.specs.declared.heap.Value.{Value}
 use Rattle.kb_heap.specs.declared.heap.Object.{Object}
 use Rattle.kb_heap.specs.declared.heap.Input.{Input}
 use Rattle.kb_link.specs.World.{World}
 use Rattle.kb_log_text.specs.Lines.{learn_lines}
 use Rattle.kb_terms.specs.declared.listing.Term.{Term}
+use Rattle.kb_picture.specs.declared.path.Out.{Out}
 use Rattle.kb_picture.specs.declared.path.Write.{Write}
 use Rattle.kb_picture.specs.declared.path.Made.{Made}
 use Rattle.kb_picture.specs.declared.path.SymEnding.{SymEnding}
 use Rattle.kb_picture.specs.declared.path.SymEnding.TheVariants.{Returned, Threw, IllTyped}
+use Rattle.kb_picture.specs.declared.path.Ended.{Ended}
 use Rattle.kb_picture.specs.declared.path.Leaf.{Leaf}
 use Rattle.kb_picture.specs.declared.path.Leaf.TheVariants.{Ended as EndedLeaf, Cut, Undecided, Open}
 use Rattle.kb_picture.specs.declared.path.Path.{Path}

@@ -1,4 +1,3 @@
 pub mod Words
 pub mod Blocks
 pub mod Report
-pub mod Tables

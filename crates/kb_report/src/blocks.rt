@@ -5,18 +5,14 @@ ghost use Rattle.kb_report.specs.Blocks.{numbered_lines, path_line, decisions_te
 
 use crate::NoMemory;
 use crate::leaves::write_leaf;
-use crate::naming::NamedWorld;
 use crate::text::Text;
 use crate::words::{write_exact, write_length, write_seen, write_slot, write_standing, write_term};
 use kb_picture::{Origin, Path, PicLoc, PicObject, Picture, Seen, Term};
+use kb_world::World;
 
 /// The block of a path.
 #[tactic(auto, using(crate::proofs::TextLaws::lines_joined), unfolding(crate::specs::Blocks::path_lines))]
-pub(crate) fn write_path(
-    text: &mut Text,
-    world: &NamedWorld<'_>,
-    path: &Path,
-) -> Result<(), NoMemory>
+pub(crate) fn write_path(text: &mut Text, world: &World, path: &Path) -> Result<(), NoMemory>
     ensures { OnOk result (text.new ≡ text.old ++ lines_text (path_lines world.now path.now)) }
 {
     write_path_line(text, path.decisions.as_slice())?;
@@ -60,7 +56,7 @@ fn write_further(text: &mut Text, decisions: &[u32]) -> Result<(), NoMemory>
 }
 
 #[tactic(auto, using(crate::proofs::TextLaws::lines_joined), unfolding(crate::specs::Blocks::picture_lines))]
-fn write_picture(text: &mut Text, world: &NamedWorld<'_>, picture: &Picture) -> Result<(), NoMemory>
+fn write_picture(text: &mut Text, world: &World, picture: &Picture) -> Result<(), NoMemory>
     ensures { OnOk result (text.new ≡ text.old ++ lines_text (picture_lines world.now picture.now)) }
 {
     let objects = picture.objects.as_slice();
@@ -71,7 +67,7 @@ fn write_picture(text: &mut Text, world: &NamedWorld<'_>, picture: &Picture) -> 
 
 fn write_slots(
     text: &mut Text,
-    world: &NamedWorld<'_>,
+    world: &World,
     objects: &[PicObject],
     seen: &[(Origin, Seen)],
 ) -> Result<(), NoMemory>
@@ -86,7 +82,7 @@ fn write_slots(
 #[tactic(auto, unfolding(crate::specs::Blocks::see_line))]
 fn write_see_line(
     text: &mut Text,
-    world: &NamedWorld<'_>,
+    world: &World,
     objects: &[PicObject],
     slot: Origin,
     held: Seen,
@@ -120,11 +116,7 @@ fn write_loc_line(text: &mut Text, number: usize, loc: &PicLoc) -> Result<(), No
     text.end_line()
 }
 
-fn write_objects(
-    text: &mut Text,
-    world: &NamedWorld<'_>,
-    objects: &[PicObject],
-) -> Result<(), NoMemory>
+fn write_objects(text: &mut Text, world: &World, objects: &[PicObject]) -> Result<(), NoMemory>
     ensures { OnOk result (text.new ≡ text.old ++ lines_text (numbered_lines (obj_line world.now objects.now) 0 objects.now)) }
 {
     for (number, object) in objects.iter().enumerate() {
@@ -136,7 +128,7 @@ fn write_objects(
 #[tactic(auto, unfolding(crate::specs::Blocks::obj_line))]
 fn write_obj_line(
     text: &mut Text,
-    world: &NamedWorld<'_>,
+    world: &World,
     objects: &[PicObject],
     number: usize,
     object: &PicObject,

@@ -4,9 +4,8 @@ ghost use Rattle.kb_report.specs.Report.{kind_of, count_of};
 
 use kb_picture::{Leaf, Path};
 
-/// What the last line of a report counts.
 #[derive(Clone, Copy, Debug, PartialEq, Eq)]
-pub enum LeafKind {
+pub(crate) enum LeafKind {
     Ended,
     Cut,
     Undecided,

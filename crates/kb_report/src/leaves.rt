@@ -5,17 +5,17 @@ ghost use Rattle.kb_report.specs.Words.{out_text, value_text};
 ghost use Rattle.kb_report.specs.Blocks.{numbered_lines, spaced, ending_line, set_line, new_line, arg_line, in_line, input_lines, leaf_line, further_lines, leaf_lines};
 
 use crate::NoMemory;
-use crate::naming::NamedWorld;
 use crate::text::Text;
 use crate::words::{bound_name, write_exact, write_out, write_place, write_slot, write_value};
 use kb_heap::{Input, Object, Value};
 use kb_picture::{Ended, Leaf, Made, Out, PicObject, SymEnding, Write};
+use kb_world::World;
 
 /// The lines of a leaf.
 #[tactic(auto, using(crate::proofs::TextLaws::lines_joined), unfolding(crate::specs::Blocks::leaf_lines))]
 pub(crate) fn write_leaf(
     text: &mut Text,
-    world: &NamedWorld<'_>,
+    world: &World,
     objects: &[PicObject],
     leaf: &Leaf,
 ) -> Result<(), NoMemory>
@@ -69,7 +69,7 @@ fn write_ending(text: &mut Text, ending: &SymEnding) -> Result<(), NoMemory>
 #[tactic(auto, unfolding(crate::specs::Blocks::further_lines))]
 fn write_further_lines(
     text: &mut Text,
-    world: &NamedWorld<'_>,
+    world: &World,
     objects: &[PicObject],
     leaf: &Leaf,
 ) -> Result<(), NoMemory>
@@ -87,7 +87,7 @@ fn write_further_lines(
 #[tactic(auto, using(crate::proofs::TextLaws::lines_joined))]
 fn write_ended(
     text: &mut Text,
-    world: &NamedWorld<'_>,
+    world: &World,
     objects: &[PicObject],
     ended: &Ended,
 ) -> Result<(), NoMemory>
@@ -100,7 +100,7 @@ fn write_ended(
 
 fn write_writes(
     text: &mut Text,
-    world: &NamedWorld<'_>,
+    world: &World,
     objects: &[PicObject],
     writes: &[Write],
 ) -> Result<(), NoMemory>
@@ -115,7 +115,7 @@ fn write_writes(
 #[tactic(auto, unfolding(crate::specs::Blocks::set_line))]
 fn write_set_line(
     text: &mut Text,
-    world: &NamedWorld<'_>,
+    world: &World,
     objects: &[PicObject],
     write: &Write,
 ) -> Result<(), NoMemory>

@@ -5,12 +5,11 @@ ghost use Rattle.std.specs.List.{flat_map};
 ghost use Rattle.kb_grammar.specs.Lines.{lines_text};
 ghost use Rattle.kb_report.specs.Words.{init_name};
 ghost use Rattle.kb_report.specs.Blocks.{path_lines};
-ghost use Rattle.kb_report.specs.Report.{count_of, run_bounds_text, bounds_text, limits_text, settings_line, title_line, target_line, head_lines, kinds_text, total_line, report_text};
+ghost use Rattle.kb_report.specs.Report.{run_bounds_text, bounds_text, limits_text, settings_line, title_line, target_line, head_lines, kinds_text, total_line, report_text};
 
 use crate::NoMemory;
 use crate::blocks::write_path;
 use crate::kinds::{LeafKind, count_of};
-use crate::naming::NamedWorld;
 use crate::text::Text;
 use crate::words::write_numbered;
 use kb_heap::{Bounds, RunBounds};
@@ -38,10 +37,9 @@ pub struct Report {
 pub fn report_text(alloc: Global, world: &World, report: &Report) -> Result<Vec<u8>, NoMemory>
     ensures { IfOk result (λ text. text.items ≡ report_text world.now report.now) }
 {
-    let named = NamedWorld::of(alloc, world)?;
     let mut text = Text::new(alloc);
     write_head(&mut text, report)?;
-    write_paths(&mut text, &named, report.leaves.as_slice())?;
+    write_paths(&mut text, world, report.leaves.as_slice())?;
     write_total(&mut text, report.leaves.as_slice())?;
     Ok(text.into_bytes())
 }
@@ -120,7 +118,7 @@ fn write_run_bounds(text: &mut Text, run: &RunBounds) -> Result<(), NoMemory>
 }
 
 #[tactic(auto, using(crate::proofs::TextLaws::lines_joined))]
-fn write_paths(text: &mut Text, world: &NamedWorld<'_>, paths: &[Path]) -> Result<(), NoMemory>
+fn write_paths(text: &mut Text, world: &World, paths: &[Path]) -> Result<(), NoMemory>
     ensures { OnOk result (text.new ≡ text.old ++ lines_text (flat_map (path_lines world.now) paths.now)) }
 {
     for path in paths {
@@ -142,17 +140,10 @@ fn write_total(text: &mut Text, paths: &[Path]) -> Result<(), NoMemory>
 fn write_kinds(text: &mut Text, paths: &[Path]) -> Result<(), NoMemory>
     ensures { OnOk result (text.new ≡ text.old ++ kinds_text paths.now) }
 {
-    write_kind(text, " ended ", LeafKind::Ended, paths)?;
-    write_kind(text, " cut ", LeafKind::Cut, paths)?;
-    write_kind(text, " undecided ", LeafKind::Undecided, paths)?;
-    write_kind(text, " open ", LeafKind::Open, paths)
-}
-
-// How many of the paths are of the kind, behind a word.
-fn write_kind(text: &mut Text, front: &str, kind: LeafKind, paths: &[Path]) -> Result<(), NoMemory>
-    ensures { OnOk result (text.new ≡ text.old ++ (front.now ++ decimal (count_of kind paths.now))) }
-{
-    write_count(text, front, count_of(kind, paths))
+    write_count(text, " ended ", count_of(LeafKind::Ended, paths))?;
+    write_count(text, " cut ", count_of(LeafKind::Cut, paths))?;
+    write_count(text, " undecided ", count_of(LeafKind::Undecided, paths))?;
+    write_count(text, " open ", count_of(LeafKind::Open, paths))
 }
 
 fn write_count(text: &mut Text, front: &str, count: usize) -> Result<(), NoMemory>

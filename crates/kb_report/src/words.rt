@@ -1,17 +1,19 @@
 //! The parts of a line are written.
-ghost use Rattle.std.specs.Prelude.{◌≡◌, ◌++◌, [], OnOk};
+ghost use Rattle.std.specs.Prelude.{◌≡◌, ◌++◌, [], count_by, OnOk};
 ghost use Rattle.std.specs.Fmt.{decimal};
-ghost use Rattle.std.specs.Option.{option_copied, option_map_or};
+ghost use Rattle.std.specs.Str.{bytes_eq};
+ghost use Rattle.kb_class.specs.declared.members.FieldInfo.{FieldInfo as PlainField};
 ghost use Rattle.kb_names.specs.Escapes.{name_text};
-ghost use Rattle.kb_report.specs.Words.{exact_text, place_text, bound_name, field_text, field_of_type, field_of, slot_text, seen_text, standing_text, length_text, operand_text, second_text, term_text, out_text, value_text};
+ghost use Rattle.std.specs.Option.{option_copied, option_map_or};
+ghost use Rattle.kb_report.specs.Words.{exact_text, place_text, bound_name, fields_named, has_namesake, field_text, field_of_type, field_of, slot_text, seen_text, standing_text, length_text, operand_text, second_text, term_text, out_text, value_text};
 ghost use Rattle.kb_semantics.specs.Config.{class_name};
+ghost use Rattle.kb_semantics.specs.Values.{slots_of_class};
 
 use crate::NoMemory;
-use crate::naming::NamedWorld;
 use crate::text::Text;
-use kb_class::ClassId;
+use kb_class::{ClassId, FieldInfo};
 use kb_heap::{Bound, Place, Value};
-use kb_names::ExactType;
+use kb_names::{ExactType, Name};
 use kb_picture::{Length, Operand, Origin, Out, PicObject, Seen, Standing, Term};
 use kb_world::{FieldSlot, World};
 
@@ -52,28 +54,64 @@ pub(crate) fn bound_name(bound: Bound) -> &'static str
     }
 }
 
+// How many of the fields have that name.
+fn fields_named(name: &Name, fields: &[FieldInfo]) -> usize
+    ensures { result ≡ count_by (λ (field : PlainField). bytes_eq name.now field.name) fields.now }
+{
+    let mut count: usize = 0;
+    let mut rest = fields;
+    while let [field, others @ ..] = rest {
+        rest = others;
+        if *name == field.name {
+            count += 1;
+        }
+    }
+    count
+}
+
+// Whether another field of the class that declares this one has its name.
+fn has_namesake(world: &World, field: &FieldSlot) -> bool
+    ensures { result ≡ has_namesake world.now field.now }
+{
+    match world.class_at(field.class) {
+        Some(class) => fields_named(&field.name, class.fields()) > 1,
+        None => false,
+    }
+}
+
 // The name of a class; nothing where there is no such class.
-fn write_class_name(text: &mut Text, world: &NamedWorld<'_>, class: ClassId) -> Result<(), NoMemory>
+fn write_class_name(text: &mut Text, world: &World, class: ClassId) -> Result<(), NoMemory>
     ensures { OnOk result (text.new ≡ text.old ++ name_text (class_name world.now class.0)) }
 {
-    match world.world().class_at(class) {
+    match world.class_at(class) {
         Some(class) => text.name(class.name()),
         None => Ok(()),
     }
 }
 
 #[tactic(auto, unfolding(crate::specs::Words::field_text))]
-fn write_field(text: &mut Text, world: &NamedWorld<'_>, field: &FieldSlot) -> Result<(), NoMemory>
+fn write_field(text: &mut Text, world: &World, field: &FieldSlot) -> Result<(), NoMemory>
     ensures { OnOk result (text.new ≡ text.old ++ field_text world.now field.now) }
 {
     write_class_name(text, world, field.class)?;
     text.put(".")?;
     text.name(&field.name)?;
-    if !world.has_namesake(field) {
+    if !has_namesake(world, field) {
         return Ok(());
     }
     text.put(":")?;
     text.descriptor(&field.kind)
+}
+
+// The slots of objects of the class; none where there is no such class.
+#[tactic(auto, using(kb_link::proofs::Named::number_inside))]
+fn slots_of_class<'a>(world: &'a World, name: &Name) -> &'a [FieldSlot]
+    ensures { result.now ≡ slots_of_class world.now name.now }
+{
+    match world.class_named(name) {
+        Some(class) => world.fields_of(class),
+        None => &[],
+    }
 }
 
 // The field of that slot of an object of the exact type.
@@ -81,7 +119,7 @@ fn field_of_type<'a>(world: &'a World, slot: u32, kind: &ExactType) -> Option<&'
     ensures { option_copied result ≡ field_of_type world.now slot kind.now }
 {
     match kind {
-        ExactType::Class(name) => world.slots_named(name).get(slot as usize),
+        ExactType::Class(name) => slots_of_class(world, name).get(slot as usize),
         ExactType::Array(_) => None,
     }
 }
@@ -89,7 +127,7 @@ fn field_of_type<'a>(world: &'a World, slot: u32, kind: &ExactType) -> Option<&'
 // The field of that slot of that object of the picture; nothing where there is none.
 fn write_field_of(
     text: &mut Text,
-    world: &NamedWorld<'_>,
+    world: &World,
     objects: &[PicObject],
     object: u32,
     slot: u32,
@@ -99,7 +137,7 @@ fn write_field_of(
     let Some(object) = objects.get(object as usize) else {
         return Ok(());
     };
-    match field_of_type(world.world(), slot, &object.kind) {
+    match field_of_type(world, slot, &object.kind) {
         Some(field) => write_field(text, world, field),
         None => Ok(()),
     }
@@ -109,7 +147,7 @@ fn write_field_of(
 #[tactic(auto, unfolding(crate::specs::Words::slot_text))]
 pub(crate) fn write_slot(
     text: &mut Text,
-    world: &NamedWorld<'_>,
+    world: &World,
     objects: &[PicObject],
     slot: Origin,
 ) -> Result<(), NoMemory>

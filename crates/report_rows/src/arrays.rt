@@ -1,6 +1,6 @@
 //! Arrays, by their lengths; and settings that are told apart.
 
-use crate::parts::{array, path, report, target};
+use crate::parts::{path, target};
 use kb_heap::{Bound, Bounds, Heap, Input, Object, RunBounds, Value};
 use kb_names::{ExactType, JType};
 use kb_picture::{
@@ -96,60 +96,6 @@ fn one_array(alloc: Global, elements: &[i32]) -> io::Result<Input> {
     Ok(Input {
         heap: Heap {
             objects: Row::from_vec(vec![in alloc; array]?),
-        },
-        args: Row::from_vec(vec![in alloc; Value::Ref(0)]?),
-    })
-}
-
-/// An array in an array, and longer than the bound.
-pub fn nested(alloc: Global) -> io::Result<Report> {
-    let cut = Leaf::Cut(Bound::Array, two_arrays(alloc)?);
-    let long = path(alloc, vec![in alloc; 3, 1, 5]?, nested_seen(alloc)?, cut);
-    let leaves = vec![in alloc; long]?;
-    report(alloc, b"A.first([[I)I", Init::Lazy, leaves)
-}
-
-fn nested_seen(alloc: Global) -> io::Result<Picture> {
-    let inner = Origin::Element(0, 1);
-    let seen = vec![in alloc;
-        (Origin::Arg(0), Seen::Obj(0)),
-        (inner, Seen::Obj(1)),
-        (Origin::Element(1, 0), Seen::Int(0)),
-    ]?;
-    let objects = vec![in alloc;
-        PicObject {
-            kind: array(alloc, b"[I")?,
-            length: Length::Is(2),
-            origin: Origin::Arg(0)
-        },
-        PicObject {
-            kind: ExactType::Array(JType::Int),
-            length: Length::Above(3),
-            origin: inner
-        },
-    ]?;
-    Ok(Picture {
-        seen: Row::from_vec(seen),
-        locs: Row::new(alloc),
-        objects: Row::from_vec(objects),
-    })
-}
-
-fn two_arrays(alloc: Global) -> io::Result<Input> {
-    let zeros = vec![in alloc; Value::Int(0), Value::Int(0), Value::Int(0), Value::Int(0)]?;
-    let objects = vec![in alloc;
-        Object {
-            kind: array(alloc, b"[I")?,
-            values: Row::from_vec(vec![in alloc; Value::Null, Value::Ref(1)]?)
-        },
-        Object {
-            kind: ExactType::Array(JType::Int),
-            values: Row::from_vec(zeros)
-        },
-    ]?;
-    Ok(Input {
-        heap: Heap {
-            objects: Row::from_vec(objects),
         },
         args: Row::from_vec(vec![in alloc; Value::Ref(0)]?),
     })

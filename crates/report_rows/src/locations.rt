@@ -8,7 +8,7 @@ use kb_picture::{
 use kb_report::Report;
 use kb_rows::Row;
 use std::alloc::Global;
-use std::io::{self, Error, ErrorKind};
+use std::io;
 
 /// Two nodes, of which the second one's next is not looked into, and the first one's is made null; and a node beyond the bound.
 pub fn locations(alloc: Global) -> io::Result<Report> {
@@ -25,8 +25,7 @@ pub fn locations(alloc: Global) -> io::Result<Report> {
         input: two_nodes(alloc)?,
     });
     let decisions = vec![in alloc; 1, 1, 1, 1]?;
-    let picture = copied(alloc, &three_locations(alloc)?)?;
-    let looked = path(alloc, decisions, picture, leaf);
+    let looked = path(alloc, decisions, three_locations(alloc)?, leaf);
     let cut = Leaf::Cut(Bound::K, one_node(alloc)?);
     let beyond = path(alloc, vec![in alloc; 1, 2]?, beyond_bound(alloc)?, cut);
     let leaves = vec![in alloc; looked, beyond]?;
@@ -61,14 +60,6 @@ fn one_node(alloc: Global) -> io::Result<Input> {
         },
         args: Row::from_vec(vec![in alloc; Value::Ref(0), Value::Null]?),
     })
-}
-
-/// A copy, so that a report shows that it equals its source.
-fn copied(alloc: Global, picture: &Picture) -> io::Result<Picture> {
-    match picture.copied(alloc) {
-        Ok(copy) => Ok(copy),
-        Err(_) => Err(Error::from(ErrorKind::OutOfMemory)),
-    }
 }
 
 fn bound_to(origin: Origin, standing: Standing) -> PicLoc {

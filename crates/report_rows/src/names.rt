@@ -1,12 +1,9 @@
 //! Names that are escaped, and fields of one name.
 
-use crate::parts::{class, ints, path, plain, report};
-use kb_heap::{Bound, Heap, Input, Object, Value};
+use crate::parts::{ints, path, plain, report};
+use kb_heap::Bound;
 use kb_names::{ExactType, JType, Name};
-use kb_picture::{
-    Ended, Init, Leaf, Length, Made, Operand, Origin, Out, PicObject, Picture, Seen, SymEnding,
-    Write,
-};
+use kb_picture::{Init, Leaf, Length, Origin, PicObject, Picture, Seen};
 use kb_report::Report;
 use kb_rows::Row;
 use std::alloc::Global;
@@ -17,7 +14,7 @@ pub fn names(alloc: Global) -> io::Result<Report> {
     let cut = Leaf::Cut(Bound::K, ints(alloc, &[])?);
     let seen = path(alloc, Vec::new(alloc), array_seen(alloc)?, cut);
     let leaves = vec![in alloc; seen]?;
-    report(alloc, b"a%20b.f%2Eg(La%20b;[[Z)[I", Init::Lazy, leaves)
+    report(alloc, b"a%20b.f()V", Init::Lazy, leaves)
 }
 
 /// An object with an array in one of its fields, of which one element is seen.
@@ -40,102 +37,5 @@ fn array_seen(alloc: Global) -> io::Result<Picture> {
         seen: Row::from_vec(seen),
         locs: Row::new(alloc),
         objects: Row::from_vec(objects),
-    })
-}
-
-/// Fields of one name in two classes, beside one without a slot, and beside a static one; names with other bytes; objects
-/// without slots.
-pub fn fields(alloc: Global) -> io::Result<Report> {
-    let seen = path(
-        alloc,
-        vec![in alloc; 0, 10]?,
-        fields_seen(alloc)?,
-        thrown(alloc)?,
-    );
-    let leaves = vec![in alloc; seen]?;
-    report(alloc, b"Low.<f>(I)V", Init::Lazy, leaves)
-}
-
-/// A report without paths.
-pub fn nothing(alloc: Global) -> io::Result<Report> {
-    report(alloc, b"Low.g-$_()V", Init::Lazier, Vec::new(alloc))
-}
-
-/// An object of which each slot is seen: those of the superclass are the first two.
-fn fields_seen(alloc: Global) -> io::Result<Picture> {
-    let seen = vec![in alloc;
-        (Origin::Arg(0), Seen::Obj(0)),
-        (Origin::Field(0, 4), Seen::Int(0)),
-        (Origin::Field(0, 3), Seen::Int(1)),
-        (Origin::Field(0, 2), Seen::Int(2)),
-        (Origin::Field(0, 1), Seen::Null),
-        (Origin::Field(0, 0), Seen::Int(3)),
-        (Origin::Arg(1), Seen::Int(4)),
-    ]?;
-    Ok(Picture {
-        seen: Row::from_vec(seen),
-        locs: Row::new(alloc),
-        objects: Row::from_vec(vec![in alloc; plain(alloc, b"Low", Origin::Arg(0))?]?),
-    })
-}
-
-/// Throws the object, after two slots of it were written, one in each class.
-fn thrown(alloc: Global) -> io::Result<Leaf> {
-    let writes = vec![in alloc;
-        Write {
-            slot: Origin::Field(0, 1),
-            value: Out::New(1)
-        },
-        Write {
-            slot: Origin::Field(0, 3),
-            value: Out::Int(Operand::Var(1))
-        },
-    ]?;
-    let made = vec![in alloc;
-        Made {
-            kind: class(alloc, b"%.;[\xc3\xa9")?,
-            values: Row::new(alloc)
-        },
-        Made {
-            kind: ExactType::Array(JType::Class(Name::from_vec(b"a;b".to_vec(alloc)?))),
-            values: Row::from_vec(vec![in alloc; Out::Literal(0), Out::New(0)]?)
-        },
-    ]?;
-    Ok(Leaf::Ended(Ended {
-        ending: SymEnding::Threw(Out::Obj(0)),
-        writes: Row::from_vec(writes),
-        made: Row::from_vec(made),
-        input: low_and_others(alloc)?,
-    }))
-}
-
-/// An object of the class, one without slots, and an empty array.
-fn low_and_others(alloc: Global) -> io::Result<Input> {
-    let values = vec![in alloc;
-        Value::Int(1),
-        Value::Null,
-        Value::Int(-2),
-        Value::Int(3),
-        Value::Int(0),
-    ]?;
-    let objects = vec![in alloc;
-        Object {
-            kind: class(alloc, b"Low")?,
-            values: Row::from_vec(values)
-        },
-        Object {
-            kind: class(alloc, b"java/lang/Object")?,
-            values: Row::new(alloc)
-        },
-        Object {
-            kind: ExactType::Array(JType::Bool),
-            values: Row::new(alloc)
-        },
-    ]?;
-    Ok(Input {
-        heap: Heap {
-            objects: Row::from_vec(objects),
-        },
-        args: Row::from_vec(vec![in alloc; Value::Ref(0), Value::Int(4)]?),
     })
 }

@@ -1,7 +1,7 @@
 //! Parts of reports.
 
 use kb_heap::{Bounds, Heap, Input, RunBounds, Value};
-use kb_names::{ExactType, Name, Target, read_target, read_type};
+use kb_names::{ExactType, Name, Target, read_target};
 use kb_picture::{
     Ended, Init, Leaf, Length, Made, Origin, Out, Path, PicObject, Picture, Seen, SymEnding,
 };
@@ -43,14 +43,6 @@ pub fn target(alloc: Global, text: &[u8]) -> io::Result<Target> {
 
 pub fn class(alloc: Global, name: &[u8]) -> io::Result<ExactType> {
     Ok(ExactType::Class(Name::from_vec(name.to_vec(alloc)?)))
-}
-
-/// The type of arrays with that component.
-pub fn array(alloc: Global, component: &[u8]) -> io::Result<ExactType> {
-    match read_type(alloc, component) {
-        Ok(component) => Ok(ExactType::Array(component)),
-        Err(_) => Err(Error::from(ErrorKind::InvalidData)),
-    }
 }
 
 /// An object that is no array.

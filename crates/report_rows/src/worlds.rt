@@ -1,4 +1,4 @@
-//! The world of the reports: three classes without methods, by the bytes of their files (JVMS 8 section 4.1).
+//! The world of the reports: two classes without methods, by the bytes of their files (JVMS 8 section 4.1).
 
 use crate::classes::world_of;
 use kb_world::World;
@@ -19,22 +19,9 @@ const NAMESAKES: &[u8] = b"\xca\xfe\xba\xbe\x00\x00\x00\x34\x00\x08\
     \x00\x21\x00\x02\x00\x04\x00\x00\
     \x00\x02\x00\x00\x00\x05\x00\x06\x00\x00\x00\x00\x00\x05\x00\x07\x00\x00\x00\x00\x00\x00";
 
-/// class Low extends Node: an int next; an int and a long named wide, of which the long has no slot; an int and a static
-/// boolean named mark.
-const LOW: &[u8] = b"\xca\xfe\xba\xbe\x00\x00\x00\x34\x00\x0b\
-    \x01\x00\x03Low\x07\x00\x01\x01\x00\x04Node\x07\x00\x03\
-    \x01\x00\x04next\x01\x00\x01I\x01\x00\x04wide\x01\x00\x01J\x01\x00\x04mark\x01\x00\x01Z\
-    \x00\x21\x00\x02\x00\x04\x00\x00\
-    \x00\x05\x00\x00\x00\x05\x00\x06\x00\x00\x00\x00\x00\x07\x00\x06\x00\x00\x00\x00\x00\x07\x00\x08\x00\x00\
-    \x00\x00\x00\x09\x00\x06\x00\x00\x00\x08\x00\x09\x00\x0a\x00\x00\x00\x00\x00\x00";
-
-/// The world of the three classes.
+/// The world of the two classes.
 pub fn world(alloc: Global) -> io::Result<World> {
-    let files = vec![in alloc;
-        NODE.to_vec(alloc)?,
-        NAMESAKES.to_vec(alloc)?,
-        LOW.to_vec(alloc)?,
-    ]?;
+    let files = vec![in alloc; NODE.to_vec(alloc)?, NAMESAKES.to_vec(alloc)?]?;
     match world_of(alloc, files.as_slice()) {
         Some(world) => Ok(world),
         None => Err(Error::from(ErrorKind::InvalidData)),

@@ -1,4 +1,4 @@
-use Rattle.kb_picture.proofs.ShapeLaws.{same_places}
+use Rattle.kb_picture.proofs.InstanceLaws.{same_places}
 use Rattle.kb_picture.proofs.laws.one_places.Goals as goal
 
 pub returns : goal.returns

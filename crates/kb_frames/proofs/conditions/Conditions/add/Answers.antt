@@ -1,4 +1,4 @@
-use Rattle.std.proofs.Common.{◌≡◌, sym, subst, ◌∙◌, OnOk}
+use Rattle.std.proofs.Common.{◌≡◌, List, sym, subst, ◌∙◌, OnOk}
 use Rattle.kb_terms.specs.contracts.node.TermIdPartialEq.TheImpl.{eq-value}
 use Rattle.indexmap.specs.IndexMap.{insert_entry}
 use Rattle.kb_frames.proofs.TruthLaws.{added}

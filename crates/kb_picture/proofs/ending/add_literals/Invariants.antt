@@ -1,6 +1,0 @@
-use Rattle.std.proofs.Common.{◌≡◌, ◌++◌, replicate}
-use Rattle.kb_semantics.specs.Values.{literal}
-use Rattle.kb_picture.proofs.ending.add_literals.Given as goal
-
-abbrev pub invariant-loop : goal.invariant-loop
-invariant-loop l = l.heap.objects ≡ l.fn.heap.objects ++ replicate l.counter literal
