@@ -1,10 +1,11 @@
 //! Arrays, by their lengths; and settings that are told apart.
 
-use crate::parts::{array, path, report, target};
+use crate::parts::{array, path, push_two, report, target};
 use kb_heap::{Bound, Bounds, Heap, Input, Object, RunBounds, Value};
 use kb_names::{ExactType, JType};
 use kb_picture::{
-    Ended, Init, Leaf, Length, Operand, Origin, Out, PicObject, Picture, Seen, SymEnding, Write,
+    Ended, Init, Leaf, Length, Operand, Origin, Out, Path, PicObject, Picture, Seen, SymEnding,
+    Write,
 };
 use kb_report::Report;
 use kb_rows::Row;
@@ -25,27 +26,31 @@ const BOUNDS: Bounds = Bounds {
 
 /// An array whose elements are written, and one that is longer than the bound.
 pub fn arrays(alloc: Global) -> io::Result<Report> {
-    let short = path(
-        alloc,
-        vec![in alloc; 1, 2]?,
-        array_seen(alloc, Length::Is(2))?,
-        swapped(alloc)?,
-    );
-    let cut = Leaf::Cut(Bound::Array, one_array(alloc, &[0, 0, 0])?);
-    let long = path(
-        alloc,
-        vec![in alloc; 1, 3]?,
-        array_seen(alloc, Length::Above(2))?,
-        cut,
-    );
+    let target = target(alloc, b"A.swap([I)V")?;
+    let mut leaves = Vec::new(alloc);
+    push_two(short(alloc), long(alloc), &mut leaves)?;
     Ok(Report {
-        target: target(alloc, b"A.swap([I)V")?,
+        target,
         init: Init::Lazy,
         bounds: BOUNDS,
         paths: 8,
         budget: 9,
-        leaves: Row::from_vec(vec![in alloc; short, long]?),
+        leaves: Row::from_vec(leaves),
     })
+}
+
+fn short(alloc: Global) -> io::Result<Path> {
+    let decisions = vec![in alloc; 1, 2]?;
+    let picture = array_seen(alloc, Length::Is(2))?;
+    let leaf = swapped(alloc)?;
+    Ok(path(alloc, decisions, picture, leaf))
+}
+
+fn long(alloc: Global) -> io::Result<Path> {
+    let decisions = vec![in alloc; 1, 3]?;
+    let picture = array_seen(alloc, Length::Above(2))?;
+    let input = one_array(alloc, &[0, 0, 0])?;
+    Ok(path(alloc, decisions, picture, Leaf::Cut(Bound::Array, input)))
 }
 
 /// An array of ints as argument, of which two elements are seen.

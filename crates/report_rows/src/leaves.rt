@@ -13,14 +13,36 @@ use std::io;
 /// A path for each leaf, and one for each bound on arrays and runs.
 pub fn leaves(alloc: Global) -> io::Result<Report> {
     let mut paths = Vec::new(alloc);
-    paths.push(path_with(alloc, 0, ill_typed(alloc)?)?)?;
-    paths.push(path_with(alloc, 1, made(alloc)?)?)?;
-    paths.push(path_with(alloc, 2, thrown(alloc)?)?)?;
-    paths.push(path_with(alloc, 3, Leaf::Undecided(log(alloc)?))?)?;
-    push_cuts(alloc, &mut paths)?;
-    paths.push(path_with(alloc, 10, Leaf::Open)?)?;
-    paths.push(path_with(alloc, 4294967295, Leaf::Open)?)?;
+    push_paths(alloc, &mut paths)?;
     report(alloc, b"A.f([I)V", Init::Lazy, paths)
+}
+
+fn push_paths(alloc: Global, paths: &mut Vec<Path>) -> io::Result<()> {
+    push_path(alloc, 0, ill_typed(alloc), paths)?;
+    push_path(alloc, 1, made(alloc), paths)?;
+    push_path(alloc, 2, thrown(alloc), paths)?;
+    push_path(alloc, 3, undecided(alloc), paths)?;
+    push_cuts(alloc, paths)?;
+    push_path(alloc, 10, Ok(Leaf::Open), paths)?;
+    push_path(alloc, 4294967295, Ok(Leaf::Open), paths)
+}
+
+/// Pushes a path with this decision and leaf, if the leaf could be made.
+fn push_path(
+    alloc: Global,
+    decision: u32,
+    leaf: io::Result<Leaf>,
+    paths: &mut Vec<Path>,
+) -> io::Result<()> {
+    let leaf = leaf?;
+    let path = path_with(alloc, decision, leaf)?;
+    paths.push(path)?;
+    Ok(())
+}
+
+fn undecided(alloc: Global) -> io::Result<Leaf> {
+    let log = log(alloc)?;
+    Ok(Leaf::Undecided(log))
 }
 
 /// A path that is cut by each of these bounds; decisions from 4 on.
@@ -35,15 +57,21 @@ fn push_cuts(alloc: Global, paths: &mut Vec<Path>) -> io::Result<()> {
     ]
     .as_slice()
     {
-        let leaf = Leaf::Cut(*bound, ints(alloc, &[5])?);
-        paths.push(path_with(alloc, decision, leaf)?)?;
+        push_path(alloc, decision, cut(alloc, *bound), paths)?;
         decision = decision.saturating_add(1);
     }
     Ok(())
 }
 
+fn cut(alloc: Global, bound: Bound) -> io::Result<Leaf> {
+    let input = ints(alloc, &[5])?;
+    Ok(Leaf::Cut(bound, input))
+}
+
 fn path_with(alloc: Global, decision: u32, leaf: Leaf) -> io::Result<Path> {
-    Ok(path(alloc, vec![in alloc; decision]?, ints_seen(alloc, 0)?, leaf))
+    let decisions = vec![in alloc; decision]?;
+    let picture = ints_seen(alloc, 0)?;
+    Ok(path(alloc, decisions, picture, leaf))
 }
 
 fn ill_typed(alloc: Global) -> io::Result<Leaf> {

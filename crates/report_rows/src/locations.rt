@@ -1,9 +1,10 @@
 //! References that are locations until they are looked into.
 
-use crate::parts::{class, path, plain, report};
+use crate::parts::{class, path, plain, report_of_two};
 use kb_heap::{Bound, Heap, Input, Object, Value};
 use kb_picture::{
-    Ended, Init, Leaf, Operand, Origin, Out, PicLoc, Picture, Seen, Standing, SymEnding, Write,
+    Ended, Init, Leaf, Operand, Origin, Out, Path, PicLoc, Picture, Seen, Standing, SymEnding,
+    Write,
 };
 use kb_report::Report;
 use kb_rows::Row;
@@ -12,25 +13,38 @@ use std::io::{self, Error, ErrorKind};
 
 /// Two nodes, of which the second one's next is not looked into, and the first one's is made null; and a node beyond the bound.
 pub fn locations(alloc: Global) -> io::Result<Report> {
-    let writes = vec![in alloc;
-        Write {
-            slot: Origin::Field(0, 1),
-            value: Out::Null
-        },
-    ]?;
-    let leaf = Leaf::Ended(Ended {
-        ending: SymEnding::Returned(Some(Out::Int(Operand::Const(0)))),
-        writes: Row::from_vec(writes),
-        made: Row::new(alloc),
-        input: two_nodes(alloc)?,
-    });
+    let method = b"Node.m(LNode;LNode;)I";
+    report_of_two(alloc, method, Init::Lazier, looked(alloc), beyond(alloc))
+}
+
+fn looked(alloc: Global) -> io::Result<Path> {
     let decisions = vec![in alloc; 1, 1, 1, 1]?;
-    let picture = copied(alloc, &three_locations(alloc)?)?;
-    let looked = path(alloc, decisions, picture, leaf);
-    let cut = Leaf::Cut(Bound::K, one_node(alloc)?);
-    let beyond = path(alloc, vec![in alloc; 1, 2]?, beyond_bound(alloc)?, cut);
-    let leaves = vec![in alloc; looked, beyond]?;
-    report(alloc, b"Node.m(LNode;LNode;)I", Init::Lazier, leaves)
+    let leaf = made_null(alloc)?;
+    let source = three_locations(alloc)?;
+    let picture = copied(alloc, &source)?;
+    Ok(path(alloc, decisions, picture, leaf))
+}
+
+fn made_null(alloc: Global) -> io::Result<Leaf> {
+    let mut writes = Row::new(alloc);
+    writes.push(Write {
+        slot: Origin::Field(0, 1),
+        value: Out::Null,
+    })?;
+    let input = two_nodes(alloc)?;
+    Ok(Leaf::Ended(Ended {
+        ending: SymEnding::Returned(Some(Out::Int(Operand::Const(0)))),
+        writes,
+        made: Row::new(alloc),
+        input,
+    }))
+}
+
+fn beyond(alloc: Global) -> io::Result<Path> {
+    let decisions = vec![in alloc; 1, 2]?;
+    let input = one_node(alloc)?;
+    let picture = beyond_bound(alloc)?;
+    Ok(path(alloc, decisions, picture, Leaf::Cut(Bound::K, input)))
 }
 
 fn node(alloc: Global, next: Value) -> io::Result<Object> {

@@ -26,27 +26,32 @@ fn main(rt: HostRuntime) -> io::Result<ExitCode> {
     let alloc = rt.alloc();
     let mut out = OutSink::new(io::writer(&rt));
     let world = world(alloc)?;
-    write_text(alloc, &world, &ints::abs(alloc)?, &mut out)?;
-    write_text(alloc, &world, &ints::div(alloc)?, &mut out)?;
-    write_text(alloc, &world, &ints::operations(alloc)?, &mut out)?;
-    write_text(alloc, &world, &locations::locations(alloc)?, &mut out)?;
-    write_text(alloc, &world, &names::names(alloc)?, &mut out)?;
-    write_text(alloc, &world, &names::fields(alloc)?, &mut out)?;
-    write_text(alloc, &world, &names::nothing(alloc)?, &mut out)?;
-    write_text(alloc, &world, &arrays::arrays(alloc)?, &mut out)?;
-    write_text(alloc, &world, &arrays::nested(alloc)?, &mut out)?;
-    write_text(alloc, &world, &leaves::leaves(alloc)?, &mut out)?;
+    write_texts(alloc, &world, &mut out)?;
     Ok(ExitCode::from(0))
 }
 
-/// Writes the text of a report.
+fn write_texts<W: Sink>(alloc: Global, world: &World, out: &mut W) -> io::Result<()> {
+    write_text(alloc, world, ints::abs(alloc), out)?;
+    write_text(alloc, world, ints::div(alloc), out)?;
+    write_text(alloc, world, ints::operations(alloc), out)?;
+    write_text(alloc, world, locations::locations(alloc), out)?;
+    write_text(alloc, world, names::names(alloc), out)?;
+    write_text(alloc, world, names::fields(alloc), out)?;
+    write_text(alloc, world, names::nothing(alloc), out)?;
+    write_text(alloc, world, arrays::arrays(alloc), out)?;
+    write_text(alloc, world, arrays::nested(alloc), out)?;
+    write_text(alloc, world, leaves::leaves(alloc), out)
+}
+
+/// Writes the text of a report, if it could be made.
 fn write_text<W: Sink>(
     alloc: Global,
     world: &World,
-    report: &Report,
+    report: io::Result<Report>,
     out: &mut W,
 ) -> io::Result<()> {
-    let Ok(text) = report_text(alloc, world, report) else {
+    let report = report?;
+    let Ok(text) = report_text(alloc, world, &report) else {
         return Err(Error::from(ErrorKind::OutOfMemory));
     };
     match send_all(out, text.as_slice()) {

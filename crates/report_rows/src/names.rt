@@ -1,11 +1,11 @@
 //! Names that are escaped, and fields of one name.
 
-use crate::parts::{class, ints, path, plain, report};
+use crate::parts::{class, ints, path, plain, push, report};
 use kb_heap::{Bound, Heap, Input, Object, Value};
 use kb_names::{ExactType, JType, Name};
 use kb_picture::{
-    Ended, Init, Leaf, Length, Made, Operand, Origin, Out, PicObject, Picture, Seen, SymEnding,
-    Write,
+    Ended, Init, Leaf, Length, Made, Operand, Origin, Out, Path, PicObject, Picture, Seen,
+    SymEnding, Write,
 };
 use kb_report::Report;
 use kb_rows::Row;
@@ -14,10 +14,15 @@ use std::io;
 
 /// Two fields of one name, told apart by their descriptors.
 pub fn names(alloc: Global) -> io::Result<Report> {
-    let cut = Leaf::Cut(Bound::K, ints(alloc, &[])?);
-    let seen = path(alloc, Vec::new(alloc), array_seen(alloc)?, cut);
-    let leaves = vec![in alloc; seen]?;
-    report(alloc, b"a%20b.f%2Eg(La%20b;[[Z)[I", Init::Lazy, leaves)
+    let mut paths = Vec::new(alloc);
+    push(namesakes(alloc), &mut paths)?;
+    report(alloc, b"a%20b.f%2Eg(La%20b;[[Z)[I", Init::Lazy, paths)
+}
+
+fn namesakes(alloc: Global) -> io::Result<Path> {
+    let input = ints(alloc, &[])?;
+    let picture = array_seen(alloc)?;
+    Ok(path(alloc, Vec::new(alloc), picture, Leaf::Cut(Bound::K, input)))
 }
 
 /// An object with an array in one of its fields, of which one element is seen.
@@ -46,14 +51,16 @@ fn array_seen(alloc: Global) -> io::Result<Picture> {
 /// Fields of one name in two classes, beside one without a slot, and beside a static one; names with other bytes; objects
 /// without slots.
 pub fn fields(alloc: Global) -> io::Result<Report> {
-    let seen = path(
-        alloc,
-        vec![in alloc; 0, 10]?,
-        fields_seen(alloc)?,
-        thrown(alloc)?,
-    );
-    let leaves = vec![in alloc; seen]?;
-    report(alloc, b"Low.<f>(I)V", Init::Lazy, leaves)
+    let mut paths = Vec::new(alloc);
+    push(all_fields(alloc), &mut paths)?;
+    report(alloc, b"Low.<f>(I)V", Init::Lazy, paths)
+}
+
+fn all_fields(alloc: Global) -> io::Result<Path> {
+    let decisions = vec![in alloc; 0, 10]?;
+    let picture = fields_seen(alloc)?;
+    let leaf = thrown(alloc)?;
+    Ok(path(alloc, decisions, picture, leaf))
 }
 
 /// A report without paths.

@@ -113,3 +113,32 @@ pub fn path(alloc: Global, decisions: Vec<u32>, picture: Picture, leaf: Leaf) ->
         leaf,
     }
 }
+
+/// A report with the usual settings on two paths, if they could be made.
+pub fn report_of_two(
+    alloc: Global,
+    method: &[u8],
+    init: Init,
+    first: io::Result<Path>,
+    second: io::Result<Path>,
+) -> io::Result<Report> {
+    let mut paths = Vec::new(alloc);
+    push_two(first, second, &mut paths)?;
+    report(alloc, method, init, paths)
+}
+
+pub fn push_two(
+    first: io::Result<Path>,
+    second: io::Result<Path>,
+    paths: &mut Vec<Path>,
+) -> io::Result<()> {
+    push(first, paths)?;
+    push(second, paths)
+}
+
+/// Pushes a path, if it could be made.
+pub fn push(path: io::Result<Path>, paths: &mut Vec<Path>) -> io::Result<()> {
+    let path = path?;
+    paths.push(path)?;
+    Ok(())
+}

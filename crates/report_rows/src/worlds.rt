@@ -30,13 +30,17 @@ const LOW: &[u8] = b"\xca\xfe\xba\xbe\x00\x00\x00\x34\x00\x0b\
 
 /// The world of the three classes.
 pub fn world(alloc: Global) -> io::Result<World> {
-    let files = vec![in alloc;
-        NODE.to_vec(alloc)?,
-        NAMESAKES.to_vec(alloc)?,
-        LOW.to_vec(alloc)?,
-    ]?;
+    let files = files(alloc)?;
     match world_of(alloc, files.as_slice()) {
         Some(world) => Ok(world),
         None => Err(Error::from(ErrorKind::InvalidData)),
     }
+}
+
+fn files(alloc: Global) -> io::Result<Vec<Vec<u8>>> {
+    let mut files = Vec::new(alloc);
+    for bytes in [NODE, NAMESAKES, LOW].as_slice() {
+        files.push(bytes.to_vec(alloc)?)?;
+    }
+    Ok(files)
 }
