@@ -49,10 +49,46 @@ fn command_words<R: Env + AllocGlobal>(rt: &R) -> io::Result<Vec<String>> {
 }
 """
 
+# Why a program has no answer.
+STOP = """\
+/// There was no memory.
+#[derive(Clone, Copy, Debug)]
+struct Stop;
+
+impl From<AllocError> for Stop {
+    fn from(_error: AllocError) -> Stop {
+        Stop
+    }
+}
+
+impl<T: Drop> From<AllocFailed<T>> for Stop {
+    fn from(_error: AllocFailed<T>) -> Stop {
+        Stop
+    }
+}
+"""
+
 
 def with_main(source, arms):
-    """The source with the `main` that prints the Option which its `answer` gives, and what `main` uses. The arms print it."""
-    return source.replace("@USES@\n", USES).replace("@MAIN@\n", MAIN.replace("@ARMS@", arms))
+    """The source with the `main` that prints the Option which its `answer` gives, what `main` uses, and `Stop`, where it asks for
+    them. The arms print the Option."""
+    return source.replace("@USES@\n", USES).replace("@MAIN@\n", MAIN.replace("@ARMS@", arms)).replace("@STOP@\n", STOP)
+
+
+def with_those_below(line):
+    """The lines of crates.txt that a line of a program's own needs, those below first, and it at the end."""
+    known = dict(found.split(":") for found in (ROOT / "crates.txt").read_text().splitlines() if ":" in found)
+    lines = {}
+
+    def add(name):
+        if name in known and name not in lines:
+            for below in known[name].split():
+                add(below)
+            lines[name] = f"{name}:{known[name]}"
+
+    for below in line.split(":")[1].split():
+        add(below)
+    return "\n".join([*lines.values(), line, ""])
 
 
 @dataclass(frozen=True)

@@ -52,21 +52,7 @@ use std::alloc::{AllocError, AllocFailed, Global};
 
 @MAIN@
 
-/// There was no memory.
-#[derive(Clone, Copy, Debug)]
-struct Stop;
-
-impl From<AllocError> for Stop {
-    fn from(_error: AllocError) -> Stop {
-        Stop
-    }
-}
-
-impl<T: Drop> From<AllocFailed<T>> for Stop {
-    fn from(_error: AllocFailed<T>) -> Stop {
-        Stop
-    }
-}
+@STOP@
 
 impl From<kb_terms::NoMemory> for Stop {
     fn from(_error: kb_terms::NoMemory) -> Stop {

@@ -13,31 +13,9 @@ them.
 import argparse
 import sys
 
-from built import Program, with_main
+from built import Program, with_main, with_those_below
 
-CRATES = """\
-kb_rows:
-kb_order: kb_rows
-kb_arith:
-kb_grammar:
-kb_outside:
-kb_names: kb_rows
-kb_classfile: kb_grammar kb_rows byteorder
-kb_code: kb_grammar kb_rows byteorder
-kb_format: kb_names kb_classfile indexmap
-kb_class: kb_grammar kb_names kb_classfile kb_code kb_format kb_rows
-kb_link: kb_names kb_classfile kb_code kb_format kb_order kb_class indexmap
-kb_world: kb_names kb_classfile kb_code kb_class kb_link
-kb_heap: kb_names kb_rows
-kb_semantics: kb_arith kb_class kb_code kb_heap kb_link kb_names kb_world
-kb_terms: kb_arith indexmap
-kb_chain: kb_rows smallvec
-kb_circuit: kb_arith kb_chain
-kb_blast: kb_arith kb_chain kb_circuit kb_terms
-kb_picture: kb_arith kb_blast kb_chain kb_class kb_heap kb_link kb_names kb_rows kb_semantics kb_terms kb_world
-kb_frames: indexmap kb_blast kb_class kb_code kb_heap kb_link kb_names kb_picture kb_rows kb_semantics kb_terms kb_world
-pathing: kb_blast kb_class kb_frames kb_picture kb_terms kb_world
-"""
+CRATES = with_those_below("pathing: kb_blast kb_class kb_frames kb_picture kb_terms kb_world")
 
 SOURCE = with_main("""\
 //! Makes a state with so many terms or conditions, and gives its path so many times.
@@ -58,21 +36,7 @@ use std::alloc::{AllocError, AllocFailed, Global};
 
 @MAIN@
 
-/// There was no memory, or a term was missing.
-#[derive(Clone, Copy, Debug)]
-struct Stop;
-
-impl From<AllocError> for Stop {
-    fn from(_error: AllocError) -> Stop {
-        Stop
-    }
-}
-
-impl<T: Drop> From<AllocFailed<T>> for Stop {
-    fn from(_error: AllocFailed<T>) -> Stop {
-        Stop
-    }
-}
+@STOP@
 
 impl From<kb_frames::NoMemory> for Stop {
     fn from(_error: kb_frames::NoMemory) -> Stop {

@@ -14,32 +14,9 @@ them.
 import argparse
 import sys
 
-from built import Program, with_main
+from built import Program, with_main, with_those_below
 
-CRATES = """\
-kb_rows:
-kb_order: kb_rows
-kb_arith:
-kb_grammar:
-kb_outside:
-kb_names: kb_rows
-kb_classfile: kb_grammar kb_rows byteorder
-kb_code: kb_grammar kb_rows byteorder
-kb_format: kb_names kb_classfile indexmap
-kb_class: kb_grammar kb_names kb_classfile kb_code kb_format kb_rows
-kb_link: kb_names kb_classfile kb_code kb_format kb_order kb_class indexmap
-kb_world: kb_names kb_classfile kb_code kb_class kb_link
-kb_heap: kb_names kb_rows
-kb_semantics: kb_arith kb_class kb_code kb_heap kb_link kb_names kb_world
-kb_terms: kb_arith indexmap
-kb_chain: kb_rows smallvec
-kb_log_text: kb_chain kb_grammar
-kb_circuit: kb_arith kb_chain
-kb_blast: kb_arith kb_chain kb_circuit kb_terms
-kb_picture: kb_arith kb_blast kb_chain kb_class kb_heap kb_link kb_names kb_rows kb_semantics kb_terms kb_world
-kb_report: indexmap kb_chain kb_class kb_grammar kb_heap kb_link kb_log_text kb_names kb_picture kb_rows kb_semantics kb_terms kb_world
-reporting: kb_heap kb_names kb_picture kb_report kb_rows kb_terms kb_world
-"""
+CRATES = with_those_below("reporting: kb_heap kb_names kb_picture kb_report kb_rows kb_terms kb_world")
 
 SOURCE = with_main("""\
 //! Makes a report with so many paths, terms or seen arguments, and gives its text so many times.
@@ -57,21 +34,7 @@ use std::alloc::{AllocError, AllocFailed, Global};
 
 @MAIN@
 
-/// There was no memory.
-#[derive(Clone, Copy, Debug)]
-struct Stop;
-
-impl From<AllocError> for Stop {
-    fn from(_error: AllocError) -> Stop {
-        Stop
-    }
-}
-
-impl<T: Drop> From<AllocFailed<T>> for Stop {
-    fn from(_error: AllocFailed<T>) -> Stop {
-        Stop
-    }
-}
+@STOP@
 
 impl From<kb_report::NoMemory> for Stop {
     fn from(_error: kb_report::NoMemory) -> Stop {
