@@ -11,4 +11,7 @@ pub mod SetLaws
 pub mod PathSteps
 pub mod Renumbering
 pub mod PathLaws
+pub mod OnceLaws
 pub mod FormedPaths
+pub mod QueryLaws
+pub mod MeaningLaws

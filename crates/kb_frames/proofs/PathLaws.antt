@@ -1,28 +1,26 @@
 -- The path of a state is well-formed: its terms are those that a walk from its conditions and its leaf meets, in its order, each with
 -- the operands that its operation has.
-use Rattle.std.proofs.Common.{◌≡◌, ◌≢◌, ℕ, zero, suc, ◌+◌, ◌<◌, ◌≤◌, pos, Bool, true, false, List, [], ◌∷◌, ◌++◌, length, map, take, get_or, slice_get, Option, Some, None, refl, sym, ap, subst, ◌∙◌, arith, true≢false, inl, inr, append_assoc}
+use Rattle.std.proofs.Common.{◌≡◌, ℕ, zero, suc, ◌<◌, pos, Bool, true, false, List, [], ◌∷◌, ◌++◌, length, map, take, get_or, slice_get, Option, Some, None, refl, sym, ap, subst, ◌∙◌, arith, inl, inr}
 use Rattle.std.specs.Prelude.{unwrap_or, replicate, ◌==◌}
-use Rattle.std.specs.List.{flat_map, list_all}
+use Rattle.std.specs.List.{flat_map}
 use Rattle.std.proofs.lemmas.Bool.{and_parts}
 use Rattle.std.proofs.lemmas.Bool.Decides.{Decides-eqb}
 use Rattle.std.proofs.lemmas.Grind.{flat_map-append}
-use Rattle.std.proofs.lemmas.List.{append-nil, map-append, length-map, length-replicate}
+use Rattle.std.proofs.lemmas.List.{append-nil, map-append, length-replicate}
 use Rattle.std.proofs.lemmas.List.Quantifiers.{position-Some}
-use Rattle.std.proofs.lemmas.Option.{slice_get_within, slice_get-map, slice_get-get_or}
+use Rattle.std.proofs.lemmas.Option.{slice_get_within, slice_get-get_or}
 use Rattle.kb_terms.specs.declared.op.Op.{Op}
 use Rattle.kb_terms.specs.declared.node.TermId.{TermId}
 use Rattle.kb_terms.specs.declared.node.VarKind.{VarKind}
 use Rattle.kb_terms.specs.declared.node.Node.{Node}
 use Rattle.kb_terms.specs.declared.node.Node.TheVariants.{Const, Var, Op as Apply}
-use Rattle.kb_terms.specs.declared.listing.Operand.{Operand}
 use Rattle.kb_terms.specs.declared.listing.Operand.TheVariants.{Const as ConstOperand, Var as VarOperand, Term as TermOperand}
 use Rattle.kb_terms.specs.declared.listing.Term.{Term}
 use Rattle.kb_terms.specs.Op.{is_binary}
-use Rattle.kb_terms.specs.Terms.{IsTerm, AreTerms, node_at, variables_of, IsPool, IsSecond as IsSecondTerm}
-use Rattle.kb_terms.specs.Numbering.{place_of, numbering, is_operation, IsOperandOf, IsNumbering}
+use Rattle.kb_terms.specs.Terms.{node_at, variables_of, IsPool, IsSecond as IsSecondTerm}
+use Rattle.kb_terms.specs.Numbering.{place_of, is_operation, IsOperandOf, IsNumbering}
 use Rattle.kb_terms.proofs.Computing.{can_compute}
-use Rattle.kb_terms.proofs.Order.{term-at, numbering-is}
-use Rattle.kb_blast.specs.Query.{number_in, operand_from, operand_of, operands_of, listed, roots_of as condition_roots, numbered_conditions, node_passes, is_comparison, AreConditions, kinds_of}
+use Rattle.kb_blast.specs.Query.{number_in, operand_from, operand_of, operands_of, listed, roots_of as condition_roots, numbered_conditions, node_passes, is_comparison, AreConditions}
 use Rattle.kb_blast.specs.Meaning.{IsComparison}
 use Rattle.kb_picture.specs.declared.picture.Picture.{Picture}
 use Rattle.kb_picture.specs.declared.path.Out.{Out}
@@ -62,13 +60,13 @@ variable-below nodes formed i v kind e =
     omega (arith, many, below)
 
 -- a place is that of the term
-place-there : (ts : List TermId) (t : TermId) (j : ℕ) → place_of ts t ≡ Some j → slice_get ts j ≡ Some t
+pub place-there : (ts : List TermId) (t : TermId) (j : ℕ) → place_of ts t ≡ Some j → slice_get ts j ≡ Some t
 place-there ts t j e =
     let p = position-Some (λ x. t.0 == x.0) ts j t e in
     let same : t.0 ≡ (get_or ts j t).0 = (Decides-eqb t.0 (get_or ts j t).0).0 p.1 in
     slice_get-get_or ts j t p.0 ∙ ap (λ n. Some (term_id n)) (sym same)
 
-some-same : {A : Type 0} {a b : A} → Some a ≡ Some b → a ≡ b
+pub some-same : {A : Type 0} {a b : A} → Some a ≡ Some b → a ≡ b
 some-same {A} {a} {b} h = cc
 
 module _ (nodes : List Node) (formed : IsPool nodes) (roots numbered : List TermId) (is : IsNumbering nodes roots numbered)
@@ -151,7 +149,7 @@ module _ (nodes : List Node) (numbered : List TermId) where
   abbrev named : TermId → List ℕ
   named t = terms_of_operand (operand_of nodes numbered t)
 
-  condition-roots : (when : List (TermId × Bool)) → AreConditions nodes when → condition_terms (numbered_conditions numbered when) ≡ flat_map named (condition_roots when)
+  pub condition-roots : (when : List (TermId × Bool)) → AreConditions nodes when → condition_terms (numbered_conditions numbered when) ≡ flat_map named (condition_roots when)
   condition-roots [] all = refl
   condition-roots (w ∷ ws) all =
       let parts = and_parts _ _ all in

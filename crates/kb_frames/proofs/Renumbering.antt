@@ -1,33 +1,30 @@
 -- The walk over a path's own list of terms meets them in the order of that list: it goes the same way as the walk over the pool that
 -- numbered them.
-use Rattle.std.proofs.Common.{◌≡◌, ℕ, zero, suc, ◌+◌, ◌<◌, ◌≤◌, List, [], ◌∷◌, ◌++◌, length, take, fold, slice_get, Option, Some, None, Bool, true, false, cond, refl, sym, ap, subst, ◌∙◌, arith, if◌then◌else◌, ◌||◌, ◌==◌, true≢false, append_assoc, length-append, inl, inr}
-use Rattle.std.specs.Prelude.{unwrap_or, map}
-use Rattle.std.specs.List.{list_any, flat_map, cons_option}
+use Rattle.std.proofs.Common.{◌≡◌, ℕ, zero, suc, ◌<◌, ◌≤◌, List, [], ◌∷◌, ◌++◌, length, take, fold, slice_get, Option, Some, None, Bool, true, false, refl, sym, ap, subst, ◌∙◌, arith, if◌then◌else◌, ◌||◌, ◌==◌, true≢false, append_assoc, length-append, inl, inr}
+use Rattle.std.specs.Prelude.{unwrap_or}
+use Rattle.std.specs.List.{flat_map, cons_option}
 use Rattle.std.specs.Option.{option_map_or}
 use Rattle.std.proofs.lemmas.Bool.Decides.{Decides-eqb}
 use Rattle.std.proofs.lemmas.List.{append-nil}
 use Rattle.std.proofs.lemmas.List.Folds.{list_any-append}
 use Rattle.std.proofs.lemmas.List.Sums.{fold-append}
 use Rattle.std.proofs.lemmas.List.Quantifiers.{position-Some}
-use Rattle.std.proofs.lemmas.Option.{slice_get_within}
 use Rattle.kb_terms.specs.declared.op.Op.{Op}
 use Rattle.kb_terms.specs.declared.node.TermId.{TermId}
 use Rattle.kb_terms.specs.declared.node.Node.{Node}
 use Rattle.kb_terms.specs.declared.node.Node.TheVariants.{Const, Var, Op as Apply}
-use Rattle.kb_terms.specs.declared.listing.Operand.{Operand}
-use Rattle.kb_terms.specs.declared.listing.Operand.TheVariants.{Const as ConstOperand, Var as VarOperand, Term as TermOperand}
 use Rattle.kb_terms.specs.declared.listing.Term.{Term}
-use Rattle.kb_terms.specs.Terms.{IsTerm, AreTerms, node_at, IsPool}
+use Rattle.kb_terms.specs.Terms.{node_at, IsPool}
 use Rattle.kb_terms.specs.Numbering.{has_term, place_of, with_term, visit_node, visit, numbering, is_operation, IsOperandOf, IsNumbering}
 use Rattle.kb_terms.proofs.Walking.{first-before, second-before}
-use Rattle.kb_terms.proofs.Order.{earlier-place, there-place}
+use Rattle.kb_terms.proofs.Order.{earlier-place}
 use Rattle.kb_blast.specs.Query.{number_in, operand_from, operand_of, operands_of, listed_from, listed}
 use Rattle.kb_semantics.specs.Looks.{numbers_below}
-use Rattle.kb_picture.specs.Numbering.{terms_of_operand, terms_of_second, terms_below, has_number, met_below, met_from}
+use Rattle.kb_picture.specs.Numbering.{terms_of_operand, terms_below, has_number, met_below, met_from}
 
 -- ---- numbers below one
 
-length-below : (n : ℕ) → length (numbers_below n) ≡ n
+pub length-below : (n : ℕ) → length (numbers_below n) ≡ n
 length-below zero = refl
 length-below (suc n) = length-append (numbers_below n) (n ∷ []) ∙ omega (arith, length-below n)
 
@@ -105,7 +102,7 @@ module _ (nodes : List Node) where
       go true rec = grows-itself done
       go false rec = node-grows (visit depth nodes) done t (node_at nodes t) rec
 
-  roots-grow : (depth : ℕ) (done : List TermId) (roots : List TermId) → Grows done (fold (visit depth nodes) done roots)
+  pub roots-grow : (depth : ℕ) (done : List TermId) (roots : List TermId) → Grows done (fold (visit depth nodes) done roots)
   roots-grow depth done [] = grows-itself done
   roots-grow depth done (t ∷ ts) =
       grows-on done (visit depth nodes done t) (fold (visit depth nodes) (visit depth nodes done t) ts) (visit-grows depth done t) (roots-grow depth (visit depth nodes done t) ts)
@@ -336,7 +333,7 @@ module _ (nodes : List Node) (formed : IsPool nodes) (roots numbered : List Term
           ∙ rec dp middle (t ∷ rest) right (omega arith) whole (right-deep t op left right (length inner) dp e at deeper))
 
   -- the walk from all of some roots
-  roots-same : (d depth : ℕ) (done rest more : List TermId) → ((i : ℕ) (t : TermId) → slice_get more i ≡ Some t → t.0 < d) → fold (visit d nodes) done more ++ rest ≡ numbered
+  pub roots-same : (d depth : ℕ) (done rest more : List TermId) → ((i : ℕ) (t : TermId) → slice_get more i ≡ Some t → t.0 < d) → fold (visit d nodes) done more ++ rest ≡ numbered
       → ((t : TermId) → IsDeep depth t) → fold (met_below depth terms) (numbers_below (length done)) (flat_map named more) ≡ numbers_below (length (fold (visit d nodes) done more))
   roots-same d depth done rest [] less front deep = refl
   roots-same d depth done rest (t ∷ ts) less front deep =

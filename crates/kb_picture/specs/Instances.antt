@@ -34,7 +34,7 @@ variable_values picture input places = filter_map (λ slot. variable_value (slot
 unfoldable pub term_values : Path → Input → List ℕ → List ℤ
 term_values path input places = listed_values (variable_values path.picture input places) path.terms
 
--- A type-correct input is an instance of a path.
+-- An input is an instance of a path; that it is type-correct is said beside it.
 pub record IsInstance (path : Path) (input : Input) : Type 0 where
   pub shape : HasShape path.picture input
   -- each condition has its stated truth
