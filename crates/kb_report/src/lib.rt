@@ -1,13 +1,14 @@
 //! The text of a report.
 //!
 //! `specs/` has the definitions: how the parts of a line are written (`Words`), the lines of a path's block (`Blocks`), and the
-//! whole (`Report`); and what the table of fields of one name keeps (`Tables`).
+//! whole (`Report`); what the table of fields of one name keeps (`Tables`); and the ranges of a report's numbers (`Ranges`).
 #![tactic(auto)]
 
 mod blocks;
 mod kinds;
 mod leaves;
 mod naming;
+mod ranges;
 mod report;
 mod text;
 mod words;

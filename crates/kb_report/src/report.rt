@@ -5,12 +5,14 @@ ghost use Rattle.std.specs.List.{flat_map};
 ghost use Rattle.kb_grammar.specs.Lines.{lines_text};
 ghost use Rattle.kb_report.specs.Words.{init_name};
 ghost use Rattle.kb_report.specs.Blocks.{path_lines};
+ghost use Rattle.kb_report.specs.Ranges.{ReportFits};
 ghost use Rattle.kb_report.specs.Report.{count_of, run_bounds_text, bounds_text, limits_text, settings_line, title_line, target_line, head_lines, kinds_text, total_line, report_text};
 
 use crate::NoMemory;
 use crate::blocks::write_path;
 use crate::kinds::{LeafKind, count_of};
 use crate::naming::NamedWorld;
+use crate::ranges::look_at_report;
 use crate::text::Text;
 use crate::words::write_numbered;
 use kb_heap::{Bounds, RunBounds};
@@ -33,11 +35,14 @@ pub struct Report {
 }
 
 /// The text of a report on a method of the world. Refused for want of memory alone. What its paths name need not be there: a
-/// field that no class has is left out.
+/// field that no class has is left out. It also tells that the report's numbers are in the ranges of their types, which is
+/// what the law of kb_report_laws asks of them.
 #[tactic(auto, using(crate::proofs::TextLaws::lines_joined), unfolding(crate::specs::Report::report_text, crate::specs::Report::report_lines))]
 pub fn report_text(alloc: Global, world: &World, report: &Report) -> Result<Vec<u8>, NoMemory>
-    ensures { IfOk result (λ text. text.items ≡ report_text world.now report.now) }
+    ensures text { IfOk result (λ text. text.items ≡ report_text world.now report.now) }
+    ensures fits { ReportFits report.now }
 {
+    look_at_report(report);
     let named = NamedWorld::of(alloc, world)?;
     let mut text = Text::new(alloc);
     write_head(&mut text, report)?;

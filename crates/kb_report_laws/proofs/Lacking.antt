@@ -1,7 +1,8 @@
 -- Bytes that the words of a line lack: a space, a line feed, and the signs that part a name from what stands behind it.
 use Rattle.std.proofs.Common.{◌≡◌, ◌≢◌, ℕ, zero, suc, ◌+◌, ◌<◌, ◌≤◌, ◌^◌, ◌/◌, ◌%◌, Bool, true, false, if◌then◌else◌, Option, None, Some, List, [], ◌∷◌, ◌++◌, refl, ap, ◌∙◌, arith, eq-eqb}
-use Rattle.std.specs.Prelude.{ℤ, pos, negsuc, replicate, not, nat_le, ◌==◌, ◌&&◌}
+use Rattle.std.specs.Prelude.{ℤ, pos, negsuc, replicate, not, nat_le, nat_lt, ◌==◌, ◌&&◌}
 use Rattle.std.proofs.lemmas.Bool.{leb-true}
+use Rattle.std.proofs.lemmas.Bool.Decides.{Decides-ltb, nat_tests}
 use Rattle.std.specs.List.{flat_map}
 use Rattle.std.specs.Fmt.{decimal, signed_decimal}
 use Rattle.std.specs.Int.RustNames.{FitsSigned}
@@ -10,12 +11,11 @@ use Rattle.std.proofs.lemmas.Fmt.{decimal_by_steps}
 use Rattle.std.proofs.lemmas.Int.{ints}
 use Rattle.kb_grammar.specs.Lines.{Lacks}
 use Rattle.kb_grammar.proofs.WordLaws.{Lacks-++}
-use Rattle.kb_names.specs.Bytes.{AreBytes}
 use Rattle.kb_names.specs.Shape.{Base, bool_base, byte_base, char_base, short_base, int_base, long_base, float_base, double_base, class_base}
 use Rattle.kb_names.specs.Types.{shape_of}
 use Rattle.kb_names.specs.Escapes.{is_plain, hex_digit, byte_text, name_text}
-use Rattle.kb_names.specs.Descriptors.{base_text, type_text, result_text, method_text, HasText, IsType, AreTypes, IsResult}
-use Rattle.kb_names.specs.Targets.{target_text, IsTarget}
+use Rattle.kb_names.specs.Descriptors.{base_text, type_text, result_text, method_text}
+use Rattle.kb_names.specs.Targets.{target_text}
 use Rattle.kb_names.specs.declared.class_names.Spelling.TheVariants.{Escaped}
 use Rattle.kb_names.specs.declared.types.JType.{JType}
 use Rattle.kb_names.specs.declared.types.Target.{Target}
@@ -40,7 +40,7 @@ lacks_is byte (first ∷ others) e =
 
 -- ---- names and numbers
 
--- a byte that stands in no name and in no number
+-- a byte that is none of the plain ones and stands in no number
 pub record IsApart (byte : ℕ) : Type 0 where
   pub plain : is_plain byte ≡ false
   pub percent : 37 ≢ byte
@@ -62,41 +62,25 @@ pub signed_lacks : (byte : ℕ) (z : ℤ) → IsApart byte → FitsSigned w32 z 
 signed_lacks byte (pos n) apart fits = digits_lack byte n apart (omega (arith, ints, fits))
 signed_lacks byte (negsuc n) apart fits = (apart.sign, digits_lack byte (suc n) apart (omega (arith, ints, fits)))
 
-hex_plain : (digit : ℕ) → digit < 16 → is_plain (hex_digit digit) ≡ true
-hex_plain zero lt = refl
-hex_plain (suc zero) lt = refl
-hex_plain (suc (suc zero)) lt = refl
-hex_plain (suc (suc (suc zero))) lt = refl
-hex_plain (suc (suc (suc (suc zero)))) lt = refl
-hex_plain (suc (suc (suc (suc (suc zero))))) lt = refl
-hex_plain (suc (suc (suc (suc (suc (suc zero)))))) lt = refl
-hex_plain (suc (suc (suc (suc (suc (suc (suc zero))))))) lt = refl
-hex_plain (suc (suc (suc (suc (suc (suc (suc (suc zero)))))))) lt = refl
-hex_plain (suc (suc (suc (suc (suc (suc (suc (suc (suc zero))))))))) lt = refl
-hex_plain (suc (suc (suc (suc (suc (suc (suc (suc (suc (suc zero)))))))))) lt = refl
-hex_plain (suc (suc (suc (suc (suc (suc (suc (suc (suc (suc (suc zero))))))))))) lt = refl
-hex_plain (suc (suc (suc (suc (suc (suc (suc (suc (suc (suc (suc (suc zero)))))))))))) lt = refl
-hex_plain (suc (suc (suc (suc (suc (suc (suc (suc (suc (suc (suc (suc (suc zero))))))))))))) lt = refl
-hex_plain (suc (suc (suc (suc (suc (suc (suc (suc (suc (suc (suc (suc (suc (suc zero)))))))))))))) lt = refl
-hex_plain (suc (suc (suc (suc (suc (suc (suc (suc (suc (suc (suc (suc (suc (suc (suc zero))))))))))))))) lt = refl
-hex_plain (suc (suc (suc (suc (suc (suc (suc (suc (suc (suc (suc (suc (suc (suc (suc (suc digit)))))))))))))))) lt = absurd (omega (arith, lt))
+-- whatever number the digit is of
+hex_lacks : (byte : ℕ) → IsApart byte → byte < 65 → (digit : ℕ) → hex_digit digit ≢ byte
+hex_lacks byte apart low digit = go (nat_lt digit 10) refl
+  where
+    go : (small : Bool) → nat_lt digit 10 ≡ small → (if small then 48 + digit else 55 + digit) ≢ byte
+    go true is = apart.digit digit ((Decides-ltb digit 10).0 is)
+    go false is = λ same. let large : 10 ≤ digit = grind (arith, nat_tests, is) in omega (arith, low, same, large)
 
-hex_lacks : (byte : ℕ) → IsApart byte → (digit : ℕ) → digit < 16 → hex_digit digit ≢ byte
-hex_lacks byte apart digit lt same =
-    let is = hex_plain digit lt in
-    let other : is_plain (hex_digit digit) ≡ false = ap is_plain same ∙ apart.plain in
-    cc
-
-byte_lacks : (byte : ℕ) → IsApart byte → (b : ℕ) → b < 256 → Lacks byte (byte_text b)
-byte_lacks byte apart b lt = go (is_plain b) refl
+byte_lacks : (byte : ℕ) → IsApart byte → byte < 65 → (b : ℕ) → Lacks byte (byte_text b)
+byte_lacks byte apart low b = go (is_plain b) refl
   where
     go : (t : Bool) → is_plain b ≡ t → Lacks byte (if t then b ∷ [] else 37 ∷ hex_digit (b / 16) ∷ hex_digit (b % 16) ∷ [])
     go true e = ((λ same. let other : is_plain b ≡ false = ap is_plain same ∙ apart.plain in cc), tt)
-    go false e = (apart.percent, (hex_lacks byte apart (b / 16) (omega (arith, lt)), (hex_lacks byte apart (b % 16) (omega (arith, lt)), tt)))
+    go false e = (apart.percent, (hex_lacks byte apart low (b / 16), (hex_lacks byte apart low (b % 16), tt)))
 
-pub name_lacks : (byte : ℕ) → IsApart byte → (name : List ℕ) → AreBytes name → Lacks byte (name_text name)
-name_lacks byte apart [] are = tt
-name_lacks byte apart (b ∷ name) are = Lacks-++ byte (byte_text b) (name_text name) (byte_lacks byte apart b are.0) (name_lacks byte apart name are.1)
+-- of a byte below the letters
+pub name_lacks : (byte : ℕ) → IsApart byte → byte < 65 → (name : List ℕ) → Lacks byte (name_text name)
+name_lacks byte apart low [] = tt
+name_lacks byte apart low (b ∷ name) = Lacks-++ byte (byte_text b) (name_text name) (byte_lacks byte apart low b) (name_lacks byte apart low name)
 
 -- ---- types
 
@@ -123,41 +107,43 @@ module _ (byte : ℕ) (gap : IsGap byte) where
   letter : (at : ℕ) → 36 ≤ at → Lacks byte (at ∷ [])
   letter at high = (above at byte gap.low high, tt)
 
-  base_lacks : (base : Base) → HasText Escaped base → Lacks byte (base_text Escaped base)
-  base_lacks bool_base has = letter 90 (omega arith)
-  base_lacks byte_base has = letter 66 (omega arith)
-  base_lacks char_base has = letter 67 (omega arith)
-  base_lacks short_base has = letter 83 (omega arith)
-  base_lacks int_base has = letter 73 (omega arith)
-  base_lacks long_base has = letter 74 (omega arith)
-  base_lacks float_base has = letter 70 (omega arith)
-  base_lacks double_base has = letter 68 (omega arith)
-  base_lacks (class_base name) has =
-      (above 76 byte gap.low (omega arith), Lacks-++ byte (name_text name) (59 ∷ []) (name_lacks byte gap.apart name has.1) (letter 59 (omega arith)))
+  pub gap_in_name : (name : List ℕ) → Lacks byte (name_text name)
+  gap_in_name name = name_lacks byte gap.apart (omega (arith, gap.low)) name
+
+  base_lacks : (base : Base) → Lacks byte (base_text Escaped base)
+  base_lacks bool_base = letter 90 (omega arith)
+  base_lacks byte_base = letter 66 (omega arith)
+  base_lacks char_base = letter 67 (omega arith)
+  base_lacks short_base = letter 83 (omega arith)
+  base_lacks int_base = letter 73 (omega arith)
+  base_lacks long_base = letter 74 (omega arith)
+  base_lacks float_base = letter 70 (omega arith)
+  base_lacks double_base = letter 68 (omega arith)
+  base_lacks (class_base name) = (above 76 byte gap.low (omega arith), Lacks-++ byte (name_text name) (59 ∷ []) (gap_in_name name) (letter 59 (omega arith)))
 
   dims_lack : (dims : ℕ) → Lacks byte (replicate dims 91)
   dims_lack zero = tt
   dims_lack (suc dims) = (above 91 byte gap.low (omega arith), dims_lack dims)
 
-  pub type_lacks : (type : JType) → IsType Escaped type → Lacks byte (type_text Escaped type)
-  type_lacks type is = Lacks-++ byte (replicate (shape_of type).dims 91) (base_text Escaped (shape_of type).base) (dims_lack (shape_of type).dims) (base_lacks (shape_of type).base is.base)
+  pub type_lacks : (type : JType) → Lacks byte (type_text Escaped type)
+  type_lacks type = Lacks-++ byte (replicate (shape_of type).dims 91) (base_text Escaped (shape_of type).base) (dims_lack (shape_of type).dims) (base_lacks (shape_of type).base)
 
-  types_lack : (types : List JType) → AreTypes Escaped types → Lacks byte (flat_map (type_text Escaped) types)
-  types_lack [] are = tt
-  types_lack (type ∷ types) are = Lacks-++ byte (type_text Escaped type) (flat_map (type_text Escaped) types) (type_lacks type are.0) (types_lack types are.1)
+  types_lack : (types : List JType) → Lacks byte (flat_map (type_text Escaped) types)
+  types_lack [] = tt
+  types_lack (type ∷ types) = Lacks-++ byte (type_text Escaped type) (flat_map (type_text Escaped) types) (type_lacks type) (types_lack types)
 
-  result_lacks : (result : Option JType) → IsResult Escaped result → Lacks byte (result_text Escaped result)
-  result_lacks None is = letter 86 (omega arith)
-  result_lacks (Some type) is = type_lacks type is
+  result_lacks : (result : Option JType) → Lacks byte (result_text Escaped result)
+  result_lacks None = letter 86 (omega arith)
+  result_lacks (Some type) = type_lacks type
 
-  pub target_lacks : (target : Target) → IsTarget target → Lacks byte (target_text target)
-  target_lacks target is =
-      Lacks-++ byte (name_text target.class) (46 ∷ (name_text target.name ++ method_text Escaped target.kind)) (name_lacks byte gap.apart target.class is.class.1) (
+  pub target_lacks : (target : Target) → Lacks byte (target_text target)
+  target_lacks target =
+      Lacks-++ byte (name_text target.class) (46 ∷ (name_text target.name ++ method_text Escaped target.kind)) (gap_in_name target.class) (
         above 46 byte gap.low (omega arith),
-        Lacks-++ byte (name_text target.name) (method_text Escaped target.kind) (name_lacks byte gap.apart target.name is.name) (
+        Lacks-++ byte (name_text target.name) (method_text Escaped target.kind) (gap_in_name target.name) (
           above 40 byte gap.low (omega arith),
           Lacks-++ byte (flat_map (type_text Escaped) target.kind.params) (41 ∷ result_text Escaped target.kind.result)
-              (types_lack target.kind.params is.kind.params) (above 41 byte gap.low (omega arith), result_lacks target.kind.result is.kind.result),
+              (types_lack target.kind.params) (above 41 byte gap.low (omega arith), result_lacks target.kind.result),
         ),
       )
 
@@ -169,13 +155,20 @@ space = record { apart = record { plain = refl; percent = omega arith; sign = om
 pub line_feed : IsGap 10
 line_feed = record { apart = record { plain = refl; percent = omega arith; sign = omega arith; digit = λ digit lt. omega arith }; low = omega arith }
 
--- `.`, `:`, `[` and `]`
+-- `(`, `.`, `:` and `;`
+pub opening : IsApart 40
+opening = record { plain = refl; percent = omega arith; sign = omega arith; digit = λ digit lt. omega arith }
+
 pub dot : IsApart 46
 dot = record { plain = refl; percent = omega arith; sign = omega arith; digit = λ digit lt. omega arith }
 
 pub colon : IsApart 58
 colon = record { plain = refl; percent = omega arith; sign = omega arith; digit = λ digit lt. omega (arith, lt) }
 
+pub semicolon : IsApart 59
+semicolon = record { plain = refl; percent = omega arith; sign = omega arith; digit = λ digit lt. omega (arith, lt) }
+
+-- `[` and `]`
 pub bracket : IsApart 91
 bracket = record { plain = refl; percent = omega arith; sign = omega arith; digit = λ digit lt. omega (arith, lt) }
 

@@ -1,4 +1,5 @@
 pub mod Lacking
+pub mod NameLaws
 pub mod Reading
 pub mod FieldLaws
 pub mod WordLaws
@@ -7,3 +8,4 @@ pub mod LineLaws
 pub mod LocLaws
 pub mod PathLaws
 pub mod ReportLaws
+pub mod ExampleLaws

@@ -34,7 +34,7 @@ use Rattle.kb_picture.specs.declared.picture.Seen.{Seen}
 use Rattle.kb_report.specs.Words.{exact_text, place_text, bound_name, slot_text, seen_text, standing_text, length_text, term_text, operand_text, second_text, out_text, value_text}
 use Rattle.kb_report.specs.Blocks.{spaced, further_decisions, decisions_text, path_line, see_line, loc_line, obj_line, let_line, when_line, ending_line, set_line, new_line, arg_line, in_line}
 use Rattle.kb_terms.specs.Op.{op_name}
-use Rattle.kb_report_laws.specs.Ranges.{IsSmall, IsCount, SlotFits, LocFits, LengthFits, ObjectFits, TermFits, SecondFits, ConditionFits, WriteFits, OutFits, ValueFits, MadeFits, InputObjectFits, EndingFits, PlaceFits, WorldFits}
+use Rattle.kb_report.specs.Ranges.{IsSmall, IsCount, SlotFits, LocFits, LengthFits, ObjectFits, TermFits, SecondFits, ConditionFits, WriteFits, OutFits, ValueFits, MadeFits, InputObjectFits, EndingFits, PlaceFits}
 use Rattle.kb_report_laws.proofs.Lacking.{digits_lack, count_lacks, target_lacks, lacks_is, space, line_feed, dot}
 use Rattle.kb_report_laws.proofs.Reading.{same_seen, same_standing, same_out, same_value}
 use Rattle.kb_report_laws.proofs.WordLaws.{same_digits, same_exact, same_place, same_term, same_slot, kinds_of, exact_lacks, op_lacks, operand_lacks, out_lacks, value_lacks, seen_lacks, standing_lacks, slot_lacks}
@@ -93,7 +93,7 @@ path_line_lacks xs all = Lacks-++ 10 (codes "path ") (decisions_text xs) (lacks_
 
 -- ---- what is seen
 
-module _ (world : World) (fits : WorldFits world) where
+module _ (world : World) where
   -- a slot that is seen is there
   abbrev pub IsSeenThere : ℕ → List PicObject → Origin × Seen → Type 0
   IsSeenThere params objects slot = IsSlot world params objects slot.0 × SlotFits slot
@@ -102,7 +102,7 @@ module _ (world : World) (fits : WorldFits world) where
   unfolding see_line
   see_line_lacks params objects slot is =
       Lacks-++ 10 (codes "see ") (slot_text world objects slot.0 ++ (codes " " ++ seen_text slot.1)) (lacks_is 10 (codes "see ") refl)
-      (Lacks-++ 10 (slot_text world objects slot.0) (codes " " ++ seen_text slot.1) (slot_lacks 10 line_feed world fits params objects slot.0 is.1.0 is.0) (omega arith, seen_lacks 10 line_feed slot.1 is.1.1))
+      (Lacks-++ 10 (slot_text world objects slot.0) (codes " " ++ seen_text slot.1) (slot_lacks 10 line_feed world params objects slot.0 is.1.0 is.0) (omega arith, seen_lacks 10 line_feed slot.1 is.1.1))
 
   -- the text of the slot of an object that is there
   abbrev pub IsFoundThere : ℕ → List PicObject → PicObject → Type 0
@@ -122,9 +122,9 @@ module _ (world : World) (fits : WorldFits world) where
     unfolding see_line
     same_see_line params many one other p q e =
         let parts = same_cut 32 (slot_text world objects one.0) (slot_text world others other.0) (seen_text one.1) (seen_text other.1)
-        (slot_lacks 32 space world fits params objects one.0 p.1.0 p.0) (slot_lacks 32 space world fits many others other.0 q.1.0 q.0)
+        (slot_lacks 32 space world params objects one.0 p.1.0 p.0) (slot_lacks 32 space world many others other.0 q.1.0 q.0)
         (same_behind (codes "see ") (slot_text world objects one.0 ++ 32 ∷ seen_text one.1) (slot_text world others other.0 ++ 32 ∷ seen_text other.1) e) in
-        let slot = same_slot world linked fits objects others kinds params many one.0 other.0 p.0 q.0 p.1.0 q.1.0 parts.0 in
+        let slot = same_slot world linked objects others kinds params many one.0 other.0 p.0 q.0 p.1.0 q.1.0 parts.0 in
         let seen = same_seen one.1 other.1 p.1.1 q.1.1 parts.1 in
         λ i. (slot i, seen i)
 
@@ -132,9 +132,9 @@ module _ (world : World) (fits : WorldFits world) where
     unfolding set_line
     same_set_line one other p q e =
         let parts = same_cut 32 (slot_text world objects one.slot) (slot_text world others other.slot) (out_text one.value) (out_text other.value)
-        (slot_lacks 32 space world fits 0 objects one.slot p.1.0 p.0) (slot_lacks 32 space world fits 0 others other.slot q.1.0 q.0)
+        (slot_lacks 32 space world 0 objects one.slot p.1.0 p.0) (slot_lacks 32 space world 0 others other.slot q.1.0 q.0)
         (same_behind (codes "set ") (slot_text world objects one.slot ++ 32 ∷ out_text one.value) (slot_text world others other.slot ++ 32 ∷ out_text other.value) e) in
-        let slot = same_slot world linked fits objects others kinds 0 0 one.slot other.slot p.0 q.0 p.1.0 q.1.0 parts.0 in
+        let slot = same_slot world linked objects others kinds 0 0 one.slot other.slot p.0 q.0 p.1.0 q.1.0 parts.0 in
         let value = same_out one.value other.value p.1.1 q.1.1 parts.1 in
         λ i. record { slot = slot i; value = value i }
 
@@ -142,7 +142,7 @@ module _ (world : World) (fits : WorldFits world) where
   unfolding set_line
   set_line_lacks objects write is =
       Lacks-++ 10 (codes "set ") (slot_text world objects write.slot ++ (codes " " ++ out_text write.value)) (lacks_is 10 (codes "set ") refl)
-      (Lacks-++ 10 (slot_text world objects write.slot) (codes " " ++ out_text write.value) (slot_lacks 10 line_feed world fits 0 objects write.slot is.1.0 is.0) (omega arith, out_lacks 10 line_feed write.value is.1.1))
+      (Lacks-++ 10 (slot_text world objects write.slot) (codes " " ++ out_text write.value) (slot_lacks 10 line_feed world 0 objects write.slot is.1.0 is.0) (omega arith, out_lacks 10 line_feed write.value is.1.1))
 
   pub obj_line_lacks : (params : ℕ) (objects : List PicObject) (number : ℕ) (object : PicObject) → IsCount number → IsFoundThere params objects object → Lacks 10 (obj_line world objects number object)
   unfolding obj_line
@@ -151,8 +151,8 @@ module _ (world : World) (fits : WorldFits world) where
       Lacks-++ 10 (codes "obj o") (decimal number ++ (codes " " ++ (exact_text object.kind ++ (length_text object.length ++ (codes " " ++ behind))))) (lacks_is 10 (codes "obj o") refl)
       (Lacks-++ 10 (decimal number) (codes " " ++ (exact_text object.kind ++ (length_text object.length ++ (codes " " ++ behind)))) (count_lacks 10 number line_feed.apart small) (
         omega arith,
-        Lacks-++ 10 (exact_text object.kind) (length_text object.length ++ (codes " " ++ behind)) (exact_lacks 10 line_feed object.kind is.1.kind)
-            (Lacks-++ 10 (length_text object.length) (codes " " ++ behind) (length_lacks object.length is.1.length) (omega arith, slot_lacks 10 line_feed world fits params objects object.origin is.1.origin is.0.0)),
+        Lacks-++ 10 (exact_text object.kind) (length_text object.length ++ (codes " " ++ behind)) (exact_lacks 10 line_feed object.kind)
+            (Lacks-++ 10 (length_text object.length) (codes " " ++ behind) (length_lacks object.length is.1.length) (omega arith, slot_lacks 10 line_feed world params objects object.origin is.1.origin is.0.0)),
       ))
 
 -- ---- objects
@@ -212,8 +212,8 @@ same_obj_line world objects others number one other p q e =
     let text = slot_text world others other.origin in
     let behind = behind_number (codes "obj o") number (exact_text one.kind ++ (length_text one.length ++ (codes " " ++ slot))) (exact_text other.kind ++ (length_text other.length ++ (codes " " ++ text))) e in
     let whole = sym (ap (λ (rest : List ℕ). exact_text one.kind ++ rest) (rest_is one.length slot)) ∙ behind ∙ ap (λ (rest : List ℕ). exact_text other.kind ++ rest) (rest_is other.length text) in
-    let parts = same_cut 32 (exact_text one.kind) (exact_text other.kind) (rest_of one.length slot) (rest_of other.length text) (exact_lacks 32 space one.kind p.1.kind) (exact_lacks 32 space other.kind q.1.kind) whole in
-    let kind = same_exact one.kind other.kind p.1.kind q.1.kind parts.0 in
+    let parts = same_cut 32 (exact_text one.kind) (exact_text other.kind) (rest_of one.length slot) (rest_of other.length text) (exact_lacks 32 space one.kind) (exact_lacks 32 space other.kind) whole in
+    let kind = same_exact one.kind other.kind parts.0 in
     let rest = same_rest one.kind one.length other.length slot text p.0 (subst (λ (k : ExactType). IsLengthOf k other.length) (sym kind) q.0) p.1.length q.1.length parts.1 in
     record { kind = kind; length = rest.0; slot = rest.1 }
 
@@ -286,8 +286,8 @@ pub same_in_line : (number : ℕ) (one other : Object) → InputObjectFits one �
 unfolding in_line
 same_in_line number one other p q e =
     let behind = behind_number (codes "in i") number (exact_text one.kind ++ spaced value_text one.values) (exact_text other.kind ++ spaced value_text other.values) e in
-    let parts = same_words value_text ValueFits (value_lacks 32 space) same_value (exact_text one.kind) (exact_text other.kind) one.values other.values (exact_lacks 32 space one.kind p.kind) (exact_lacks 32 space other.kind q.kind) p.values q.values behind in
-    let kind = same_exact one.kind other.kind p.kind q.kind parts.0 in
+    let parts = same_words value_text ValueFits (value_lacks 32 space) same_value (exact_text one.kind) (exact_text other.kind) one.values other.values (exact_lacks 32 space one.kind) (exact_lacks 32 space other.kind) p q behind in
+    let kind = same_exact one.kind other.kind parts.0 in
     λ i. record { kind = kind i; values = parts.1 i }
 
 pub in_line_lacks : (number : ℕ) (object : Object) → IsCount number → InputObjectFits object → Lacks 10 (in_line number object)
@@ -295,14 +295,14 @@ unfolding in_line
 in_line_lacks number object small fits =
     Lacks-++ 10 (codes "in i") (decimal number ++ (codes " " ++ (exact_text object.kind ++ spaced value_text object.values))) (lacks_is 10 (codes "in i") refl)
     (Lacks-++ 10 (decimal number) (codes " " ++ (exact_text object.kind ++ spaced value_text object.values)) (count_lacks 10 number line_feed.apart small)
-    (omega arith, Lacks-++ 10 (exact_text object.kind) (spaced value_text object.values) (exact_lacks 10 line_feed object.kind fits.kind) (spaced_lacks 10 value_text ValueFits (omega arith) (value_lacks 10 line_feed) object.values fits.values)))
+    (omega arith, Lacks-++ 10 (exact_text object.kind) (spaced value_text object.values) (exact_lacks 10 line_feed object.kind) (spaced_lacks 10 value_text ValueFits (omega arith) (value_lacks 10 line_feed) object.values fits)))
 
 pub same_new_line : (number : ℕ) (one other : Made) → MadeFits one → MadeFits other → new_line number one ≡ new_line number other → one ≡ other
 unfolding new_line
 same_new_line number one other p q e =
     let behind = behind_number (codes "new n") number (exact_text one.kind ++ spaced out_text one.values) (exact_text other.kind ++ spaced out_text other.values) e in
-    let parts = same_words out_text OutFits (out_lacks 32 space) same_out (exact_text one.kind) (exact_text other.kind) one.values other.values (exact_lacks 32 space one.kind p.kind) (exact_lacks 32 space other.kind q.kind) p.values q.values behind in
-    let kind = same_exact one.kind other.kind p.kind q.kind parts.0 in
+    let parts = same_words out_text OutFits (out_lacks 32 space) same_out (exact_text one.kind) (exact_text other.kind) one.values other.values (exact_lacks 32 space one.kind) (exact_lacks 32 space other.kind) p q behind in
+    let kind = same_exact one.kind other.kind parts.0 in
     λ i. record { kind = kind i; values = parts.1 i }
 
 pub new_line_lacks : (number : ℕ) (made : Made) → IsCount number → MadeFits made → Lacks 10 (new_line number made)
@@ -310,7 +310,7 @@ unfolding new_line
 new_line_lacks number made small fits =
     Lacks-++ 10 (codes "new n") (decimal number ++ (codes " " ++ (exact_text made.kind ++ spaced out_text made.values))) (lacks_is 10 (codes "new n") refl)
     (Lacks-++ 10 (decimal number) (codes " " ++ (exact_text made.kind ++ spaced out_text made.values)) (count_lacks 10 number line_feed.apart small)
-    (omega arith, Lacks-++ 10 (exact_text made.kind) (spaced out_text made.values) (exact_lacks 10 line_feed made.kind fits.kind) (spaced_lacks 10 out_text OutFits (omega arith) (out_lacks 10 line_feed) made.values fits.values)))
+    (omega arith, Lacks-++ 10 (exact_text made.kind) (spaced out_text made.values) (exact_lacks 10 line_feed made.kind) (spaced_lacks 10 out_text OutFits (omega arith) (out_lacks 10 line_feed) made.values fits)))
 
 -- ---- endings
 
@@ -338,7 +338,7 @@ same_ending (IllTyped a) (IllTyped b) p q e = ap (λ (place : Place). IllTyped p
 
 place_lacks : (place : Place) → PlaceFits place → Lacks 10 (place_text place)
 unfolding place_text
-place_lacks place fits = Lacks-++ 10 (target_text place.method) (codes " " ++ decimal place.at) (target_lacks 10 line_feed place.method fits.method) (omega arith, digits_lack 10 place.at line_feed.apart fits.at)
+place_lacks place fits = Lacks-++ 10 (target_text place.method) (codes " " ++ decimal place.at) (target_lacks 10 line_feed place.method) (omega arith, digits_lack 10 place.at line_feed.apart fits)
 
 pub ending_lacks : (ending : SymEnding) → EndingFits ending → Lacks 10 (ending_line ending)
 unfolding ending_line

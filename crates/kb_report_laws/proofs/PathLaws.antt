@@ -32,7 +32,7 @@ use Rattle.kb_picture.specs.declared.picture.Picture.{Picture}
 use Rattle.kb_picture.specs.declared.picture.Seen.{Seen}
 use Rattle.kb_report.specs.Words.{bound_name}
 use Rattle.kb_report.specs.Blocks.{numbered_lines, path_line, see_line, loc_line, obj_line, picture_lines, let_line, when_line, ending_line, set_line, new_line, arg_line, in_line, input_lines, leaf_line, further_lines, leaf_lines, path_lines}
-use Rattle.kb_report_laws.specs.Ranges.{SlotFits, LocFits, ObjectFits, TermFits, ConditionFits, WriteFits, MadeFits, ValueFits, InputObjectFits, InputFits, EndedFits, LeafFits, PathFits, WorldFits}
+use Rattle.kb_report.specs.Ranges.{SlotFits, LocFits, ObjectFits, TermFits, ConditionFits, WriteFits, MadeFits, ValueFits, InputObjectFits, InputFits, EndedFits, LeafFits, PathFits}
 use Rattle.kb_report_laws.proofs.Reading.{same_bound}
 use Rattle.kb_report_laws.proofs.FieldLaws.{all_at}
 use Rattle.kb_report_laws.proofs.WordLaws.{kinds_of, map_at, same_slot}
@@ -220,24 +220,24 @@ slot_of_all world params n objects (Arg number) is = is
 slot_of_all world params n objects (Field object slot) is = (is.0, taken_at n objects object is.0 is.1, is.2)
 slot_of_all world params n objects (Element array index) is = (is.0, taken_at n objects array is.0 is.1, is.2)
 
-module _ (world : World) (fits : WorldFits world) where
-  pub seen_there : (params : ℕ) (picture : Picture) → IsPicture world params picture → AllByRecursion SlotFits picture.seen → AllByRecursion (IsSeenThere world fits params picture.objects) picture.seen
+module _ (world : World) where
+  pub seen_there : (params : ℕ) (picture : Picture) → IsPicture world params picture → AllByRecursion SlotFits picture.seen → AllByRecursion (IsSeenThere world params picture.objects) picture.seen
   seen_there params picture is all =
-      all_from (IsSeenThere world fits params picture.objects) picture.seen
+      all_from (IsSeenThere world params picture.objects) picture.seen
       (λ place slot at. ((is.slots place slot.0 (map_at (λ (s : Origin × Seen). s.0) picture.seen place slot at)).0, all_at SlotFits picture.seen place slot all at))
 
-  pub found_there : (params : ℕ) (picture : Picture) → IsPicture world params picture → AllByRecursion ObjectFits picture.objects → AllByRecursion (IsFoundThere world fits params picture.objects) picture.objects
+  pub found_there : (params : ℕ) (picture : Picture) → IsPicture world params picture → AllByRecursion ObjectFits picture.objects → AllByRecursion (IsFoundThere world params picture.objects) picture.objects
   found_there params picture is all =
-      all_from (IsFoundThere world fits params picture.objects) picture.objects
+      all_from (IsFoundThere world params picture.objects) picture.objects
       (λ place object at. ((slot_of_all world params place picture.objects object.origin (is.origins place object at).0, is.lengths place object at), all_at ObjectFits picture.objects place object all at))
 
-  of_length : (params : ℕ) (objects all : List PicObject) → AllByRecursion (IsFoundThere world fits params all) objects → AllByRecursion IsOfLength objects
+  of_length : (params : ℕ) (objects all : List PicObject) → AllByRecursion (IsFoundThere world params all) objects → AllByRecursion IsOfLength objects
   of_length params [] all is = tt
   of_length params (x ∷ xs) all is = ((is.0.0.1, is.0.1), of_length params xs all is.1)
 
-  written_there : (objects : List PicObject) (picture : Picture) (writes : List Write) → picture.objects ≡ objects → AreWrites world picture writes → AllByRecursion WriteFits writes → AllByRecursion (IsWrittenThere world fits objects) writes
+  written_there : (objects : List PicObject) (picture : Picture) (writes : List Write) → picture.objects ≡ objects → AreWrites world picture writes → AllByRecursion WriteFits writes → AllByRecursion (IsWrittenThere world objects) writes
   written_there objects picture writes same are all =
-      all_from (IsWrittenThere world fits objects) writes
+      all_from (IsWrittenThere world objects) writes
       (λ place write at. (subst (λ (os : List PicObject). IsSlot world 0 os write.slot) same (are.there place write at).1, all_at WriteFits writes place write all at))
 
 -- ---- pictures that have one text
@@ -245,11 +245,11 @@ module _ (world : World) (fits : WorldFits world) where
 alike_kinds : (world : World) (objects others : List PicObject) → EachPair (IsObjectAlike world objects others) objects others → kinds_of objects ≡ kinds_of others
 alike_kinds world objects others pairs = pairs_mapped (IsObjectAlike world objects others) (λ (o : PicObject). o.kind) (λ x y alike. alike.kind) objects others pairs
 
-module _ (world : World) (linked : IsLinked world) (fits : WorldFits world) where
-  alike_same : (params many : ℕ) (objects others : List PicObject) → kinds_of objects ≡ kinds_of others → (x y : PicObject) → IsFoundThere world fits params objects x → IsFoundThere world fits many others y
+module _ (world : World) (linked : IsLinked world) where
+  alike_same : (params many : ℕ) (objects others : List PicObject) → kinds_of objects ≡ kinds_of others → (x y : PicObject) → IsFoundThere world params objects x → IsFoundThere world many others y
       → IsObjectAlike world objects others x y → x ≡ y
   alike_same params many objects others kinds x y p q alike =
-      let origin = same_slot world linked fits objects others kinds params many x.origin y.origin p.0.0 q.0.0 p.1.origin q.1.origin alike.slot in
+      let origin = same_slot world linked objects others kinds params many x.origin y.origin p.0.0 q.0.0 p.1.origin q.1.origin alike.slot in
       λ i. record { kind = alike.kind i; length = alike.length i; origin = origin i }
 
   -- the three sections of a picture's lines
@@ -259,16 +259,16 @@ module _ (world : World) (linked : IsLinked world) (fits : WorldFits world) wher
       → map (see_line world one.objects) one.seen ≡ map (see_line world other.objects) other.seen → numbered_lines loc_line 0 one.locs ≡ numbered_lines loc_line 0 other.locs
       → numbered_lines (obj_line world one.objects) 0 one.objects ≡ numbered_lines (obj_line world other.objects) 0 other.objects → one ≡ other
   same_picture params many one other p q sp sq lp lq op oq sees locs objs =
-      let found = found_there world fits params one p op in
-      let found_too = found_there world fits many other q oq in
+      let found = found_there world params one p op in
+      let found_too = found_there world many other q oq in
       let pairs = pairs_numbered (obj_line world one.objects) (obj_line world other.objects) IsOfLength IsOfLength (IsObjectAlike world one.objects other.objects)
       (λ n x y a b e. same_obj_line world one.objects other.objects n x y a b e) 0 one.objects other.objects
-      (of_length world fits params one.objects one.objects found) (of_length world fits many other.objects other.objects found_too) objs in
+      (of_length world params one.objects one.objects found) (of_length world many other.objects other.objects found_too) objs in
       let kinds = alike_kinds world one.objects other.objects pairs in
-      let objects = pairs_same (IsFoundThere world fits params one.objects) (IsFoundThere world fits many other.objects) (IsObjectAlike world one.objects other.objects)
+      let objects = pairs_same (IsFoundThere world params one.objects) (IsFoundThere world many other.objects) (IsObjectAlike world one.objects other.objects)
       (alike_same params many one.objects other.objects kinds) one.objects other.objects found found_too pairs in
-      let seen = same_mapped (see_line world one.objects) (see_line world other.objects) (IsSeenThere world fits params one.objects) (IsSeenThere world fits many other.objects)
-      (λ x y a b e. same_see_line world fits linked one.objects other.objects kinds params many x y a b e) one.seen other.seen (seen_there world fits params one p sp) (seen_there world fits many other q sq) sees in
+      let seen = same_mapped (see_line world one.objects) (see_line world other.objects) (IsSeenThere world params one.objects) (IsSeenThere world many other.objects)
+      (λ x y a b e. same_see_line world linked one.objects other.objects kinds params many x y a b e) one.seen other.seen (seen_there world params one p sp) (seen_there world many other q sq) sees in
       let standings = pairs_numbered loc_line loc_line LocFits LocFits (λ (x y : PicLoc). x.standing ≡ y.standing) same_loc_line 0 one.locs other.locs lp lq locs in
       let locations = same_locs one.locs other.locs standings (λ n x y a b.
       let first = (p.locs n x a).0 in
@@ -294,7 +294,7 @@ module _ (world : World) (linked : IsLinked world) (fits : WorldFits world) wher
   new_other ended more next = other_than_input new_b ended.input more (omega arith) (omega arith) (next_other new_b more (omega arith) (omega arith) next)
 
   same_ended : (objects others : List PicObject) → kinds_of objects ≡ kinds_of others → (one other : Ended) (us vs : List (List ℕ))
-      → AllByRecursion (IsWrittenThere world fits objects) one.writes → AllByRecursion (IsWrittenThere world fits others) other.writes → EndedFits one → EndedFits other → IsNext us → IsNext vs
+      → AllByRecursion (IsWrittenThere world objects) one.writes → AllByRecursion (IsWrittenThere world others) other.writes → EndedFits one → EndedFits other → IsNext us → IsNext vs
       → ending_line one.ending ≡ ending_line other.ending
       → further_lines world objects (EndedLeaf one) ++ us ≡ further_lines world others (EndedLeaf other) ++ vs → (one ≡ other) × (us ≡ vs)
   same_ended objects others kinds one other us vs wp wq p q h k ends e =
@@ -305,8 +305,8 @@ module _ (world : World) (linked : IsLinked world) (fits : WorldFits world) wher
       let news = cut_section new_b (numbered_lines new_line 0 one.made) (numbered_lines new_line 0 other.made) (input_lines one.input ++ us) (input_lines other.input ++ vs)
       (numbered_begin new_line new_b new_begins 0 one.made) (numbered_begin new_line new_b new_begins 0 other.made) (new_other one us h) (new_other other vs k) sets.1 in
       let inputs = same_input one.input other.input us vs p.input q.input h k news.1 in
-      let writes = same_mapped (set_line world objects) (set_line world others) (IsWrittenThere world fits objects) (IsWrittenThere world fits others)
-      (λ x y a b s. same_set_line world fits linked objects others kinds x y a b s) one.writes other.writes wp wq sets.0 in
+      let writes = same_mapped (set_line world objects) (set_line world others) (IsWrittenThere world objects) (IsWrittenThere world others)
+      (λ x y a b s. same_set_line world linked objects others kinds x y a b s) one.writes other.writes wp wq sets.0 in
       let made = pairs_same MadeFits MadeFits (λ (x y : Made). x ≡ y) (λ x y a b same. same) one.made other.made p.made q.made
       (pairs_numbered new_line new_line MadeFits MadeFits (λ (x y : Made). x ≡ y) same_new_line 0 one.made other.made p.made q.made news.0) in
       let ending = same_ending one.ending other.ending p.ending q.ending ends in
@@ -334,7 +334,7 @@ module _ (world : World) (linked : IsLinked world) (fits : WorldFits world) wher
 
   -- what a leaf needs of its path
   abbrev pub LeafThere : List PicObject → Leaf → Type 0
-  LeafThere objects (EndedLeaf ended) = AllByRecursion (IsWrittenThere world fits objects) ended.writes
+  LeafThere objects (EndedLeaf ended) = AllByRecursion (IsWrittenThere world objects) ended.writes
   LeafThere objects (Cut bound input) = Unit {0}
   LeafThere objects (Undecided log) = Unit {0}
   LeafThere objects Open = Unit {0}
@@ -404,7 +404,7 @@ module _ (world : World) (linked : IsLinked world) (fits : WorldFits world) wher
       skip_section n loc_b (numbered_lines loc_line 0 path.picture.locs) (behind_loc path more) locs (numbered_begin loc_line loc_b loc_begins 0 path.picture.locs) (loc_other n leaf whens lets objs path more)
 
   pub leaf_there : (path : Path) (leaf : Leaf) → IsLeaf world path leaf → LeafFits leaf → LeafThere path.picture.objects leaf
-  leaf_there path (EndedLeaf ended) is all = written_there world fits path.picture.objects path.picture ended.writes refl is.writes all.writes
+  leaf_there path (EndedLeaf ended) is all = written_there world path.picture.objects path.picture ended.writes refl is.writes all.writes
   leaf_there path (Cut bound input) is all = tt
   leaf_there path (Undecided log) is all = tt
   leaf_there path Open is all = tt

@@ -27,7 +27,7 @@ use Rattle.kb_picture.specs.declared.picture.Seen.TheVariants as seens
 use Rattle.kb_picture.specs.declared.picture.Standing.{Standing}
 use Rattle.kb_picture.specs.declared.picture.Standing.TheVariants as standings
 use Rattle.kb_report.specs.Words.{bound_name, init_name, seen_text, standing_text, operand_text, out_text, value_text}
-use Rattle.kb_report_laws.specs.Ranges.{SeenFits, StandingFits, OperandFits, OutFits, ValueFits}
+use Rattle.kb_report.specs.Ranges.{SeenFits, StandingFits, OperandFits, OutFits, ValueFits}
 
 -- what is read of one text is one thing
 pub same_read : {A : Type 0} (read : List ℕ → Option A) (x y : A) (s t : List ℕ) → read s ≡ Some x → read t ≡ Some y → s ≡ t → x ≡ y

@@ -12,7 +12,7 @@ use Rattle.kb_heap.specs.declared.bounds.Bounds.{Bounds}
 use Rattle.kb_heap.specs.declared.heap.Input.{Input}
 use Rattle.kb_link.specs.World.{World}
 use Rattle.kb_link.specs.Links.{IsLinked}
-use Rattle.kb_names.specs.Targets.{target_text, IsTarget}
+use Rattle.kb_names.specs.Targets.{target_text}
 use Rattle.kb_names.specs.declared.types.Target.{Target}
 use Rattle.kb_semantics.specs.Inputs.{argument_types}
 use Rattle.kb_picture.specs.declared.choice.Init.{Init}
@@ -27,31 +27,36 @@ use Rattle.kb_report.specs.declared.kinds.LeafKind.TheVariants.{Ended as EndedKi
 use Rattle.kb_report.specs.Words.{init_name}
 use Rattle.kb_report.specs.Blocks.{numbered_lines, path_line, see_line, loc_line, obj_line, picture_lines, let_line, when_line, set_line, new_line, arg_line, in_line, input_lines, leaf_line, further_lines, leaf_lines, path_lines}
 use Rattle.kb_report.specs.Report.{title_line, target_line, run_bounds_text, bounds_text, limits_text, settings_line, head_lines, kind_of, same_kind, count_of, kinds_text, total_line, report_lines, report_text}
-use Rattle.kb_report_laws.specs.Ranges.{IsSmall, ValueFits, InputObjectFits, InputFits, LocFits, TermFits, ConditionFits, MadeFits, LeafFits, BoundsFit, ReportFits, WorldFits}
+use Rattle.kb_report.specs.Ranges.{IsSmall, ValueFits, InputObjectFits, InputFits, LocFits, TermFits, ConditionFits, MadeFits, LeafFits, PathFits, BoundsFit, ReportFits}
 use Rattle.kb_report_laws.specs.OneText.{IsSound}
 use Rattle.kb_report_laws.proofs.Lacking.{digits_lack, count_lacks, target_lacks, lacks_is, space, line_feed}
 use Rattle.kb_report_laws.proofs.Reading.{same_init}
-use Rattle.kb_report_laws.proofs.WordLaws.{same_digits, same_target}
-use Rattle.kb_report_laws.proofs.Sections.{heads, beginning, mapped_are_lines, numbered_are_lines}
+use Rattle.kb_report_laws.proofs.NameLaws.{same_target}
+use Rattle.kb_report_laws.proofs.WordLaws.{same_digits}
+use Rattle.kb_report_laws.proofs.Sections.{heads, beginning, mapped_are_lines, numbered_are_lines, all_both}
 use Rattle.kb_report_laws.proofs.LineLaws.{path_line_lacks, IsSeenThere, IsFoundThere, IsWrittenThere, see_line_lacks, obj_line_lacks, loc_line_lacks, let_line_lacks, when_line_lacks, set_line_lacks, new_line_lacks, arg_line_lacks, in_line_lacks, ending_lacks, bound_lacks}
 use Rattle.kb_report_laws.proofs.PathLaws.{path_b, total_b, path_begins, IsNext, seen_there, found_there, LeafThere, leaf_there, block_is, same_block}
 
 -- ---- the blocks
 
-module _ (world : World) (linked : IsLinked world) (fits : WorldFits world) where
+-- a path that is well-formed, with its ranges
+abbrev IsTold : World → Path → Type 0
+IsTold world path = IsSound world path × PathFits path
+
+module _ (world : World) (linked : IsLinked world) where
   next_is : (paths : List Path) (last : List ℕ) → beginning last ≡ total_b → IsNext (flat_map (path_lines world) paths ++ last ∷ [])
   next_is [] last is = inr is
   next_is (path ∷ paths) last is =
-      let whole = append_assoc (path_lines world path) (flat_map (path_lines world) paths) (last ∷ []) ∙ block_is world linked fits path (flat_map (path_lines world) paths ++ last ∷ []) in
+      let whole = append_assoc (path_lines world path) (flat_map (path_lines world) paths) (last ∷ []) ∙ block_is world linked path (flat_map (path_lines world) paths ++ last ∷ []) in
       subst IsNext (sym whole) (inl (path_begins path.decisions))
 
   no_block : (path : Path) (more : List (List ℕ)) (last : List ℕ) → beginning last ≡ total_b → last ∷ [] ≡ path_lines world path ++ more → ⊥
   no_block path more last is e =
-      let first = heads last (path_line path.decisions) [] _ (e ∙ block_is world linked fits path more) in
+      let first = heads last (path_line path.decisions) [] _ (e ∙ block_is world linked path more) in
       let clash : total_b ≡ path_b = sym is ∙ ap beginning first.0 ∙ path_begins path.decisions in
       omega (arith, clash)
 
-  same_leaves : (ps qs : List Path) (one other : List ℕ) → AllByRecursion (IsSound world) ps → AllByRecursion (IsSound world) qs → beginning one ≡ total_b → beginning other ≡ total_b
+  same_leaves : (ps qs : List Path) (one other : List ℕ) → AllByRecursion (IsTold world) ps → AllByRecursion (IsTold world) qs → beginning one ≡ total_b → beginning other ≡ total_b
       → flat_map (path_lines world) ps ++ one ∷ [] ≡ flat_map (path_lines world) qs ++ other ∷ [] → ps ≡ qs
   same_leaves [] [] one other p q h k e = refl
   same_leaves [] (y ∷ ys) one other p q h k e =
@@ -59,7 +64,7 @@ module _ (world : World) (linked : IsLinked world) (fits : WorldFits world) wher
   same_leaves (x ∷ xs) [] one other p q h k e =
       absurd (no_block x (flat_map (path_lines world) xs ++ one ∷ []) other k (sym e ∙ append_assoc (path_lines world x) (flat_map (path_lines world) xs) (one ∷ [])))
   same_leaves (x ∷ xs) (y ∷ ys) one other p q h k e =
-      let first = same_block world linked fits x y (flat_map (path_lines world) xs ++ one ∷ []) (flat_map (path_lines world) ys ++ other ∷ []) p.0.method q.0.method p.0.formed q.0.formed p.0.ranges q.0.ranges
+      let first = same_block world linked x y (flat_map (path_lines world) xs ++ one ∷ []) (flat_map (path_lines world) ys ++ other ∷ []) p.0.0.method q.0.0.method p.0.0.formed q.0.0.formed p.0.1 q.0.1
       (next_is xs one h) (next_is ys other k)
       (sym (append_assoc (path_lines world x) (flat_map (path_lines world) xs) (one ∷ [])) ∙ e ∙ append_assoc (path_lines world y) (flat_map (path_lines world) ys) (other ∷ [])) in
       let rest = same_leaves xs ys one other p.1 q.1 h k first.1 in
@@ -122,9 +127,9 @@ same_settings a b one other m n k l p q sm sn sk sl e =
     let budget = same_digits k l sk sl (same_behind (codes "budget ") (decimal k) (decimal l) paths.1) in
     (same_init a b inits.0, (λ i. record { k = ks.0 i; array = arrays.0 i; run = record { alloc = allocs.0 i; loops = loops.0 i; depth = depths.0 i; steps = steps.0 i } }), paths.0, budget)
 
-same_target_line : (one other : Target) → IsTarget one → IsTarget other → target_line one ≡ target_line other → one ≡ other
+same_target_line : (one other : Target) → target_line one ≡ target_line other → one ≡ other
 unfolding target_line
-same_target_line one other p q e = same_target one other p q (same_behind (codes "target ") (target_text one) (target_text other) e)
+same_target_line one other e = same_target one other (same_behind (codes "target ") (target_text one) (target_text other) e)
 
 total_begins : (paths : List Path) → beginning (total_line paths) ≡ total_b
 unfolding total_line
@@ -135,15 +140,15 @@ lines_are : (world : World) (report : Report) → report_lines world report
 unfolding report_lines head_lines
 lines_are world report = refl
 
-pub same_reports : (world : World) → IsLinked world → WorldFits world → (one other : Report) → ReportFits one → ReportFits other → AllByRecursion (IsSound world) one.leaves → AllByRecursion (IsSound world) other.leaves
+same_reports : (world : World) → IsLinked world → (one other : Report) → ReportFits one → ReportFits other → AllByRecursion (IsTold world) one.leaves → AllByRecursion (IsTold world) other.leaves
     → report_lines world one ≡ report_lines world other → one ≡ other
-same_reports world linked fits one other p q sp sq e =
+same_reports world linked one other p q sp sq e =
     let titles = heads title_line title_line _ _ (sym (lines_are world one) ∙ e ∙ lines_are world other) in
     let targets = heads (target_line one.target) (target_line other.target) _ _ titles.1 in
     let settings = heads (settings_line one.init one.bounds one.paths one.budget) (settings_line other.init other.bounds other.paths other.budget) _ _ targets.1 in
-    let target = same_target_line one.target other.target p.target q.target targets.0 in
+    let target = same_target_line one.target other.target targets.0 in
     let parts = same_settings one.init other.init one.bounds other.bounds one.paths other.paths one.budget other.budget p.bounds q.bounds p.paths q.paths p.budget q.budget settings.0 in
-    let leaves = same_leaves world linked fits one.leaves other.leaves (total_line one.leaves) (total_line other.leaves) sp sq (total_begins one.leaves) (total_begins other.leaves) settings.1 in
+    let leaves = same_leaves world linked one.leaves other.leaves (total_line one.leaves) (total_line other.leaves) sp sq (total_begins one.leaves) (total_begins other.leaves) settings.1 in
     λ i. record { target = target i; init = parts.0 i; bounds = parts.1 i; paths = parts.2 i; budget = parts.3 i; leaves = leaves i }
 
 -- ---- no line has a line feed in it
@@ -179,9 +184,9 @@ total_lacks paths few =
     let ended = word_number (codes " ended ") (count_of EndedKind paths) (codes " cut " ++ (decimal (count_of CutKind paths) ++ (codes " undecided " ++ (decimal (count_of UndecidedKind paths) ++ (codes " open " ++ decimal (count_of OpenKind paths)))))) (lacks_is 10 (codes " ended ") refl) (few_counted EndedKind paths few) cut in
     word_number (codes "total ") (length paths) (codes " ended " ++ (decimal (count_of EndedKind paths) ++ (codes " cut " ++ (decimal (count_of CutKind paths) ++ (codes " undecided " ++ (decimal (count_of UndecidedKind paths) ++ (codes " open " ++ decimal (count_of OpenKind paths)))))))) (lacks_is 10 (codes "total ") refl) few ended
 
-target_line_lacks : (target : Target) → IsTarget target → Lacks 10 (target_line target)
+target_line_lacks : (target : Target) → Lacks 10 (target_line target)
 unfolding target_line
-target_line_lacks target is = Lacks-++ 10 (codes "target ") (target_text target) (lacks_is 10 (codes "target ") refl) (target_lacks 10 line_feed target is)
+target_line_lacks target = Lacks-++ 10 (codes "target ") (target_text target) (lacks_is 10 (codes "target ") refl) (target_lacks 10 line_feed target)
 
 title_lacks : Lacks 10 title_line
 unfolding title_line
@@ -193,7 +198,7 @@ input_are_lines input fits =
     AreLines-++ (map arg_line input.args) (numbered_lines in_line 0 input.heap.objects) (mapped_are_lines arg_line ValueFits arg_line_lacks input.args fits.args)
     (numbered_are_lines in_line InputObjectFits in_line_lacks 0 input.heap.objects (omega (arith, fits.count)) fits.objects)
 
-module _ (world : World) (linked : IsLinked world) (fits : WorldFits world) where
+module _ (world : World) (linked : IsLinked world) where
   leaf_line_lacks : (leaf : Leaf) → LeafFits leaf → Lacks 10 (leaf_line leaf)
   unfolding leaf_line
   leaf_line_lacks (EndedLeaf ended) all = ending_lacks ended.ending all.ending
@@ -201,45 +206,46 @@ module _ (world : World) (linked : IsLinked world) (fits : WorldFits world) wher
   leaf_line_lacks (Undecided log) all = Lacks-++ 10 (codes "undecided ") (decimal (length log.entries)) (lacks_is 10 (codes "undecided ") refl) (count_lacks 10 (length log.entries) line_feed.apart all.1)
   leaf_line_lacks Open all = lacks_is 10 (codes "open") refl
 
-  further_are_lines : (objects : List PicObject) (leaf : Leaf) → LeafThere world linked fits objects leaf → LeafFits leaf → AreLines (further_lines world objects leaf)
+  further_are_lines : (objects : List PicObject) (leaf : Leaf) → LeafThere world linked objects leaf → LeafFits leaf → AreLines (further_lines world objects leaf)
   unfolding further_lines
   further_are_lines objects (EndedLeaf ended) there all =
       AreLines-++ (map (set_line world objects) ended.writes) (numbered_lines new_line 0 ended.made ++ input_lines ended.input)
-      (mapped_are_lines (set_line world objects) (IsWrittenThere world fits objects) (set_line_lacks world fits objects) ended.writes there)
+      (mapped_are_lines (set_line world objects) (IsWrittenThere world objects) (set_line_lacks world objects) ended.writes there)
       (AreLines-++ (numbered_lines new_line 0 ended.made) (input_lines ended.input) (numbered_are_lines new_line MadeFits new_line_lacks 0 ended.made (omega (arith, all.count)) all.made) (input_are_lines ended.input all.input))
   further_are_lines objects (Cut bound input) there all = input_are_lines input all
   further_are_lines objects (Undecided log) there all = chains_are_lines log.entries all.0
   further_are_lines objects Open there all = tt
 
-  block_are_lines : (path : Path) → IsSound world path → AreLines (path_lines world path)
+  block_are_lines : (path : Path) → IsTold world path → AreLines (path_lines world path)
   unfolding path_lines picture_lines leaf_lines
-  block_are_lines path sound =
+  block_are_lines path told =
+      let sound = told.0 in
+      let p = told.1 in
       let picture = path.picture in
-      let params = length (argument_types world sound.formed.method) in
-      let p = sound.ranges in (
+      let params = length (argument_types world sound.formed.method) in (
         path_line_lacks path.decisions p.decisions,
         AreLines-++ (map (see_line world picture.objects) picture.seen ++ (numbered_lines loc_line 0 picture.locs ++ numbered_lines (obj_line world picture.objects) 0 picture.objects)) _
             (AreLines-++ (map (see_line world picture.objects) picture.seen) (numbered_lines loc_line 0 picture.locs ++ numbered_lines (obj_line world picture.objects) 0 picture.objects)
-            (mapped_are_lines (see_line world picture.objects) (IsSeenThere world fits params picture.objects) (see_line_lacks world fits params picture.objects) picture.seen (seen_there world fits params picture sound.formed.picture p.seen))
+            (mapped_are_lines (see_line world picture.objects) (IsSeenThere world params picture.objects) (see_line_lacks world params picture.objects) picture.seen (seen_there world params picture sound.formed.picture p.seen))
             (AreLines-++ (numbered_lines loc_line 0 picture.locs) (numbered_lines (obj_line world picture.objects) 0 picture.objects)
             (numbered_are_lines loc_line LocFits loc_line_lacks 0 picture.locs (omega (arith, p.counts.locs)) p.locs)
-            (numbered_are_lines (obj_line world picture.objects) (IsFoundThere world fits params picture.objects) (obj_line_lacks world fits params picture.objects) 0 picture.objects (omega (arith, p.counts.objects)) (found_there world fits params picture sound.formed.picture p.objects))))
+            (numbered_are_lines (obj_line world picture.objects) (IsFoundThere world params picture.objects) (obj_line_lacks world params picture.objects) 0 picture.objects (omega (arith, p.counts.objects)) (found_there world params picture sound.formed.picture p.objects))))
             (AreLines-++ (numbered_lines let_line 0 path.terms) (map when_line path.when ++ leaf_line path.leaf ∷ further_lines world picture.objects path.leaf)
             (numbered_are_lines let_line TermFits let_line_lacks 0 path.terms (omega (arith, p.counts.terms)) p.terms)
             (AreLines-++ (map when_line path.when) (leaf_line path.leaf ∷ further_lines world picture.objects path.leaf) (mapped_are_lines when_line ConditionFits when_line_lacks path.when p.when)
-            (leaf_line_lacks path.leaf p.leaf, further_are_lines picture.objects path.leaf (leaf_there world linked fits path path.leaf sound.formed.leaf p.leaf) p.leaf))),
+            (leaf_line_lacks path.leaf p.leaf, further_are_lines picture.objects path.leaf (leaf_there world linked path path.leaf sound.formed.leaf p.leaf) p.leaf))),
       )
 
-  blocks_are_lines : (paths : List Path) → AllByRecursion (IsSound world) paths → AreLines (flat_map (path_lines world) paths)
+  blocks_are_lines : (paths : List Path) → AllByRecursion (IsTold world) paths → AreLines (flat_map (path_lines world) paths)
   blocks_are_lines [] sound = tt
   blocks_are_lines (path ∷ paths) sound = AreLines-++ (path_lines world path) (flat_map (path_lines world) paths) (block_are_lines path sound.0) (blocks_are_lines paths sound.1)
 
-  pub report_are_lines : (report : Report) → ReportFits report → AllByRecursion (IsSound world) report.leaves → AreLines (report_lines world report)
+  report_are_lines : (report : Report) → ReportFits report → AllByRecursion (IsTold world) report.leaves → AreLines (report_lines world report)
   report_are_lines report p sound =
       subst AreLines (sym (lines_are world report)) (
         title_lacks,
         (
-          target_line_lacks report.target p.target,
+          target_line_lacks report.target,
           (
             settings_lacks report.init report.bounds report.paths report.budget p.bounds p.paths p.budget,
             AreLines-++ (flat_map (path_lines world) report.leaves) (total_line report.leaves ∷ []) (blocks_are_lines report.leaves sound) (total_lacks report.leaves p.count, tt),
@@ -253,5 +259,7 @@ module _ (world : World) (linked : IsLinked world) (fits : WorldFits world) wher
 
   pub one_report : (one other : Report) → ReportFits one → ReportFits other → AllByRecursion (IsSound world) one.leaves → AllByRecursion (IsSound world) other.leaves → report_text world one ≡ report_text world other → one ≡ other
   one_report one other p q sp sq e =
-      same_reports world linked fits one other p q sp sq
-      (same_lines (report_lines world one) (report_lines world other) (report_are_lines one p sp) (report_are_lines other q sq) (sym (text_is one) ∙ e ∙ text_is other))
+      let tp = all_both (IsSound world) PathFits one.leaves sp p.leaves in
+      let tq = all_both (IsSound world) PathFits other.leaves sq q.leaves in
+      same_reports world linked one other p q tp tq
+      (same_lines (report_lines world one) (report_lines world other) (report_are_lines one p tp) (report_are_lines other q tq) (sym (text_is one) ∙ e ∙ text_is other))

@@ -10,18 +10,13 @@ use Rattle.std.proofs.lemmas.Slice.Eq.{bytes_eq-Decides}
 use Rattle.std.proofs.lemmas.Bool.Decides.{nat_tests}
 use Rattle.kb_grammar.specs.Lines.{Lacks}
 use Rattle.kb_grammar.proofs.WordLaws.{Lacks-++, same_cut, same_behind, not_lacking}
-use Rattle.kb_names.specs.Bytes.{AreBytes}
 use Rattle.kb_names.specs.Escapes.{name_text}
-use Rattle.kb_names.specs.Descriptors.{type_text, IsType}
-use Rattle.kb_names.specs.Targets.{target_text, IsTarget}
+use Rattle.kb_names.specs.Descriptors.{type_text}
+use Rattle.kb_names.specs.Targets.{target_text}
 use Rattle.kb_names.specs.declared.class_names.Spelling.TheVariants.{Escaped}
 use Rattle.kb_names.specs.declared.types.ExactType.{ExactType}
 use Rattle.kb_names.specs.declared.types.ExactType.TheVariants as exact
 use Rattle.kb_names.specs.declared.types.JType.{JType}
-use Rattle.kb_names.specs.declared.types.Target.{Target}
-use Rattle.kb_names.proofs.NameReader.{name_reader}
-use Rattle.kb_names.proofs.TypeReader.{type_reader}
-use Rattle.kb_names.proofs.TargetReader.{target_reader}
 use Rattle.kb_heap.specs.declared.ending.Place.{Place}
 use Rattle.kb_heap.specs.declared.heap.Value.{Value}
 use Rattle.kb_heap.specs.declared.heap.Value.TheVariants as values
@@ -51,50 +46,32 @@ use Rattle.kb_picture.specs.declared.picture.Seen.TheVariants as seens
 use Rattle.kb_picture.specs.declared.picture.Standing.{Standing}
 use Rattle.kb_picture.specs.declared.picture.Standing.TheVariants as standings
 use Rattle.kb_report.specs.Words.{exact_text, place_text, fields_named, has_namesake, kind_text, field_text, field_of_type, field_of, slot_text, seen_text, standing_text, operand_text, second_text, term_text, out_text, value_text}
-use Rattle.kb_report_laws.specs.Ranges.{IsSmall, OriginFits, SeenFits, StandingFits, OperandFits, SecondFits, OutFits, ValueFits, ExactFits, PlaceFits, TermFits, FieldFits, ClassFits, WorldFits}
-use Rattle.kb_report_laws.proofs.Lacking.{IsGap, digits_lack, signed_lacks, name_lacks, type_lacks, target_lacks, above, are_high, high_lacks, space, dot, colon, bracket, bracket_end}
+use Rattle.kb_report.specs.Ranges.{IsSmall, OriginFits, SeenFits, StandingFits, OperandFits, SecondFits, OutFits, ValueFits, PlaceFits, TermFits}
+use Rattle.kb_report_laws.proofs.Lacking.{IsGap, digits_lack, signed_lacks, name_lacks, gap_in_name, type_lacks, target_lacks, above, are_high, high_lacks, space, dot, colon, bracket, bracket_end}
+use Rattle.kb_report_laws.proofs.NameLaws.{same_name, same_type, same_target, not_bracket}
 use Rattle.kb_report_laws.proofs.Reading.{same_operand, same_op}
 use Rattle.kb_report_laws.proofs.Sections.{unlike}
 use Rattle.kb_report_laws.proofs.FieldLaws.{one_slot, slot_is_declared, all_at, only_one}
 
--- ---- names, types, methods
+-- ---- numbers, types, methods
 
 pub same_digits : (m n : ℕ) → IsSmall m → IsSmall n → decimal m ≡ decimal n → m ≡ n
 same_digits m n p q e = decimal_injective m n (omega (arith, p)) (omega (arith, q)) e
 
-pub same_name : (one other : List ℕ) → AreBytes one → AreBytes other → name_text one ≡ name_text other → one ≡ other
-same_name one other p q e =
-    let first = name_reader.only one (name_text one) (p, refl) in
-    let second = name_reader.only other (name_text one) (q, e) in
-    cc
-
-pub same_type : (one other : JType) → IsType Escaped one → IsType Escaped other → type_text Escaped one ≡ type_text Escaped other → one ≡ other
-same_type one other p q e =
-    let reader = type_reader Escaped in
-    let first = reader.only one (type_text Escaped one) (p, refl) in
-    let second = reader.only other (type_text Escaped one) (q, e) in
-    cc
-
-pub same_target : (one other : Target) → IsTarget one → IsTarget other → target_text one ≡ target_text other → one ≡ other
-same_target one other p q e =
-    let first = target_reader.only one (target_text one) (p, refl) in
-    let second = target_reader.only other (target_text one) (q, e) in
-    cc
-
 pub same_place : (one other : Place) → PlaceFits one → PlaceFits other → place_text one ≡ place_text other → one ≡ other
 unfolding place_text
 same_place one other p q e =
-    let parts = same_cut 32 (target_text one.method) (target_text other.method) (decimal one.at) (decimal other.at) (target_lacks 32 space one.method p.method) (target_lacks 32 space other.method q.method) e in
-    let method = same_target one.method other.method p.method q.method parts.0 in
-    let at = same_digits one.at other.at p.at q.at parts.1 in
+    let parts = same_cut 32 (target_text one.method) (target_text other.method) (decimal one.at) (decimal other.at) (target_lacks 32 space one.method) (target_lacks 32 space other.method) e in
+    let method = same_target one.method other.method parts.0 in
+    let at = same_digits one.at other.at p q parts.1 in
     λ i. record { method = method i; at = at i }
 
-pub same_exact : (one other : ExactType) → ExactFits one → ExactFits other → exact_text one ≡ exact_text other → one ≡ other
+pub same_exact : (one other : ExactType) → exact_text one ≡ exact_text other → one ≡ other
 unfolding exact_text
-same_exact (exact.Class one) (exact.Class other) p q e = ap (λ (name : List ℕ). exact.Class name) (same_name one other p.1 q.1 e)
-same_exact (exact.Class one) (exact.Array other) p q e = absurd (not_lacking 91 [] (type_text Escaped other) (name_text one) (name_lacks 91 bracket one p.1) (sym e))
-same_exact (exact.Array one) (exact.Class other) p q e = absurd (not_lacking 91 [] (type_text Escaped one) (name_text other) (name_lacks 91 bracket other q.1) e)
-same_exact (exact.Array one) (exact.Array other) p q e = ap (λ (type : JType). exact.Array type) (same_type one other p q (same_behind (codes "[") (type_text Escaped one) (type_text Escaped other) e))
+same_exact (exact.Class one) (exact.Class other) e = ap (λ (name : List ℕ). exact.Class name) (same_name one other e)
+same_exact (exact.Class one) (exact.Array other) e = absurd (not_bracket one (type_text Escaped other) e)
+same_exact (exact.Array one) (exact.Class other) e = absurd (not_bracket other (type_text Escaped one) (sym e))
+same_exact (exact.Array one) (exact.Array other) e = ap (λ (type : JType). exact.Array type) (same_type one other (same_behind (codes "[") (type_text Escaped one) (type_text Escaped other) e))
 
 -- ---- what the words lack
 
@@ -122,10 +99,10 @@ module _ (byte : ℕ) (gap : IsGap byte) where
   lettered : (word : List ℕ) (number : ℕ) → are_high word ≡ true → IsSmall number → Lacks byte (word ++ decimal number)
   lettered word number high small = Lacks-++ byte word (decimal number) (high_lacks byte gap.low word high) (digits_lack byte number gap.apart small)
 
-  pub exact_lacks : (kind : ExactType) → ExactFits kind → Lacks byte (exact_text kind)
+  pub exact_lacks : (kind : ExactType) → Lacks byte (exact_text kind)
   unfolding exact_text
-  exact_lacks (exact.Class name) fits = name_lacks byte gap.apart name fits.1
-  exact_lacks (exact.Array component) fits = (above 91 byte gap.low (omega arith), type_lacks byte gap component fits)
+  exact_lacks (exact.Class name) = gap_in_name byte gap name
+  exact_lacks (exact.Array component) = (above 91 byte gap.low (omega arith), type_lacks byte gap component)
 
   pub op_lacks : (op : Op) → Lacks byte (op_name op)
   op_lacks op = high_lacks byte gap.low (op_name op) (op_high op)
@@ -203,15 +180,10 @@ pub record SlotNames (world : World) (slot : FieldSlot) : Type 0 where
   pub field_is : slice_get class.fields place ≡ Some field
   pub name_is : field.name ≡ slot.name
   pub kind_is : field.kind ≡ slot.kind
-  pub class_bytes : AreBytes class.name
-  pub name_bytes : AreBytes slot.name
-  pub kind_fits : IsType Escaped slot.kind
 
-pub slot_names : (world : World) → WorldFits world → (name : List ℕ) (place : ℕ) (slot : FieldSlot) → slice_get (slots_of_class world name) place ≡ Some slot → SlotNames world slot
-slot_names world fits name place slot at =
+pub slot_names : (world : World) (name : List ℕ) (place : ℕ) (slot : FieldSlot) → slice_get (slots_of_class world name) place ≡ Some slot → SlotNames world slot
+slot_names world name place slot at =
     let is = slot_is_declared world name place slot at in
-    let class_fits : ClassFits is.0 = all_at ClassFits world.classes slot.class.0 is.0 fits is.2 in
-    let field_fits : FieldFits is.1 = all_at FieldFits is.0.fields is.3.0 is.1 class_fits.fields is.3.1 in
     record {
       class = is.0;
       field = is.1;
@@ -220,24 +192,20 @@ slot_names world fits name place slot at =
       field_is = is.3.1;
       name_is = is.4;
       kind_is = is.5;
-      class_bytes = class_fits.name;
-      name_bytes = subst AreBytes is.4 field_fits.name;
-      kind_fits = subst (IsType Escaped) is.5 field_fits.kind;
     }
 
 name_of_class : (world : World) (slot : FieldSlot) (names : SlotNames world slot) → class_name world slot.class.0 ≡ names.class.name
 name_of_class world slot names = ap (λ (o : Option Class). option_map_or (λ (c : Class). c.name) o []) names.class_is
 
-kind_lacks : (byte : ℕ) → IsGap byte → (namesake : Bool) (kind : JType) → IsType Escaped kind → Lacks byte (kind_text namesake kind)
-kind_lacks byte gap true kind is = (above 58 byte gap.low (omega arith), type_lacks byte gap kind is)
-kind_lacks byte gap false kind is = tt
+kind_lacks : (byte : ℕ) → IsGap byte → (namesake : Bool) (kind : JType) → Lacks byte (kind_text namesake kind)
+kind_lacks byte gap true kind = (above 58 byte gap.low (omega arith), type_lacks byte gap kind)
+kind_lacks byte gap false kind = tt
 
-pub field_lacks : (byte : ℕ) → IsGap byte → (world : World) (slot : FieldSlot) → SlotNames world slot → Lacks byte (field_text world slot)
+pub field_lacks : (byte : ℕ) → IsGap byte → (world : World) (slot : FieldSlot) → Lacks byte (field_text world slot)
 unfolding field_text
-field_lacks byte gap world slot names =
-    let class_bytes : AreBytes (class_name world slot.class.0) = subst AreBytes (sym (name_of_class world slot names)) names.class_bytes in
-    Lacks-++ byte (name_text (class_name world slot.class.0)) (46 ∷ (name_text slot.name ++ kind_text (has_namesake world slot) slot.kind)) (name_lacks byte gap.apart (class_name world slot.class.0) class_bytes)
-    (above 46 byte gap.low (omega arith), Lacks-++ byte (name_text slot.name) (kind_text (has_namesake world slot) slot.kind) (name_lacks byte gap.apart slot.name names.name_bytes) (kind_lacks byte gap (has_namesake world slot) slot.kind names.kind_fits))
+field_lacks byte gap world slot =
+    Lacks-++ byte (name_text (class_name world slot.class.0)) (46 ∷ (name_text slot.name ++ kind_text (has_namesake world slot) slot.kind)) (gap_in_name byte gap (class_name world slot.class.0))
+    (above 46 byte gap.low (omega arith), Lacks-++ byte (name_text slot.name) (kind_text (has_namesake world slot) slot.kind) (gap_in_name byte gap slot.name) (kind_lacks byte gap (has_namesake world slot) slot.kind))
 
 few : (n : ℕ) → nat_lt 1 n ≡ false → n ≤ 1
 few n e = grind (arith, nat_tests, e)
@@ -265,11 +233,9 @@ module _ (world : World) (linked : IsLinked world) where
       → (slot.class.0 ≡ other.class.0) × (slot.name ≡ other.name) × (slot.kind ≡ other.kind)
   unfolding field_text
   same_field_text slot other p q e =
-      let one_bytes : AreBytes (class_name world slot.class.0) = subst AreBytes (sym (name_of_class world slot p)) p.class_bytes in
-      let other_bytes : AreBytes (class_name world other.class.0) = subst AreBytes (sym (name_of_class world other q)) q.class_bytes in
       let parts = same_cut 46 (name_text (class_name world slot.class.0)) (name_text (class_name world other.class.0)) (name_text slot.name ++ kind_text (has_namesake world slot) slot.kind) (name_text other.name ++ kind_text (has_namesake world other) other.kind)
-      (name_lacks 46 dot (class_name world slot.class.0) one_bytes) (name_lacks 46 dot (class_name world other.class.0) other_bytes) e in
-      let names : p.class.name ≡ q.class.name = sym (name_of_class world slot p) ∙ same_name (class_name world slot.class.0) (class_name world other.class.0) one_bytes other_bytes parts.0 ∙ name_of_class world other q in
+      (name_lacks 46 dot (omega arith) (class_name world slot.class.0)) (name_lacks 46 dot (omega arith) (class_name world other.class.0)) e in
+      let names : p.class.name ≡ q.class.name = sym (name_of_class world slot p) ∙ same_name (class_name world slot.class.0) (class_name world other.class.0) parts.0 ∙ name_of_class world other q in
       let number : slot.class.0 ≡ other.class.0 = linked.names slot.class.0 other.class.0 p.class.name (map_at name_of world.classes slot.class.0 p.class p.class_is) (map_at name_of world.classes other.class.0 q.class q.class_is ∙ ap (λ (n : List ℕ). Some n) (sym names)) in
       let rest = go number (has_namesake world slot) refl (has_namesake world other) refl parts.1 in
       (number, rest.0, rest.1)
@@ -277,14 +243,14 @@ module _ (world : World) (linked : IsLinked world) where
       go : slot.class.0 ≡ other.class.0 → (a : Bool) → has_namesake world slot ≡ a → (b : Bool) → has_namesake world other ≡ b
           → name_text slot.name ++ kind_text a slot.kind ≡ name_text other.name ++ kind_text b other.kind → (slot.name ≡ other.name) × (slot.kind ≡ other.kind)
       go number true x true y e =
-          let parts = same_cut 58 (name_text slot.name) (name_text other.name) (type_text Escaped slot.kind) (type_text Escaped other.kind) (name_lacks 58 colon slot.name p.name_bytes) (name_lacks 58 colon other.name q.name_bytes) e in
-          (same_name slot.name other.name p.name_bytes q.name_bytes parts.0, same_type slot.kind other.kind p.kind_fits q.kind_fits parts.1)
+          let parts = same_cut 58 (name_text slot.name) (name_text other.name) (type_text Escaped slot.kind) (type_text Escaped other.kind) (name_lacks 58 colon (omega arith) slot.name) (name_lacks 58 colon (omega arith) other.name) e in
+          (same_name slot.name other.name parts.0, same_type slot.kind other.kind parts.1)
       go number true x false y e =
-          absurd (not_lacking 58 (name_text slot.name) (type_text Escaped slot.kind) (name_text other.name) (name_lacks 58 colon other.name q.name_bytes) (e ∙ append-nil (name_text other.name)))
+          absurd (not_lacking 58 (name_text slot.name) (type_text Escaped slot.kind) (name_text other.name) (name_lacks 58 colon (omega arith) other.name) (e ∙ append-nil (name_text other.name)))
       go number false x true y e =
-          absurd (not_lacking 58 (name_text other.name) (type_text Escaped other.kind) (name_text slot.name) (name_lacks 58 colon slot.name p.name_bytes) (sym e ∙ append-nil (name_text slot.name)))
+          absurd (not_lacking 58 (name_text other.name) (type_text Escaped other.kind) (name_text slot.name) (name_lacks 58 colon (omega arith) slot.name) (sym e ∙ append-nil (name_text slot.name)))
       go number false x false y e =
-          let called = same_name slot.name other.name p.name_bytes q.name_bytes (sym (append-nil (name_text slot.name)) ∙ e ∙ append-nil (name_text other.name)) in
+          let called = same_name slot.name other.name (sym (append-nil (name_text slot.name)) ∙ e ∙ append-nil (name_text other.name)) in
           (called, same_kinds slot other p q number called x)
 
 -- ---- slots
@@ -317,16 +283,15 @@ field_slot_text : (world : World) (objects : List PicObject) (object slot : ℕ)
 unfolding slot_text
 field_slot_text world objects object slot found = ap (λ (o : Option FieldSlot). codes "o" ++ (decimal object ++ 46 ∷ option_map_or (field_text world) o [])) found.found
 
-pub slot_lacks : (byte : ℕ) → IsGap byte → (world : World) → WorldFits world → (params : ℕ) (objects : List PicObject) (slot : Origin) → OriginFits slot → IsSlot world params objects slot
+pub slot_lacks : (byte : ℕ) → IsGap byte → (world : World) (params : ℕ) (objects : List PicObject) (slot : Origin) → OriginFits slot → IsSlot world params objects slot
     → Lacks byte (slot_text world objects slot)
 unfolding slot_text
-slot_lacks byte gap world fits params objects (Arg number) small is = lettered byte gap (codes "a") number refl small
-slot_lacks byte gap world fits params objects (Field object slot) small is =
+slot_lacks byte gap world params objects (Arg number) small is = lettered byte gap (codes "a") number refl small
+slot_lacks byte gap world params objects (Field object slot) small is =
     let found = found_field world params objects object slot is in
-    let names = slot_names world fits found.name slot found.field found.field_is in
     subst (Lacks byte) (sym (field_slot_text world objects object slot found))
-    (above 111 byte gap.low (omega arith), Lacks-++ byte (decimal object) (46 ∷ field_text world found.field) (digits_lack byte object gap.apart small.0) (above 46 byte gap.low (omega arith), field_lacks byte gap world found.field names))
-slot_lacks byte gap world fits params objects (Element array index) small is = (
+    (above 111 byte gap.low (omega arith), Lacks-++ byte (decimal object) (46 ∷ field_text world found.field) (digits_lack byte object gap.apart small.0) (above 46 byte gap.low (omega arith), field_lacks byte gap world found.field))
+slot_lacks byte gap world params objects (Element array index) small is = (
   above 111 byte gap.low (omega arith),
   Lacks-++ byte (decimal array) (91 ∷ (decimal index ++ codes "]")) (digits_lack byte array gap.apart small.0)
       (above 91 byte gap.low (omega arith), Lacks-++ byte (decimal index) (codes "]") (digits_lack byte index gap.apart small.1) (above 93 byte gap.low (omega arith), tt)),
@@ -340,7 +305,7 @@ element_lacks array index p q =
     Lacks-++ 46 (decimal array) (91 ∷ (decimal index ++ codes "]")) (digits_lack 46 array dot p)
     (omega arith, Lacks-++ 46 (decimal index) (codes "]") (digits_lack 46 index dot q) (omega arith, tt))
 
-module _ (world : World) (linked : IsLinked world) (fits : WorldFits world) (objects others : List PicObject) (kinds : kinds_of objects ≡ kinds_of others) where
+module _ (world : World) (linked : IsLinked world) (objects others : List PicObject) (kinds : kinds_of objects ≡ kinds_of others) where
   same_fields : (object slot number place : ℕ) (p : FoundField world objects object slot) (q : FoundField world others number place) → IsSmall object → IsSmall number
       → decimal object ++ 46 ∷ field_text world p.field ≡ decimal number ++ 46 ∷ field_text world q.field → Field object slot ≡ Field number place
   same_fields object slot number place p q small small_too e =
@@ -349,7 +314,7 @@ module _ (world : World) (linked : IsLinked world) (fits : WorldFits world) (obj
       let kind : Some (exact.Class p.name) ≡ Some (exact.Class q.name) = sym p.kind_is ∙ ap (λ (ks : List ExactType). slice_get ks object) kinds ∙ ap (slice_get (kinds_of others)) same ∙ q.kind_is in
       let name : p.name ≡ q.name = cc in
       let there : slice_get (slots_of_class world p.name) place ≡ Some q.field = ap (λ (n : List ℕ). slice_get (slots_of_class world n) place) name ∙ q.field_is in
-      let text = same_field_text world linked p.field q.field (slot_names world fits p.name slot p.field p.field_is) (slot_names world fits q.name place q.field q.field_is) parts.1 in
+      let text = same_field_text world linked p.field q.field (slot_names world p.name slot p.field p.field_is) (slot_names world q.name place q.field q.field_is) parts.1 in
       let slots = one_slot world linked p.name slot place p.field q.field p.field_is there text.0 text.1 text.2 in
       λ i. Field (same i) (slots i)
 

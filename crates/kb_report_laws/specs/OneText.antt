@@ -7,15 +7,14 @@ use Rattle.kb_picture.specs.WellFormed.{IsWellFormed}
 use Rattle.kb_picture.specs.declared.path.Path.{Path}
 use Rattle.kb_report.specs.declared.report.Report.{Report}
 use Rattle.kb_report.specs.Report.{report_text}
-use Rattle.kb_report_laws.specs.Ranges.{PathFits, ReportFits}
+use Rattle.kb_report.specs.Ranges.{ReportFits}
 
 -- the path is well-formed for some method of the world
 pub record IsSound (world : World) (path : Path) : Type 0 where
   pub method : MethodId
   pub formed : IsWellFormed world method path
-  pub ranges : PathFits path
 
--- the paths of the report are well-formed, and its numbers and names are those that its types hold
+-- the paths of the report are well-formed, and its numbers are in the ranges of their types
 pub record IsReport (world : World) (report : Report) : Type 0 where
   pub ranges : ReportFits report
   pub leaves : AllByRecursion (IsSound world) report.leaves

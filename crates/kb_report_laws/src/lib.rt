@@ -1,8 +1,9 @@
 //! No two reports have one text.
 //!
-//! `specs/Ranges.antt` says what the types of a report's parts keep of its numbers and names, `specs/OneText.antt` the law.
+//! `specs/OneText.antt` has the law, `specs/Example.antt` a report of which it speaks. The ranges of numbers that it asks for
+//! are those of the types of the code: [`kb_report::report_text`] tells them of each report that it writes.
 #![tactic(auto)]
 
 mod law;
 
-pub use law::reports_have_own_texts;
+pub use law::{example_is_a_report, own_report_text, reports_have_own_texts};

@@ -74,9 +74,10 @@ fn path_with(alloc: Global, decision: u32, leaf: Leaf) -> io::Result<Path> {
     Ok(path(alloc, decisions, picture, leaf))
 }
 
+/// In another method than that of the report, with escapes in its names.
 fn ill_typed(alloc: Global) -> io::Result<Leaf> {
-    let method = target(alloc, b"A.f([I)V")?;
-    let ending = SymEnding::IllTyped(Place { method, at: 4 });
+    let method = target(alloc, b"a%20b.g%3A(La%3Bb;[J)V")?;
+    let ending = SymEnding::IllTyped(Place { method, at: 65535 });
     Ok(ended(alloc, ending, Vec::new(alloc), ints(alloc, &[])?))
 }
 
@@ -114,11 +115,11 @@ fn thrown(alloc: Global) -> io::Result<Leaf> {
     ))
 }
 
-/// A chain of two steps, and one of none.
+/// A chain of three steps, and one of none.
 fn log(alloc: Global) -> io::Result<Log> {
     let first = Chain {
         start: 4,
-        steps: Row::from_vec(vec![in alloc; (2, 1), (7, 30)]?),
+        steps: Row::from_vec(vec![in alloc; (2, 1), (7, 30), (3, 5)]?),
     };
     let second = Chain {
         start: 0,

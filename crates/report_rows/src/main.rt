@@ -11,6 +11,8 @@ mod leaves;
 mod locations;
 mod names;
 mod parts;
+mod references;
+mod whole;
 mod worlds;
 
 use kb_outside::{OutSink, Sink, send_all};
@@ -35,11 +37,13 @@ fn write_texts<W: Sink>(alloc: Global, world: &World, out: &mut W) -> io::Result
     write_text(alloc, world, ints::div(alloc), out)?;
     write_text(alloc, world, ints::operations(alloc), out)?;
     write_text(alloc, world, locations::locations(alloc), out)?;
+    write_text(alloc, world, whole::whole(alloc), out)?;
     write_text(alloc, world, names::names(alloc), out)?;
     write_text(alloc, world, names::fields(alloc), out)?;
     write_text(alloc, world, names::nothing(alloc), out)?;
     write_text(alloc, world, arrays::arrays(alloc), out)?;
     write_text(alloc, world, arrays::nested(alloc), out)?;
+    write_text(alloc, world, references::references(alloc), out)?;
     write_text(alloc, world, leaves::leaves(alloc), out)
 }
 

@@ -8,9 +8,9 @@ use Rattle.kb_report.specs.Report.{head_lines, total_line, report_lines, report_
 use Rattle.kb_report.proofs.TextLaws.{three_joined}
 use Rattle.kb_report.proofs.report.report_text.Goals as goal
 
-pub returns : goal.returns
+pub returns-clause-text : goal.returns-clause-text
 unfolding report_text report_lines
-returns c =
+returns-clause-text c =
     let world = c.args.world.now in
     let report = c.args.report.now in
     let head : c.write_head.new.text ≡ [] ++ lines_text (head_lines report) = c.in_ok-write_head.ensures ∙ ap (λ (t : List ℕ). t ++ lines_text (head_lines report)) c.new-text.ensures in

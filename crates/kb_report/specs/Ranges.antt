@@ -1,24 +1,16 @@
--- What the types of a report's parts keep: numbers of 32 bits, ints of 32 bits with sign, names of bytes. And what a text can
--- hold: no class's name is empty, and no type has more than 255 dimensions.
+-- The ranges of a report's numbers: numbers of 32 bits, ints of 32 bits with sign, and how many items a list has. They are
+-- those of the types of the code, so that each report that is a value of the code keeps them. A text tells a number in such a
+-- range: std's decimal texts go on to 10 ^ 64 alone.
 use Rattle.std.specs.Prelude.{ℕ, ◌<◌, ◌^◌, Bool, length, Option, Some, None}
 use Rattle.std.specs.List.{AllByRecursion}
 use Rattle.std.specs.Int.{w32}
 use Rattle.std.specs.Int.RustNames.{FitsSigned}
-use Rattle.kb_names.specs.Bytes.{AreBytes}
-use Rattle.kb_names.specs.Descriptors.{IsClassName, IsType}
-use Rattle.kb_names.specs.Targets.{IsTarget}
-use Rattle.kb_names.specs.declared.class_names.Spelling.TheVariants.{Escaped}
-use Rattle.kb_names.specs.declared.types.ExactType.{ExactType}
-use Rattle.kb_names.specs.declared.types.ExactType.TheVariants as exact
 use Rattle.kb_heap.specs.declared.bounds.Bounds.{Bounds}
 use Rattle.kb_heap.specs.declared.ending.Place.{Place}
 use Rattle.kb_heap.specs.declared.heap.Value.{Value}
 use Rattle.kb_heap.specs.declared.heap.Value.TheVariants as values
 use Rattle.kb_heap.specs.declared.heap.Object.{Object}
 use Rattle.kb_heap.specs.declared.heap.Input.{Input}
-use Rattle.kb_class.specs.Class.{Class}
-use Rattle.kb_class.specs.declared.members.FieldInfo.{FieldInfo}
-use Rattle.kb_link.specs.World.{World}
 use Rattle.kb_log_text.specs.Lines.{IsChain}
 use Rattle.kb_terms.specs.declared.listing.Operand.{Operand}
 use Rattle.kb_terms.specs.declared.listing.Operand.TheVariants.{Const, Var, Term as TermOperand}
@@ -98,14 +90,8 @@ ValueFits (values.Int z) = FitsSigned w32 z
 ValueFits values.Null = Unit {0}
 ValueFits (values.Ref object) = IsSmall object
 
--- a class's name that is not empty, a component with at most 255 dimensions
-abbrev pub ExactFits : ExactType → Type 0
-ExactFits (exact.Class name) = IsClassName Escaped name
-ExactFits (exact.Array component) = IsType Escaped component
-
-pub record PlaceFits (place : Place) : Type 0 where
-  pub method : IsTarget place.method
-  pub at : IsSmall place.at
+abbrev pub PlaceFits : Place → Type 0
+PlaceFits place = IsSmall place.at
 
 -- ---- the parts of a path
 
@@ -113,7 +99,6 @@ abbrev pub SlotFits : Origin × Seen → Type 0
 SlotFits slot = OriginFits slot.0 × SeenFits slot.1
 
 pub record ObjectFits (object : PicObject) : Type 0 where
-  pub kind : ExactFits object.kind
   pub length : LengthFits object.length
   pub origin : OriginFits object.origin
 
@@ -130,13 +115,11 @@ ConditionFits condition = IsSmall condition.0
 abbrev pub WriteFits : Write → Type 0
 WriteFits write = OriginFits write.slot × OutFits write.value
 
-pub record MadeFits (made : Made) : Type 0 where
-  pub kind : ExactFits made.kind
-  pub values : AllByRecursion OutFits made.values
+abbrev pub MadeFits : Made → Type 0
+MadeFits made = AllByRecursion OutFits made.values
 
-pub record InputObjectFits (object : Object) : Type 0 where
-  pub kind : ExactFits object.kind
-  pub values : AllByRecursion ValueFits object.values
+abbrev pub InputObjectFits : Object → Type 0
+InputObjectFits object = AllByRecursion ValueFits object.values
 
 pub record InputFits (input : Input) : Type 0 where
   pub args : AllByRecursion ValueFits input.args
@@ -177,7 +160,7 @@ pub record PathFits (path : Path) : Type 0 where
   pub when : AllByRecursion ConditionFits path.when
   pub leaf : LeafFits path.leaf
 
--- ---- reports and worlds
+-- ---- reports
 
 pub record BoundsFit (bounds : Bounds) : Type 0 where
   pub k : IsSmall bounds.k
@@ -188,20 +171,8 @@ pub record BoundsFit (bounds : Bounds) : Type 0 where
   pub steps : IsSmall bounds.run.steps
 
 pub record ReportFits (report : Report) : Type 0 where
-  pub target : IsTarget report.target
   pub bounds : BoundsFit report.bounds
   pub paths : IsSmall report.paths
   pub budget : IsSmall report.budget
   pub leaves : AllByRecursion PathFits report.leaves
   pub count : IsCount (length report.leaves)
-
-pub record FieldFits (field : FieldInfo) : Type 0 where
-  pub name : AreBytes field.name
-  pub kind : IsType Escaped field.kind
-
-pub record ClassFits (class : Class) : Type 0 where
-  pub name : AreBytes class.name
-  pub fields : AllByRecursion FieldFits class.fields
-
-abbrev pub WorldFits : World → Type 0
-WorldFits world = AllByRecursion ClassFits world.classes
