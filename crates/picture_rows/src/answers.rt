@@ -1,0 +1,168 @@
+//! What the calls answer of a path and an input, as lines of a text.
+
+ghost use Rattle.std.specs.Prelude.{◌≡◌, Some};
+ghost use Rattle.kb_picture.specs.Places.{places_of};
+
+use crate::asked::Asked;
+use crate::texts::add;
+use crate::words::{malformed, no_memory};
+use kb_heap::{Ending, Heap, Input, RunBounds};
+use kb_machine::{fits_types, run};
+use kb_names::Target;
+use kb_picture::{Leaf, PlaceLists, ending_at, is_instance, places};
+use kb_test::write_run;
+use kb_world::World;
+use std::alloc::Global;
+use std::io;
+
+/// Within them each method of the rows ends.
+const BOUNDS: RunBounds = RunBounds {
+    alloc: 16,
+    loops: 10,
+    depth: 16,
+    steps: 2000,
+};
+
+/// The places of the picture, and what the path says of the input.
+pub fn add_answer(
+    alloc: Global,
+    world: &World,
+    asked: &Asked,
+    text: &mut Vec<u8>,
+) -> io::Result<()> {
+    match places(alloc, &asked.path, &asked.input) {
+        Ok(Some(lists)) => add_judged(alloc, world, asked, &lists, text),
+        Ok(None) => add(b"no places\n", text),
+        Err(_) => Err(no_memory()),
+    }
+}
+
+fn add_judged(
+    alloc: Global,
+    world: &World,
+    asked: &Asked,
+    lists: &PlaceLists,
+    text: &mut Vec<u8>,
+) -> io::Result<()>
+    requires { places_of asked.now.path.picture asked.now.input ≡ Some lists.now }
+{
+    add_places(alloc, lists, text)?;
+    match is_instance(alloc, world, &asked.path, &asked.input, lists) {
+        Ok(true) => add_instance(alloc, world, asked, lists, text),
+        Ok(false) => add(b"no instance\n", text),
+        Err(_) => Err(no_memory()),
+    }
+}
+
+/// As in `places o0=i0 l0=i0`.
+fn add_places(alloc: Global, lists: &PlaceLists, text: &mut Vec<u8>) -> io::Result<()> {
+    add(b"places", text)?;
+    add_each(alloc, "o", lists.objects.as_slice(), text)?;
+    add_each(alloc, "l", lists.locs.as_slice(), text)?;
+    add(b"\n", text)
+}
+
+fn add_each(alloc: Global, letter: &str, places: &[u32], text: &mut Vec<u8>) -> io::Result<()> {
+    let mut number: u32 = 0;
+    for place in places {
+        let piece = format!(in alloc; " {letter}{number}=i{place}")?;
+        add(piece.as_bytes(), text)?;
+        number = number.saturating_add(1);
+    }
+    Ok(())
+}
+
+/// An instance; where the path is an ended one, how its run ends.
+fn add_instance(
+    alloc: Global,
+    world: &World,
+    asked: &Asked,
+    lists: &PlaceLists,
+    text: &mut Vec<u8>,
+) -> io::Result<()>
+    requires { places_of asked.now.path.picture asked.now.input ≡ Some lists.now }
+{
+    add(b"instance\n", text)?;
+    let Leaf::Ended(_) = &asked.path.leaf else {
+        return Ok(());
+    };
+    match ending_at(alloc, world, &asked.path, &asked.input, lists) {
+        Ok(stated) => add_stated(alloc, world, asked, &stated, text),
+        Err(_) => Err(no_memory()),
+    }
+}
+
+/// How the run ends by the path, and whether the machine's run does, where the table names a method.
+fn add_stated(
+    alloc: Global,
+    world: &World,
+    asked: &Asked,
+    stated: &(Ending, Heap),
+    text: &mut Vec<u8>,
+) -> io::Result<()> {
+    add_end(alloc, world, &asked.input, stated, text)?;
+    match &asked.target {
+        Some(target) => add_compared(alloc, world, target, &asked.input, stated, text),
+        None => Ok(()),
+    }
+}
+
+/// The lines of a test that say how a run of the input ends.
+fn add_end(
+    alloc: Global,
+    world: &World,
+    input: &Input,
+    end: &(Ending, Heap),
+    text: &mut Vec<u8>,
+) -> io::Result<()> {
+    let Ok(inputs) = u32::try_from(input.heap.objects.as_slice().len()) else {
+        return Err(no_memory());
+    };
+    match write_run(alloc, &end.0, &end.1, inputs, world.literals(), text) {
+        Ok(()) => Ok(()),
+        Err(_) => Err(no_memory()),
+    }
+}
+
+fn add_compared(
+    alloc: Global,
+    world: &World,
+    target: &Target,
+    input: &Input,
+    stated: &(Ending, Heap),
+    text: &mut Vec<u8>,
+) -> io::Result<()> {
+    let Ok(method) = world.reach(alloc, target) else {
+        return Err(malformed());
+    };
+    if !fits_types(world, method, input) {
+        return add(b"not type-correct\n", text);
+    }
+    match run(alloc, world, method, input, &BOUNDS) {
+        Ok(end) => add_verdict(alloc, world, input, (&end, stated), text),
+        Err(_) => Err(no_memory()),
+    }
+}
+
+/// Whether the run ends as stated, and how it ends where it does not.
+fn add_verdict(
+    alloc: Global,
+    world: &World,
+    input: &Input,
+    both: (&(Ending, Heap), &(Ending, Heap)),
+    text: &mut Vec<u8>,
+) -> io::Result<()> {
+    let (end, stated) = both;
+    if are_same(end, stated) {
+        return add(b"as the run\n", text);
+    }
+    add(b"but the run\n", text)?;
+    add_end(alloc, world, input, end, text)
+}
+
+fn are_same(one: &(Ending, Heap), other: &(Ending, Heap)) -> bool {
+    if !one.0.is_same(&other.0) {
+        return false;
+    }
+    one.1.is_same(&other.1)
+}

@@ -1,0 +1,76 @@
+//! From the bytes of class files to their world.
+
+ghost use Rattle.std.specs.Prelude.{[], ◌∷◌, IfOk, IfSome};
+ghost use Rattle.kb_class.specs.Given.{AreGiven, AreListings, IsGiven};
+
+use kb_class::{GivenClass, handlers_of};
+use kb_classfile::{ClassFile, Method, read_class};
+use kb_code::{CodeRefusal, Listing, decode};
+use kb_rows::Row;
+use kb_world::{World, link};
+use std::alloc::Global;
+
+/// The world of the classes that these bytes spell, in order.
+pub fn world_of(alloc: Global, files: &[Vec<u8>]) -> Option<World> {
+    let classes = given_classes(alloc, files)?;
+    match link(alloc, classes) {
+        Ok(world) => Some(world),
+        Err(_) => None,
+    }
+}
+
+fn given_classes(alloc: Global, files: &[Vec<u8>]) -> Option<Vec<GivenClass>>
+    ensures { IfSome result (λ classes. AreGiven classes.items) }
+{
+    let mut classes = Vec::new(alloc);
+    for bytes in files {
+        let class = given_class(alloc, bytes.as_slice())?;
+        let Ok(()) = classes.push(class) else {
+            return None;
+        };
+    }
+    Some(classes)
+}
+
+fn given_class(alloc: Global, bytes: &[u8]) -> Option<GivenClass>
+    ensures { IfSome result IsGiven }
+{
+    let Ok(file) = read_class(alloc, bytes) else {
+        return None;
+    };
+    let Ok(listings) = listings_of(alloc, &file) else {
+        return None;
+    };
+    Some(GivenClass {
+        file,
+        listings: Row::from_vec(listings),
+    })
+}
+
+fn listings_of(alloc: Global, file: &ClassFile) -> Result<Vec<Option<Listing>>, CodeRefusal>
+    ensures { IfOk result (λ listings. AreListings file.now.methods listings.items) }
+{
+    let mut listings = Vec::new(alloc);
+    for method in file.methods.as_slice() {
+        let listing = listing_of(alloc, method)?;
+        let Ok(()) = listings.push(listing) else {
+            return Err(CodeRefusal::NoMemory);
+        };
+    }
+    Ok(listings)
+}
+
+fn listing_of(alloc: Global, method: &Method) -> Result<Option<Listing>, CodeRefusal>
+    ensures { IfOk result (λ listing. AreListings (method.now ∷ []) (listing ∷ [])) }
+{
+    let Some(code) = &method.code else {
+        return Ok(None);
+    };
+    let Ok(handlers) = handlers_of(alloc, code) else {
+        return Err(CodeRefusal::NoMemory);
+    };
+    match decode(alloc, code.bytes.as_slice(), handlers.as_slice()) {
+        Ok(listing) => Ok(Some(listing)),
+        Err(refusal) => Err(refusal),
+    }
+}
