@@ -246,10 +246,15 @@ fn world_in(alloc: Global, digits: &[u8]) -> Result<World, Stop> {
 
 fn bytes_of(alloc: Global, digits: &[u8]) -> Result<Vec<u8>, Stop> {
     let mut bytes = Vec::new(alloc);
-    let mut rest = digits;
-    while let [high, low, others @ ..] = rest {
-        bytes.push(value_of(*high) << 4 | value_of(*low))?;
-        rest = others;
+    let mut high = None;
+    for digit in digits {
+        match high {
+            None => high = Some(value_of(*digit)),
+            Some(first) => {
+                bytes.push(first << 4 | value_of(*digit))?;
+                high = None;
+            }
+        }
     }
     Ok(bytes)
 }
