@@ -8,3 +8,5 @@ pub mod Stated
 pub mod States
 pub mod Lent
 pub mod Paths
+pub mod Measure
+pub mod Making

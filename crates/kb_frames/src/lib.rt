@@ -9,6 +9,7 @@ mod conditions;
 mod frame;
 mod laws;
 mod lent;
+mod making;
 mod next;
 mod path;
 mod state;

@@ -1,6 +1,7 @@
 pub mod Computing
 pub mod Entries
 pub mod Equality
+pub mod Finding
 pub mod Growth
 pub mod Interned
 pub mod Order

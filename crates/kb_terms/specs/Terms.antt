@@ -1,13 +1,14 @@
 -- Terms: the nodes of a pool, and the value of a term.
-use Rattle.std.specs.Prelude.{◌≡◌, ℕ, ◌<◌, ◌^◌, ℤ, pos, Bool, true, false, List, [], ◌∷◌, ◌++◌, length, take, fold, Option, Some, None, slice_get, ◌⊎◌, FitsSigned, count_by}
+use Rattle.std.specs.Prelude.{◌≡◌, ℕ, ◌<◌, ◌^◌, ℤ, pos, Bool, true, false, List, [], ◌∷◌, ◌++◌, length, take, fold, Option, Some, None, option_map, slice_get, ◌⊎◌, FitsSigned, count_by, position}
 use Rattle.std.specs.List.{slice_index_or}
 use Rattle.std.specs.Int.{w32}
-use Rattle.std.specs.Option.{ForSome}
+use Rattle.std.specs.Option.{ForSome, option_map_or}
 use Rattle.kb_terms.specs.declared.op.Op.{Op}
 use Rattle.kb_terms.specs.declared.node.TermId.{TermId}
 use Rattle.kb_terms.specs.declared.node.Node.{Node}
 use Rattle.kb_terms.specs.declared.node.Node.TheVariants.{Const, Var, Op as Apply}
 use Rattle.kb_terms.specs.Op.{is_binary, op_value}
+use Rattle.kb_terms.specs.contracts.node.NodePartialEq.TheImpl.{eq-value as same_node}
 
 -- ---- terms and their nodes
 
@@ -95,6 +96,14 @@ pub record Extends (old new : List Node) : Type 0 where
 pub record HasNode (old new : List Node) (t : TermId) (node : Node) : Type 0 where
   pub node_is : node_at new t ≡ Some node
   pub added : (new ≡ old) ⊎ (new ≡ old ++ node ∷ [])
+
+-- the term with a node, where there is one
+unfoldable pub term_with : List Node → Node → Option TermId
+term_with nodes node = option_map (λ (i : ℕ). record { 0 = i }) (position ((same_node.it) node) nodes)
+
+-- the pool with a node, and its term: the one that is there, else a new one
+abbrev pub interned : List Node → Node → List Node × TermId
+interned nodes node = option_map_or (λ t. (nodes, t)) (term_with nodes node) (nodes ++ node ∷ [], record { 0 = length nodes })
 
 -- ---- values
 

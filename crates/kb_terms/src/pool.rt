@@ -3,7 +3,7 @@ ghost use Rattle.std.specs.Prelude.{◌≡◌, ◌+◌, ◌<◌, ◌≤◌, ◌^
 ghost use Rattle.std.specs.Option.{ForSome};
 ghost use Rattle.kb_terms.specs.declared.node.Node.TheVariants.{Const, Var};
 ghost use Rattle.kb_terms.specs.Op.{op_value};
-ghost use Rattle.kb_terms.specs.Terms.{IsTerm, node_at, is_variable, variables_of, AreOperands, constant_at, second_constant, int_at, made_node, NodeFits, IsPool, Extends, HasNode, value_of, operand_value, values, node_value, CanCompute};
+ghost use Rattle.kb_terms.specs.Terms.{IsTerm, node_at, is_variable, variables_of, AreOperands, constant_at, second_constant, int_at, made_node, NodeFits, IsPool, Extends, HasNode, term_with, value_of, operand_value, values, node_value, CanCompute};
 
 use crate::node::{Node, TermId, VarKind};
 use crate::op::Op;
@@ -155,6 +155,15 @@ impl Pool {
     {
         let node = self.made_node(op, left, right);
         self.intern(node)
+    }
+
+    /// The term with a node, if there is one. It takes constant time.
+    #[tactic(auto, unfolding(crate::specs::Terms::term_with))]
+    pub fn find(&self, node: Node) -> Option<TermId>
+        ensures { result ≡ term_with self.now node }
+    {
+        let place = self.nodes.get_index_of(&node)?;
+        Some(TermId(place as u32))
     }
 
     // The term of a node that is no variable, which is added unless it is there.

@@ -1,0 +1,60 @@
+//! Objects that a run makes.
+ghost use Rattle.std.specs.Prelude.{◌≡◌, length, map, IfOk, OnOk};
+ghost use Rattle.kb_link.specs.declared.slots.FieldSlot.{FieldSlot as PlainSlot};
+ghost use Rattle.kb_frames.specs.Making.{default_sym, with_made};
+
+use crate::NoMemory;
+use crate::state::{SymObject, SymState};
+use crate::value::SymValue;
+use kb_names::{ExactType, JType, Name};
+use kb_rows::Row;
+use kb_terms::TermId;
+use kb_world::{FieldSlot, World};
+use std::alloc::Global;
+
+impl SymState {
+    /// Adds an object of the class to those that the run has made, each slot with the default value of its type, and gives its
+    /// number. After want of memory the state is only dropped.
+    #[tactic(auto, using(kb_terms::proofs::Finding::pool_is, kb_terms::proofs::Finding::term_is))]
+    pub fn make_object(&mut self, world: &World, class: &[u8]) -> Result<u32, NoMemory>
+        ensures number { IfOk result (λ number. number ≡ length self.old.made) }
+        ensures state { OnOk result (self.new ≡ with_made world.now self.old class.now) }
+    {
+        let alloc = self.alloc;
+        let Ok(number) = u32::try_from(self.made.as_slice().len()) else {
+            return Err(NoMemory);
+        };
+        let zero = self.pool.constant(0)?;
+        let name = Name::from_slice(alloc, class)?;
+        let values = default_values(alloc, world.slots_named(&name), zero)?;
+        self.made.push(SymObject {
+            kind: ExactType::Class(name),
+            values,
+        })?;
+        Ok(number)
+    }
+}
+
+// The default value of each slot.
+fn default_values(
+    alloc: Global,
+    slots: &[FieldSlot],
+    zero: TermId,
+) -> Result<Row<SymValue>, NoMemory>
+    ensures { IfOk result (λ values. values ≡ map (λ (slot : PlainSlot). default_sym zero slot.kind) slots.now) }
+{
+    let mut values = Row::new(alloc);
+    for slot in slots {
+        values.push(default_sym(&slot.kind, zero))?;
+    }
+    Ok(values)
+}
+
+fn default_sym(of: &JType, zero: TermId) -> SymValue
+    ensures { result ≡ default_sym zero of.now }
+{
+    match of {
+        JType::Class(_) | JType::Array(_) => SymValue::Null,
+        _ => SymValue::Int(zero),
+    }
+}

@@ -1,0 +1,268 @@
+-- What a take keeps of a state, and that it sees nothing but an argument.
+use Rattle.std.proofs.Common.{◌≡◌, ℕ, ◌+◌, ◌<◌, ◌≤◌, ℤ, pos, inl, inr, option_and_then, Bool, true, false, List, [], ◌∷◌, ◌++◌, length, take, slice_get, nat_le, Option, Some, None, refl, sym, ap, subst, ◌∙◌, if◌then◌else◌, arith}
+use Rattle.std.specs.Option.{option_map_or}
+use Rattle.std.proofs.lemmas.Option.{slice_get_within}
+use Rattle.kb_class.specs.declared.ids.MethodId.{MethodId}
+use Rattle.kb_code.specs.declared.instruction.Instr.{Instr}
+use Rattle.kb_code.specs.declared.instruction.Instr.TheVariants as instrs
+use Rattle.kb_code.specs.declared.instruction.IntOp.{IntOp}
+use Rattle.kb_heap.specs.declared.bounds.Bounds.{Bounds}
+use Rattle.kb_heap.specs.declared.heap.Input.{Input}
+use Rattle.kb_link.specs.World.{World, int_entry_of}
+use Rattle.kb_names.specs.declared.types.JType.{JType}
+use Rattle.kb_names.specs.declared.types.JType.TheVariants as types
+use Rattle.kb_semantics.specs.Config.{Setting, Config, class_number, has_room, instruction_at, result_of}
+use Rattle.kb_semantics.specs.Inputs.{IsTypeCorrect}
+use Rattle.kb_semantics.specs.Ways.{counted}
+use Rattle.kb_terms.specs.declared.op.Op.{Op}
+use Rattle.kb_terms.specs.declared.op.Op.TheVariants.{Add, And, Neg}
+use Rattle.kb_terms.specs.declared.node.TermId.{TermId}
+use Rattle.kb_terms.specs.declared.node.Node.{Node}
+use Rattle.kb_terms.specs.declared.node.Node.TheVariants.{Const, Var}
+use Rattle.kb_terms.specs.Terms.{Extends, interned}
+use Rattle.kb_terms.proofs.Entries.{end-cases}
+use Rattle.kb_terms.proofs.Values.{Extends-refl, Extends-trans}
+use Rattle.kb_picture.specs.declared.choice.Choice.{Choice}
+use Rattle.kb_picture.specs.declared.choice.Choice.TheVariants as choices
+use Rattle.kb_picture.specs.declared.choice.Init.{Init}
+use Rattle.kb_picture.specs.declared.picture.Origin.{Origin}
+use Rattle.kb_picture.specs.declared.picture.Origin.TheVariants.{Arg}
+use Rattle.kb_picture.specs.declared.picture.Seen.{Seen}
+use Rattle.kb_picture.specs.declared.picture.Seen.TheVariants as seens
+use Rattle.kb_picture.specs.declared.picture.Picture.{Picture}
+use Rattle.kb_picture.specs.Places.{places_of}
+use Rattle.kb_picture.specs.Queries.{kind_for}
+use Rattle.kb_picture.specs.Shapes.{HasShape, HoldEach}
+use Rattle.kb_frames.specs.declared.frame.SymFrame.{SymFrame}
+use Rattle.kb_frames.specs.declared.value.SymValue.{SymValue}
+use Rattle.kb_frames.specs.declared.value.Outcome.TheVariants.{Asks}
+use Rattle.kb_frames.specs.Cuts.{setting_of}
+use Rattle.kb_frames.specs.Lent.{begun, read_count, read_int, stack_of, transfers_of, with_nodes}
+use Rattle.kb_frames.specs.Next.{argument_next, method_now, offset_now}
+use Rattle.kb_frames.specs.StandsFor.{IsInstanceOf, StandsFor}
+use Rattle.kb_frames.specs.State.{State}
+use Rattle.kb_terms.specs.declared.node.VarKind.{VarKind}
+use Rattle.kb_terms.specs.Terms.{variables_of}
+use Rattle.kb_stepint.specs.Asked.{all_asked, interned_op}
+use Rattle.kb_stepint.specs.Choices.{conditions_of}
+use Rattle.kb_stepint.specs.Effects.{Planned, plan_of, plain, planned, pushes_int, loads, stores, increases, adds, rearranges, picked, op_of, op_of_cut, computes, computes_by, computes_two, int_local, kept_int, leaves_with, returns_int}
+use Rattle.kb_stepint.specs.Operands.{one_int, two_ints}
+use Rattle.kb_stepint.specs.Simulation.{Keeps, IsRead, AddsReads, ReadsWhatItSees}
+use Rattle.kb_stepint.specs.Takes.{answered, taken, takes_next, takes_up}
+use Rattle.kb_stepint.specs.Ways.{Take, Way, Goes, Jumps, Leaves, Throws, Fails, carries_out, ill_typed, went}
+use Rattle.kb_stepint.proofs.GrowLaws.{Grows, if_has, option_has, all_asked_grows, front_itself, front_of_front, interned_extends, op_extends, nodes_grow}
+
+-- ---- what stays
+
+pub record Stays (old new : State) : Type 0 where
+  pub method : new.method ≡ old.method
+  pub init : new.init ≡ old.init
+  pub picture : new.picture ≡ old.picture
+  pub terms : Extends old.nodes new.nodes
+  pub conditions : take (length old.when) new.when ≡ old.when
+
+pub stays_grown : (old new : State) → Grows old new → Stays old new
+stays_grown old new g = record {
+  method = ap (λ (s : State). s.method) g.rest;
+  init = ap (λ (s : State). s.init) g.rest;
+  picture = ap (λ (s : State). s.picture) g.rest;
+  terms = g.terms;
+  conditions = g.conditions;
+}
+
+pub stays_on : (a b c : State) → Stays a b → Stays b c → Stays a c
+stays_on a b c ab bc = record {
+  method = bc.method ∙ ab.method;
+  init = bc.init ∙ ab.init;
+  picture = bc.picture ∙ ab.picture;
+  terms = Extends-trans a.nodes b.nodes c.nodes ab.terms bc.terms;
+  conditions = front_of_front a.when b.when c.when ab.conditions bc.conditions;
+}
+
+-- a state of which only frames and counters are others
+stays_framed : (old new : State) → new.method ≡ old.method → new.init ≡ old.init → new.picture ≡ old.picture → new.nodes ≡ old.nodes → new.when ≡ old.when → Stays old new
+stays_framed old new m i p n w = record {
+  method = m;
+  init = i;
+  picture = p;
+  terms = subst (Extends old.nodes) (sym n) (Extends-refl old.nodes);
+  conditions = subst (λ (when : List (TermId × Bool)). take (length old.when) when ≡ old.when) (sym w) (front_itself old.when);
+}
+
+begun_stays : (world : World) (state : State) → Stays state (begun world state)
+begun_stays world state = stays_framed state (begun world state) refl refl refl refl refl
+
+-- ---- ways on
+
+module _ (world : World) (bounds : Bounds) (next : ℕ) (state : State) where
+  abbrev StaysTo : Take → Type 0
+  StaysTo take = Stays state take.state
+
+  carries_stays : (f : SymFrame → SymFrame) → StaysTo (carries_out state f)
+  carries_stays f = stays_framed state (carries_out state f).state refl refl refl refl refl
+
+  same_stays : Stays state state
+  same_stays = stays_framed state state refl refl refl refl refl
+
+  pub went_stays : (way : Way) → StaysTo (went world bounds next state way)
+  went_stays (Goes locals stack) =
+      if_has StaysTo (has_room world (method_now state.method state.stage) (length stack)) _ _
+      (carries_stays (λ (frame : SymFrame). record frame { at = next; locals = locals; stack = stack })) same_stays
+  went_stays (Jumps target stack) =
+      if_has StaysTo (has_room world (method_now state.method state.stage) (length stack)) _ _
+      (option_has StaysTo (counted bounds.run (offset_now state.stage) target (transfers_of state.stage)) _ _
+      (λ n. carries_stays (λ (frame : SymFrame). record frame { at = target; stack = stack; transfers = n })) same_stays) same_stays
+  went_stays (Leaves value) = same_stays
+  went_stays (Throws class) = record { method = refl; init = refl; picture = refl; terms = interned_extends state.nodes _; conditions = front_itself state.when }
+  went_stays Fails = same_stays
+
+-- ---- plans
+
+module _ (world : World) (state : State) where
+  abbrev Makes : Planned → Type 0
+  Makes plan = Extends state.nodes plan.nodes
+
+  no_terms : Extends state.nodes state.nodes
+  no_terms = Extends-refl state.nodes
+
+  planned_makes : {A : Type 0} (it : Option A) (f : A → Planned) → ((x : A) → Makes (f x)) → Makes (planned state it f)
+  planned_makes it f h = option_has Makes it f (plain state Fails) h no_terms
+
+  adds_makes : (k by : ℕ) (z : ℤ) (t : TermId) → Makes (adds world state k t (interned state.nodes (Const z)))
+  adds_makes k by z t =
+      let one = interned state.nodes (Const z) in
+      Extends-trans state.nodes one.0 (interned_op one.0 Add t (Some one.1)).0 (interned_extends state.nodes (Const z)) (op_extends one.0 Add t (Some one.1))
+
+  computes_by_makes : (op : IntOp) (t : TermId × TermId) (choice : Choice) → Makes (computes_by state op t choice)
+  computes_by_makes op t choices.Zero = no_terms
+  computes_by_makes op t _ = op_extends state.nodes (op_of op) t.0 (Some t.1)
+
+  rearranges_makes : (depth : ℕ) (picks : List ℕ) → Makes (rearranges state depth picks)
+  rearranges_makes depth picks = planned_makes (picked depth picks (stack_of state.stage)) _ (λ stack. no_terms)
+
+  kept_makes : (t : TermId) (type : Option JType) → Makes (planned state (option_and_then (kept_int state t) type) leaves_with)
+  kept_makes t None = no_terms
+  kept_makes t (Some types.Bool) =
+      let one = interned state.nodes (Const (pos 1)) in
+      Extends-trans state.nodes one.0 (interned_op one.0 And t (Some one.1)).0 (interned_extends state.nodes (Const (pos 1))) (op_extends one.0 And t (Some one.1))
+  kept_makes t (Some types.Int) = no_terms
+  kept_makes t (Some _) = no_terms
+
+  pub plan_makes : (choice : Choice) (instr : Instr) → Makes (plan_of world state choice instr)
+  plan_makes choice (instrs.PushInt z) = interned_extends state.nodes (Const z)
+  plan_makes choice (instrs.Ldc entry) =
+      planned_makes (int_entry_of world (class_number world (method_now state.method state.stage)) entry) (pushes_int state) (λ z. interned_extends state.nodes (Const z))
+  plan_makes choice (instrs.LoadInt k) = planned_makes (int_local world state k) _ (λ t. no_terms)
+  plan_makes choice (instrs.StoreInt k) = planned_makes (one_int (stack_of state.stage)) _ (λ t. no_terms)
+  plan_makes choice (instrs.Inc k by) = planned_makes (int_local world state k) _ (λ t. adds_makes k 0 by t)
+  plan_makes choice instrs.Pop = rearranges_makes 1 []
+  plan_makes choice instrs.Pop2 = rearranges_makes 2 []
+  plan_makes choice instrs.Dup = rearranges_makes 1 (0 ∷ 0 ∷ [])
+  plan_makes choice instrs.DupX1 = rearranges_makes 2 (0 ∷ 1 ∷ 0 ∷ [])
+  plan_makes choice instrs.DupX2 = rearranges_makes 3 (0 ∷ 1 ∷ 2 ∷ 0 ∷ [])
+  plan_makes choice instrs.Dup2 = rearranges_makes 2 (0 ∷ 1 ∷ 0 ∷ 1 ∷ [])
+  plan_makes choice instrs.Dup2X1 = rearranges_makes 3 (0 ∷ 1 ∷ 2 ∷ 0 ∷ 1 ∷ [])
+  plan_makes choice instrs.Dup2X2 = rearranges_makes 4 (0 ∷ 1 ∷ 2 ∷ 3 ∷ 0 ∷ 1 ∷ [])
+  plan_makes choice instrs.Swap = rearranges_makes 2 (1 ∷ 0 ∷ [])
+  plan_makes choice (instrs.Int2 op) = planned_makes (two_ints (stack_of state.stage)) _ (λ t. computes_by_makes op t choice)
+  plan_makes choice instrs.Neg = planned_makes (one_int (stack_of state.stage)) _ (λ t. op_extends state.nodes Neg t None)
+  plan_makes choice (instrs.Narrow cut) = planned_makes (one_int (stack_of state.stage)) _ (λ t. op_extends state.nodes (op_of_cut cut) t None)
+  plan_makes choice instrs.ReturnInt =
+      planned_makes (one_int (stack_of state.stage)) _ (λ t. kept_makes t (result_of world (method_now state.method state.stage)))
+  plan_makes choice _ = no_terms
+
+-- ---- takes
+
+module _ (world : World) (bounds : Bounds) (choice : Choice) where
+  answered_stays : (state : State) (found : Instr × ℕ) → Stays state (answered world bounds choice state found).state
+  answered_stays state found =
+      let conditions = conditions_of found.0 (stack_of state.stage) choice in
+      let asked : State = all_asked state conditions in
+      let plan = plan_of world asked choice found.0 in
+      stays_on state asked _ (stays_grown state asked (all_asked_grows conditions state))
+      (stays_on asked (with_nodes asked plan.nodes) _ (stays_grown asked (with_nodes asked plan.nodes) (nodes_grow asked plan.nodes (plan_makes world asked choice found.0)))
+      (went_stays world bounds found.1 (with_nodes asked plan.nodes) plan.way))
+
+  takes_up_stays : (state : State) → Stays state (takes_up world bounds choice state).state
+  takes_up_stays state =
+      option_has (λ (take : Take). Stays state take.state) (instruction_at world (method_now state.method state.stage) (offset_now state.stage)) (answered world bounds choice state) (ill_typed world state)
+      (answered_stays state) (same_stays world bounds 0 state)
+
+  -- where no argument is read
+  pub takes_next_stays : (old : State) → Stays old (takes_next world bounds choice old).state
+  takes_next_stays old =
+      if_has (λ (take : Take). Stays old take.state) (nat_le bounds.run.steps old.carried) _ _ (same_stays world bounds 0 old)
+      (stays_on old (begun world old) _ (begun_stays world old) (takes_up_stays (begun world old)))
+
+-- ---- what is kept
+
+kept_of_stays : (old new : State) → Stays old new → Keeps old new
+kept_of_stays old new h = record {
+  method = h.method;
+  init = h.init;
+  terms = h.terms;
+  conditions = h.conditions;
+  shapes = λ input shape. subst (λ (p : Picture). HasShape p input) h.picture shape;
+}
+
+hold_front : (input : Input) (places : List ℕ) (seen more : List (Origin × Seen)) → HoldEach input places (seen ++ more) → HoldEach input places seen
+hold_front input places [] more h = tt
+hold_front input places (slot ∷ seen) more h = (h.0, hold_front input places seen more h.1)
+
+-- an input has the shape of a picture of which one slot more is seen only where it had it before
+seen_before : (picture : Picture) (slot : Origin × Seen) (input : Input) → HasShape (record picture { seen = picture.seen ++ slot ∷ [] }) input → HasShape picture input
+unfolding places_of
+seen_before picture slot input h = record {
+  places = h.places;
+  placed = h.placed;
+  seen = hold_front input h.places.objects picture.seen (slot ∷ []) h.seen;
+  apart = h.apart;
+  such = h.such;
+  stands = h.stands;
+}
+
+argument_kept : (old : State) (kind : VarKind) → Keeps old (read_int old kind)
+argument_kept old kind = record {
+  method = refl;
+  init = refl;
+  terms = record { kept = seam old.nodes (Var (variables_of old.nodes) kind ∷ []) };
+  conditions = front_itself old.when;
+  shapes = λ input shape. seen_before old.picture (Arg (read_count old.stage), seens.Int (variables_of old.nodes)) input shape;
+} where
+  seam : (xs ys : List Node) → take (length xs) (xs ++ ys) ≡ xs
+  seam [] ys = refl
+  seam (x ∷ xs) ys = ap (λ (l : List Node). x ∷ l) (seam xs ys)
+
+pub kept : (world : World) (bounds : Bounds) (old : State) (choice : Choice) → Keeps old (taken world bounds old choice).state
+kept world bounds old choice =
+    option_has (λ (take : Take). Keeps old take.state) (argument_next world old.method old.stage) (λ (type : JType). record { state = read_int old (kind_for (Some type)); outcome = Asks }) (takes_next world bounds choice old)
+    (λ type. argument_kept old (kind_for (Some type))) (kept_of_stays old _ (takes_next_stays world bounds choice old))
+
+-- ---- what is read
+
+past : (n i : ℕ) → n ≤ i → i < n → ⊥
+past n i le lt = omega (arith, le, lt)
+
+module _ (world : World) (bounds : Bounds) (old new : State) where
+  same_reads : new.picture ≡ old.picture → ReadsWhatItSees world bounds old new
+  same_reads same input c correct stands instance_of = record {
+    seen = λ i slot from at. absurd (past (length old.picture.seen) i from (slice_get_within old.picture.seen i slot (ap (λ (p : Picture). slice_get p.seen i) (sym same) ∙ at)));
+    objects = λ lazier number from below. absurd (past (length old.picture.objects) number from (subst (λ (p : Picture). number < length p.objects) same below));
+    beyond = λ lazier number loc at standing other. absurd (other (ap (λ (p : Picture). slice_get p.locs number) (sym same) ∙ at));
+  }
+
+argument_reads : (world : World) (bounds : Bounds) (old : State) (kind : VarKind) → ReadsWhatItSees world bounds old (read_int old kind)
+argument_reads world bounds old kind input c correct stands instance_of = record {
+  seen = λ i slot from at. elim (end-cases old.picture.seen (Arg (read_count old.stage), seens.Int (variables_of old.nodes)) i slot at) [
+    | inl before ↦ absurd (past (length old.picture.seen) i from before.0)
+    | inr last ↦ subst (λ (x : Origin × Seen). IsRead (setting_of world bounds) old input c instance_of.shape.places.objects x.0) last.1 tt
+  ];
+  objects = λ lazier number from below. absurd (past (length old.picture.objects) number from below);
+  beyond = λ lazier number loc at standing other. absurd (other at);
+}
+
+pub reads : (world : World) (bounds : Bounds) (old : State) (choice : Choice) → ReadsWhatItSees world bounds old (taken world bounds old choice).state
+reads world bounds old choice =
+    option_has (λ (take : Take). ReadsWhatItSees world bounds old take.state) (argument_next world old.method old.stage) (λ (type : JType). record { state = read_int old (kind_for (Some type)); outcome = Asks })
+    (takes_next world bounds choice old) (λ type. argument_reads world bounds old (kind_for (Some type)))
+    (same_reads world bounds old (takes_next world bounds choice old).state (takes_next_stays world bounds choice old).picture)

@@ -1,0 +1,10 @@
+mod AddedLaws
+mod AskedLaws
+mod ComparedLaws
+mod GrowLaws
+mod KeepLaws
+mod KeyLaws
+mod MeasureLaws
+mod PastLaws
+mod TermLaws
+mod WayLaws

@@ -1,0 +1,68 @@
+//! Branches and switches (JVMS 8 section 6.5). Which way is taken was chosen.
+ghost use Rattle.std.specs.Prelude.{◌≡◌, drop, IfOk};
+ghost use Rattle.kb_frames.specs.Lent.{stack_of};
+ghost use Rattle.kb_stepint.specs.Effects.{branch_way, switch_way};
+ghost use Rattle.kb_stepint.specs.Needs.{CanStep};
+ghost use Rattle.kb_stepint.specs.Turns.{keys_of, led, told};
+
+ghost use Rattle.kb_picture.specs.declared.choice.Choice.TheVariants.{Key};
+
+use crate::NoMemory;
+use crate::keys::Keys;
+use crate::turn::Turn;
+use crate::ways::{ill_typed, jumps, replaces};
+use kb_frames::{Outcome, SymState};
+use kb_picture::Choice;
+
+/// if<cond>, if_icmp<cond>, with so many ints on the stack
+pub(crate) fn branch(
+    turn: &Turn<'_>,
+    state: &mut SymState,
+    count: usize,
+    target: u32,
+    choice: &Choice,
+) -> Result<Outcome, NoMemory>
+    requires { CanStep turn.now.world.now turn.now.bounds state.old }
+    ensures { IfOk result (λ outcome. told state.new outcome ≡ led turn.now state.old (branch_way state.old target (drop count (stack_of state.old.stage)) choice.now)) }
+{
+    match choice {
+        Choice::Branch(true) => jumps(turn, state, count, target),
+        Choice::Branch(false) => replaces(turn, state, count, &[]),
+        _ => ill_typed(turn, state),
+    }
+}
+
+/// tableswitch, lookupswitch, with an int on the stack
+pub(crate) fn switch(
+    turn: &Turn<'_>,
+    state: &mut SymState,
+    keys: &Keys<'_>,
+    default: u32,
+    choice: &Choice,
+) -> Result<Outcome, NoMemory>
+    requires { CanStep turn.now.world.now turn.now.bounds state.old }
+    ensures { IfOk result (λ outcome. told state.new outcome ≡ led turn.now state.old (switch_way (keys_of keys.now) default (drop 1 (stack_of state.old.stage)) choice.now)) }
+{
+    match choice {
+        Choice::Key(place) => switch_to(turn, state, keys, *place as usize),
+        Choice::Default => jumps(turn, state, 1, default),
+        _ => ill_typed(turn, state),
+    }
+}
+
+// To the target of the key of that place.
+fn switch_to(
+    turn: &Turn<'_>,
+    state: &mut SymState,
+    keys: &Keys<'_>,
+    place: usize,
+) -> Result<Outcome, NoMemory>
+    requires { CanStep turn.now.world.now turn.now.bounds state.old }
+    ensures { IfOk result (λ outcome. told state.new outcome ≡ led turn.now state.old (switch_way (keys_of keys.now) 0 (drop 1 (stack_of state.old.stage)) (Key place))) }
+{
+    if place >= keys.len() {
+        return ill_typed(turn, state);
+    }
+    let (_, target) = keys.key_at(place)?;
+    jumps(turn, state, 1, target)
+}

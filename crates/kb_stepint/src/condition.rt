@@ -1,0 +1,59 @@
+//! Conditions that the alternatives of a choice ask for.
+ghost use Rattle.std.specs.Prelude.{◌≡◌};
+ghost use Rattle.kb_stepint.specs.Asked.{branch_condition, equal_sides, less_sides};
+
+use kb_code::Cond;
+use kb_terms::{Op, TermId};
+
+/// One side of a comparison.
+#[derive(Clone, Copy, Debug, PartialEq, Eq)]
+pub(crate) enum Side {
+    Term(TermId),
+    Number(i32),
+}
+
+/// A comparison, and the truth that it is to have.
+#[derive(Clone, Copy, Debug, PartialEq, Eq)]
+pub(crate) struct Condition {
+    pub(crate) op: Op,
+    pub(crate) left: Side,
+    pub(crate) right: Side,
+    pub(crate) truth: bool,
+}
+
+/// That two sides are equal, or are not.
+pub(crate) fn equal(left: Side, right: Side, truth: bool) -> Condition
+    ensures { result ≡ equal_sides left right truth }
+{
+    Condition {
+        op: Op::Eq,
+        left,
+        right,
+        truth,
+    }
+}
+
+fn less(left: Side, right: Side, truth: bool) -> Condition
+    ensures { result ≡ less_sides left right truth }
+{
+    Condition {
+        op: Op::Lt,
+        left,
+        right,
+        truth,
+    }
+}
+
+/// That a condition holds of two sides, or does not.
+pub(crate) fn branch_condition(cond: Cond, left: Side, right: Side, so: bool) -> Condition
+    ensures { result ≡ branch_condition cond left right so }
+{
+    match cond {
+        Cond::Eq => equal(left, right, so),
+        Cond::Ne => equal(left, right, !so),
+        Cond::Lt => less(left, right, so),
+        Cond::Ge => less(left, right, !so),
+        Cond::Gt => less(right, left, so),
+        Cond::Le => less(right, left, !so),
+    }
+}
