@@ -43,11 +43,11 @@ abbrev pub side_value : List Node → List ℤ → Side → ℤ
 side_value nodes variables (Term t) = value_of nodes t variables
 side_value nodes variables (Number z) = z
 
-side_is_term : (nodes : List Node) (side : Side) → IsSide nodes side → IsTerm (interned_side nodes side).0 (interned_side nodes side).1
+pub side_is_term : (nodes : List Node) (side : Side) → IsSide nodes side → IsTerm (interned_side nodes side).0 (interned_side nodes side).1
 side_is_term nodes (Term t) is = is
 side_is_term nodes (Number z) is = interned_is_term nodes (Const z)
 
-side_is : (nodes : List Node) (variables : List ℤ) (side : Side) → IsSide nodes side → value_of (interned_side nodes side).0 (interned_side nodes side).1 variables ≡ side_value nodes variables side
+pub side_is : (nodes : List Node) (variables : List ℤ) (side : Side) → IsSide nodes side → value_of (interned_side nodes side).0 (interned_side nodes side).1 variables ≡ side_value nodes variables side
 side_is nodes variables (Term t) is = refl
 side_is nodes variables (Number z) is = value_of-constant (interned nodes (Const z)).0 (interned nodes (Const z)).1 z variables (interned_node nodes (Const z))
 
@@ -76,7 +76,7 @@ not_folded nodes op left right e = go (constant_at nodes left) (constant_at node
   go None b h = refl
 
 -- a pool that goes on has the node of each earlier term
-later_node : (old new : List Node) (t : TermId) → Extends old new → IsTerm old t → node_at new t ≡ node_at old t
+pub later_node : (old new : List Node) (t : TermId) → Extends old new → IsTerm old t → node_at new t ≡ node_at old t
 later_node old new t e is = sym (slice_get-take (length old) new t.0 is) ∙ ap (λ (ns : List Node). slice_get ns t.0) e.kept
 
 -- the pool may go on behind the comparison
