@@ -191,7 +191,7 @@ abbrev pub AreAlike : Bool → List Condition → Type 0
 AreAlike b [] = Unit {0}
 AreAlike b (c ∷ cs) = IsTruth c.op × (c.truth ≡ b) × AreAlike b cs
 
-truth_same : (a b : Bool) → truth a ≡ truth b → a ≡ b
+pub truth_same : (a b : Bool) → truth a ≡ truth b → a ≡ b
 truth_same a b e = sym (truth_not_0 a) ∙ ap (λ (k : ℤ). not (int_eq k (pos 0))) e ∙ truth_not_0 b
 
 not_against_itself : (so : Bool) → is_against (Some so) so ≡ false

@@ -119,14 +119,14 @@ module _ (nodes : List Node) (variables : List ℤ) where
   unfolding word_eq
   so_equal x z so e = ap truth e
 
+  abbrev is_zero : TermId → Bool
+  is_zero x = int_eq (value_of nodes x variables) (pos 0)
+
   divisor_one : (x : TermId) → ExactlyOneIs (λ (choice : Choice). AllHold nodes variables (divisor_conditions x choice)) (Zero ∷ NotZero ∷ [])
   divisor_one x =
-      two_ways (λ (choice : Choice). AllHold nodes variables (divisor_conditions x choice)) Zero NotZero (not zero)
-      (λ e. (so_equal x (pos 0) true (not-false zero e), tt)) (λ e h. true≢false (sym (not-false zero e) ∙ equal_so x (pos 0) false h.0))
-      (λ e. (so_equal x (pos 0) false (not-true zero e), tt)) (λ e h. true≢false (sym (equal_so x (pos 0) true h.0) ∙ not-true zero e))
-    where
-      abbrev zero : Bool
-      zero = int_eq (value_of nodes x variables) (pos 0)
+      two_ways (λ (choice : Choice). AllHold nodes variables (divisor_conditions x choice)) Zero NotZero (not (is_zero x))
+      (λ e. (so_equal x (pos 0) true (not-false (is_zero x) e), tt)) (λ e h. true≢false (sym (not-false (is_zero x) e) ∙ equal_so x (pos 0) false h.0))
+      (λ e. (so_equal x (pos 0) false (not-true (is_zero x) e), tt)) (λ e h. true≢false (sym (equal_so x (pos 0) true h.0) ∙ not-true (is_zero x) e))
 
   division_one : (op : IntOp) (x : TermId) → ExactlyOneIs (λ (choice : Choice). AllHold nodes variables (division_conditions op x choice)) (divisors op)
   division_one ops.Div x = divisor_one x
@@ -173,9 +173,9 @@ module _ (nodes : List Node) (variables : List ℤ) where
     first_at place key keys at = at 0 place key refl (omega arith)
 
     none_of : (place : ℕ) (keys : List (ℤ × ℕ)) → AreAt place keys → IsNoKey z keys → (Fits Default → ⊥) → NoneIs Fits (keys_from place keys)
-    none_of place [] at none no = (no, tt)
-    none_of place (key ∷ keys) at none no =
-        ((λ fits. true≢false (sym (fits_key place key (first_at place key keys at) fits) ∙ none.0)), none_of (place + 1) keys (next_at place key keys at) none.1 no)
+    none_of place [] at none never = (never, tt)
+    none_of place (key ∷ keys) at none never =
+        ((λ fits. true≢false (sym (fits_key place key (first_at place key keys at) fits) ∙ none.0)), none_of (place + 1) keys (next_at place key keys at) none.1 never)
 
     one_of : (place : ℕ) (keys : List (ℤ × ℕ)) → AreAt place keys → AreRising keys → (IsNoKey z keys → Fits Default) → (Fits Default → IsNoKey z keys)
         → ExactlyOneIs Fits (keys_from place keys)
