@@ -36,6 +36,7 @@ use Rattle.kb_frames.specs.State.{State}
 use Rattle.kb_frames.specs.States.{IsState, IsOutIn, IsEndedIn, IsLeafIn}
 use Rattle.kb_frames.specs.Paths.{term_id, terms_stated, path_roots, path_numbering, numbered_out, numbered_ending, numbered_write, numbered_made, numbered_ended, numbered_leaf, numbered_path, path_of}
 use Rattle.kb_frames.proofs.Renumbering.{listed-length, met-is}
+use Rattle.kb_frames.proofs.OnceLaws.{terms-once}
 use Rattle.kb_frames.proofs.PathLaws.{comparison-shape, operand-in, terms-there, root-below, conditions-there, ended-outs, roots-same}
 
 -- ---- the variables of a pool are those that are seen
@@ -229,6 +230,7 @@ module _ (world : World) (state : State) (decisions : List ℕ) (leaf : Leaf) (s
       met = ap (met_from (listed state.nodes numbered numbered)) (roots-same state.nodes numbered state.when leaf s.conditions)
           ∙ met-is state.nodes (path_roots state leaf) s.pool inside is;
       conditions = conditions-there state.nodes s.pool (path_roots state leaf) numbered is state.picture variables state.when (terms_stated (leaf_outs leaf)) s.conditions refl;
+      once = terms-once state.nodes s.pool (path_roots state leaf) numbered is;
     };
     leaf = leaf-there leaf refl h;
   }
