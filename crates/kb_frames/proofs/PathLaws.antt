@@ -151,7 +151,7 @@ module _ (nodes : List Node) (numbered : List TermId) where
   abbrev named : TermId → List ℕ
   named t = terms_of_operand (operand_of nodes numbered t)
 
-  condition-roots : (when : List (TermId × Bool)) → AreConditions nodes when → condition_terms (numbered_conditions numbered when) ≡ flat_map named (condition_roots when)
+  pub condition-roots : (when : List (TermId × Bool)) → AreConditions nodes when → condition_terms (numbered_conditions numbered when) ≡ flat_map named (condition_roots when)
   condition-roots [] all = refl
   condition-roots (w ∷ ws) all =
       let parts = and_parts _ _ all in
