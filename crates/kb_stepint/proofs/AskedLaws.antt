@@ -67,7 +67,7 @@ asks_for nodes variables c =
     option_map (λ relation. record { relation = relation; left = side_value nodes variables c.left; right = side_value nodes variables c.right }) (relation_of c.op)
 
 -- an operation on terms that is no constant is itself
-not_folded : (nodes : List Node) (op : Op) (left right : TermId) → constant_of (Some (made_node nodes op left (Some right))) ≡ None → made_node nodes op left (Some right) ≡ Apply op left (Some right)
+pub not_folded : (nodes : List Node) (op : Op) (left right : TermId) → constant_of (Some (made_node nodes op left (Some right))) ≡ None → made_node nodes op left (Some right) ≡ Apply op left (Some right)
 unfolding made_node
 not_folded nodes op left right e = go (constant_at nodes left) (constant_at nodes right) e where
   go : (a b : Option ℤ) → constant_of (Some (folded op left (Some right) a b)) ≡ None → folded op left (Some right) a b ≡ Apply op left (Some right)
@@ -76,7 +76,7 @@ not_folded nodes op left right e = go (constant_at nodes left) (constant_at node
   go None b h = refl
 
 -- a pool that goes on has the node of each earlier term
-later_node : (old new : List Node) (t : TermId) → Extends old new → IsTerm old t → node_at new t ≡ node_at old t
+pub later_node : (old new : List Node) (t : TermId) → Extends old new → IsTerm old t → node_at new t ≡ node_at old t
 later_node old new t e is = sym (slice_get-take (length old) new t.0 is) ∙ ap (λ (ns : List Node). slice_get ns t.0) e.kept
 
 -- the pool may go on behind the comparison
@@ -120,7 +120,7 @@ module _ (nodes : List Node) (variables : List ℤ) (c : Condition) (are : AreSi
 -- ---- conditions that are added
 
 -- what a term that has no truth is no constant of
-no_constant : (state : State) (t : TermId) → is_some (truth_in state t) ≡ false → constant_at state.nodes t ≡ None
+pub no_constant : (state : State) (t : TermId) → is_some (truth_in state t) ≡ false → constant_at state.nodes t ≡ None
 no_constant state t e = go (constant_at state.nodes t) refl e where
   go : (k : Option ℤ) → constant_at state.nodes t ≡ k → is_some (decided k (truth_among state.when t)) ≡ false → k ≡ None
   go None is h = refl
