@@ -30,7 +30,7 @@ as-operation (Some (Const c)) e = absurd (cc)
 as-operation (Some (Var v kind)) e = absurd (cc)
 as-operation (Some (Apply op left right)) e = (op, left, right, refl)
 
-at-place : (terms : List TermId) (t : TermId) (j : ℕ) → place_of terms t ≡ Some j → slice_get terms j ≡ Some t
+pub at-place : (terms : List TermId) (t : TermId) (j : ℕ) → place_of terms t ≡ Some j → slice_get terms j ≡ Some t
 at-place terms t j e =
     let d : TermId = record { 0 = 0 } in
     let p = position-Some (λ x. t.0 == x.0) terms j d e in
@@ -101,7 +101,7 @@ module _ (nodes : List Node) (formed : IsPool nodes) (roots numbered : List Term
         ∙ ap (λ xs. fold (with_value inputs) xs (listed nodes numbered ts)) (ap (λ x. done ++ x ∷ []) value ∙ sym (map-append (λ x. value_of nodes x inputs) before (t ∷ [])))
         ∙ run (before ++ t ∷ []) ts (e ∙ sym (append_assoc before (t ∷ []) ts))
 
-    value-at : (t : TermId) (j : ℕ) → place_of numbered t ≡ Some j → int_at (listed_values inputs (listed nodes numbered numbered)) (number_in numbered t) ≡ value_of nodes t inputs
+    pub value-at : (t : TermId) (j : ℕ) → place_of numbered t ≡ Some j → int_at (listed_values inputs (listed nodes numbered numbered)) (number_in numbered t) ≡ value_of nodes t inputs
     value-at t j e =
         let d : TermId = record { 0 = 0 } in
         let there : slice_get numbered j ≡ Some t = at-place numbered t j e in
@@ -111,11 +111,11 @@ module _ (nodes : List Node) (formed : IsPool nodes) (roots numbered : List Term
         ∙ ap (λ x. value_of nodes x inputs) (get_or_from_slice_get numbered j t d there)
 
   -- each condition's term has a number
-  abbrev Placed : List (TermId × Bool) → Type 0
+  abbrev pub Placed : List (TermId × Bool) → Type 0
   Placed [] = Unit {0}
   Placed (condition ∷ when) = ((j : ℕ) × (place_of numbered condition.0 ≡ Some j)) × Placed when
 
-  placed : (when : List (TermId × Bool)) → list_all (λ t. node_passes is_comparison (node_at nodes t)) (roots_of when) ≡ true
+  pub placed : (when : List (TermId × Bool)) → list_all (λ t. node_passes is_comparison (node_at nodes t)) (roots_of when) ≡ true
       → ((i : ℕ) (root : TermId) → slice_get (roots_of when) i ≡ Some root → is_operation (node_at nodes root) ≡ true → (j : ℕ) × (place_of numbered root ≡ Some j)) → Placed when
   placed [] h k = tt
   placed (condition ∷ when) h k =
@@ -123,12 +123,12 @@ module _ (nodes : List Node) (formed : IsPool nodes) (roots numbered : List Term
       let o = is-operation (node_at nodes condition.0) is_comparison p.0 in
       (k 0 condition.0 refl (ap is_operation o.3), placed when p.1 (λ i root at is. k (suc i) root at is))
 
-  met-in-pool : (inputs : List ℤ) (when : List (TermId × Bool)) → Placed when → AreMet (listed_values inputs (listed nodes numbered numbered)) (numbered_conditions numbered when)
+  pub met-in-pool : (inputs : List ℤ) (when : List (TermId × Bool)) → Placed when → AreMet (listed_values inputs (listed nodes numbered numbered)) (numbered_conditions numbered when)
       → AreMetInPool nodes inputs when
   met-in-pool inputs [] h m = tt
   met-in-pool inputs (condition ∷ when) h m = (sym (value-at inputs condition.0 h.0.0 h.0.1) ∙ m.0, met-in-pool inputs when h.1 m.1)
 
-  met-in-list : (inputs : List ℤ) (when : List (TermId × Bool)) → Placed when → AreMetInPool nodes inputs when
+  pub met-in-list : (inputs : List ℤ) (when : List (TermId × Bool)) → Placed when → AreMetInPool nodes inputs when
       → AreMet (listed_values inputs (listed nodes numbered numbered)) (numbered_conditions numbered when)
   met-in-list inputs [] h m = tt
   met-in-list inputs (condition ∷ when) h m = (value-at inputs condition.0 h.0.0 h.0.1 ∙ m.0, met-in-list inputs when h.1 m.1)

@@ -36,6 +36,7 @@ use Rattle.kb_frames.specs.State.{State}
 use Rattle.kb_frames.specs.States.{IsState, IsOutIn, IsEndedIn, IsLeafIn}
 use Rattle.kb_frames.specs.Paths.{term_id, terms_stated, path_roots, path_numbering, numbered_out, numbered_ending, numbered_write, numbered_made, numbered_ended, numbered_leaf, numbered_path, path_of}
 use Rattle.kb_frames.proofs.Renumbering.{listed-length, met-is}
+use Rattle.kb_frames.proofs.OnceLaws.{terms-once}
 use Rattle.kb_frames.proofs.PathLaws.{comparison-shape, operand-in, terms-there, root-below, conditions-there, ended-outs, roots-same}
 
 -- ---- the variables of a pool are those that are seen
@@ -58,7 +59,7 @@ count-seen f (slot ∷ others) = go (variable_seen slot.1) (count-seen f others)
     go None rest = rest
     go (Some number) rest = ap suc rest
 
-variables-same : (world : World) (id : MethodId) (nodes : List Node) (picture : Picture) → kinds_of nodes ≡ kinds_seen world id picture → variables_of nodes ≡ length (variables_seen picture)
+pub variables-same : (world : World) (id : MethodId) (nodes : List Node) (picture : Picture) → kinds_of nodes ≡ kinds_seen world id picture → variables_of nodes ≡ length (variables_seen picture)
 variables-same world id nodes picture same =
     sym (count-kinds nodes) ∙ ap length same ∙ count-seen (λ slot number. kind_for (type_of_slot world id picture.objects slot.0)) picture.seen
 
@@ -229,6 +230,7 @@ module _ (world : World) (state : State) (decisions : List ℕ) (leaf : Leaf) (s
       met = ap (met_from (listed state.nodes numbered numbered)) (roots-same state.nodes numbered state.when leaf s.conditions)
           ∙ met-is state.nodes (path_roots state leaf) s.pool inside is;
       conditions = conditions-there state.nodes s.pool (path_roots state leaf) numbered is state.picture variables state.when (terms_stated (leaf_outs leaf)) s.conditions refl;
+      once = terms-once state.nodes s.pool (path_roots state leaf) numbered is;
     };
     leaf = leaf-there leaf refl h;
   }

@@ -11,4 +11,5 @@ pub mod SetLaws
 pub mod PathSteps
 pub mod Renumbering
 pub mod PathLaws
+pub mod OnceLaws
 pub mod FormedPaths

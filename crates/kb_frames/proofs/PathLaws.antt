@@ -62,13 +62,13 @@ variable-below nodes formed i v kind e =
     omega (arith, many, below)
 
 -- a place is that of the term
-place-there : (ts : List TermId) (t : TermId) (j : ℕ) → place_of ts t ≡ Some j → slice_get ts j ≡ Some t
+pub place-there : (ts : List TermId) (t : TermId) (j : ℕ) → place_of ts t ≡ Some j → slice_get ts j ≡ Some t
 place-there ts t j e =
     let p = position-Some (λ x. t.0 == x.0) ts j t e in
     let same : t.0 ≡ (get_or ts j t).0 = (Decides-eqb t.0 (get_or ts j t).0).0 p.1 in
     slice_get-get_or ts j t p.0 ∙ ap (λ n. Some (term_id n)) (sym same)
 
-some-same : {A : Type 0} {a b : A} → Some a ≡ Some b → a ≡ b
+pub some-same : {A : Type 0} {a b : A} → Some a ≡ Some b → a ≡ b
 some-same {A} {a} {b} h = cc
 
 module _ (nodes : List Node) (formed : IsPool nodes) (roots numbered : List TermId) (is : IsNumbering nodes roots numbered)
@@ -151,7 +151,7 @@ module _ (nodes : List Node) (numbered : List TermId) where
   abbrev named : TermId → List ℕ
   named t = terms_of_operand (operand_of nodes numbered t)
 
-  condition-roots : (when : List (TermId × Bool)) → AreConditions nodes when → condition_terms (numbered_conditions numbered when) ≡ flat_map named (condition_roots when)
+  pub condition-roots : (when : List (TermId × Bool)) → AreConditions nodes when → condition_terms (numbered_conditions numbered when) ≡ flat_map named (condition_roots when)
   condition-roots [] all = refl
   condition-roots (w ∷ ws) all =
       let parts = and_parts _ _ all in

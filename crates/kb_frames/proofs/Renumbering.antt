@@ -105,7 +105,7 @@ module _ (nodes : List Node) where
       go true rec = grows-itself done
       go false rec = node-grows (visit depth nodes) done t (node_at nodes t) rec
 
-  roots-grow : (depth : ℕ) (done : List TermId) (roots : List TermId) → Grows done (fold (visit depth nodes) done roots)
+  pub roots-grow : (depth : ℕ) (done : List TermId) (roots : List TermId) → Grows done (fold (visit depth nodes) done roots)
   roots-grow depth done [] = grows-itself done
   roots-grow depth done (t ∷ ts) =
       grows-on done (visit depth nodes done t) (fold (visit depth nodes) (visit depth nodes done t) ts) (visit-grows depth done t) (roots-grow depth (visit depth nodes done t) ts)
@@ -336,7 +336,7 @@ module _ (nodes : List Node) (formed : IsPool nodes) (roots numbered : List Term
           ∙ rec dp middle (t ∷ rest) right (omega arith) whole (right-deep t op left right (length inner) dp e at deeper))
 
   -- the walk from all of some roots
-  roots-same : (d depth : ℕ) (done rest more : List TermId) → ((i : ℕ) (t : TermId) → slice_get more i ≡ Some t → t.0 < d) → fold (visit d nodes) done more ++ rest ≡ numbered
+  pub roots-same : (d depth : ℕ) (done rest more : List TermId) → ((i : ℕ) (t : TermId) → slice_get more i ≡ Some t → t.0 < d) → fold (visit d nodes) done more ++ rest ≡ numbered
       → ((t : TermId) → IsDeep depth t) → fold (met_below depth terms) (numbers_below (length done)) (flat_map named more) ≡ numbers_below (length (fold (visit d nodes) done more))
   roots-same d depth done rest [] less front deep = refl
   roots-same d depth done rest (t ∷ ts) less front deep =

@@ -167,12 +167,13 @@ pub record IsTermAt (picture : Picture) (number : ℕ) (term : Term) : Type 0 wh
   pub left : IsOperand picture number term.left
   pub right : IsSecond picture number (is_binary term.op) term.right
 
--- The terms of a path are those that a walk from its conditions and its leaf meets, in that order, and each condition is on a
--- comparison.
+-- The terms of a path are those that a walk from its conditions and its leaf meets, in that order; no two of them are equal, and each
+-- condition is on a comparison.
 pub record AreTermsOf (path : Path) : Type 0 where
   pub each : (number : ℕ) (term : Term) → slice_get path.terms number ≡ Some term → IsTermAt path.picture number term
   pub met : met_from path.terms (roots_of path) ≡ numbers_below (length path.terms)
   pub conditions : (i : ℕ) (condition : ℕ × Bool) → slice_get path.when i ≡ Some condition → IsComparison (slice_get path.terms condition.0)
+  pub once : (i j : ℕ) (term : Term) → slice_get path.terms i ≡ Some term → slice_get path.terms j ≡ Some term → i ≡ j
 
 -- ---- leaves
 

@@ -67,7 +67,7 @@ asks_for nodes variables c =
     option_map (λ relation. record { relation = relation; left = side_value nodes variables c.left; right = side_value nodes variables c.right }) (relation_of c.op)
 
 -- an operation on terms that is no constant is itself
-not_folded : (nodes : List Node) (op : Op) (left right : TermId) → constant_of (Some (made_node nodes op left (Some right))) ≡ None → made_node nodes op left (Some right) ≡ Apply op left (Some right)
+pub not_folded : (nodes : List Node) (op : Op) (left right : TermId) → constant_of (Some (made_node nodes op left (Some right))) ≡ None → made_node nodes op left (Some right) ≡ Apply op left (Some right)
 unfolding made_node
 not_folded nodes op left right e = go (constant_at nodes left) (constant_at nodes right) e where
   go : (a b : Option ℤ) → constant_of (Some (folded op left (Some right) a b)) ≡ None → folded op left (Some right) a b ≡ Apply op left (Some right)
@@ -120,7 +120,7 @@ module _ (nodes : List Node) (variables : List ℤ) (c : Condition) (are : AreSi
 -- ---- conditions that are added
 
 -- what a term that has no truth is no constant of
-no_constant : (state : State) (t : TermId) → is_some (truth_in state t) ≡ false → constant_at state.nodes t ≡ None
+pub no_constant : (state : State) (t : TermId) → is_some (truth_in state t) ≡ false → constant_at state.nodes t ≡ None
 no_constant state t e = go (constant_at state.nodes t) refl e where
   go : (k : Option ℤ) → constant_at state.nodes t ≡ k → is_some (decided k (truth_among state.when t)) ≡ false → k ≡ None
   go None is h = refl

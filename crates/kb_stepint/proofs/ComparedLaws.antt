@@ -80,7 +80,7 @@ int_is_term nodes (Some (New n)) x is e = absurd cc
 int_is_term nodes (Some (Loc n)) x is e = absurd cc
 
 -- both of two ints are
-two_parts : (first second : Option TermId) (p : TermId × TermId) → option_and_then (λ right. option_map (λ left. (left, right)) second) first ≡ Some p → (first ≡ Some p.1) × (second ≡ Some p.0)
+pub two_parts : (first second : Option TermId) (p : TermId × TermId) → option_and_then (λ right. option_map (λ left. (left, right)) second) first ≡ Some p → (first ≡ Some p.1) × (second ≡ Some p.0)
 two_parts None second p e = absurd cc
 two_parts (Some r) None p e = absurd cc
 two_parts (Some r) (Some l) p e = let same : (l, r) ≡ p = cc in (ap (λ (q : TermId × TermId). Some q.1) same, ap (λ (q : TermId × TermId). Some q.0) same)

@@ -50,7 +50,7 @@ use Rattle.kb_stepint.specs.Operands.{one_int, two_ints}
 use Rattle.kb_stepint.specs.Simulation.{Keeps, IsRead, AddsReads, ReadsWhatItSees}
 use Rattle.kb_stepint.specs.Takes.{answered, taken, takes_next, takes_up}
 use Rattle.kb_stepint.specs.Ways.{Take, Way, Goes, Jumps, Leaves, Throws, Fails, carries_out, ill_typed, went}
-use Rattle.kb_stepint.proofs.GrowLaws.{Grows, if_has, option_has, all_asked_grows, front_itself, front_of_front, interned_extends, op_extends, nodes_grow}
+use Rattle.kb_stepint.proofs.GrowLaws.{Grows, if_has, option_has, all_asked_grows, front_itself, front_of_front, interned_extends, nodes_grow, GoesOn, goes_on_itself, goes_on_behind, interned_goes_on, op_goes_on}
 
 -- ---- what stays
 
@@ -120,22 +120,22 @@ module _ (world : World) (bounds : Bounds) (next : ℕ) (state : State) where
 
 module _ (world : World) (state : State) where
   abbrev Makes : Planned → Type 0
-  Makes plan = Extends state.nodes plan.nodes
+  Makes plan = GoesOn state.nodes plan.nodes
 
-  no_terms : Extends state.nodes state.nodes
-  no_terms = Extends-refl state.nodes
+  no_terms : GoesOn state.nodes state.nodes
+  no_terms = goes_on_itself state.nodes
 
   planned_makes : {A : Type 0} (it : Option A) (f : A → Planned) → ((x : A) → Makes (f x)) → Makes (planned state it f)
   planned_makes it f h = option_has Makes it f (plain state Fails) h no_terms
 
-  adds_makes : (k by : ℕ) (z : ℤ) (t : TermId) → Makes (adds world state k t (interned state.nodes (Const z)))
-  adds_makes k by z t =
+  adds_makes : (k : ℕ) (z : ℤ) (t : TermId) → Makes (adds world state k t (interned state.nodes (Const z)))
+  adds_makes k z t =
       let one = interned state.nodes (Const z) in
-      Extends-trans state.nodes one.0 (interned_op one.0 Add t (Some one.1)).0 (interned_extends state.nodes (Const z)) (op_extends one.0 Add t (Some one.1))
+      goes_on_behind state.nodes one.0 (interned_op one.0 Add t (Some one.1)).0 (interned_goes_on state.nodes (Const z) refl) (op_goes_on one.0 Add t (Some one.1))
 
   computes_by_makes : (op : IntOp) (t : TermId × TermId) (choice : Choice) → Makes (computes_by state op t choice)
   computes_by_makes op t choices.Zero = no_terms
-  computes_by_makes op t _ = op_extends state.nodes (op_of op) t.0 (Some t.1)
+  computes_by_makes op t _ = op_goes_on state.nodes (op_of op) t.0 (Some t.1)
 
   rearranges_makes : (depth : ℕ) (picks : List ℕ) → Makes (rearranges state depth picks)
   rearranges_makes depth picks = planned_makes (picked depth picks (stack_of state.stage)) _ (λ stack. no_terms)
@@ -144,17 +144,17 @@ module _ (world : World) (state : State) where
   kept_makes t None = no_terms
   kept_makes t (Some types.Bool) =
       let one = interned state.nodes (Const (pos 1)) in
-      Extends-trans state.nodes one.0 (interned_op one.0 And t (Some one.1)).0 (interned_extends state.nodes (Const (pos 1))) (op_extends one.0 And t (Some one.1))
+      goes_on_behind state.nodes one.0 (interned_op one.0 And t (Some one.1)).0 (interned_goes_on state.nodes (Const (pos 1)) refl) (op_goes_on one.0 And t (Some one.1))
   kept_makes t (Some types.Int) = no_terms
   kept_makes t (Some _) = no_terms
 
   pub plan_makes : (choice : Choice) (instr : Instr) → Makes (plan_of world state choice instr)
-  plan_makes choice (instrs.PushInt z) = interned_extends state.nodes (Const z)
+  plan_makes choice (instrs.PushInt z) = interned_goes_on state.nodes (Const z) refl
   plan_makes choice (instrs.Ldc entry) =
-      planned_makes (int_entry_of world (class_number world (method_now state.method state.stage)) entry) (pushes_int state) (λ z. interned_extends state.nodes (Const z))
+      planned_makes (int_entry_of world (class_number world (method_now state.method state.stage)) entry) (pushes_int state) (λ z. interned_goes_on state.nodes (Const z) refl)
   plan_makes choice (instrs.LoadInt k) = planned_makes (int_local world state k) _ (λ t. no_terms)
   plan_makes choice (instrs.StoreInt k) = planned_makes (one_int (stack_of state.stage)) _ (λ t. no_terms)
-  plan_makes choice (instrs.Inc k by) = planned_makes (int_local world state k) _ (λ t. adds_makes k 0 by t)
+  plan_makes choice (instrs.Inc k by) = planned_makes (int_local world state k) _ (λ t. adds_makes k by t)
   plan_makes choice instrs.Pop = rearranges_makes 1 []
   plan_makes choice instrs.Pop2 = rearranges_makes 2 []
   plan_makes choice instrs.Dup = rearranges_makes 1 (0 ∷ 0 ∷ [])
@@ -165,8 +165,8 @@ module _ (world : World) (state : State) where
   plan_makes choice instrs.Dup2X2 = rearranges_makes 4 (0 ∷ 1 ∷ 2 ∷ 3 ∷ 0 ∷ 1 ∷ [])
   plan_makes choice instrs.Swap = rearranges_makes 2 (1 ∷ 0 ∷ [])
   plan_makes choice (instrs.Int2 op) = planned_makes (two_ints (stack_of state.stage)) _ (λ t. computes_by_makes op t choice)
-  plan_makes choice instrs.Neg = planned_makes (one_int (stack_of state.stage)) _ (λ t. op_extends state.nodes Neg t None)
-  plan_makes choice (instrs.Narrow cut) = planned_makes (one_int (stack_of state.stage)) _ (λ t. op_extends state.nodes (op_of_cut cut) t None)
+  plan_makes choice instrs.Neg = planned_makes (one_int (stack_of state.stage)) _ (λ t. op_goes_on state.nodes Neg t None)
+  plan_makes choice (instrs.Narrow cut) = planned_makes (one_int (stack_of state.stage)) _ (λ t. op_goes_on state.nodes (op_of_cut cut) t None)
   plan_makes choice instrs.ReturnInt =
       planned_makes (one_int (stack_of state.stage)) _ (λ t. kept_makes t (result_of world (method_now state.method state.stage)))
   plan_makes choice _ = no_terms

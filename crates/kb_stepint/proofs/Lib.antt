@@ -2,9 +2,14 @@ mod AddedLaws
 mod AskedLaws
 mod ComparedLaws
 mod GrowLaws
+mod ItemLaws
 mod KeepLaws
 mod KeyLaws
 mod MeasureLaws
 mod PastLaws
+mod PictureLaws
+mod PlanLaws
+mod ReachedLaws
+mod SoundLaws
 mod TermLaws
 mod WayLaws

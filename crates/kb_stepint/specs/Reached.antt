@@ -1,11 +1,13 @@
 -- What holds of every state to which `start` and later calls lead, beside what every state keeps: as far as the int steps need it, by now
--- for a method that calls none and has no handlers.
-use Rattle.std.specs.Prelude.{◌≡◌, ◌≢◌, ◌⊎◌, ℕ, ◌<◌, Bool, true, false, List, [], ◌∷◌, length, Option, Some, None, slice_get}
+-- for a method that calls none and has no handlers. Its types and its keys are those of a method that reach accepts.
+use Rattle.std.specs.Prelude.{◌≡◌, ◌≢◌, ◌⊎◌, ℕ, ◌<◌, ℤ, ◌<ℤ◌, Bool, true, false, List, [], ◌∷◌, length, Option, Some, None, slice_get}
+use Rattle.std.specs.List.{list_any}
 use Rattle.std.specs.Option.{option_map_or}
 use Rattle.kb_class.specs.declared.ids.MethodId.{MethodId}
 use Rattle.kb_class.specs.declared.members.MethodCode.{MethodCode}
 use Rattle.kb_class.specs.declared.members.MethodInfo.{MethodInfo}
 use Rattle.kb_class.specs.Naming.{Has}
+use Rattle.kb_code.specs.declared.instruction.Instr.TheVariants.{Lookup}
 use Rattle.kb_code.specs.declared.listing.Handler.{Handler}
 use Rattle.kb_link.specs.World.{World}
 use Rattle.kb_link.specs.Slots.{is_static}
@@ -13,8 +15,9 @@ use Rattle.kb_link.specs.Subtypes.{fits}
 use Rattle.kb_names.specs.declared.types.ExactType.{ExactType}
 use Rattle.kb_names.specs.declared.types.JType.{JType}
 use Rattle.kb_names.specs.declared.types.JType.TheVariants as types
-use Rattle.kb_semantics.specs.Config.{info_of, code_of}
+use Rattle.kb_semantics.specs.Config.{info_of, code_of, instruction_at}
 use Rattle.kb_semantics.specs.Inputs.{argument_types}
+use Rattle.kb_world.specs.Faults.{is_left_out}
 use Rattle.kb_picture.specs.declared.picture.Origin.{Origin}
 use Rattle.kb_picture.specs.declared.picture.Origin.TheVariants.{Arg}
 use Rattle.kb_picture.specs.declared.picture.Seen.{Seen}
@@ -102,6 +105,23 @@ IsAlone method (Runs frame callers) = (frame.method ≡ method) × (callers ≡ 
 abbrev pub HasNoHandlers : World → MethodId → Type 0
 HasNoHandlers world method = option_map_or (λ (code : MethodCode). code.handlers) (code_of world method) [] ≡ []
 
+-- none of its parameters is of a type that is left out: they are ints, booleans and references
+abbrev pub HasNoneLeftOut : World → MethodId → Type 0
+HasNoneLeftOut world method = option_map_or (λ (info : MethodInfo). list_any is_left_out info.kind.params) (info_of world method) false ≡ false
+
+-- the keys of each lookupswitch rise (JVMS 8 section 6.5, lookupswitch)
+abbrev pub AreAbove : ℤ → List (ℤ × ℕ) → Type 0
+AreAbove low [] = Unit {0}
+AreAbove low (key ∷ others) = (low <ℤ key.0) × AreAbove key.0 others
+
+abbrev pub AreRising : List (ℤ × ℕ) → Type 0
+AreRising [] = Unit {0}
+AreRising (key ∷ others) = AreAbove key.0 others
+
+abbrev pub HasRisingKeys : World → MethodId → Type 0
+HasRisingKeys world method =
+    (at next default : ℕ) (keys : List (ℤ × ℕ)) → instruction_at world method at ≡ Some (Lookup default keys, next) → AreRising keys
+
 -- once anything was read, the receiver was
 abbrev pub HasReadReceiver : World → MethodId → Stage → Picture → Type 0
 HasReadReceiver world method (Begins []) picture = Unit {0}
@@ -114,3 +134,5 @@ pub record IsReached (world : World) (state : State) : Type 0 where
   pub receiver : HasReadReceiver world state.method state.stage state.picture
   pub alone : IsAlone state.method state.stage
   pub unhandled : HasNoHandlers world state.method
+  pub parameters : HasNoneLeftOut world state.method
+  pub keys : HasRisingKeys world state.method
