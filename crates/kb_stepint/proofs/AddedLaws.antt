@@ -59,7 +59,7 @@ none_askable P nodes variables (instrs.Lookup default keys) choice = tt
 none_askable P nodes variables (instrs.Int2 op) choice = tt
 none_askable P nodes variables _ choice = tt
 
-went_when : (world : World) (bounds : Bounds) (next : ℕ) (state : State) (way : Way) → (went world bounds next state way).state.when ≡ state.when
+pub went_when : (world : World) (bounds : Bounds) (next : ℕ) (state : State) (way : Way) → (went world bounds next state way).state.when ≡ state.when
 went_when world bounds next state (Goes locals stack) =
     if_has (λ (take : Take). take.state.when ≡ state.when) (has_room world (method_now state.method state.stage) (length stack)) _ _ refl refl
 went_when world bounds next state (Jumps target stack) =

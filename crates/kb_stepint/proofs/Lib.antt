@@ -6,10 +6,16 @@ mod ItemLaws
 mod KeepLaws
 mod KeyLaws
 mod MeasureLaws
+mod OneAsked
+mod OneDecided
+mod OneInstances
+mod OneLaws
+mod OneListed
 mod PastLaws
 mod PictureLaws
 mod PlanLaws
 mod ReachedLaws
 mod SoundLaws
 mod TermLaws
+mod ValueLaws
 mod WayLaws

@@ -1,0 +1,284 @@
+-- Where a state stands for a configuration of an input's run, the input is an instance after the take of exactly one alternative.
+use Rattle.std.proofs.Common.{◌≡◌, ℕ, ◌+◌, ◌<◌, ℤ, Bool, true, false, not, ◌||◌, List, [], ◌∷◌, filter, length, nat_le, slice_get, Option, Some, None, refl, sym, ap, subst, ◌∙◌, inl, inr, if◌then◌else◌, is_some, true≢false}
+use Rattle.std.specs.Option.{option_map, option_map_or, option_and_then}
+use Rattle.std.proofs.lemmas.Bool.{not-true}
+use Rattle.kb_class.specs.declared.ids.MethodId.{MethodId}
+use Rattle.kb_class.specs.declared.members.MethodInfo.{MethodInfo}
+use Rattle.kb_code.specs.declared.instruction.Instr.{Instr}
+use Rattle.kb_code.specs.declared.instruction.Instr.TheVariants as instrs
+use Rattle.kb_heap.specs.declared.bounds.Bound.TheVariants.{Steps}
+use Rattle.kb_heap.specs.declared.bounds.Bounds.{Bounds}
+use Rattle.kb_heap.specs.declared.heap.Input.{Input}
+use Rattle.kb_heap.specs.declared.heap.Value.{Value}
+use Rattle.kb_heap.specs.declared.heap.Value.TheVariants.{Int as IntValue}
+use Rattle.kb_link.specs.World.{World}
+use Rattle.kb_names.specs.declared.types.JType.{JType}
+use Rattle.kb_semantics.specs.Config.{Config, info_of, instruction_at}
+use Rattle.kb_semantics.specs.Inputs.{IsTypeCorrect, argument_types}
+use Rattle.kb_terms.specs.declared.node.TermId.{TermId}
+use Rattle.kb_terms.specs.declared.node.Node.{Node}
+use Rattle.kb_terms.specs.Terms.{IsTerm, Extends}
+use Rattle.kb_terms.proofs.Values.{Extends-trans}
+use Rattle.kb_picture.specs.declared.choice.Choice.{Choice}
+use Rattle.kb_picture.specs.declared.picture.Picture.{Picture}
+use Rattle.kb_picture.specs.Instances.{variable_values}
+use Rattle.kb_picture.specs.Queries.{kind_for}
+use Rattle.kb_picture.specs.Shapes.{HasShape}
+use Rattle.kb_frames.specs.declared.frame.SymFrame.{SymFrame}
+use Rattle.kb_frames.specs.declared.state.Stage.{Stage}
+use Rattle.kb_frames.specs.declared.state.Stage.TheVariants.{Begins, Runs}
+use Rattle.kb_frames.specs.declared.value.Outcome.TheVariants.{Asks, Cut}
+use Rattle.kb_frames.specs.declared.value.SymValue.{SymValue}
+use Rattle.kb_frames.specs.declared.value.SymValue.TheVariants.{Int, Null, Obj, Literal, New, Loc}
+use Rattle.kb_frames.specs.Cuts.{setting_of}
+use Rattle.kb_frames.specs.Lent.{begun, begun_stage, read_count, read_int, stack_of, with_nodes}
+use Rattle.kb_frames.specs.Next.{argument_next, instruction_next, is_int, is_int_next, is_reference, method_now, next_is_int, offset_now}
+use Rattle.kb_frames.specs.StandsFor.{IsInstanceOf, StandsFor}
+use Rattle.kb_frames.specs.State.{State}
+use Rattle.kb_frames.specs.States.{Each, IsStage, IsSymValue}
+use Rattle.kb_stepint.specs.declared.condition.Condition.{Condition}
+use Rattle.kb_stepint.specs.Asked.{all_asked, is_refuted}
+use Rattle.kb_stepint.specs.Choices.{choices_of, conditions_of, listed, offered, only, takes_up_none}
+use Rattle.kb_stepint.specs.Effects.{Planned, plan_of}
+use Rattle.kb_stepint.specs.Laws.{IsAtInts}
+use Rattle.kb_stepint.specs.Operands.{one_int, two_ints}
+use Rattle.kb_stepint.specs.Reached.{HasRisingKeys, IsAlone, IsReached}
+use Rattle.kb_stepint.specs.Simulation.{ExactlyOneIs, NoneIs, TakesOneWay}
+use Rattle.kb_stepint.specs.Takes.{answered, reads_argument, taken, takes_next, takes_up}
+use Rattle.kb_stepint.specs.Ways.{Take, ill_typed, went}
+use Rattle.kb_stepint.proofs.AddedLaws.{went_when}
+use Rattle.kb_stepint.proofs.GrowLaws.{Grows, all_asked_grows}
+use Rattle.kb_stepint.proofs.KeepLaws.{plan_makes, went_stays}
+use Rattle.kb_stepint.proofs.OneAsked.{AllHold, AllSides, AreTermsOf, IsReady, conditions_there}
+use Rattle.kb_stepint.proofs.OneDecided.{all_hold, all_met, all_open, all_ready, not_refuted}
+use Rattle.kb_stepint.proofs.OneInstances.{argument_is, instance_of_met, int_argument, met_of_instance, read_instance}
+use Rattle.kb_stepint.proofs.OneListed.{HasRising, conditions_alike, conditions_sides, listed_one, wanted_of}
+use Rattle.kb_stepint.proofs.ValueLaws.{pool_ordered}
+
+-- ---- one of those that are left
+
+filter_kept : {A : Type 0} (keep : A → Bool) (x : A) (xs : List A) → keep x ≡ true → filter keep (x ∷ xs) ≡ x ∷ filter keep xs
+filter_kept keep x xs e = rw e refl
+
+filter_dropped : {A : Type 0} (keep : A → Bool) (x : A) (xs : List A) → keep x ≡ false → filter keep (x ∷ xs) ≡ filter keep xs
+filter_dropped keep x xs e = rw e refl
+
+module _ {A : Type 0} (P Q : A → Type 0) (keep : A → Bool) (kept : (x : A) → P x → keep x ≡ true) (there : (x : A) → P x → Q x) (back : (x : A) → keep x ≡ true → Q x → P x) where
+  none_left : (xs : List A) → NoneIs P xs → NoneIs Q (filter keep xs)
+  none_left [] none = tt
+  none_left (x ∷ xs) none = go (none_left xs none.1) (keep x) refl where
+    go : NoneIs Q (filter keep xs) → (b : Bool) → keep x ≡ b → NoneIs Q (filter keep (x ∷ xs))
+    go rest true e = subst (NoneIs Q) (sym (filter_kept keep x xs e)) ((λ q. none.0 (back x e q)), rest)
+    go rest false e = subst (NoneIs Q) (sym (filter_dropped keep x xs e)) rest
+
+  one_left : (xs : List A) → ExactlyOneIs P xs → ExactlyOneIs Q (filter keep xs)
+  one_left [] one = one
+  one_left (x ∷ xs) one = elim one [
+    | inl here ↦ subst (ExactlyOneIs Q) (sym (filter_kept keep x xs (kept x here.0))) (inl (there x here.0, none_left xs here.1))
+    | inr later ↦ go (one_left xs later.1) (keep x) refl later.0
+  ] where
+    go : ExactlyOneIs Q (filter keep xs) → (b : Bool) → keep x ≡ b → (P x → ⊥) → ExactlyOneIs Q (filter keep (x ∷ xs))
+    go rest true e never = subst (ExactlyOneIs Q) (sym (filter_kept keep x xs e)) (inr ((λ q. never (back x e q)), rest))
+    go rest false e never = subst (ExactlyOneIs Q) (sym (filter_dropped keep x xs e)) rest
+
+-- ---- the operands are terms
+
+module _ (nodes : List Node) where
+  -- the value is a term of the pool, where it is an int
+  abbrev pub IsTermAt : SymValue → Type 0
+  IsTermAt (Int t) = IsTerm nodes t
+  IsTermAt _ = Unit {0}
+
+  pub one_term : (stack : List SymValue) (x : TermId) → Each IsTermAt stack → one_int stack ≡ Some x → IsTerm nodes x
+  one_term [] x each e = absurd cc
+  one_term (Int t ∷ stack) x each e = (let same : t ≡ x = cc in subst (IsTerm nodes) same (each 0 (Int t) refl))
+  one_term (Null ∷ stack) x each e = absurd cc
+  one_term (Obj n ∷ stack) x each e = absurd cc
+  one_term (Literal n ∷ stack) x each e = absurd cc
+  one_term (New n ∷ stack) x each e = absurd cc
+  one_term (Loc n ∷ stack) x each e = absurd cc
+
+  pub two_terms : (stack : List SymValue) (p : TermId × TermId) → Each IsTermAt stack → two_ints stack ≡ Some p → IsTerm nodes p.0 × IsTerm nodes p.1
+  two_terms [] p each e = absurd cc
+  two_terms (Int r ∷ []) p each e = absurd cc
+  two_terms (Int r ∷ Int l ∷ stack) p each e =
+      let same : (l, r) ≡ p = cc in
+      (subst (λ (q : TermId × TermId). IsTerm nodes q.0) same (each 1 (Int l) refl), subst (λ (q : TermId × TermId). IsTerm nodes q.1) same (each 0 (Int r) refl))
+  two_terms (Int r ∷ Null ∷ stack) p each e = absurd cc
+  two_terms (Int r ∷ Obj n ∷ stack) p each e = absurd cc
+  two_terms (Int r ∷ Literal n ∷ stack) p each e = absurd cc
+  two_terms (Int r ∷ New n ∷ stack) p each e = absurd cc
+  two_terms (Int r ∷ Loc n ∷ stack) p each e = absurd cc
+  two_terms (Null ∷ stack) p each e = absurd cc
+  two_terms (Obj n ∷ stack) p each e = absurd cc
+  two_terms (Literal n ∷ stack) p each e = absurd cc
+  two_terms (New n ∷ stack) p each e = absurd cc
+  two_terms (Loc n ∷ stack) p each e = absurd cc
+
+pub sym_terms : (world : World) (state : State) (stack : List SymValue) → Each (IsSymValue world state) stack → Each (IsTermAt state.nodes) stack
+sym_terms world state stack each i item at = go item (each i item at) where
+  go : (value : SymValue) → IsSymValue world state value → IsTermAt state.nodes value
+  go (Int t) is = is
+  go Null is = tt
+  go (Obj n) is = tt
+  go (Literal n) is = tt
+  go (New n) is = tt
+  go (Loc n) is = tt
+
+-- those of the frame with which a run goes on
+pub begun_terms : (world : World) (state : State) → IsStage world state state.stage → Each (IsTermAt state.nodes) (stack_of (begun_stage world state state.stage))
+begun_terms world state = go state.stage where
+  go : (stage : Stage) → IsStage world state stage → Each (IsTermAt state.nodes) (stack_of (begun_stage world state stage))
+  go (Begins read) is = λ i item at. absurd cc
+  go (Runs frame callers) is = sym_terms world state frame.stack is.0.stack
+
+-- ---- where a run stands
+
+pub place_same : (world : World) (old : State) (stage : Stage)
+    → instruction_at world (method_now old.method (begun_stage world old stage)) (offset_now (begun_stage world old stage)) ≡ instruction_at world (method_now old.method stage) (offset_now stage)
+place_same world old (Begins read) = refl
+place_same world old (Runs frame callers) = refl
+
+pub stack_same : (world : World) (old : State) (stage : Stage) → stack_of (begun_stage world old stage) ≡ stack_of stage
+stack_same world old (Begins read) = refl
+stack_same world old (Runs frame callers) = refl
+
+pub method_same : (world : World) (old : State) (stage : Stage) → IsAlone old.method stage → method_now old.method (begun_stage world old stage) ≡ old.method
+method_same world old (Begins read) alone = refl
+method_same world old (Runs frame callers) alone = alone.0
+
+pub instr_rising : (world : World) (method : MethodId) (at : ℕ) (found : Instr × ℕ) → HasRisingKeys world method → instruction_at world method at ≡ Some found → HasRising found.0
+instr_rising world method at found keys e = go found.0 found.1 e where
+  go : (instr : Instr) (next : ℕ) → instruction_at world method at ≡ Some (instr, next) → HasRising instr
+  go (instrs.Lookup default list) next e = keys at next default list e
+  go _ next e = tt
+
+-- ---- an instruction that is taken up
+
+module _ (world : World) (bounds : Bounds) (old : State) (reached : IsReached world old) (input : Input) (instance_of : IsInstanceOf old input) (found : Instr × ℕ) where
+  abbrev start : State
+  start = begun world old
+  abbrev stack : List SymValue
+  stack = stack_of (begun_stage world old old.stage)
+  abbrev variables : List ℤ
+  variables = variable_values old.picture input instance_of.shape.places.objects
+  abbrev cs : Choice → List Condition
+  cs choice = conditions_of found.0 stack choice
+  abbrev grown : Choice → State
+  grown choice = all_asked start (cs choice)
+  abbrev plan : Choice → Planned
+  plan choice = plan_of world (grown choice) choice found.0
+  abbrev new : Choice → State
+  new choice = (answered world bounds choice start found).state
+
+  ready : IsReady start
+  ready = record { ordered = pool_ordered old.nodes reached.sound.pool; terms = conditions_there old.nodes old.when reached.sound.conditions }
+
+  sides : (choice : Choice) → AllSides old.nodes (cs choice)
+  sides choice =
+      let each = begun_terms world old reached.sound.stage in
+      conditions_sides old.nodes stack (λ x e. one_term old.nodes stack x each e) (λ p e. two_terms old.nodes stack p each e) found.0 choice
+
+  grows : (choice : Choice) → Grows start (grown choice)
+  grows choice = all_asked_grows (cs choice) start
+
+  pub answered_picture : (choice : Choice) → (new choice).picture ≡ old.picture
+  answered_picture choice = (went_stays world bounds found.1 (with_nodes (grown choice) (plan choice).nodes) (plan choice).way).picture ∙ ap (λ (s : State). s.picture) (grows choice).rest
+
+  pub answered_when : (choice : Choice) → (new choice).when ≡ (grown choice).when
+  answered_when choice = went_when world bounds found.1 (with_nodes (grown choice) (plan choice).nodes) (plan choice).way
+
+  pub answered_terms : (choice : Choice) → Extends (grown choice).nodes (new choice).nodes
+  answered_terms choice =
+      Extends-trans (grown choice).nodes (plan choice).nodes (new choice).nodes (plan_makes world (grown choice) choice found.0).terms
+      (went_stays world bounds found.1 (with_nodes (grown choice) (plan choice).nodes) (plan choice).way).terms
+
+  abbrev Held : Choice → Type 0
+  Held choice = AllHold old.nodes variables (cs choice)
+  abbrev Instance : Choice → Type 0
+  Instance choice = IsInstanceOf (new choice) input
+  abbrev keep : Choice → Bool
+  keep choice = not (is_refuted old (cs choice))
+
+  held_kept : (choice : Choice) → Held choice → keep choice ≡ true
+  held_kept choice held = ap not (not_refuted old ready.ordered variables instance_of.conditions (cs choice) held)
+
+  held_instance : (choice : Choice) → Held choice → Instance choice
+  held_instance choice held =
+      instance_of_met old.picture (grown choice).nodes (grown choice).when (all_ready (cs choice) start (sides choice) ready).terms (new choice) input
+      (answered_picture choice) (answered_when choice) (answered_terms choice) instance_of.shape
+      (all_met (cs choice) start variables (sides choice) ready held instance_of.conditions)
+
+  -- an instance after the take has all that the alternative asks for
+  pub instance_held : (choice : Choice) → keep choice ≡ true → Instance choice → Held choice
+  instance_held choice kept i =
+      all_hold start reached.sound.pool ready.terms (wanted_of found.0 choice) variables (cs choice) ready.ordered (sides choice)
+      (all_open start (wanted_of found.0 choice) (cs choice) (conditions_alike found.0 stack choice) (not-true (is_refuted old (cs choice)) kept))
+      (met_of_instance old.picture (grown choice).nodes (grown choice).when (all_ready (cs choice) start (sides choice) ready).terms (new choice) input
+      (answered_picture choice) (answered_when choice) (answered_terms choice) instance_of.shape i)
+
+  pub one_answered : HasRising found.0 → ExactlyOneIs Instance (offered old (stack_of old.stage) found.0)
+  one_answered rising =
+      subst (λ (s : List SymValue). ExactlyOneIs Instance (offered old s found.0)) (stack_same world old old.stage)
+      (one_left Held Instance keep held_kept held_instance instance_held (listed found.0 stack) (listed_one old.nodes variables found.0 stack rising))
+
+-- ---- all takes
+
+module _ (world : World) (bounds : Bounds) (old : State) (at : IsAtInts world old) (input : Input) (c : Config) (correct : IsTypeCorrect world old.method input)
+    (stands : StandsFor (setting_of world bounds) old input c) where
+  abbrev place : Option (Instr × ℕ)
+  place = instruction_at world (method_now old.method (begun_stage world old old.stage)) (offset_now (begun_stage world old old.stage))
+
+  begun_instance : IsInstanceOf (begun world old) input
+  begun_instance = record { shape = stands.instance_of.shape; conditions = stands.instance_of.conditions }
+
+  rising : (found : Instr × ℕ) → place ≡ Some found → HasRising found.0
+  rising found e =
+      instr_rising world old.method (offset_now (begun_stage world old old.stage)) found at.reached.keys
+      (ap (λ (m : MethodId). instruction_at world m (offset_now (begun_stage world old old.stage))) (sym (method_same world old old.stage at.reached.alone)) ∙ e)
+
+  one_taken_up : ExactlyOneIs (λ (choice : Choice). IsInstanceOf (takes_up world bounds choice (begun world old)).state input)
+      (option_map_or (offered old (stack_of old.stage)) (instruction_next world old.method old.stage) only)
+  one_taken_up =
+      subst (λ (found : Option (Instr × ℕ)). ExactlyOneIs (λ (choice : Choice). IsInstanceOf (takes_up world bounds choice (begun world old)).state input)
+          (option_map_or (offered old (stack_of old.stage)) (option_map (λ (f : Instr × ℕ). f.0) found) only)) (place_same world old old.stage) (go place refl)
+    where
+      go : (it : Option (Instr × ℕ)) → place ≡ it → ExactlyOneIs (λ (choice : Choice). IsInstanceOf (option_map_or (answered world bounds choice (begun world old)) it (ill_typed world (begun world old))).state input)
+          (option_map_or (offered old (stack_of old.stage)) (option_map (λ (f : Instr × ℕ). f.0) it) only)
+      go None e = inl (begun_instance, tt)
+      go (Some found) e = one_answered world bounds old at.reached input stands.instance_of found (rising found e)
+
+  -- an argument that is read is an int
+  argument_int : (type : JType) → argument_next world old.method old.stage ≡ Some type → (z : ℤ) × (slice_get input.args (read_count old.stage) ≡ Some (IntValue z))
+  argument_int type e = by_stage old.stage e (ap (λ (t : Option JType). is_int (option_map is_reference t) (is_int_next world (method_now old.method old.stage) (instruction_next world old.method old.stage))) (sym e) ∙ at.next) where
+    by_info : (n : ℕ) (info : Option MethodInfo) → info_of world old.method ≡ info → option_and_then (λ (i : MethodInfo). slice_get (argument_types world i) n) info ≡ Some type
+        → is_reference type ≡ false → (z : ℤ) × (slice_get input.args n ≡ Some (IntValue z))
+    by_info n None is h plain = absurd cc
+    by_info n (Some info) is h plain =
+        let same : correct.method ≡ info = (let both : Some correct.method ≡ Some info = sym correct.method_is ∙ is in cc) in
+        let found = argument_is world input.heap (argument_types world correct.method) input.args correct.arguments n type
+            (ap (λ (i : MethodInfo). slice_get (argument_types world i) n) same ∙ h) in
+        let int = int_argument world input.heap type found.0 plain found.2 in
+        (int.0, found.1 ∙ ap Some int.1)
+
+    by_stage : (stage : Stage) → argument_next world old.method stage ≡ Some type → not (is_reference type) ≡ true → (z : ℤ) × (slice_get input.args (read_count stage) ≡ Some (IntValue z))
+    by_stage (Begins read) h plain = by_info (length read) (info_of world old.method) refl h (not-true (is_reference type) plain)
+    by_stage (Runs frame callers) h plain = absurd cc
+
+  pub one_taken : ExactlyOneIs (λ (choice : Choice). IsInstanceOf (taken world bounds old choice).state input) (choices_of world old bounds)
+  one_taken = go (argument_next world old.method old.stage) refl where
+    by_steps : (b : Bool) → ExactlyOneIs (λ (choice : Choice). IsInstanceOf (if b then record { state = old; outcome = Cut Steps } else takes_up world bounds choice (begun world old)).state input)
+        (if b then only else option_map_or (offered old (stack_of old.stage)) (instruction_next world old.method old.stage) only)
+    by_steps true = inl (stands.instance_of, tt)
+    by_steps false = one_taken_up
+
+    go : (next : Option JType) → argument_next world old.method old.stage ≡ next
+        → ExactlyOneIs (λ (choice : Choice). IsInstanceOf (option_map_or (reads_argument old) next (takes_next world bounds choice old)).state input)
+        (if is_some next || nat_le bounds.run.steps old.carried then only else option_map_or (offered old (stack_of old.stage)) (instruction_next world old.method old.stage) only)
+    go None e = by_steps (nat_le bounds.run.steps old.carried)
+    go (Some type) e =
+        let int = argument_int type e in
+        inl (read_instance world old input (kind_for (Some type)) int.0 at.reached.sound int.1 stands.instance_of, tt)
+
+pub one : (world : World) (bounds : Bounds) (state : State) → IsAtInts world state → TakesOneWay world bounds state (choices_of world state bounds) (taken world bounds state)
+one world bounds state at input c correct stands = one_taken world bounds state at input c correct stands
