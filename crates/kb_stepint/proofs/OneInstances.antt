@@ -1,5 +1,5 @@
 -- Instances of a state that has an earlier one's picture, and of one that has read one argument more.
-use Rattle.std.proofs.Common.{◌≡◌, ℕ, suc, ◌+◌, ◌<◌, ◌≤◌, ℤ, Bool, true, false, List, [], ◌∷◌, ◌++◌, length, slice_get, Option, Some, None, refl, sym, ap, subst, ◌∙◌, arith}
+use Rattle.std.proofs.Common.{◌≡◌, ℕ, zero, suc, ◌+◌, ◌<◌, ◌≤◌, ℤ, Bool, true, false, List, [], ◌∷◌, ◌++◌, length, slice_get, Option, Some, None, refl, sym, ap, subst, ◌∙◌, arith}
 use Rattle.std.specs.List.{cons_option, filter_map}
 use Rattle.std.specs.Option.{option_map}
 use Rattle.std.proofs.lemmas.List.Elements.{filter_map-append}
@@ -26,9 +26,10 @@ use Rattle.kb_picture.specs.declared.picture.Seen.TheVariants as seens
 use Rattle.kb_picture.specs.declared.picture.Picture.{Picture}
 use Rattle.kb_picture.specs.declared.picture.PlaceLists.{PlaceLists}
 use Rattle.kb_picture.specs.Instances.{variable_value, variable_values}
-use Rattle.kb_picture.specs.Places.{places_of, slot_value}
+use Rattle.kb_picture.specs.Places.{slot_value}
 use Rattle.kb_picture.specs.Shapes.{HasShape, HoldEach, Holds}
 use Rattle.kb_picture.specs.WellFormed.{variable_seen, variables_seen}
+use Rattle.kb_picture.proofs.PlaceLaws.{places_seen}
 use Rattle.kb_picture.proofs.ShapeLaws.{same_places}
 use Rattle.kb_frames.specs.declared.value.SymValue.{SymValue}
 use Rattle.kb_frames.specs.Lent.{read_count, read_int, saw_argument}
@@ -90,7 +91,7 @@ variables_more picture input places argument variable z e =
     ∙ ap (λ (value : Option Value). filter_map (λ (slot : Origin × Seen). variable_value (slot_value input places slot.0) slot.1) picture.seen
     ++ cons_option (variable_value value (seens.Int variable)) []) e
 
-value_inputs : (nodes : List Node) (t : TermId) (inputs more : List ℤ) → IsPool nodes → variables_of nodes ≤ length inputs → value_of nodes t (inputs ++ more) ≡ value_of nodes t inputs
+pub value_inputs : (nodes : List Node) (t : TermId) (inputs more : List ℤ) → IsPool nodes → variables_of nodes ≤ length inputs → value_of nodes t (inputs ++ more) ≡ value_of nodes t inputs
 unfolding value_of
 value_inputs nodes t inputs more pool enough = ap (λ (vs : List ℤ). int_at vs t.0) (more_inputs nodes inputs more pool enough)
 
@@ -113,37 +114,41 @@ count_values input places (slot ∷ seen) = go slot.1 (count_values input places
   go (seens.Obj number) rest = rest
   go seens.Beyond rest = rest
 
--- each variable of the pool has a value
-pub enough_values : (world : World) (old : State) (input : Input) (places : List ℕ) → IsState world old → variables_of old.nodes ≤ length (variable_values old.picture input places)
+-- each variable of the pool has a value, and no other has
+pub many_values : (world : World) (old : State) (input : Input) (places : List ℕ) → IsState world old → variables_of old.nodes ≡ length (variable_values old.picture input places)
 unfolding variable_values
-enough_values world old input places sound =
-    let many : variables_of old.nodes ≡ length (variables_seen old.picture) = variables-same world old.method old.nodes old.picture sound.kinds in
-    let each = count_values input places old.picture.seen in
-    omega (arith, many, each)
+many_values world old input places sound = variables-same world old.method old.nodes old.picture sound.kinds ∙ count_values input places old.picture.seen
 
-pub shape_more : (picture : Picture) (input : Input) (argument variable : ℕ) (z : ℤ) → slice_get input.args argument ≡ Some (IntValue z) → HasShape picture input → HasShape (saw_argument picture argument variable) input
-unfolding places_of
+enough_values : (world : World) (old : State) (input : Input) (places : List ℕ) → IsState world old → variables_of old.nodes ≤ length (variable_values old.picture input places)
+enough_values world old input places sound = (let many = many_values world old input places sound in omega (arith, many))
+
+abbrev pub shape_more : (picture : Picture) (input : Input) (argument variable : ℕ) (z : ℤ) → slice_get input.args argument ≡ Some (IntValue z) → HasShape picture input → HasShape (saw_argument picture argument variable) input
 shape_more picture input argument variable z e shape = record {
   places = shape.places;
-  placed = shape.placed;
+  placed = places_seen picture input (Arg argument, seens.Int variable) ∙ shape.placed;
   seen = hold_more input shape.places.objects picture.seen (Arg argument, seens.Int variable) shape.seen (z, e);
   apart = shape.apart;
   such = shape.such;
   stands = shape.stands;
 }
 
-pub read_instance : (world : World) (old : State) (input : Input) (kind : VarKind) (z : ℤ) → IsState world old → slice_get input.args (read_count old.stage) ≡ Some (IntValue z)
-    → IsInstanceOf old input → IsInstanceOf (read_int old kind) input
-read_instance world old input kind z sound e i =
-    let variables = variable_values old.picture input i.shape.places.objects in
-    let more : Extends old.nodes (read_int old kind).nodes = extends-more old.nodes (Var (variables_of old.nodes) kind) in
+-- the conditions are met as before
+pub read_met : (world : World) (old : State) (input : Input) (kind : VarKind) (argument : ℕ) (z : ℤ) → IsState world old → slice_get input.args argument ≡ Some (IntValue z) → (i : IsInstanceOf old input)
+    → AreMetInPool (old.nodes ++ Var (variables_of old.nodes) kind ∷ []) (variable_values (saw_argument old.picture argument (variables_of old.nodes)) input i.shape.places.objects) old.when
+read_met world old input kind argument z sound e i =
+    let nodes : List Node = old.nodes ++ Var (variables_of old.nodes) kind ∷ [] in
+    let variables : List ℤ = variable_values old.picture input i.shape.places.objects in
     let met : AreMetInPool old.nodes (variables ++ z ∷ []) old.when =
         met_inputs old.nodes variables (z ∷ []) old.when sound.pool (enough_values world old input i.shape.places.objects sound) i.conditions in
-    record {
-      shape = shape_more old.picture input (read_count old.stage) (variables_of old.nodes) z e i.shape;
-      conditions = subst (λ (vs : List ℤ). AreMetInPool (read_int old kind).nodes vs old.when) (sym (variables_more old.picture input i.shape.places.objects (read_count old.stage) (variables_of old.nodes) z e))
-          (met_later old.nodes (read_int old kind).nodes (variables ++ z ∷ []) old.when more (conditions_there old.nodes old.when sound.conditions) met);
-    }
+    subst (λ (vs : List ℤ). AreMetInPool nodes vs old.when) (sym (variables_more old.picture input i.shape.places.objects argument (variables_of old.nodes) z e))
+    (met_later old.nodes nodes (variables ++ z ∷ []) old.when (extends-more old.nodes (Var (variables_of old.nodes) kind)) (conditions_there old.nodes old.when sound.conditions) met)
+
+pub read_instance : (world : World) (old : State) (input : Input) (kind : VarKind) (z : ℤ) → IsState world old → slice_get input.args (read_count old.stage) ≡ Some (IntValue z)
+    → IsInstanceOf old input → IsInstanceOf (read_int old kind) input
+read_instance world old input kind z sound e i = record {
+  shape = shape_more old.picture input (read_count old.stage) (variables_of old.nodes) z e i.shape;
+  conditions = read_met world old input kind (read_count old.stage) z sound e i;
+}
 
 -- ---- arguments
 

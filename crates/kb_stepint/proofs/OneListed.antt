@@ -68,6 +68,11 @@ rising_none z key keys e rising =
     let same : z ≡ key.0 = (Decides-int_eq z key.0).0 e in
     above_none z key.0 keys (omega (arith, ints, same)) rising
 
+-- the keys of a lookupswitch rise
+abbrev pub HasRising : Instr → Type 0
+HasRising (instrs.Lookup default keys) = AreRising keys
+HasRising _ = Unit {0}
+
 -- ---- one of two
 
 two_ways : (P : Choice → Type 0) (a b : Choice) (v : Bool) → (v ≡ false → P a) → (v ≡ false → P b → ⊥) → (v ≡ true → P b) → (v ≡ true → P a → ⊥) → ExactlyOneIs P (a ∷ b ∷ [])
@@ -196,11 +201,6 @@ module _ (nodes : List Node) (variables : List ℤ) where
       whole i n key e same = ap (slice_get all) (let number : n ≡ i = omega (arith, same) in number) ∙ e
 
   -- ---- instructions
-
-  -- the keys of a lookupswitch rise
-  abbrev pub HasRising : Instr → Type 0
-  HasRising (instrs.Lookup default keys) = AreRising keys
-  HasRising _ = Unit {0}
 
   pub listed_one : (instr : Instr) (stack : List SymValue) → HasRising instr → ExactlyOneIs (λ (choice : Choice). AllHold nodes variables (conditions_of instr stack choice)) (listed instr stack)
   listed_one (instrs.IfInt cond target) stack rising = go (one_int stack) where

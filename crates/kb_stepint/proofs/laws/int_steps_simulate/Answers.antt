@@ -1,0 +1,5 @@
+use Rattle.kb_stepint.proofs.OneLaws.{one}
+use Rattle.kb_stepint.proofs.laws.int_steps_simulate.Goals as goal
+
+pub returns-clause-one : goal.returns-clause-one
+returns-clause-one c = λ world bounds state at. one world bounds state at
