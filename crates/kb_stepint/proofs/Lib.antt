@@ -11,6 +11,12 @@ mod OneDecided
 mod OneInstances
 mod OneLaws
 mod OneListed
+mod OutcomeLaws
+mod OutcomePlans
+mod OutcomeReads
+mod OutcomeStands
+mod OutcomeValues
+mod OutcomeWays
 mod PastLaws
 mod PictureLaws
 mod PlanLaws

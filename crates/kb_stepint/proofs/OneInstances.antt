@@ -72,7 +72,7 @@ module _ (picture : Picture) (nodes : List Node) (when : List (TermId × Bool)) 
 
 -- ---- with one argument more
 
-hold_more : (input : Input) (places : List ℕ) (seen : List (Origin × Seen)) (slot : Origin × Seen) → HoldEach input places seen → Holds input.heap places (slot_value input places slot.0) slot.1
+pub hold_more : (input : Input) (places : List ℕ) (seen : List (Origin × Seen)) (slot : Origin × Seen) → HoldEach input places seen → Holds input.heap places (slot_value input places slot.0) slot.1
     → HoldEach input places (seen ++ slot ∷ [])
 hold_more input places [] slot each here = (here, tt)
 hold_more input places (first ∷ seen) slot each here = (each.0, hold_more input places seen slot each.1 here)
