@@ -1,5 +1,5 @@
 -- What the outcome of a take says of a configuration for which the state stood is so: by the kind of the effect and by the way.
-use Rattle.std.proofs.Common.{◌≡◌, ℕ, ◌+◌, ◌<◌, ◌≤◌, ℤ, Bool, true, false, not, ◌||◌, List, [], ◌∷◌, filter, map, nat_le, slice_get, Option, Some, None, refl, sym, ap, subst, ◌∙◌, if◌then◌else◌, is_some, arith}
+use Rattle.std.proofs.Common.{◌≡◌, ℕ, zero, suc, ◌+◌, ◌<◌, ◌≤◌, ℤ, Bool, true, false, not, ◌||◌, List, [], ◌∷◌, filter, map, nat_le, slice_get, Option, Some, None, refl, sym, ap, subst, ◌∙◌, if◌then◌else◌, is_some, arith}
 use Rattle.std.specs.Option.{option_map, option_map_or, option_and_then}
 use Rattle.std.proofs.lemmas.Bool.{leb-true}
 use Rattle.kb_class.specs.declared.ids.MethodId.{MethodId}
@@ -20,7 +20,7 @@ use Rattle.kb_semantics.specs.Ways.{ill_typed as ill_typed_step}
 use Rattle.kb_terms.specs.declared.node.TermId.{TermId}
 use Rattle.kb_terms.specs.declared.node.Node.{Node}
 use Rattle.kb_terms.specs.Terms.{Extends}
-use Rattle.kb_terms.proofs.Values.{Extends-refl, Extends-trans}
+use Rattle.kb_terms.proofs.Values.{Extends-refl, Extends-trans, IsTerm-extends}
 use Rattle.kb_picture.specs.declared.choice.Choice.{Choice}
 use Rattle.kb_picture.specs.declared.picture.PlaceLists.{PlaceLists}
 use Rattle.kb_picture.specs.Endings.{Reading}
@@ -43,6 +43,7 @@ use Rattle.kb_stepint.specs.Asked.{all_asked, is_refuted}
 use Rattle.kb_stepint.specs.Choices.{choices_of, conditions_of, listed, offered, only}
 use Rattle.kb_stepint.specs.Effects.{Planned, plan_of}
 use Rattle.kb_stepint.specs.Laws.{IsAtInts}
+use Rattle.kb_stepint.specs.Reached.{IsAlone}
 use Rattle.kb_stepint.specs.Simulation.{FollowsStep, IsOutcome}
 use Rattle.kb_stepint.specs.Takes.{answered, carried_out, reads_argument, taken, takes_next, takes_up}
 use Rattle.kb_stepint.specs.Ways.{Take, ill_typed, went}

@@ -114,14 +114,14 @@ like_itself (Some object) = (refl, refl)
 
 -- ---- a default value
 
-defaults_are : (r : Reading) (zero : TermId) (slots : List FieldSlot) → value_of_sym r (Int zero) ≡ IntValue (pos 0)
-    → map (λ (slot : FieldSlot). default_of slot.kind) slots ≡ values_of_sym r (map (λ (slot : FieldSlot). default_sym zero slot.kind) slots)
-defaults_are r zero [] e = refl
-defaults_are r zero (slot ∷ slots) e =
+defaults_are : (r : Reading) (term : TermId) (slots : List FieldSlot) → value_of_sym r (Int term) ≡ IntValue (pos 0)
+    → map (λ (slot : FieldSlot). default_of slot.kind) slots ≡ values_of_sym r (map (λ (slot : FieldSlot). default_sym term slot.kind) slots)
+defaults_are r term [] e = refl
+defaults_are r term (slot ∷ slots) e =
     ap (λ (v : Value). v ∷ map (λ (slot : FieldSlot). default_of slot.kind) slots) (one slot.kind)
-    ∙ ap (λ (l : List Value). value_of_sym r (default_sym zero slot.kind) ∷ l) (defaults_are r zero slots e)
+    ∙ ap (λ (l : List Value). value_of_sym r (default_sym term slot.kind) ∷ l) (defaults_are r term slots e)
   where
-    one : (kind : JType) → default_of kind ≡ value_of_sym r (default_sym zero kind)
+    one : (kind : JType) → default_of kind ≡ value_of_sym r (default_sym term kind)
     one (types.Class name) = refl
     one (types.Array component) = refl
     one _ = sym e
@@ -259,8 +259,8 @@ module _ (world : World) (bounds : Bounds) (old : State) (reached : IsReached wo
       omega (arith, many, heap_there, length-drop (inputs + literals) c.heap.objects, length-map old.made (made_at (reading_at world old input places)))
 
   module _ (class : List ℕ) where
-    abbrev zero : List Node × TermId
-    zero = interned nodes (Const (pos 0))
+    abbrev nought : List Node × TermId
+    nought = interned nodes (Const (pos 0))
     abbrev made : State
     made = with_made world state class
     abbrev r' : Reading
@@ -269,13 +269,13 @@ module _ (world : World) (bounds : Bounds) (old : State) (reached : IsReached wo
     new_heap = with_object c.heap (new_object world class)
 
     made_later : IsLater (reading_at world old input places) r' old.nodes
-    made_later = reading_later world old made input places refl (Extends-trans old.nodes nodes zero.0 more (interned_extends nodes (Const (pos 0))))
+    made_later = reading_later world old made input places refl (Extends-trans old.nodes nodes nought.0 more (interned_extends nodes (Const (pos 0))))
 
-    zero_value : value_of_sym r' (Int zero.1) ≡ IntValue (pos 0)
-    zero_value = reading_int world made input places zero.1 ∙ ap IntValue (constant_made nodes (pos 0) (variable_values old.picture input places.objects))
+    zero_value : value_of_sym r' (Int nought.1) ≡ IntValue (pos 0)
+    zero_value = reading_int world made input places nought.1 ∙ ap IntValue (constant_made nodes (pos 0) (variable_values old.picture input places.objects))
 
-    object_is : new_object world class ≡ made_at r' (new_sym_object world class zero.1)
-    object_is = ap (λ (vs : List Value). record { kind = exact.Class class; values = vs }) (defaults_are r' zero.1 (slots_of_class world class) zero_value)
+    object_is : new_object world class ≡ made_at r' (new_sym_object world class nought.1)
+    object_is = ap (λ (vs : List Value). record { kind = exact.Class class; values = vs }) (defaults_are r' nought.1 (slots_of_class world class) zero_value)
 
     same_object : (object : ℕ) → object < inputs + literals → object_at new_heap object ≡ object_at c.heap object
     same_object object below = slice_get-append-left c.heap.objects (new_object world class ∷ []) object (omega (arith, below, heap_there))
@@ -290,7 +290,7 @@ module _ (world : World) (bounds : Bounds) (old : State) (reached : IsReached wo
           drop-append-le (inputs + literals) c.heap.objects (new_object world class ∷ []) heap_there
           ∙ ap (λ (l : List Object). l ++ new_object world class ∷ []) (stands.heap.made ∙ sym (objects_later world old (reading_at world old input places) r' made_later old.made reached.sound.made))
           ∙ ap (λ (o : Object). map (made_at r') old.made ++ o ∷ []) object_is
-          ∙ sym (map-append (made_at r') old.made (new_sym_object world class zero.1 ∷ []));
+          ∙ sym (map-append (made_at r') old.made (new_sym_object world class nought.1 ∷ []));
       like = λ object inside. subst (λ (o : Option Object). IsLike o (object_at first object)) (sym (same_object object (omega (arith, inside)))) (stands.heap.like object inside);
       cells = λ object slot place at.
           ap (option_and_then (λ (of : Object). slice_get of.values slot)) (same_object place (omega (arith, below_at inputs places.objects object place (all_below old.picture input stands.instance_of.shape) at)))
