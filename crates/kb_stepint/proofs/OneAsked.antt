@@ -1,9 +1,8 @@
 -- An input meets conditions that were added exactly where each of them holds of the values of its sides; unless one was decided against
 -- what is asked for, which is told before the first one is added.
-use Rattle.std.proofs.Common.{◌≡◌, ◌⊎◌, ℕ, zero, suc, ◌+◌, ◌<◌, ◌≤◌, ◌==◌, ℤ, pos, Bool, true, false, not, ◌&&◌, List, [], ◌∷◌, ◌++◌, length, take, map, slice_get, Option, Some, None, cond, refl, sym, ap, subst, ◌∙◌, inl, inr, if◌then◌else◌, is_some, true≢false, arith, int_eq, length-take}
-use Rattle.std.specs.List.{list_all, list_any}
-use Rattle.std.specs.Option.{option_map_or, option_and_then}
-use Rattle.std.proofs.lemmas.Bool.{and_parts, or_from, or_parts, eqb-true}
+use Rattle.std.proofs.Common.{◌≡◌, ◌⊎◌, ℕ, zero, suc, ◌<◌, ◌==◌, ℤ, pos, Bool, true, false, not, List, [], ◌∷◌, ◌++◌, length, take, map, Option, Some, None, cond, refl, sym, ap, subst, ◌∙◌, inl, inr, if◌then◌else◌, is_some, true≢false, int_eq}
+use Rattle.std.specs.List.{list_all}
+use Rattle.std.proofs.lemmas.Bool.{and_parts, eqb-true}
 use Rattle.std.proofs.lemmas.Option.{slice_get_within}
 use Rattle.kb_arith.specs.Word.{truth}
 use Rattle.kb_blast.specs.Meaning.{AreMetInPool}
@@ -11,22 +10,21 @@ use Rattle.kb_blast.specs.Query.{AreConditions, is_comparison, node_passes}
 use Rattle.kb_terms.specs.declared.op.Op.{Op}
 use Rattle.kb_terms.specs.declared.node.TermId.{TermId}
 use Rattle.kb_terms.specs.declared.node.Node.{Node}
-use Rattle.kb_terms.specs.declared.node.Node.TheVariants.{Const, Op as Apply}
-use Rattle.kb_terms.specs.Op.{is_binary, op_value}
-use Rattle.kb_terms.specs.Terms.{IsTerm, IsSecond, AreOperands, IsPool, Extends, constant_at, constant_of, folded, interned, made_node, node_at, term_with, value_of}
-use Rattle.kb_terms.proofs.Finding.{found, found_there}
-use Rattle.kb_terms.proofs.Values.{Extends-refl, Extends-trans, IsTerm-extends, value_of-extends, value_of-constant, value_of-constant_at}
+use Rattle.kb_terms.specs.declared.node.Node.TheVariants.{Const}
+use Rattle.kb_terms.specs.Op.{op_value}
+use Rattle.kb_terms.specs.Terms.{IsTerm, IsSecond, AreOperands, Extends, constant_at, made_node, node_at, value_of}
+use Rattle.kb_terms.proofs.Values.{Extends-trans, IsTerm-extends, value_of-extends, value_of-constant_at}
 use Rattle.kb_frames.specs.State.{State}
 use Rattle.kb_frames.specs.Truths.{decided, truth_among, truth_in}
 use Rattle.kb_frames.specs.Lent.{with_nodes}
 use Rattle.kb_stepint.specs.declared.condition.Side.{Side}
 use Rattle.kb_stepint.specs.declared.condition.Side.TheVariants.{Term, Number}
 use Rattle.kb_stepint.specs.declared.condition.Condition.{Condition}
-use Rattle.kb_stepint.specs.Asked.{number_of, term_of, known_value, comparison_with, asked_truth, is_against, is_refuted, interned_side, interned_condition, asked, all_asked}
+use Rattle.kb_stepint.specs.Asked.{interned_side, interned_condition, asked}
 use Rattle.kb_stepint.specs.Needs.{IsSide, AreSides}
-use Rattle.kb_stepint.proofs.AskedLaws.{interned_node, interned_is_term, side_value, side_is_term, side_is, later_side, later_is_side, later_node}
-use Rattle.kb_stepint.proofs.GrowLaws.{Grows, side_extends, op_extends, asked_grows, all_asked_grows}
-use Rattle.kb_stepint.proofs.ValueLaws.{IsOrdered, interned_ordered, op_ordered, op_made, operation_value}
+use Rattle.kb_stepint.proofs.AskedLaws.{interned_is_term, side_value, side_is_term, side_is, later_side, later_is_side}
+use Rattle.kb_stepint.proofs.GrowLaws.{side_extends, op_extends}
+use Rattle.kb_stepint.proofs.ValueLaws.{IsOrdered, interned_ordered, op_ordered, op_made}
 
 -- ---- conditions of a state
 

@@ -1,21 +1,17 @@
 -- What a state decides of conditions before they are added, and so which alternatives are refuted: where none of an alternative's is decided
 -- against what is asked for, an input meets them exactly where they all hold, and where they all hold none is.
-use Rattle.std.proofs.Common.{◌≡◌, ◌⊎◌, ℕ, zero, suc, ◌+◌, ◌<◌, ◌≤◌, ◌==◌, ℤ, pos, Bool, true, false, not, ◌&&◌, List, [], ◌∷◌, ◌++◌, length, take, map, slice_get, Option, Some, None, cond, refl, sym, ap, subst, ◌∙◌, inl, inr, if◌then◌else◌, is_some, true≢false, arith, int_eq, length-take}
-use Rattle.std.specs.List.{list_all, list_any}
-use Rattle.std.specs.Option.{option_map_or, option_and_then}
-use Rattle.std.proofs.lemmas.Bool.{and_parts, or_from, or_parts, eqb-true}
-use Rattle.std.proofs.lemmas.Option.{slice_get_within}
+use Rattle.std.proofs.Common.{◌≡◌, ◌⊎◌, ℕ, ℤ, pos, Bool, true, false, not, List, [], ◌∷◌, length, take, Option, Some, None, refl, sym, ap, subst, ◌∙◌, inl, inr, true≢false, arith, int_eq, length-take}
+use Rattle.std.specs.Option.{option_and_then}
+use Rattle.std.proofs.lemmas.Bool.{or_from, or_parts}
 use Rattle.kb_arith.specs.Word.{truth}
 use Rattle.kb_blast.specs.Meaning.{AreMetInPool}
-use Rattle.kb_blast.specs.Query.{AreConditions, is_comparison, node_passes}
-use Rattle.kb_terms.specs.declared.op.Op.{Op}
 use Rattle.kb_terms.specs.declared.node.TermId.{TermId}
 use Rattle.kb_terms.specs.declared.node.Node.{Node}
 use Rattle.kb_terms.specs.declared.node.Node.TheVariants.{Const, Op as Apply}
-use Rattle.kb_terms.specs.Op.{is_binary, op_value}
+use Rattle.kb_terms.specs.Op.{op_value}
 use Rattle.kb_terms.specs.Terms.{IsTerm, IsSecond, AreOperands, IsPool, Extends, constant_at, constant_of, folded, interned, made_node, node_at, term_with, value_of}
 use Rattle.kb_terms.proofs.Finding.{found, found_there}
-use Rattle.kb_terms.proofs.Values.{Extends-refl, Extends-trans, IsTerm-extends, value_of-extends, value_of-constant, value_of-constant_at}
+use Rattle.kb_terms.proofs.Values.{Extends-refl, Extends-trans, value_of-constant, value_of-constant_at}
 use Rattle.kb_frames.specs.State.{State}
 use Rattle.kb_frames.specs.Truths.{decided, truth_among, truth_in}
 use Rattle.kb_frames.specs.Lent.{with_nodes}
@@ -24,10 +20,10 @@ use Rattle.kb_stepint.specs.declared.condition.Side.TheVariants.{Term, Number}
 use Rattle.kb_stepint.specs.declared.condition.Condition.{Condition}
 use Rattle.kb_stepint.specs.Asked.{number_of, term_of, known_value, comparison_with, asked_truth, is_against, is_refuted, interned_side, interned_condition, asked, all_asked}
 use Rattle.kb_stepint.specs.Needs.{IsSide, AreSides}
-use Rattle.kb_stepint.proofs.AskedLaws.{interned_node, interned_is_term, side_value, side_is_term, side_is, later_side, later_is_side, later_node}
+use Rattle.kb_stepint.proofs.AskedLaws.{interned_node, interned_is_term, side_value, later_node}
 use Rattle.kb_stepint.proofs.GrowLaws.{Grows, side_extends, op_extends, asked_grows, all_asked_grows}
-use Rattle.kb_stepint.proofs.ValueLaws.{IsOrdered, interned_ordered, op_ordered, op_made, operation_value}
-use Rattle.kb_stepint.proofs.OneAsked.{AreTermsOf, among_there, terms_later, met_front, met_earlier, met_among, Holds, AllHold, AllSides, sides_later_one, sides_later, compared_later, hold_later, IsTruth, truth_not_0, IsReady, asked_ready, asked_met, asked_holds, asked_among}
+use Rattle.kb_stepint.proofs.ValueLaws.{IsOrdered, operation_value}
+use Rattle.kb_stepint.proofs.OneAsked.{AreTermsOf, among_there, met_front, met_earlier, met_among, Holds, AllHold, AllSides, sides_later_one, sides_later, compared_later, hold_later, IsTruth, truth_not_0, IsReady, asked_ready, asked_met, asked_holds, asked_among}
 
 -- ---- what is decided
 

@@ -1,10 +1,8 @@
 -- Instances of a state that has an earlier one's picture, and of one that has read one argument more.
-use Rattle.std.proofs.Common.{◌≡◌, ℕ, zero, suc, ◌+◌, ◌<◌, ◌≤◌, ℤ, Bool, true, false, List, [], ◌∷◌, ◌++◌, length, slice_get, Option, Some, None, refl, sym, ap, subst, ◌∙◌, arith}
+use Rattle.std.proofs.Common.{◌≡◌, ℕ, zero, suc, ◌≤◌, ℤ, Bool, false, List, [], ◌∷◌, ◌++◌, length, slice_get, Option, Some, refl, sym, ap, subst, ◌∙◌, arith}
 use Rattle.std.specs.List.{cons_option, filter_map}
-use Rattle.std.specs.Option.{option_map}
 use Rattle.std.proofs.lemmas.List.Elements.{filter_map-append}
 use Rattle.kb_blast.specs.Meaning.{AreMetInPool}
-use Rattle.kb_blast.specs.Query.{kinds_of}
 use Rattle.kb_heap.specs.declared.heap.Heap.{Heap}
 use Rattle.kb_heap.specs.declared.heap.Input.{Input}
 use Rattle.kb_heap.specs.declared.heap.Value.{Value}
@@ -28,10 +26,9 @@ use Rattle.kb_picture.specs.declared.picture.PlaceLists.{PlaceLists}
 use Rattle.kb_picture.specs.Instances.{variable_value, variable_values}
 use Rattle.kb_picture.specs.Places.{slot_value}
 use Rattle.kb_picture.specs.Shapes.{HasShape, HoldEach, Holds}
-use Rattle.kb_picture.specs.WellFormed.{variable_seen, variables_seen}
+use Rattle.kb_picture.specs.WellFormed.{variable_seen}
 use Rattle.kb_picture.proofs.PlaceLaws.{places_seen}
 use Rattle.kb_picture.proofs.ShapeLaws.{same_places}
-use Rattle.kb_frames.specs.declared.value.SymValue.{SymValue}
 use Rattle.kb_frames.specs.Lent.{read_count, read_int, saw_argument}
 use Rattle.kb_frames.specs.Next.{is_reference}
 use Rattle.kb_frames.specs.StandsFor.{IsInstanceOf}

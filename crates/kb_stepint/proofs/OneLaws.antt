@@ -1,5 +1,5 @@
 -- Where a state stands for a configuration of an input's run, the input is an instance after the take of exactly one alternative.
-use Rattle.std.proofs.Common.{◌≡◌, ℕ, ◌+◌, ◌<◌, ℤ, Bool, true, false, not, ◌||◌, List, [], ◌∷◌, filter, length, nat_le, slice_get, Option, Some, None, refl, sym, ap, subst, ◌∙◌, inl, inr, if◌then◌else◌, is_some, true≢false}
+use Rattle.std.proofs.Common.{◌≡◌, ℕ, ℤ, Bool, true, false, not, ◌||◌, List, [], ◌∷◌, filter, length, nat_le, slice_get, Option, Some, None, refl, sym, ap, subst, ◌∙◌, inl, inr, if◌then◌else◌, is_some}
 use Rattle.std.specs.Option.{option_map, option_map_or, option_and_then}
 use Rattle.std.proofs.lemmas.Bool.{not-true}
 use Rattle.kb_class.specs.declared.ids.MethodId.{MethodId}
@@ -9,7 +9,6 @@ use Rattle.kb_code.specs.declared.instruction.Instr.TheVariants as instrs
 use Rattle.kb_heap.specs.declared.bounds.Bound.TheVariants.{Steps}
 use Rattle.kb_heap.specs.declared.bounds.Bounds.{Bounds}
 use Rattle.kb_heap.specs.declared.heap.Input.{Input}
-use Rattle.kb_heap.specs.declared.heap.Value.{Value}
 use Rattle.kb_heap.specs.declared.heap.Value.TheVariants.{Int as IntValue}
 use Rattle.kb_link.specs.World.{World}
 use Rattle.kb_names.specs.declared.types.JType.{JType}
@@ -20,36 +19,33 @@ use Rattle.kb_terms.specs.declared.node.Node.{Node}
 use Rattle.kb_terms.specs.Terms.{IsTerm, Extends}
 use Rattle.kb_terms.proofs.Values.{Extends-trans}
 use Rattle.kb_picture.specs.declared.choice.Choice.{Choice}
-use Rattle.kb_picture.specs.declared.picture.Picture.{Picture}
 use Rattle.kb_picture.specs.Instances.{variable_values}
 use Rattle.kb_picture.specs.Queries.{kind_for}
-use Rattle.kb_picture.specs.Shapes.{HasShape}
-use Rattle.kb_frames.specs.declared.frame.SymFrame.{SymFrame}
 use Rattle.kb_frames.specs.declared.state.Stage.{Stage}
 use Rattle.kb_frames.specs.declared.state.Stage.TheVariants.{Begins, Runs}
-use Rattle.kb_frames.specs.declared.value.Outcome.TheVariants.{Asks, Cut}
+use Rattle.kb_frames.specs.declared.value.Outcome.TheVariants.{Cut}
 use Rattle.kb_frames.specs.declared.value.SymValue.{SymValue}
 use Rattle.kb_frames.specs.declared.value.SymValue.TheVariants.{Int, Null, Obj, Literal, New, Loc}
 use Rattle.kb_frames.specs.Cuts.{setting_of}
-use Rattle.kb_frames.specs.Lent.{begun, begun_stage, read_count, read_int, stack_of, with_nodes}
-use Rattle.kb_frames.specs.Next.{argument_next, instruction_next, is_int, is_int_next, is_reference, method_now, next_is_int, offset_now}
+use Rattle.kb_frames.specs.Lent.{begun, begun_stage, read_count, stack_of, with_nodes}
+use Rattle.kb_frames.specs.Next.{argument_next, instruction_next, is_int, is_int_next, is_reference, method_now, offset_now}
 use Rattle.kb_frames.specs.StandsFor.{IsInstanceOf, StandsFor}
 use Rattle.kb_frames.specs.State.{State}
 use Rattle.kb_frames.specs.States.{Each, IsStage, IsSymValue}
 use Rattle.kb_stepint.specs.declared.condition.Condition.{Condition}
 use Rattle.kb_stepint.specs.Asked.{all_asked, is_refuted}
-use Rattle.kb_stepint.specs.Choices.{choices_of, conditions_of, listed, offered, only, takes_up_none}
+use Rattle.kb_stepint.specs.Choices.{choices_of, conditions_of, listed, offered, only}
 use Rattle.kb_stepint.specs.Effects.{Planned, plan_of}
 use Rattle.kb_stepint.specs.Laws.{IsAtInts}
 use Rattle.kb_stepint.specs.Operands.{one_int, two_ints}
 use Rattle.kb_stepint.specs.Reached.{HasRisingKeys, IsAlone, IsReached}
 use Rattle.kb_stepint.specs.Simulation.{ExactlyOneIs, NoneIs, TakesOneWay}
 use Rattle.kb_stepint.specs.Takes.{answered, reads_argument, taken, takes_next, takes_up}
-use Rattle.kb_stepint.specs.Ways.{Take, ill_typed, went}
+use Rattle.kb_stepint.specs.Ways.{ill_typed}
 use Rattle.kb_stepint.proofs.AddedLaws.{went_when}
 use Rattle.kb_stepint.proofs.GrowLaws.{Grows, all_asked_grows}
 use Rattle.kb_stepint.proofs.KeepLaws.{plan_makes, went_stays}
-use Rattle.kb_stepint.proofs.OneAsked.{AllHold, AllSides, AreTermsOf, IsReady, conditions_there}
+use Rattle.kb_stepint.proofs.OneAsked.{AllHold, AllSides, IsReady, conditions_there}
 use Rattle.kb_stepint.proofs.OneDecided.{all_hold, all_met, all_open, all_ready, not_refuted}
 use Rattle.kb_stepint.proofs.OneInstances.{argument_is, instance_of_met, int_argument, met_of_instance, read_instance}
 use Rattle.kb_stepint.proofs.OneListed.{HasRising, conditions_alike, conditions_sides, listed_one, wanted_of}
@@ -250,12 +246,19 @@ module _ (world : World) (bounds : Bounds) (old : State) (at : IsAtInts world ol
 
   -- an argument that is read is an int
   argument_int : (type : JType) → argument_next world old.method old.stage ≡ Some type → (z : ℤ) × (slice_get input.args (read_count old.stage) ≡ Some (IntValue z))
-  argument_int type e = by_stage old.stage e (ap (λ (t : Option JType). is_int (option_map is_reference t) (is_int_next world (method_now old.method old.stage) (instruction_next world old.method old.stage))) (sym e) ∙ at.next) where
+  argument_int type e = by_stage old.stage e (plain_next (argument_next world old.method old.stage) (is_int_next world (method_now old.method old.stage) (instruction_next world old.method old.stage)) at.next e) where
+    plain_next : (next : Option JType) (else_int : Bool) → is_int (option_map is_reference next) else_int ≡ true → next ≡ Some type → not (is_reference type) ≡ true
+    plain_next None else_int int same = absurd cc
+    plain_next (Some kind) else_int int same = (let one : kind ≡ type = cc in subst (λ (t : JType). not (is_reference t) ≡ true) one int)
+
+    some_same : (one other : MethodInfo) → Some one ≡ Some other → one ≡ other
+    some_same one other both = cc
+
     by_info : (n : ℕ) (info : Option MethodInfo) → info_of world old.method ≡ info → option_and_then (λ (i : MethodInfo). slice_get (argument_types world i) n) info ≡ Some type
         → is_reference type ≡ false → (z : ℤ) × (slice_get input.args n ≡ Some (IntValue z))
     by_info n None is h plain = absurd cc
     by_info n (Some info) is h plain =
-        let same : correct.method ≡ info = (let both : Some correct.method ≡ Some info = sym correct.method_is ∙ is in cc) in
+        let same : correct.method ≡ info = some_same correct.method info (sym correct.method_is ∙ is) in
         let found = argument_is world input.heap (argument_types world correct.method) input.args correct.arguments n type
             (ap (λ (i : MethodInfo). slice_get (argument_types world i) n) same ∙ h) in
         let int = int_argument world input.heap type found.0 plain found.2 in

@@ -13,7 +13,6 @@ use Rattle.kb_code.specs.declared.instruction.IntOp.{IntOp}
 use Rattle.kb_code.specs.declared.instruction.IntOp.TheVariants as ops
 use Rattle.kb_semantics.specs.Comparisons.{holds, is_plain, table_keys}
 use Rattle.kb_semantics.specs.Looks.{if_some}
-use Rattle.kb_terms.specs.declared.op.Op.{Op}
 use Rattle.kb_terms.specs.declared.op.Op.TheVariants.{Eq, Lt}
 use Rattle.kb_terms.specs.declared.node.TermId.{TermId}
 use Rattle.kb_terms.specs.declared.node.Node.{Node}

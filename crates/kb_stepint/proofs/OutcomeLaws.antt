@@ -1,6 +1,6 @@
 -- What the outcome of a take says of a configuration for which the state stood is so: by the kind of the effect and by the way.
-use Rattle.std.proofs.Common.{◌≡◌, ℕ, zero, suc, ◌+◌, ◌<◌, ◌≤◌, ℤ, Bool, true, false, not, ◌||◌, List, [], ◌∷◌, filter, map, nat_le, slice_get, Option, Some, None, refl, sym, ap, subst, ◌∙◌, if◌then◌else◌, is_some, arith}
-use Rattle.std.specs.Option.{option_map, option_map_or, option_and_then}
+use Rattle.std.proofs.Common.{◌≡◌, ℕ, zero, suc, ℤ, Bool, true, false, not, ◌||◌, List, [], ◌∷◌, filter, nat_le, slice_get, Option, Some, None, refl, sym, ap, subst, ◌∙◌, if◌then◌else◌, is_some}
+use Rattle.std.specs.Option.{option_map, option_map_or}
 use Rattle.std.proofs.lemmas.Bool.{leb-true}
 use Rattle.kb_class.specs.declared.ids.MethodId.{MethodId}
 use Rattle.kb_class.specs.Naming.{Has}
@@ -13,7 +13,7 @@ use Rattle.kb_link.specs.World.{World}
 use Rattle.kb_names.specs.declared.types.JType.{JType}
 use Rattle.kb_semantics.specs.Config.{Setting, Config, instruction_at}
 use Rattle.kb_semantics.specs.Inputs.{IsTypeCorrect}
-use Rattle.kb_semantics.specs.Looks.{Slot, if_some, stored_by, stores, taken_up}
+use Rattle.kb_semantics.specs.Looks.{if_some, stored_by, stores}
 use Rattle.kb_semantics.specs.Step.{effect, step}
 use Rattle.kb_semantics.specs.Ways.{past}
 use Rattle.kb_semantics.specs.Ways.{ill_typed as ill_typed_step}
@@ -25,18 +25,17 @@ use Rattle.kb_picture.specs.declared.choice.Choice.{Choice}
 use Rattle.kb_picture.specs.declared.picture.PlaceLists.{PlaceLists}
 use Rattle.kb_picture.specs.Endings.{Reading}
 use Rattle.kb_picture.specs.Instances.{variable_values}
-use Rattle.kb_frames.specs.declared.frame.SymFrame.{SymFrame}
 use Rattle.kb_frames.specs.declared.state.Stage.{Stage}
 use Rattle.kb_frames.specs.declared.state.Stage.TheVariants.{Begins, Runs}
-use Rattle.kb_frames.specs.declared.value.Outcome.TheVariants.{Asks, Cut}
+use Rattle.kb_frames.specs.declared.value.Outcome.TheVariants.{Cut}
 use Rattle.kb_frames.specs.declared.value.SymValue.{SymValue}
 use Rattle.kb_frames.specs.declared.value.SymValue.TheVariants.{Int}
 use Rattle.kb_frames.specs.Cuts.{setting_of}
-use Rattle.kb_frames.specs.Lent.{begun, begun_stage, read_int, stack_of, with_nodes}
-use Rattle.kb_frames.specs.Next.{argument_next, instruction_next, is_int, is_int_instruction, is_int_next, is_reference, method_now, next_is_int, offset_now}
-use Rattle.kb_frames.specs.StandsFor.{FrameStandsFor, IsInstanceOf, StageStandsFor, StandsFor, reading_at, value_of_sym}
+use Rattle.kb_frames.specs.Lent.{begun, begun_stage, stack_of}
+use Rattle.kb_frames.specs.Next.{argument_next, instruction_next, is_int, is_int_instruction, is_int_next, is_reference, method_now, offset_now}
+use Rattle.kb_frames.specs.StandsFor.{FrameStandsFor, IsInstanceOf, StandsFor, reading_at}
 use Rattle.kb_frames.specs.State.{State}
-use Rattle.kb_frames.specs.States.{Each, IsFrame, IsLocal, IsSymValue}
+use Rattle.kb_frames.specs.States.{IsSymValue}
 use Rattle.kb_frames.proofs.RunLaws.{counters_agree}
 use Rattle.kb_stepint.specs.declared.condition.Condition.{Condition}
 use Rattle.kb_stepint.specs.Asked.{all_asked, is_refuted}
@@ -46,17 +45,17 @@ use Rattle.kb_stepint.specs.Laws.{IsAtInts}
 use Rattle.kb_stepint.specs.Reached.{IsAlone}
 use Rattle.kb_stepint.specs.Simulation.{FollowsStep, IsOutcome}
 use Rattle.kb_stepint.specs.Takes.{answered, carried_out, reads_argument, taken, takes_next, takes_up}
-use Rattle.kb_stepint.specs.Ways.{Take, ill_typed, went}
+use Rattle.kb_stepint.specs.Ways.{Take, ill_typed}
 use Rattle.kb_stepint.proofs.GrowLaws.{Grows, all_asked_grows}
 use Rattle.kb_stepint.proofs.KeepLaws.{plan_makes}
 use Rattle.kb_stepint.proofs.OneAsked.{AllHold, AllSides, IsReady, conditions_there, hold_later}
 use Rattle.kb_stepint.proofs.OneDecided.{all_ready}
 use Rattle.kb_stepint.proofs.OneLaws.{IsTermAt, begun_terms, instance_held, instr_rising, method_same, one_term, place_same, stack_same, sym_terms, two_terms}
 use Rattle.kb_stepint.proofs.OneListed.{HasRising, conditions_sides}
-use Rattle.kb_stepint.proofs.OutcomePlans.{HasFrameTerms, Reads, led_to, plan_is}
+use Rattle.kb_stepint.proofs.OutcomePlans.{HasFrameTerms, Reads, plan_is}
 use Rattle.kb_stepint.proofs.OutcomeReads.{reads_is}
 use Rattle.kb_stepint.proofs.OutcomeStands.{Running, running}
-use Rattle.kb_stepint.proofs.OutcomeValues.{IsLater, frame_later, reading_int, reading_later}
+use Rattle.kb_stepint.proofs.OutcomeValues.{frame_later, reading_int, reading_later}
 use Rattle.kb_stepint.proofs.OutcomeWays.{ill_typed_is, went_is}
 use Rattle.kb_stepint.proofs.PastLaws.{cut_by_steps}
 use Rattle.kb_stepint.proofs.ValueLaws.{IsOrdered, pool_ordered}
@@ -205,12 +204,16 @@ module _ (world : World) (bounds : Bounds) (old : State) (at : IsAtInts world ol
   int_here : (found : Instr × ℕ) → place ≡ Some found → is_int_instruction world run.frame.method found.0 ≡ true
   int_here found e =
       let now : is_int_next world (method_now old.method old.stage) (instruction_next world old.method old.stage) ≡ true =
-          ap (λ (t : Option JType). is_int (option_map is_reference t) (is_int_next world (method_now old.method old.stage) (instruction_next world old.method old.stage))) (sym none) ∙ at.next in
+          int_next (argument_next world old.method old.stage) (is_int_next world (method_now old.method old.stage) (instruction_next world old.method old.stage)) none at.next in
       let next : instruction_next world old.method old.stage ≡ Some found.0 = ap (option_map (λ (f : Instr × ℕ). f.0)) (sym (place_same world old old.stage) ∙ e) in
       let method : run.frame.method ≡ method_now old.method old.stage = run.method ∙ sym (stands_at old.stage at.reached.alone) in
       ap (λ (m : MethodId). is_int_instruction world m found.0) method
       ∙ ap (is_int_next world (method_now old.method old.stage)) (sym next) ∙ now
     where
+      int_next : (next : Option JType) (at_int : Bool) → next ≡ None → is_int (option_map is_reference next) at_int ≡ true → at_int ≡ true
+      int_next None at_int none int = int
+      int_next (Some kind) at_int none int = absurd cc
+
       stands_at : (stage : Stage) → IsAlone old.method stage → method_now old.method stage ≡ old.method
       stands_at (Begins read) alone = refl
       stands_at (Runs frame callers) alone = alone.0

@@ -1,6 +1,6 @@
 -- What an instruction does to a state is what it does to the configuration, with each symbolic value in the place of its value: one lemma
 -- for each kind of effect.
-use Rattle.std.proofs.Common.{◌≡◌, ◌⊎◌, ℕ, zero, suc, ◌+◌, ◌<◌, ◌≤◌, ℤ, pos, Bool, true, false, List, [], ◌∷◌, ◌++◌, length, map, drop, take, nat_le, nat_lt, slice_get, slice_set, Option, Some, None, cond, refl, sym, ap, subst, ◌∙◌, inl, inr, if◌then◌else◌, is_some, true≢false, arith, int_eq}
+use Rattle.std.proofs.Common.{◌≡◌, ◌⊎◌, ℕ, zero, suc, ◌+◌, ℤ, pos, Bool, true, false, List, [], ◌∷◌, ◌++◌, length, map, drop, nat_le, nat_lt, slice_get, slice_set, Option, Some, None, cond, refl, sym, ap, subst, ◌∙◌, inl, inr, if◌then◌else◌, is_some, true≢false, arith, int_eq}
 use Rattle.std.specs.List.{cons_option, filter_map}
 use Rattle.std.specs.Option.{option_map, option_map_or, option_and_then}
 use Rattle.std.proofs.lemmas.List.{length-map, map-append, drop-map}
@@ -18,12 +18,12 @@ use Rattle.kb_code.specs.declared.instruction.IntOp.{IntOp}
 use Rattle.kb_code.specs.declared.instruction.IntOp.TheVariants as ops
 use Rattle.kb_heap.specs.declared.heap.Value.{Value}
 use Rattle.kb_heap.specs.declared.heap.Value.TheVariants.{Int as IntValue, Ref}
-use Rattle.kb_link.specs.World.{World, int_entry_of, literal_entry_of}
+use Rattle.kb_link.specs.World.{int_entry_of, literal_entry_of}
 use Rattle.kb_world.specs.Lookup.{only_where, or_else}
 use Rattle.kb_names.specs.declared.types.JType.{JType}
 use Rattle.kb_names.specs.declared.types.JType.TheVariants as types
 use Rattle.kb_semantics.specs.Comparisons.{holds, switch_target, table_keys}
-use Rattle.kb_semantics.specs.Config.{Setting, Config, Outcome, class_number, info_of, local_of, max_locals_of, result_of, with_local}
+use Rattle.kb_semantics.specs.Config.{Setting, Config, Outcome, class_number, info_of, local_of, max_locals_of, result_of}
 use Rattle.kb_semantics.specs.Instructions.{with, nop, push_int, load_constant, constant_at, load_int, store_int, sets_local, increase, without, copied_below, exchanged, rearrange, int2_value, apply_two, negate, narrowed, narrow, if_int, if_ints, goto, switch, return_int, return_nothing}
 use Rattle.kb_semantics.specs.Looks.{if_some}
 use Rattle.kb_semantics.specs.Operands.{Taken, an_int, int_of}
@@ -51,7 +51,6 @@ use Rattle.kb_frames.specs.Next.{is_int_instruction}
 use Rattle.kb_frames.specs.StandsFor.{FrameStandsFor, value_of_sym, values_of_sym}
 use Rattle.kb_frames.specs.State.{State}
 use Rattle.kb_frames.specs.States.{Each}
-use Rattle.kb_stepint.specs.declared.condition.Condition.{Condition}
 use Rattle.kb_stepint.specs.declared.condition.Side.{Side}
 use Rattle.kb_stepint.specs.declared.condition.Side.TheVariants.{Term, Number}
 use Rattle.kb_stepint.specs.Asked.{interned_op}

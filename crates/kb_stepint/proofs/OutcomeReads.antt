@@ -1,5 +1,5 @@
 -- A state that has read one argument more stands for the same configuration.
-use Rattle.std.proofs.Common.{◌≡◌, ℕ, zero, suc, ◌+◌, ◌<◌, ◌≤◌, ℤ, pos, List, [], ◌∷◌, ◌++◌, length, length-append, map, take, slice_get, Option, Some, None, refl, sym, ap, subst, ◌∙◌, arith}
+use Rattle.std.proofs.Common.{◌≡◌, ℕ, zero, suc, ◌≤◌, ℤ, pos, List, [], ◌∷◌, ◌++◌, length, length-append, take, slice_get, Some, refl, sym, ap, subst, ◌∙◌, arith}
 use Rattle.std.proofs.lemmas.List.{map-append}
 use Rattle.std.proofs.Math.Seq.{get_or-append_seam}
 use Rattle.kb_heap.specs.declared.bounds.Bounds.{Bounds}
@@ -14,7 +14,7 @@ use Rattle.kb_terms.specs.declared.node.TermId.{TermId}
 use Rattle.kb_terms.specs.declared.node.VarKind.{VarKind}
 use Rattle.kb_terms.specs.declared.node.Node.{Node}
 use Rattle.kb_terms.specs.declared.node.Node.TheVariants.{Var}
-use Rattle.kb_terms.specs.Terms.{Extends, IsTerm, int_at, value_of, values, variables_of}
+use Rattle.kb_terms.specs.Terms.{int_at, value_of, values, variables_of}
 use Rattle.kb_terms.proofs.Entries.{slice_get-append-end}
 use Rattle.kb_terms.proofs.Growth.{extends-more}
 use Rattle.kb_terms.proofs.Values.{value_of-extends, value_of-variable}
@@ -31,7 +31,7 @@ use Rattle.kb_frames.specs.declared.value.SymValue.TheVariants.{Int}
 use Rattle.kb_frames.specs.Cuts.{setting_of}
 use Rattle.kb_frames.specs.Lent.{read_int, saw_argument}
 use Rattle.kb_frames.specs.Next.{argument_next}
-use Rattle.kb_frames.specs.StandsFor.{HeapStandsFor, IsInstanceOf, StageStandsFor, StandsFor, reading_at, value_of_sym, values_of_sym}
+use Rattle.kb_frames.specs.StandsFor.{IsInstanceOf, StageStandsFor, StandsFor, reading_at, value_of_sym, values_of_sym}
 use Rattle.kb_frames.specs.State.{State}
 use Rattle.kb_frames.specs.States.{IsBeginning, IsStage, IsState}
 use Rattle.kb_stepint.proofs.OneInstances.{hold_last, many_values, read_met, shape_more, value_inputs, variables_more}

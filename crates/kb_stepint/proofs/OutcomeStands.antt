@@ -1,5 +1,5 @@
 -- The frame with which a run goes on once its arguments are read stands for that of the configuration, whatever terms are added.
-use Rattle.std.proofs.Common.{◌≡◌, ℕ, zero, suc, ◌+◌, ◌-◌, ◌<◌, ◌≤◌, ℤ, List, [], ◌∷◌, ◌++◌, length, length-append, map, replicate, take, slice_get, Option, Some, None, refl, sym, ap, subst, ◌∙◌, arith}
+use Rattle.std.proofs.Common.{◌≡◌, ℕ, zero, suc, ◌-◌, ◌≤◌, List, [], ◌∷◌, ◌++◌, length, length-append, map, replicate, take, slice_get, Option, Some, None, refl, sym, ap, subst, ◌∙◌, arith}
 use Rattle.std.specs.Option.{option_map, option_and_then}
 use Rattle.std.proofs.lemmas.List.{length-map, length-replicate, map-append, take_all}
 use Rattle.kb_class.specs.declared.ids.MethodId.{MethodId}
@@ -9,7 +9,7 @@ use Rattle.kb_heap.specs.declared.heap.Input.{Input}
 use Rattle.kb_heap.specs.declared.heap.Value.{Value}
 use Rattle.kb_link.specs.World.{World}
 use Rattle.kb_names.specs.declared.types.JType.{JType}
-use Rattle.kb_semantics.specs.Config.{Setting, Config, Frame, first_locals, info_of, max_locals_of}
+use Rattle.kb_semantics.specs.Config.{Setting, Config, Frame, first_locals, max_locals_of}
 use Rattle.kb_semantics.specs.Inputs.{IsTypeCorrect, argument_types}
 use Rattle.kb_semantics.specs.Step.{config_at}
 use Rattle.kb_semantics.specs.Values.{AreValuesOf}
@@ -20,7 +20,7 @@ use Rattle.kb_frames.specs.declared.state.Stage.TheVariants.{Begins, Runs}
 use Rattle.kb_frames.specs.declared.value.SymValue.{SymValue}
 use Rattle.kb_frames.specs.Lent.{begun_locals, begun_stage}
 use Rattle.kb_frames.specs.Next.{argument_next}
-use Rattle.kb_frames.specs.StandsFor.{FrameStandsFor, FramesStandFor, IsOfRun, StageStandsFor, beginning_of, value_of_sym, values_of_sym}
+use Rattle.kb_frames.specs.StandsFor.{FrameStandsFor, FramesStandFor, IsOfRun, StageStandsFor, beginning_of, value_of_sym}
 use Rattle.kb_frames.specs.State.{State}
 use Rattle.kb_frames.specs.States.{Each, IsFrame, IsLocal, IsStage, IsSymValue}
 use Rattle.kb_stepint.specs.Reached.{IsAlone}

@@ -1,6 +1,6 @@
 -- Symbolic values have the same values at an input as a state's terms and variables grow; so it keeps the frames and the heaps that it
 -- stands for.
-use Rattle.std.proofs.Common.{◌≡◌, ℕ, zero, suc, ◌+◌, ◌<◌, ◌≤◌, ℤ, List, [], ◌∷◌, ◌++◌, length, map, drop, slice_get, Option, Some, None, refl, sym, ap, subst, ◌∙◌, arith}
+use Rattle.std.proofs.Common.{◌≡◌, ℕ, zero, suc, ◌+◌, ◌<◌, List, [], ◌∷◌, length, map, drop, slice_get, Option, Some, None, refl, sym, ap, subst, ◌∙◌, arith}
 use Rattle.std.specs.List.{slice_index_or}
 use Rattle.std.specs.Option.{option_map}
 use Rattle.std.proofs.lemmas.Option.{slice_get_within}
@@ -9,7 +9,7 @@ use Rattle.kb_heap.specs.declared.heap.Input.{Input}
 use Rattle.kb_heap.specs.declared.heap.Object.{Object}
 use Rattle.kb_heap.specs.declared.heap.Value.{Value}
 use Rattle.kb_heap.specs.declared.heap.Value.TheVariants.{Int as IntValue, Ref}
-use Rattle.kb_heap.specs.Heap.{object_at, value_at}
+use Rattle.kb_heap.specs.Heap.{value_at}
 use Rattle.kb_link.specs.World.{World}
 use Rattle.kb_semantics.specs.Config.{Frame}
 use Rattle.kb_terms.specs.declared.node.TermId.{TermId}
@@ -17,7 +17,6 @@ use Rattle.kb_terms.specs.declared.node.Node.{Node}
 use Rattle.kb_terms.specs.Terms.{IsTerm, Extends, int_at, value_of, values}
 use Rattle.kb_terms.proofs.Values.{value_of-extends}
 use Rattle.kb_picture.specs.declared.picture.Picture.{Picture}
-use Rattle.kb_picture.specs.declared.picture.PicObject.{PicObject}
 use Rattle.kb_picture.specs.declared.picture.PlaceLists.{PlaceLists}
 use Rattle.kb_picture.specs.Endings.{Reading, place_at}
 use Rattle.kb_picture.specs.Instances.{variable_values}

@@ -1,5 +1,5 @@
 -- A way leads a state where it leads the machine: one lemma for each way.
-use Rattle.std.proofs.Common.{◌≡◌, ℕ, zero, suc, ◌+◌, ◌-◌, ◌<◌, ◌≤◌, ℤ, pos, Bool, true, false, List, [], ◌∷◌, ◌++◌, length, length-append, map, drop, nat_lt, replicate, slice_get, Option, Some, None, refl, sym, ap, subst, ◌∙◌, if◌then◌else◌, is_some, arith}
+use Rattle.std.proofs.Common.{◌≡◌, ℕ, zero, suc, ◌+◌, ◌<◌, ◌≤◌, ℤ, pos, Bool, true, false, List, [], ◌∷◌, ◌++◌, length, length-append, map, drop, nat_lt, replicate, slice_get, Option, Some, None, refl, sym, ap, subst, ◌∙◌, if◌then◌else◌, arith}
 use Rattle.std.specs.Option.{option_map, option_map_or, option_and_then}
 use Rattle.std.proofs.lemmas.List.{append-nil, drop-append-le, length-drop, length-map, length-replicate, map-append}
 use Rattle.std.proofs.lemmas.Bool.{ltb-true, ltb-false}
@@ -9,10 +9,8 @@ use Rattle.kb_class.specs.declared.ids.MethodId.{MethodId}
 use Rattle.kb_class.specs.declared.members.MethodCode.{MethodCode}
 use Rattle.kb_class.specs.Naming.{Has}
 use Rattle.kb_code.specs.declared.listing.Handler.{Handler}
-use Rattle.kb_heap.specs.declared.bounds.Bound.{Bound}
 use Rattle.kb_heap.specs.declared.bounds.Bound.TheVariants.{Loops}
 use Rattle.kb_heap.specs.declared.bounds.Bounds.{Bounds}
-use Rattle.kb_heap.specs.declared.ending.Ending.{Ending}
 use Rattle.kb_heap.specs.declared.ending.Ending.TheVariants.{Returned as RunReturned, Threw as RunThrew, IllTyped as RunIllTyped}
 use Rattle.kb_heap.specs.declared.heap.Heap.{Heap}
 use Rattle.kb_heap.specs.declared.heap.Input.{Input}
@@ -32,11 +30,11 @@ use Rattle.kb_semantics.specs.Looks.{Slot, stores}
 use Rattle.kb_semantics.specs.Step.{config_at, first_heap, next_config, step}
 use Rattle.kb_semantics.specs.Values.{default_of, literal, new_object, slots_of_class}
 use Rattle.kb_semantics.specs.Ways.{counted, goes_on, goes_to, handler_among, handler_at, hands_over, hands_to, lands, nearest_handler, past, standpoint, throws, throws_in}
-use Rattle.kb_semantics.specs.Ways.{ill_typed as ill_typed_step, carries_out as carries_out_step, jumps as jumps_step}
+use Rattle.kb_semantics.specs.Ways.{ill_typed as ill_typed_step, carries_out as carries_out_step}
 use Rattle.kb_terms.specs.declared.node.TermId.{TermId}
 use Rattle.kb_terms.specs.declared.node.Node.{Node}
 use Rattle.kb_terms.specs.declared.node.Node.TheVariants.{Const}
-use Rattle.kb_terms.specs.Terms.{Extends, interned, value_of}
+use Rattle.kb_terms.specs.Terms.{Extends, interned}
 use Rattle.kb_terms.proofs.Entries.{slice_get-append-left}
 use Rattle.kb_terms.proofs.Values.{Extends-trans}
 use Rattle.kb_picture.specs.declared.path.Out.TheVariants as outs
@@ -52,17 +50,16 @@ use Rattle.kb_picture.proofs.ShapeLaws.{same_places}
 use Rattle.kb_picture.proofs.TableLaws.{AreBelow}
 use Rattle.kb_frames.specs.declared.frame.SymFrame.{SymFrame}
 use Rattle.kb_frames.specs.declared.state.Stage.TheVariants.{Runs}
-use Rattle.kb_frames.specs.declared.state.SymObject.{SymObject}
 use Rattle.kb_frames.specs.declared.value.Outcome.TheVariants.{Goes as OutcomeGoes, Ends, Cut}
 use Rattle.kb_frames.specs.declared.value.SymValue.{SymValue}
 use Rattle.kb_frames.specs.declared.value.SymValue.TheVariants.{Int}
 use Rattle.kb_frames.specs.Cuts.{setting_of}
 use Rattle.kb_frames.specs.Making.{default_sym, new_sym_object, with_made}
-use Rattle.kb_frames.specs.StandsFor.{FrameStandsFor, FramesStandFor, HeapStandsFor, IsInstanceOf, IsKept, IsLike, StandsFor, beginning_of, made_at, out_of, reading_at, value_of_sym, values_of_sym, written_by}
+use Rattle.kb_frames.specs.StandsFor.{FrameStandsFor, FramesStandFor, HeapStandsFor, IsInstanceOf, IsLike, StandsFor, beginning_of, made_at, out_of, reading_at, value_of_sym, values_of_sym, written_by}
 use Rattle.kb_frames.specs.State.{State, cell_at}
 use Rattle.kb_stepint.specs.Reached.{HasNoHandlers, IsReached}
 use Rattle.kb_stepint.specs.Simulation.{IsOutcome}
-use Rattle.kb_stepint.specs.Ways.{Take, Way, Goes, Jumps, Leaves, Throws, Fails, carries_out, ends, ill_typed, went}
+use Rattle.kb_stepint.specs.Ways.{Take, Way, Goes, Jumps, Leaves, Throws, Fails, carries_out, ill_typed, went}
 use Rattle.kb_stepint.proofs.GrowLaws.{interned_extends}
 use Rattle.kb_stepint.proofs.OneInstances.{same_variables}
 use Rattle.kb_stepint.proofs.OutcomePlans.{led_to}

@@ -1,7 +1,6 @@
 -- The values of terms that are made, whether they are found, folded or new, in pools whose operations stand behind their operands; and
 -- that the inputs behind those of the variables are none to a pool.
-use Rattle.std.proofs.Common.{◌≡◌, ℕ, suc, ◌+◌, ◌<◌, ◌≤◌, ℤ, pos, Bool, true, false, List, [], ◌∷◌, ◌++◌, length, take, fold, slice_get, Option, Some, None, refl, sym, ap, subst, ◌∙◌, inl, inr, arith, length-take}
-use Rattle.std.specs.Option.{option_map_or}
+use Rattle.std.proofs.Common.{◌≡◌, ℕ, suc, ◌<◌, ◌≤◌, ℤ, pos, Bool, true, false, List, [], ◌∷◌, ◌++◌, length, take, fold, slice_get, Option, Some, None, refl, sym, ap, subst, ◌∙◌, inl, inr, arith, length-take}
 use Rattle.std.proofs.lemmas.List.{take-append-le}
 use Rattle.std.proofs.lemmas.Option.{slice_get_within}
 use Rattle.std.proofs.Math.ListN.{get_or-append}
@@ -12,10 +11,10 @@ use Rattle.kb_terms.specs.declared.node.VarKind.{VarKind}
 use Rattle.kb_terms.specs.declared.node.Node.{Node}
 use Rattle.kb_terms.specs.declared.node.Node.TheVariants.{Const, Var, Op as Apply}
 use Rattle.kb_terms.specs.Op.{is_binary, op_value}
-use Rattle.kb_terms.specs.Terms.{IsTerm, IsSecond, AreOperands, IsPool, NodeFits, Extends, constant_at, second_constant, folded, made_node, term_with, interned, node_at, int_at, second_value, node_value, values, value_of, operand_value, variables_of}
+use Rattle.kb_terms.specs.Terms.{IsSecond, AreOperands, IsPool, NodeFits, Extends, constant_at, second_constant, folded, made_node, term_with, interned, node_at, second_value, node_value, values, value_of, operand_value, variables_of}
 use Rattle.kb_terms.proofs.Computing.{can_compute}
 use Rattle.kb_terms.proofs.Entries.{end-cases}
-use Rattle.kb_terms.proofs.Values.{with_value, length-values, before-value, value_of-node, value_of-constant, value_of-constant_at, value_of-extends, IsTerm-extends}
+use Rattle.kb_terms.proofs.Values.{with_value, length-values, before-value, value_of-node, value_of-constant, value_of-constant_at, value_of-extends}
 use Rattle.kb_stepint.proofs.AskedLaws.{interned_node}
 use Rattle.kb_stepint.proofs.GrowLaws.{from_found, interned_extends}
 
