@@ -11,5 +11,6 @@ mod PictureLaws
 mod PlanLaws
 mod ReachedLaws
 mod SoundLaws
+mod TakeLaws
 mod TermLaws
 mod WayLaws

@@ -30,6 +30,7 @@ use std::alloc::Global;
 ///
 /// The state is one to which `start` and later calls lead in this world, and whose next step is one of ints. It takes time in
 /// proportion to the list, whatever the state has met.
+#[tactic(auto, using(crate::proofs::TakeLaws::reached_terms))]
 pub fn choices_int(
     alloc: Global,
     world: &World,
@@ -51,6 +52,7 @@ pub fn choices_int(
 }
 
 // Whether no instruction is taken up: an argument is read, or as many instructions were carried out as may be.
+#[tactic(auto, using(crate::proofs::TakeLaws::kind_is))]
 fn takes_up_none(world: &World, state: &SymState, bounds: &Bounds) -> bool
     ensures { result ≡ takes_up_none world.now state.now bounds.now }
 {

@@ -27,7 +27,7 @@ pub(crate) fn carry_out(
     choice: &Choice,
     instr: &Instr,
 ) -> Result<Outcome, NoMemory>
-    requires { CanStep turn.now.world.now turn.now.bounds state.old }
+    requires { CanStep turn.now.bounds state.old }
     ensures { IfOk result (λ outcome. told state.new outcome ≡ led_by turn.now state.old (plan_of turn.now.world.now state.old choice.now instr.now)) }
 {
     match instr {

@@ -29,7 +29,7 @@ use kb_world::World;
 
 /// ireturn
 pub(crate) fn return_int(turn: &Turn<'_>, state: &mut SymState) -> Result<Outcome, NoMemory>
-    requires { CanStep turn.now.world.now turn.now.bounds state.old }
+    requires { CanStep turn.now.bounds state.old }
     ensures { IfOk result (λ outcome. told state.new outcome ≡ led_by turn.now state.old (returns_int turn.now.world.now state.old)) }
 {
     let Some(term) = one_int(state) else {

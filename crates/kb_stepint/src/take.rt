@@ -47,6 +47,23 @@ pub fn take_int(
     ensures take { IfOk result (λ outcome. told state.new outcome ≡ taken world.now bounds.now state.old choice.now) }
     ensures reached { OnOk result (IsReached world.now state.new) }
 {
+    let outcome = read_or_take_up(alloc, world, state, choice, bounds)?;
+    let _ = state.pool().nodes();
+    Ok(outcome)
+}
+
+// Reads the next argument, or takes up the next instruction.
+#[tactic(auto, using(crate::proofs::TakeLaws::reads_next, crate::proofs::TakeLaws::cut_here, crate::proofs::TakeLaws::taken_up_here, crate::proofs::TakeLaws::can_step))]
+fn read_or_take_up(
+    alloc: Global,
+    world: &World,
+    state: &mut SymState,
+    choice: &Choice,
+    bounds: &Bounds,
+) -> Result<Outcome, NoMemory>
+    requires { IsReached world.now state.old }
+    ensures { IfOk result (λ outcome. told state.new outcome ≡ taken world.now bounds.now state.old choice.now) }
+{
     if let Some(kind) = state.next_kind(world) {
         state.read_int(kind)?;
         return Ok(Outcome::Asks);
@@ -59,6 +76,7 @@ pub fn take_int(
 }
 
 // Takes up the next instruction of a run whose arguments are read.
+#[tactic(auto, using(crate::proofs::TakeLaws::asked_can_step))]
 fn take_up(
     alloc: Global,
     world: &World,
@@ -66,7 +84,7 @@ fn take_up(
     choice: &Choice,
     bounds: &Bounds,
 ) -> Result<Outcome, NoMemory>
-    requires { CanStep world.now bounds.now state.old }
+    requires { CanStep bounds.now state.old }
     ensures { IfOk result (λ outcome. told state.new outcome ≡ takes_up world.now bounds.now choice.now state.old) }
 {
     let (method, at) = state.stands_at();
@@ -87,8 +105,7 @@ fn take_up(
 // Adds the conditions that an alternative of an instruction asks for.
 fn ask_for(state: &mut SymState, instr: &Instr, choice: &Choice) -> Result<(), NoMemory>
     requires { HasTerms state.old }
-    ensures state { OnOk result (state.new ≡ all_asked state.old (conditions_of instr.now (stack_of state.old.stage) choice.now)) }
-    ensures terms { OnOk result (HasTerms state.new) }
+    ensures { OnOk result (state.new ≡ all_asked state.old (conditions_of instr.now (stack_of state.old.stage) choice.now)) }
 {
     match instr {
         Instr::IfInt(cond, _) => match one_int(state) {
