@@ -41,7 +41,7 @@ one-variable nodes formed i j v kind other at under = go (cases_order i j) where
 
 -- ---- one term an operand
 
-no-node : (nodes : List Node) (t : TermId) → IsTerm nodes t → node_at nodes t ≡ None → ⊥
+pub no-node : (nodes : List Node) (t : TermId) → IsTerm nodes t → node_at nodes t ≡ None → ⊥
 no-node nodes t there e = let entry = slice_get-get_or nodes t.0 (Const (pos 0)) there in absurd (cc)
 
 second-there : (before : List Node) (binary : Bool) (right : Option TermId) → IsSecond before binary right → (o : TermId) → right ≡ Some o → IsTerm before o
