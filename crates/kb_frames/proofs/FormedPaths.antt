@@ -59,7 +59,7 @@ count-seen f (slot ∷ others) = go (variable_seen slot.1) (count-seen f others)
     go None rest = rest
     go (Some number) rest = ap suc rest
 
-variables-same : (world : World) (id : MethodId) (nodes : List Node) (picture : Picture) → kinds_of nodes ≡ kinds_seen world id picture → variables_of nodes ≡ length (variables_seen picture)
+pub variables-same : (world : World) (id : MethodId) (nodes : List Node) (picture : Picture) → kinds_of nodes ≡ kinds_seen world id picture → variables_of nodes ≡ length (variables_seen picture)
 variables-same world id nodes picture same =
     sym (count-kinds nodes) ∙ ap length same ∙ count-seen (λ slot number. kind_for (type_of_slot world id picture.objects slot.0)) picture.seen
 
