@@ -51,7 +51,7 @@ second-there before false (Some p) there o e = absurd there
 second-there before false None there o e = absurd (cc)
 
 module _ (nodes : List Node) (formed : IsPool nodes) (numbered : List TermId) where
-  IsPlaced : TermId → Type 0
+  abbrev IsPlaced : TermId → Type 0
   IsPlaced t = is_operation (node_at nodes t) ≡ true → (k : ℕ) × (place_of numbered t ≡ Some k)
 
   one-place : (t u : TermId) (k l : ℕ) → place_of numbered t ≡ Some k → place_of numbered u ≡ Some l → number_in numbered t ≡ number_in numbered u → t ≡ u
