@@ -130,7 +130,7 @@ module _ (world : World) (state : State) (decisions : List ℕ) (leaf : Leaf) (f
       (subst (AreMet (listed_values (variable_values state.picture input places) (listed state.nodes numbered numbered))) (take_map (λ (c : TermId × Bool). (number_in numbered c.0, c.1)) count state.when) met)
 
   short : (count : ℕ) (input : Input) → IsInstance (with_conditions (path_of state decisions leaf) count) input ↔ IsInstanceOf (with_first state count) input
-  unfolding path_of
+  unfolding path_of term_values
   short count input = (
     λ h. record { shape = h.shape; conditions = is_met count input h.shape.places.objects h.conditions },
     λ h. record { shape = h.shape; conditions = meets count input h.shape.places.objects h.conditions },
@@ -159,18 +159,18 @@ module _ (world : World) (state : State) (decisions : List ℕ) (leaf : Leaf) (f
         → node_at state.nodes t ≡ Some (Apply op left right) → is_binary op ≡ true → IsSecond (take t.0 state.nodes) (is_binary op) right
         → comparison_listed variables listed_there (Some (term_of state.nodes numbered op left right))
         ≡ comparison_in (λ operand. value_of state.nodes operand variables) (Some (Apply op left right))
-    same_operands t i op left None at node two second = absurd (subst (λ b. IsSecond (take t.0 state.nodes) b None) two second)
-    same_operands t i op left (Some right) at node two second =
+    same_operands t i op left None at node binary second = absurd (subst (λ b. IsSecond (take t.0 state.nodes) b None) binary second)
+    same_operands t i op left (Some right) at node binary second =
         let below : t.0 < length state.nodes = slice_get_within state.nodes t.0 (Apply op left (Some right)) node in
         let first : left.0 < t.0 = first-before state.nodes t op left (Some right) formed.pool node in
         let other : right.0 < t.0 = second-before state.nodes t op left right formed.pool node in
         ap (λ (l : ℤ). option_map (λ (relation : Relation). record { relation = relation; left = l;
             right = listed_operand variables listed_there (operand_of state.nodes numbered right) }) (relation_of op))
         (operand_whole state.nodes formed.pool (path_roots state leaf) numbered is_numbering variables t left i at
-            (subst (λ n. IsOperandOf n left) (sym node) (inl refl)) (omega (below, first)))
+            (subst (λ n. IsOperandOf n left) (sym node) (inl refl)) (omega (arith, below, first)))
         ∙ ap (λ (r : ℤ). option_map (λ (relation : Relation). record { relation = relation; left = value_of state.nodes left variables; right = r }) (relation_of op))
         (operand_whole state.nodes formed.pool (path_roots state leaf) numbered is_numbering variables t right i at
-            (subst (λ n. IsOperandOf n right) (sym node) (inr refl)) (omega (below, other)))
+            (subst (λ n. IsOperandOf n right) (sym node) (inr refl)) (omega (arith, below, other)))
 
     -- the term of a condition, listed, makes the comparison that it makes in the pool
     same_comparison : (t : TermId) (i : ℕ) → place_of numbered t ≡ Some i → node_passes is_comparison (node_at state.nodes t) ≡ true
