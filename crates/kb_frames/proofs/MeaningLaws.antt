@@ -164,13 +164,16 @@ module _ (world : World) (state : State) (decisions : List ℕ) (leaf : Leaf) (f
         let below : t.0 < length state.nodes = slice_get_within state.nodes t.0 (Apply op left (Some right)) node in
         let first : left.0 < t.0 = first-before state.nodes t op left (Some right) formed.pool node in
         let other : right.0 < t.0 = second-before state.nodes t op left right formed.pool node in
-        ap (λ (l : ℤ). option_map (λ (relation : Relation). record { relation = relation; left = l;
-            right = listed_operand variables listed_there (operand_of state.nodes numbered right) }) (relation_of op))
+        ap (λ (l : ℤ). option_map (λ (relation : Relation). record {
+          relation = relation;
+          left = l;
+          right = listed_operand variables listed_there (operand_of state.nodes numbered right);
+        }) (relation_of op))
         (operand_whole state.nodes formed.pool (path_roots state leaf) numbered is_numbering variables t left i at
-            (subst (λ n. IsOperandOf n left) (sym node) (inl refl)) (omega (arith, below, first)))
+        (subst (λ n. IsOperandOf n left) (sym node) (inl refl)) (omega (arith, below, first)))
         ∙ ap (λ (r : ℤ). option_map (λ (relation : Relation). record { relation = relation; left = value_of state.nodes left variables; right = r }) (relation_of op))
         (operand_whole state.nodes formed.pool (path_roots state leaf) numbered is_numbering variables t right i at
-            (subst (λ n. IsOperandOf n right) (sym node) (inr refl)) (omega (arith, below, other)))
+        (subst (λ n. IsOperandOf n right) (sym node) (inr refl)) (omega (arith, below, other)))
 
     -- the term of a condition, listed, makes the comparison that it makes in the pool
     same_comparison : (t : TermId) (i : ℕ) → place_of numbered t ≡ Some i → node_passes is_comparison (node_at state.nodes t) ≡ true
@@ -213,8 +216,7 @@ module _ (world : World) (state : State) (decisions : List ℕ) (leaf : Leaf) (f
   whole input =
       let all_when : take (length state.when) state.when ≡ state.when = take_all (length state.when) state.when (omega arith) in
       let all_stated : take (length state.when) (path_of state decisions leaf).when ≡ (path_of state decisions leaf).when =
-      take_all (length state.when) (path_of state decisions leaf).when (omega (arith, same_count)) in
-      (
+      take_all (length state.when) (path_of state decisions leaf).when (omega (arith, same_count)) in (
         λ h. record {
           shape = h.shape;
           conditions = subst (AreMetInPool state.nodes (variable_values state.picture input h.shape.places.objects)) all_when

@@ -127,11 +127,12 @@ module _ (nodes : List Node) (formed : IsPool nodes) (roots numbered : List Term
   -- an operand is a term of the pool, and has a number where it is an operation
   operand-is : (i : ℕ) (term : Term) (l : IsListed nodes numbered i term) (o : TermId) → IsOperandOf (Some (Apply l.op l.left l.right)) o
       → IsTerm (take l.t.0 nodes) o → IsTerm nodes o × IsPlaced nodes formed numbered o
-  operand-is i term l o of below =
-      (omega (arith, below, length-take l.t.0 nodes),
-      λ operation.
-          let p = is.operands i l.t o l.there (subst (λ n. IsOperandOf n o) (sym l.node_is) of) operation in
-          (p.0, p.2))
+  operand-is i term l o of below = (
+    omega (arith, below, length-take l.t.0 nodes),
+    λ operation.
+        let p = is.operands i l.t o l.there (subst (λ n. IsOperandOf n o) (sym l.node_is) of) operation in
+        (p.0, p.2),
+  )
 
   firsts : (i : ℕ) (term : Term) (l : IsListed nodes numbered i term) → IsTerm nodes l.left × IsPlaced nodes formed numbered l.left
   firsts i term l = operand-is i term l l.left (inl refl) ((formed.fits l.t.0 (Apply l.op l.left l.right) l.node_is).0.first)
