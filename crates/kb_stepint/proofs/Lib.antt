@@ -1,5 +1,6 @@
 mod AddedLaws
 mod AskedLaws
+mod ChoiceLaws
 mod ComparedLaws
 mod GrowLaws
 mod ItemLaws

@@ -179,9 +179,7 @@ fn key_choices(
     for place in 0..keys.len() {
         offer_key(state, x, keys, place, &mut choices)?;
     }
-    if !is_default_refuted(state, x, keys)? {
-        choices.push(Choice::Default)?;
-    }
+    offer_default(state, x, keys, &mut choices)?;
     Ok(choices)
 }
 
@@ -199,9 +197,30 @@ fn offer_key(
     let Ok(number) = u32::try_from(place) else {
         return Err(NoMemory);
     };
-    let (key, _) = keys.key_at(place)?;
+    let Ok((key, _)) = keys.key_at(place) else {
+        return Err(NoMemory);
+    };
     let condition = equal(Side::Term(x), Side::Number(key), true);
     offer(state, &condition, Choice::Key(number), choices)
+}
+
+// Adds the default, unless it is decided that the int is one of the keys.
+#[tactic(auto, using(crate::proofs::ChoiceLaws::one_offered))]
+fn offer_default(
+    state: &SymState,
+    x: TermId,
+    keys: &Keys<'_>,
+    choices: &mut Vec<Choice>,
+) -> Result<(), NoMemory>
+    requires { IsTerm state.now.nodes x }
+    ensures { OnOk result (choices.new.items ≡ choices.old.items ++ filter (λ choice. not (is_refuted state.now (key_conditions x (keys_of keys.now) choice))) (Default ∷ [])) }
+{
+    let refuted = is_default_refuted(state, x, keys)?;
+    if refuted {
+        return Ok(());
+    }
+    choices.push(Choice::Default)?;
+    Ok(())
 }
 
 // Whether it is decided that the int is one of the keys.
@@ -210,7 +229,9 @@ fn is_default_refuted(state: &SymState, x: TermId, keys: &Keys<'_>) -> Result<bo
     ensures { IfOk result (λ refuted. refuted ≡ is_refuted state.now (key_conditions x (keys_of keys.now) Default)) }
 {
     for place in 0..keys.len() {
-        let (key, _) = keys.key_at(place)?;
+        let Ok((key, _)) = keys.key_at(place) else {
+            return Err(NoMemory);
+        };
         let condition = equal(Side::Term(x), Side::Number(key), false);
         if is_against(state, &condition) {
             return Ok(true);

@@ -209,7 +209,9 @@ fn ask_one_key(
     if place >= keys.len() {
         return Ok(());
     }
-    let (key, _) = keys.key_at(place)?;
+    let Ok((key, _)) = keys.key_at(place) else {
+        return Err(NoMemory);
+    };
     ask(state, &equal(Side::Term(x), Side::Number(key), true))
 }
 
@@ -220,7 +222,9 @@ fn ask_default(state: &mut SymState, x: TermId, keys: &Keys<'_>) -> Result<(), N
     ensures extends { OnOk result (Extends state.old.nodes state.new.nodes) }
 {
     for place in 0..keys.len() {
-        let (key, _) = keys.key_at(place)?;
+        let Ok((key, _)) = keys.key_at(place) else {
+            return Err(NoMemory);
+        };
         ask(state, &equal(Side::Term(x), Side::Number(key), false))?;
     }
     Ok(())
