@@ -32,6 +32,16 @@ two_offered p one other none first second b d empty e f is then =
     one_offered p other first second d f then ∙ ap (λ (l : List Choice). l ++ filter p (other ∷ [])) (one_offered p one none first b e is ∙ ap (λ (l : List Choice). l ++ filter p (one ∷ [])) empty)
     ∙ sym (filter_first p one (other ∷ []))
 
+-- two alternatives that each ask for one condition
+pub two_asked : (state : State) (p : Choice → Bool) (one other : Choice) (c d asks asks_other : Condition) (none first second : List Choice) → none ≡ [] → asks ≡ c → asks_other ≡ d
+    → p one ≡ not (is_refuted state (c ∷ [])) → p other ≡ not (is_refuted state (d ∷ []))
+    → first ≡ cond (is_against (asked_truth state asks) asks.truth) none (none ++ one ∷ []) → second ≡ cond (is_against (asked_truth state asks_other) asks_other.truth) first (first ++ other ∷ [])
+    → second ≡ filter p (one ∷ other ∷ [])
+two_asked state p one other c d asks asks_other none first second empty is is_other e f offered then =
+    two_offered p one other none first second (is_against (asked_truth state asks) asks.truth) (is_against (asked_truth state asks_other) asks_other.truth) empty
+    (e ∙ ap not (refuted_one state c ∙ ap (λ (x : Condition). is_against (asked_truth state x) x.truth) (sym is)))
+    (f ∙ ap not (refuted_one state d ∙ ap (λ (x : Condition). is_against (asked_truth state x) x.truth) (sym is_other))) offered then
+
 -- ---- keys
 
 -- there is a key at a place below their number

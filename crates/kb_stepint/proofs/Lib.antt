@@ -7,10 +7,12 @@ mod ItemLaws
 mod KeepLaws
 mod KeyLaws
 mod MeasureLaws
+mod OperandLaws
 mod PastLaws
 mod PictureLaws
 mod PlanLaws
 mod ReachedLaws
+mod SideLaws
 mod SoundLaws
 mod TakeLaws
 mod TermLaws

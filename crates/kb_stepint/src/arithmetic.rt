@@ -50,6 +50,7 @@ pub(crate) fn op_of_cut(cut: IntCut) -> Op
 }
 
 /// ineg, i2b, i2c, i2s
+#[tactic(auto, using(crate::proofs::OperandLaws::one_there, crate::proofs::OperandLaws::one_operand, crate::proofs::OperandLaws::within))]
 pub(crate) fn compute(turn: &Turn<'_>, state: &mut SymState, op: Op) -> Result<Outcome, NoMemory>
     requires step { CanStep turn.now.bounds state.old }
     requires unary { is_binary op ≡ false }
@@ -63,6 +64,7 @@ pub(crate) fn compute(turn: &Turn<'_>, state: &mut SymState, op: Op) -> Result<O
 }
 
 /// iadd, isub, imul, idiv, irem, ishl, ishr, iushr, iand, ior, ixor
+#[tactic(auto, using(crate::proofs::OperandLaws::left_there, crate::proofs::OperandLaws::right_there, crate::proofs::OperandLaws::within, crate::proofs::SideLaws::operands_there))]
 pub(crate) fn compute_two(
     turn: &Turn<'_>,
     state: &mut SymState,

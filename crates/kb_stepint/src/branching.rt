@@ -62,8 +62,8 @@ fn switch_to(
     if place >= keys.len() {
         return ill_typed(turn, state);
     }
-    let Ok((_, target)) = keys.key_at(place) else {
+    let Ok(entry) = keys.key_at(place) else {
         return Err(NoMemory);
     };
-    jumps(turn, state, 1, target)
+    jumps(turn, state, 1, entry.1)
 }

@@ -71,6 +71,7 @@ fn only(alloc: Global) -> Result<Vec<Choice>, NoMemory>
 }
 
 // Those of an instruction that ask for nothing that is decided as false.
+#[tactic(auto, using(crate::proofs::OperandLaws::one_there, crate::proofs::OperandLaws::left_there, crate::proofs::OperandLaws::right_there))]
 fn offered(alloc: Global, state: &SymState, instr: &Instr) -> Result<Vec<Choice>, NoMemory>
     requires { HasTerms state.now }
     ensures { IfOk result (λ choices. choices.items ≡ offered state.now (stack_of state.now.stage) instr.now) }
@@ -118,6 +119,7 @@ fn offer(
 }
 
 // Whether a branch is taken.
+#[tactic(auto, using(crate::proofs::SideLaws::branch_sides))]
 fn branch_choices(
     alloc: Global,
     state: &SymState,
@@ -153,6 +155,7 @@ fn divisor_choices(
     }
 }
 
+#[tactic(auto, using(crate::proofs::SideLaws::key_sides))]
 fn zero_choices(alloc: Global, state: &SymState, divisor: TermId) -> Result<Vec<Choice>, NoMemory>
     requires { IsTerm state.now.nodes divisor }
     ensures { IfOk result (λ choices. choices.items ≡ filter (λ choice. not (is_refuted state.now (divisor_conditions divisor choice))) (Zero ∷ NotZero ∷ [])) }
@@ -184,6 +187,7 @@ fn key_choices(
 }
 
 // Adds the key of that place, unless it is decided that the int is another.
+#[tactic(auto, using(crate::proofs::SideLaws::key_sides))]
 fn offer_key(
     state: &SymState,
     x: TermId,
@@ -197,10 +201,10 @@ fn offer_key(
     let Ok(number) = u32::try_from(place) else {
         return Err(NoMemory);
     };
-    let Ok((key, _)) = keys.key_at(place) else {
+    let Ok(entry) = keys.key_at(place) else {
         return Err(NoMemory);
     };
-    let condition = equal(Side::Term(x), Side::Number(key), true);
+    let condition = equal(Side::Term(x), Side::Number(entry.0), true);
     offer(state, &condition, Choice::Key(number), choices)
 }
 
@@ -224,15 +228,16 @@ fn offer_default(
 }
 
 // Whether it is decided that the int is one of the keys.
+#[tactic(auto, using(crate::proofs::SideLaws::key_sides))]
 fn is_default_refuted(state: &SymState, x: TermId, keys: &Keys<'_>) -> Result<bool, NoMemory>
     requires { IsTerm state.now.nodes x }
     ensures { IfOk result (λ refuted. refuted ≡ is_refuted state.now (key_conditions x (keys_of keys.now) Default)) }
 {
     for place in 0..keys.len() {
-        let Ok((key, _)) = keys.key_at(place) else {
+        let Ok(entry) = keys.key_at(place) else {
             return Err(NoMemory);
         };
-        let condition = equal(Side::Term(x), Side::Number(key), false);
+        let condition = equal(Side::Term(x), Side::Number(entry.0), false);
         if is_against(state, &condition) {
             return Ok(true);
         }

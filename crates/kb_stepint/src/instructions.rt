@@ -21,6 +21,7 @@ use kb_picture::Choice;
 use kb_terms::Op;
 
 /// Carries out an instruction by the alternative that was chosen, whose conditions the state has.
+#[tactic(auto, using(crate::proofs::OperandLaws::within))]
 pub(crate) fn carry_out(
     turn: &Turn<'_>,
     state: &mut SymState,

@@ -39,6 +39,7 @@ pub(crate) fn store(turn: &Turn<'_>, state: &mut SymState, local: u16) -> Result
 }
 
 /// iinc
+#[tactic(auto, using(crate::proofs::OperandLaws::local_there, crate::proofs::OperandLaws::within, crate::proofs::SideLaws::operands_there))]
 pub(crate) fn increase(
     turn: &Turn<'_>,
     state: &mut SymState,
