@@ -13,3 +13,5 @@ pub mod Renumbering
 pub mod PathLaws
 pub mod OnceLaws
 pub mod FormedPaths
+pub mod QueryLaws
+pub mod MeaningLaws

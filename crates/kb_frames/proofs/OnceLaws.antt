@@ -41,7 +41,7 @@ one-variable nodes formed i j v kind other at under = go (cases_order i j) where
 
 -- ---- one term an operand
 
-no-node : (nodes : List Node) (t : TermId) → IsTerm nodes t → node_at nodes t ≡ None → ⊥
+pub no-node : (nodes : List Node) (t : TermId) → IsTerm nodes t → node_at nodes t ≡ None → ⊥
 no-node nodes t there e = let entry = slice_get-get_or nodes t.0 (Const (pos 0)) there in absurd (cc)
 
 second-there : (before : List Node) (binary : Bool) (right : Option TermId) → IsSecond before binary right → (o : TermId) → right ≡ Some o → IsTerm before o
@@ -51,7 +51,7 @@ second-there before false (Some p) there o e = absurd there
 second-there before false None there o e = absurd (cc)
 
 module _ (nodes : List Node) (formed : IsPool nodes) (numbered : List TermId) where
-  IsPlaced : TermId → Type 0
+  abbrev IsPlaced : TermId → Type 0
   IsPlaced t = is_operation (node_at nodes t) ≡ true → (k : ℕ) × (place_of numbered t ≡ Some k)
 
   one-place : (t u : TermId) (k l : ℕ) → place_of numbered t ≡ Some k → place_of numbered u ≡ Some l → number_in numbered t ≡ number_in numbered u → t ≡ u
@@ -127,11 +127,12 @@ module _ (nodes : List Node) (formed : IsPool nodes) (roots numbered : List Term
   -- an operand is a term of the pool, and has a number where it is an operation
   operand-is : (i : ℕ) (term : Term) (l : IsListed nodes numbered i term) (o : TermId) → IsOperandOf (Some (Apply l.op l.left l.right)) o
       → IsTerm (take l.t.0 nodes) o → IsTerm nodes o × IsPlaced nodes formed numbered o
-  operand-is i term l o of below =
-      (omega (arith, below, length-take l.t.0 nodes),
-      λ operation.
-          let p = is.operands i l.t o l.there (subst (λ n. IsOperandOf n o) (sym l.node_is) of) operation in
-          (p.0, p.2))
+  operand-is i term l o of below = (
+    omega (arith, below, length-take l.t.0 nodes),
+    λ operation.
+        let p = is.operands i l.t o l.there (subst (λ n. IsOperandOf n o) (sym l.node_is) of) operation in
+        (p.0, p.2),
+  )
 
   firsts : (i : ℕ) (term : Term) (l : IsListed nodes numbered i term) → IsTerm nodes l.left × IsPlaced nodes formed numbered l.left
   firsts i term l = operand-is i term l l.left (inl refl) ((formed.fits l.t.0 (Apply l.op l.left l.right) l.node_is).0.first)

@@ -27,7 +27,7 @@ use Rattle.kb_picture.specs.Numbering.{terms_of_operand, terms_of_second, terms_
 
 -- ---- numbers below one
 
-length-below : (n : ℕ) → length (numbers_below n) ≡ n
+pub length-below : (n : ℕ) → length (numbers_below n) ≡ n
 length-below zero = refl
 length-below (suc n) = length-append (numbers_below n) (n ∷ []) ∙ omega (arith, length-below n)
 

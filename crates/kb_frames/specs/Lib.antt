@@ -8,5 +8,7 @@ pub mod Stated
 pub mod States
 pub mod Lent
 pub mod Paths
+pub mod Comparing
+pub mod Meant
 pub mod Measure
 pub mod Making

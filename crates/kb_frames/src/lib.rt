@@ -18,7 +18,7 @@ mod truths;
 mod value;
 
 pub use code::{Found, instruction_at};
-pub use laws::{paths_are_well_formed, states_begin};
+pub use laws::{paths_are_well_formed, paths_mean_their_states, states_begin};
 pub use path::PathStop;
 pub use state::{SymState, start};
 use std::alloc::{AllocError, AllocFailed};

@@ -1,7 +1,9 @@
 //! Objects that a run makes.
-ghost use Rattle.std.specs.Prelude.{◌≡◌, length, map, IfOk, OnOk};
+ghost use Rattle.std.specs.Prelude.{◌≡◌, pos, length, map, IfOk, OnOk};
 ghost use Rattle.kb_link.specs.declared.slots.FieldSlot.{FieldSlot as PlainSlot};
-ghost use Rattle.kb_frames.specs.Making.{default_sym, with_made};
+ghost use Rattle.kb_terms.specs.Terms.{interned};
+ghost use Rattle.kb_terms.specs.declared.node.Node.TheVariants.{Const};
+ghost use Rattle.kb_frames.specs.Making.{default_sym, new_sym_object, with_made};
 
 use crate::NoMemory;
 use crate::state::{SymObject, SymState};
@@ -15,7 +17,6 @@ use std::alloc::Global;
 impl SymState {
     /// Adds an object of the class to those that the run has made, each slot with the default value of its type, and gives its
     /// number. After want of memory the state is only dropped.
-    #[tactic(auto, using(kb_terms::proofs::Finding::pool_is, kb_terms::proofs::Finding::term_is))]
     pub fn make_object(&mut self, world: &World, class: &[u8]) -> Result<u32, NoMemory>
         ensures number { IfOk result (λ number. number ≡ length self.old.made) }
         ensures state { OnOk result (self.new ≡ with_made world.now self.old class.now) }
@@ -24,15 +25,35 @@ impl SymState {
         let Ok(number) = u32::try_from(self.made.as_slice().len()) else {
             return Err(NoMemory);
         };
-        let zero = self.pool.constant(0)?;
-        let name = Name::from_slice(alloc, class)?;
-        let values = default_values(alloc, world.slots_named(&name), zero)?;
-        self.made.push(SymObject {
-            kind: ExactType::Class(name),
-            values,
-        })?;
+        let zero = self.zero()?;
+        self.made.push(new_object(alloc, world, class, zero)?)?;
         Ok(number)
     }
+
+    // The term of 0.
+    fn zero(&mut self) -> Result<TermId, NoMemory>
+        ensures term { IfOk result (λ t. t ≡ (interned self.old.nodes (Const (pos 0))).1) }
+        ensures state { OnOk result (self.new ≡ record self.old { nodes = (interned self.old.nodes (Const (pos 0))).0 }) }
+    {
+        Ok(self.pool.constant(0)?)
+    }
+}
+
+// A new object of the class.
+fn new_object(
+    alloc: Global,
+    world: &World,
+    class: &[u8],
+    zero: TermId,
+) -> Result<SymObject, NoMemory>
+    ensures { IfOk result (λ object. object ≡ new_sym_object world.now class.now zero) }
+{
+    let name = Name::from_slice(alloc, class)?;
+    let values = default_values(alloc, world.slots_named(&name), zero)?;
+    Ok(SymObject {
+        kind: ExactType::Class(name),
+        values,
+    })
 }
 
 // The default value of each slot.

@@ -16,12 +16,12 @@ use Rattle.kb_terms.specs.declared.node.VarKind.{VarKind}
 use Rattle.kb_terms.specs.declared.node.VarKind.TheVariants.{Int as IntKind, Bool as BoolKind}
 use Rattle.kb_terms.specs.declared.node.Node.{Node}
 use Rattle.kb_terms.specs.Terms.{int_at, variables_of}
-use Rattle.kb_blast.specs.Query.{Query, query_of}
+use Rattle.kb_blast.specs.Query.{Query, query_of, kinds_of}
 use Rattle.kb_blast.specs.Conditions.{occurring, with_kinds, kind_at, formula_of, words_of}
 use Rattle.kb_blast.specs.Meaning.{KindFits, InputsFit, Meets, MeetsInPool, IsElsewhere}
 use Rattle.kb_blast.proofs.Pooled.{pool-meets, pool-says}
 use Rattle.kb_oracle.specs.Answers.{IsModelOf, LeavesOpen, IsNotEmpty}
-use Rattle.kb_oracle.specs.Laws.{ModelsAreNotRefuted, ModelsMeetEveryPool}
+use Rattle.kb_oracle.specs.Laws.{ModelsAreNotRefuted, RefutedAreNeverMet, ModelsMeetEveryPool}
 use Rattle.kb_oracle.proofs.Queries.{numbers-words, Contains-cases, elsewhere, length-kinds, conditions-numbered}
 
 -- ---- models
@@ -106,3 +106,14 @@ not-refuted nodes when values entries formed fit model refutation =
 pub meets-pools : ModelsMeetEveryPool
 meets-pools nodes when values formed fit model =
     ((pool-meets nodes when formed fit (conditions-numbered nodes when formed fit) values).1 model.met).1
+
+-- values that each variable can have fit those that occur
+fit-each : (kinds : List VarKind) (ns : List ℕ) (values : List ℤ) → ((v : ℕ) → KindFits (kind_at kinds v) (int_at values v)) → InputsFit (with_kinds kinds ns) values
+fit-each kinds [] values fits = tt
+fit-each kinds (n ∷ ns) values fits = (fits n, fit-each kinds ns values fits)
+
+pub never-met : RefutedAreNeverMet
+never-met nodes when values entries formed fit refutation fits met =
+    let n = conditions-numbered nodes when formed fit in
+    let s = (pool-says nodes when formed fit n).complete values (fit-each (kinds_of nodes) (occurring (query_of nodes when).terms) values fits, met) in
+    refuted s.0 (formula_of (query_of nodes when)).clauses entries refutation s.1

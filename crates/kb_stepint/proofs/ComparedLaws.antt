@@ -33,6 +33,7 @@ use Rattle.kb_stepint.specs.Operands.{int_term, one_int, two_ints}
 use Rattle.kb_stepint.specs.Needs.{IsTermOf, IsSide, AreSides}
 use Rattle.kb_stepint.specs.Simulation.{IsComparedBy}
 use Rattle.kb_stepint.proofs.AskedLaws.{AreAskable, asks_for, side_value}
+use Rattle.kb_stepint.proofs.SideLaws.{branch_sides, key_sides}
 
 -- ---- operands
 
@@ -70,7 +71,7 @@ module _ (f : SymValue → Value) (v : TermId → ℤ) (ints : (t : TermId) → 
   two_ints_are (Loc n ∷ stack) p e = absurd cc
 
 -- the ints of a stack are terms
-int_is_term : (nodes : List Node) (it : Option SymValue) (x : TermId) → IsTermOf nodes it → int_term it ≡ Some x → IsTerm nodes x
+pub int_is_term : (nodes : List Node) (it : Option SymValue) (x : TermId) → IsTermOf nodes it → int_term it ≡ Some x → IsTerm nodes x
 int_is_term nodes None x is e = absurd cc
 int_is_term nodes (Some (Int t)) x is e = let same : t ≡ x = cc in subst (IsTerm nodes) same is
 int_is_term nodes (Some Null) x is e = absurd cc
@@ -102,21 +103,13 @@ module _ (s : Setting) (c : Config) (nodes : List Node) (variables : List ℤ) w
   branch_asks conds.Gt a b so = refl
   branch_asks conds.Le a b so = refl
 
-  branch_sides : (cond : Cond) (a b : Side) (so : Bool) → IsSide nodes a → IsSide nodes b → AreSides nodes (branch_condition cond a b so)
-  branch_sides conds.Eq a b so p q = record { left = p; right = q; binary = refl }
-  branch_sides conds.Ne a b so p q = record { left = p; right = q; binary = refl }
-  branch_sides conds.Lt a b so p q = record { left = p; right = q; binary = refl }
-  branch_sides conds.Ge a b so p q = record { left = p; right = q; binary = refl }
-  branch_sides conds.Gt a b so p q = record { left = q; right = p; binary = refl }
-  branch_sides conds.Le a b so p q = record { left = q; right = p; binary = refl }
-
   branch_askable : (cond : Cond) (a b : Side) (choice : Choice) → IsSide nodes a → IsSide nodes b → Has (compares s c) (compared cond (side_value nodes variables a) (side_value nodes variables b))
       → Askable (branch_conditions cond a b choice)
-  branch_askable cond a b (choices.Branch so) p q has = (branch_sides cond a b so p q, subst (IsComparedBy s c) (sym (branch_asks cond a b so)) has, tt)
+  branch_askable cond a b (choices.Branch so) p q has = (branch_sides nodes cond a b so p q, subst (IsComparedBy s c) (sym (branch_asks cond a b so)) has, tt)
   branch_askable cond a b _ p q has = tt
 
   equal_askable : (x : TermId) (z : ℤ) (so : Bool) (cs : List Condition) → IsTerm nodes x → Has (compares s c) (equal (V x) z) → Askable cs → Askable (equal_sides (Term x) (Number z) so ∷ cs)
-  equal_askable x z so cs is has rest = (record { left = is; right = tt; binary = refl }, has, rest)
+  equal_askable x z so cs is has rest = (key_sides nodes x z so is, has, rest)
 
   divisor_askable : (x : TermId) (choice : Choice) → IsTerm nodes x → Has (compares s c) (equal (V x) (pos 0)) → Askable (divisor_conditions x choice)
   divisor_askable x choices.Zero is has = equal_askable x (pos 0) true [] is has tt

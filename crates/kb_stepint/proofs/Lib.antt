@@ -1,5 +1,6 @@
 mod AddedLaws
 mod AskedLaws
+mod ChoiceLaws
 mod ComparedLaws
 mod GrowLaws
 mod ItemLaws
@@ -11,6 +12,7 @@ mod OneDecided
 mod OneInstances
 mod OneLaws
 mod OneListed
+mod OperandLaws
 mod OutcomeLaws
 mod OutcomePlans
 mod OutcomeReads
@@ -21,7 +23,9 @@ mod PastLaws
 mod PictureLaws
 mod PlanLaws
 mod ReachedLaws
+mod SideLaws
 mod SoundLaws
+mod TakeLaws
 mod TermLaws
 mod ValueLaws
 mod WayLaws

@@ -147,7 +147,7 @@ module _ (world : World) (state : State) (room : max_locals_of world (method_now
 
   rearranges_good : (depth : ℕ) (picks : List ℕ) → IsGoodPlan (rearranges state depth picks)
   rearranges_good depth picks = go (nat_le depth (length (stack_of state.stage))) where
-    abbrev values : List SymValue
+    values : List SymValue
     values = filter_map (λ (place : ℕ). slice_get (stack_of state.stage) place) picks ++ drop depth (stack_of state.stage)
     each : Each (IsSymValue world state) values
     each = each_append (IsSymValue world state) (filter_map (λ (place : ℕ). slice_get (stack_of state.stage) place) picks) (drop depth (stack_of state.stage))

@@ -28,7 +28,7 @@ use Rattle.kb_frames.specs.declared.state.Stage.{Stage}
 use Rattle.kb_frames.specs.declared.state.Stage.TheVariants.{Begins, Runs}
 use Rattle.kb_frames.specs.declared.value.SymValue.{SymValue}
 use Rattle.kb_frames.specs.declared.value.Outcome.TheVariants.{Asks, Cut}
-use Rattle.kb_frames.specs.Lent.{begun, begun_stage, locals_of, read_int, stack_of, transfers_of, with_nodes}
+use Rattle.kb_frames.specs.Lent.{begun, begun_locals, begun_stage, locals_of, read_int, stack_of, transfers_of, with_nodes}
 use Rattle.kb_frames.specs.Next.{argument_next, method_now, next_is_int, offset_now}
 use Rattle.kb_frames.specs.State.{State}
 use Rattle.kb_frames.specs.States.{Each, IsFrame, IsLocal, IsStage, IsSymValue}
@@ -149,10 +149,10 @@ module _ (world : World) (bounds : Bounds) (choice : Choice) where
       (λ found. answered_sound state frame callers found running sound) sound
 
   -- the first frame is there once the arguments are read
-  running_now : (state : State) → (frame : SymFrame) × (callers : List SymFrame) × ((begun world state).stage ≡ Runs frame callers)
+  pub running_now : (state : State) → (frame : SymFrame) × (callers : List SymFrame) × ((begun world state).stage ≡ Runs frame callers)
   running_now state = go state.stage where
     go : (stage : Stage) → (frame : SymFrame) × (callers : List SymFrame) × (begun_stage world state stage ≡ Runs frame callers)
-    go (Begins read) = (_, _, refl)
+    go (Begins read) = (record { method = state.method; at = 0; locals = begun_locals read (max_locals_of world state.method); stack = []; transfers = 0 }, [], refl)
     go (Runs frame callers) = (frame, callers, refl)
 
   takes_next_sound : (old : State) → Sound world old → argument_next world old.method old.stage ≡ None → Sound world (takes_next world bounds choice old).state

@@ -1,14 +1,14 @@
 -- What holds of a state that is reached holds of the state that a change leaves: of terms that are made and conditions that are added, of
 -- another frame, of an object that is made, of an argument that is read, and of the first frame. Its pool is left out, since no pool
 -- grows for ever.
-use Rattle.std.proofs.Common.{◌≡◌, ℕ, zero, suc, ◌+◌, ◌-◌, ◌<◌, ◌≤◌, ◌⊎◌, inl, inr, Bool, true, false, not, List, [], ◌∷◌, ◌++◌, length, map, replicate, Option, Some, None, slice_get, refl, sym, ap, subst, ◌∙◌, true≢false, is_some, if◌then◌else◌, arith, length-append}
+use Rattle.std.proofs.Common.{◌≡◌, ℕ, zero, suc, ◌+◌, ◌-◌, ◌<◌, ◌≤◌, ◌⊎◌, inl, inr, ℤ, pos, Bool, true, false, not, List, [], ◌∷◌, ◌++◌, length, map, replicate, Option, Some, None, slice_get, refl, sym, ap, subst, ◌∙◌, true≢false, is_some, if◌then◌else◌, arith, length-append}
 use Rattle.std.specs.List.{list_any}
 use Rattle.std.specs.Option.{option_map, option_map_or, option_and_then}
 use Rattle.std.proofs.lemmas.Bool.{and_parts, and_from}
 use Rattle.std.proofs.lemmas.List.{length-map, length-replicate, map-append}
 use Rattle.std.proofs.lemmas.List.Elements.{filter_map-append}
 use Rattle.std.proofs.lemmas.Option.{slice_get_within, slice_get-map}
-use Rattle.kb_blast.specs.Query.{AreConditions, is_comparison, kinds_of, node_passes}
+use Rattle.kb_blast.specs.Query.{AreConditions, is_comparison, kind_from, kinds_of, node_passes}
 use Rattle.kb_blast.proofs.Listed.{is-operation}
 use Rattle.kb_class.specs.Naming.{Has}
 use Rattle.kb_class.specs.declared.ids.MethodId.{MethodId}
@@ -19,7 +19,7 @@ use Rattle.kb_link.specs.World.{World}
 use Rattle.kb_link.specs.declared.slots.FieldSlot.{FieldSlot}
 use Rattle.kb_names.specs.declared.types.JType.{JType}
 use Rattle.kb_names.specs.declared.types.JType.TheVariants as types
-use Rattle.kb_semantics.specs.Config.{info_of, max_locals_of}
+use Rattle.kb_semantics.specs.Config.{class_name, info_of, max_locals_of}
 use Rattle.kb_semantics.specs.Inputs.{argument_types}
 use Rattle.kb_semantics.specs.Looks.{numbers_below}
 use Rattle.kb_semantics.specs.Values.{slots_of_class}
@@ -48,9 +48,9 @@ use Rattle.kb_frames.specs.declared.value.Cell.{Cell}
 use Rattle.kb_frames.specs.declared.value.Cell.TheVariants.{Untouched, Read, Written}
 use Rattle.kb_frames.specs.declared.value.SymValue.{SymValue}
 use Rattle.kb_frames.specs.declared.value.SymValue.TheVariants.{Int, Null, Obj, Literal, New, Loc}
-use Rattle.kb_frames.specs.Lent.{begun, begun_locals, begun_stage, read_int, saw_argument, with_frame, with_nodes}
+use Rattle.kb_frames.specs.Lent.{begun, begun_locals, begun_stage, read_count, read_int, saw_argument, with_frame, with_nodes, with_read}
 use Rattle.kb_frames.specs.Making.{default_sym, new_sym_object, with_made}
-use Rattle.kb_frames.specs.Next.{argument_next, is_reference, next_is_int}
+use Rattle.kb_frames.specs.Next.{argument_next, instruction_next, is_int, is_int_next, is_reference, method_now, next_is_int}
 use Rattle.kb_frames.specs.State.{State}
 use Rattle.kb_frames.specs.States.{AreCells, Each, IsBeginning, IsCell, IsFrame, IsLocal, IsMade, IsStage, IsState, IsSymValue, IsTouched}
 use Rattle.kb_frames.specs.Truths.{truth_in}
@@ -587,9 +587,11 @@ module _ (world : World) (state : State) (sound : Sound world state) (none : arg
   begun_frame read h =
       let new : State = begun_state (Begins read) in
       let limit : ℕ = max_locals_of world state.method in
+      let none : Option SymValue = None in
+      let missing : length (replicate (limit - length read) none) ≡ limit - length read = length-replicate (limit - length read) none in
       let values = values_still world state new (begun_still (Begins read)) read h.values in
       record {
-        room = omega (arith, length-append (map (λ (value : SymValue). Some value) read) (replicate (limit - length read) None), length-map read (λ (value : SymValue). Some value), length-replicate (limit - length read) (None {A = SymValue}));
+        room = omega (arith, length-append (map (λ (value : SymValue). Some value) read) (replicate (limit - length read) None), length-map read (λ (value : SymValue). Some value), missing);
         locals = each_append (IsLocal world new) (map (λ (value : SymValue). Some value) read) (replicate (limit - length read) None)
             (each_mapped (IsSymValue world new) (IsLocal world new) (λ (value : SymValue). Some value) read (λ value is. is) values)
             (each_copy (IsLocal world new) (limit - length read) None tt);

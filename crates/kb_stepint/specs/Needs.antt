@@ -1,16 +1,13 @@
 -- What the functions of a step need of a state and of conditions.
-use Rattle.std.specs.Prelude.{◌≡◌, ℕ, ◌<◌, ◌≤◌, true, List, length, Option, Some, slice_get}
+use Rattle.std.specs.Prelude.{◌≡◌, ℕ, ◌<◌, true, List, Option, Some, slice_get}
 use Rattle.kb_heap.specs.declared.bounds.Bounds.{Bounds}
-use Rattle.kb_link.specs.World.{World}
-use Rattle.kb_semantics.specs.Config.{max_locals_of}
 use Rattle.kb_terms.specs.declared.node.Node.{Node}
 use Rattle.kb_terms.specs.Op.{is_binary}
 use Rattle.kb_terms.specs.Terms.{IsTerm}
 use Rattle.kb_frames.specs.declared.value.SymValue.{SymValue}
 use Rattle.kb_frames.specs.declared.value.SymValue.TheVariants.{Int}
 use Rattle.kb_frames.specs.State.{State}
-use Rattle.kb_frames.specs.Lent.{stack_of, local_in, locals_of}
-use Rattle.kb_frames.specs.Next.{method_now}
+use Rattle.kb_frames.specs.Lent.{stack_of, local_in}
 use Rattle.kb_stepint.specs.declared.condition.Side.{Side}
 use Rattle.kb_stepint.specs.declared.condition.Side.TheVariants.{Term, Number}
 use Rattle.kb_stepint.specs.declared.condition.Condition.{Condition}
@@ -28,10 +25,8 @@ pub record HasTerms (state : State) : Type 0 where
   pub locals : (number : ℕ) → IsTermOf state.nodes (local_in state.stage number)
 
 -- an instruction may be carried out in the state
-pub record CanStep (world : World) (bounds : Bounds) (state : State) : Type 0 where
+pub record CanStep (bounds : Bounds) (state : State) : Type 0 where
   pub terms : HasTerms state
-  -- the current frame has each local that its method's code may write
-  pub room : max_locals_of world (method_now state.method state.stage) ≤ length (locals_of state.stage)
   pub within : state.carried < bounds.run.steps
 
 -- the side is a term of the pool, or a number

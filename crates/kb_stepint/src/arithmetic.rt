@@ -50,8 +50,9 @@ pub(crate) fn op_of_cut(cut: IntCut) -> Op
 }
 
 /// ineg, i2b, i2c, i2s
+#[tactic(auto, using(crate::proofs::OperandLaws::one_there, crate::proofs::OperandLaws::one_operand, crate::proofs::OperandLaws::within))]
 pub(crate) fn compute(turn: &Turn<'_>, state: &mut SymState, op: Op) -> Result<Outcome, NoMemory>
-    requires step { CanStep turn.now.world.now turn.now.bounds state.old }
+    requires step { CanStep turn.now.bounds state.old }
     requires unary { is_binary op ≡ false }
     ensures { IfOk result (λ outcome. told state.new outcome ≡ led_by turn.now state.old (computes state.old op)) }
 {
@@ -63,13 +64,14 @@ pub(crate) fn compute(turn: &Turn<'_>, state: &mut SymState, op: Op) -> Result<O
 }
 
 /// iadd, isub, imul, idiv, irem, ishl, ishr, iushr, iand, ior, ixor
+#[tactic(auto, using(crate::proofs::OperandLaws::left_there, crate::proofs::OperandLaws::right_there, crate::proofs::OperandLaws::within, crate::proofs::SideLaws::operands_there))]
 pub(crate) fn compute_two(
     turn: &Turn<'_>,
     state: &mut SymState,
     op: IntOp,
     choice: &Choice,
 ) -> Result<Outcome, NoMemory>
-    requires { CanStep turn.now.world.now turn.now.bounds state.old }
+    requires { CanStep turn.now.bounds state.old }
     ensures { IfOk result (λ outcome. told state.new outcome ≡ led_by turn.now state.old (computes_two state.old op choice.now)) }
 {
     let Some((left, right)) = two_ints(state) else {

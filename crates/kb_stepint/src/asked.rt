@@ -99,10 +99,10 @@ fn side_made(state: &mut SymState, side: Side) -> Result<TermId, NoMemory>
 }
 
 /// Adds a condition to a state, unless it is decided there.
+#[tactic(auto, using(crate::proofs::AskedLaws::later_is_side, crate::proofs::SideLaws::operands_there))]
 pub(crate) fn ask(state: &mut SymState, condition: &Condition) -> Result<(), NoMemory>
     requires { AreSides state.old.nodes condition.now }
-    ensures state { OnOk result (state.new ≡ asked state.old condition.now) }
-    ensures extends { OnOk result (Extends state.old.nodes state.new.nodes) }
+    ensures { OnOk result (state.new ≡ asked state.old condition.now) }
 {
     let left = side_made(state, condition.left)?;
     let right = side_made(state, condition.right)?;

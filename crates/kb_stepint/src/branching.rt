@@ -1,8 +1,7 @@
 //! Branches and switches (JVMS 8 section 6.5). Which way is taken was chosen.
-ghost use Rattle.std.specs.Prelude.{◌≡◌, drop, IfOk};
+ghost use Rattle.std.specs.Prelude.{◌≡◌, ◌<◌, drop, IfOk};
 ghost use Rattle.kb_frames.specs.Lent.{stack_of};
 ghost use Rattle.kb_stepint.specs.Effects.{branch_way, switch_way};
-ghost use Rattle.kb_stepint.specs.Needs.{CanStep};
 ghost use Rattle.kb_stepint.specs.Turns.{keys_of, led, told};
 
 ghost use Rattle.kb_picture.specs.declared.choice.Choice.TheVariants.{Key};
@@ -22,7 +21,7 @@ pub(crate) fn branch(
     target: u32,
     choice: &Choice,
 ) -> Result<Outcome, NoMemory>
-    requires { CanStep turn.now.world.now turn.now.bounds state.old }
+    requires { state.old.carried < turn.now.bounds.run.steps }
     ensures { IfOk result (λ outcome. told state.new outcome ≡ led turn.now state.old (branch_way state.old target (drop count (stack_of state.old.stage)) choice.now)) }
 {
     match choice {
@@ -40,7 +39,7 @@ pub(crate) fn switch(
     default: u32,
     choice: &Choice,
 ) -> Result<Outcome, NoMemory>
-    requires { CanStep turn.now.world.now turn.now.bounds state.old }
+    requires { state.old.carried < turn.now.bounds.run.steps }
     ensures { IfOk result (λ outcome. told state.new outcome ≡ led turn.now state.old (switch_way (keys_of keys.now) default (drop 1 (stack_of state.old.stage)) choice.now)) }
 {
     match choice {
@@ -57,12 +56,14 @@ fn switch_to(
     keys: &Keys<'_>,
     place: usize,
 ) -> Result<Outcome, NoMemory>
-    requires { CanStep turn.now.world.now turn.now.bounds state.old }
+    requires { state.old.carried < turn.now.bounds.run.steps }
     ensures { IfOk result (λ outcome. told state.new outcome ≡ led turn.now state.old (switch_way (keys_of keys.now) 0 (drop 1 (stack_of state.old.stage)) (Key place))) }
 {
     if place >= keys.len() {
         return ill_typed(turn, state);
     }
-    let (_, target) = keys.key_at(place)?;
-    jumps(turn, state, 1, target)
+    let Ok(entry) = keys.key_at(place) else {
+        return Err(NoMemory);
+    };
+    jumps(turn, state, 1, entry.1)
 }

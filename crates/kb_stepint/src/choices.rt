@@ -30,6 +30,7 @@ use std::alloc::Global;
 ///
 /// The state is one to which `start` and later calls lead in this world, and whose next step is one of ints. It takes time in
 /// proportion to the list, whatever the state has met.
+#[tactic(auto, using(crate::proofs::TakeLaws::reached_terms))]
 pub fn choices_int(
     alloc: Global,
     world: &World,
@@ -51,6 +52,7 @@ pub fn choices_int(
 }
 
 // Whether no instruction is taken up: an argument is read, or as many instructions were carried out as may be.
+#[tactic(auto, using(crate::proofs::TakeLaws::kind_is))]
 fn takes_up_none(world: &World, state: &SymState, bounds: &Bounds) -> bool
     ensures { result ≡ takes_up_none world.now state.now bounds.now }
 {
@@ -69,6 +71,7 @@ fn only(alloc: Global) -> Result<Vec<Choice>, NoMemory>
 }
 
 // Those of an instruction that ask for nothing that is decided as false.
+#[tactic(auto, using(crate::proofs::OperandLaws::one_there, crate::proofs::OperandLaws::left_there, crate::proofs::OperandLaws::right_there))]
 fn offered(alloc: Global, state: &SymState, instr: &Instr) -> Result<Vec<Choice>, NoMemory>
     requires { HasTerms state.now }
     ensures { IfOk result (λ choices. choices.items ≡ offered state.now (stack_of state.now.stage) instr.now) }
@@ -116,6 +119,7 @@ fn offer(
 }
 
 // Whether a branch is taken.
+#[tactic(auto, using(crate::proofs::SideLaws::branch_sides))]
 fn branch_choices(
     alloc: Global,
     state: &SymState,
@@ -151,6 +155,7 @@ fn divisor_choices(
     }
 }
 
+#[tactic(auto, using(crate::proofs::SideLaws::key_sides))]
 fn zero_choices(alloc: Global, state: &SymState, divisor: TermId) -> Result<Vec<Choice>, NoMemory>
     requires { IsTerm state.now.nodes divisor }
     ensures { IfOk result (λ choices. choices.items ≡ filter (λ choice. not (is_refuted state.now (divisor_conditions divisor choice))) (Zero ∷ NotZero ∷ [])) }
@@ -177,13 +182,12 @@ fn key_choices(
     for place in 0..keys.len() {
         offer_key(state, x, keys, place, &mut choices)?;
     }
-    if !is_default_refuted(state, x, keys)? {
-        choices.push(Choice::Default)?;
-    }
+    offer_default(state, x, keys, &mut choices)?;
     Ok(choices)
 }
 
 // Adds the key of that place, unless it is decided that the int is another.
+#[tactic(auto, using(crate::proofs::SideLaws::key_sides))]
 fn offer_key(
     state: &SymState,
     x: TermId,
@@ -197,19 +201,43 @@ fn offer_key(
     let Ok(number) = u32::try_from(place) else {
         return Err(NoMemory);
     };
-    let (key, _) = keys.key_at(place)?;
-    let condition = equal(Side::Term(x), Side::Number(key), true);
+    let Ok(entry) = keys.key_at(place) else {
+        return Err(NoMemory);
+    };
+    let condition = equal(Side::Term(x), Side::Number(entry.0), true);
     offer(state, &condition, Choice::Key(number), choices)
 }
 
+// Adds the default, unless it is decided that the int is one of the keys.
+#[tactic(auto, using(crate::proofs::ChoiceLaws::one_offered))]
+fn offer_default(
+    state: &SymState,
+    x: TermId,
+    keys: &Keys<'_>,
+    choices: &mut Vec<Choice>,
+) -> Result<(), NoMemory>
+    requires { IsTerm state.now.nodes x }
+    ensures { OnOk result (choices.new.items ≡ choices.old.items ++ filter (λ choice. not (is_refuted state.now (key_conditions x (keys_of keys.now) choice))) (Default ∷ [])) }
+{
+    let refuted = is_default_refuted(state, x, keys)?;
+    if refuted {
+        return Ok(());
+    }
+    choices.push(Choice::Default)?;
+    Ok(())
+}
+
 // Whether it is decided that the int is one of the keys.
+#[tactic(auto, using(crate::proofs::SideLaws::key_sides))]
 fn is_default_refuted(state: &SymState, x: TermId, keys: &Keys<'_>) -> Result<bool, NoMemory>
     requires { IsTerm state.now.nodes x }
     ensures { IfOk result (λ refuted. refuted ≡ is_refuted state.now (key_conditions x (keys_of keys.now) Default)) }
 {
     for place in 0..keys.len() {
-        let (key, _) = keys.key_at(place)?;
-        let condition = equal(Side::Term(x), Side::Number(key), false);
+        let Ok(entry) = keys.key_at(place) else {
+            return Err(NoMemory);
+        };
+        let condition = equal(Side::Term(x), Side::Number(entry.0), false);
         if is_against(state, &condition) {
             return Ok(true);
         }

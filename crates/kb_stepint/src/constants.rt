@@ -1,10 +1,9 @@
 //! Instructions that push an int that the code tells (JVMS 8 section 6.5).
-ghost use Rattle.std.specs.Prelude.{◌≡◌, IfOk};
+ghost use Rattle.std.specs.Prelude.{◌≡◌, ◌<◌, IfOk};
 ghost use Rattle.kb_link.specs.World.{int_entry_of};
 ghost use Rattle.kb_semantics.specs.Config.{class_number};
 ghost use Rattle.kb_frames.specs.Next.{method_now};
 ghost use Rattle.kb_stepint.specs.Effects.{planned, pushes_int};
-ghost use Rattle.kb_stepint.specs.Needs.{CanStep};
 ghost use Rattle.kb_stepint.specs.Turns.{led_by, told};
 
 use crate::NoMemory;
@@ -21,7 +20,7 @@ pub(crate) fn push_int(
     state: &mut SymState,
     value: i32,
 ) -> Result<Outcome, NoMemory>
-    requires { CanStep turn.now.world.now turn.now.bounds state.old }
+    requires { state.old.carried < turn.now.bounds.run.steps }
     ensures { IfOk result (λ outcome. told state.new outcome ≡ led_by turn.now state.old (pushes_int state.old value)) }
 {
     let term = constant(state, value)?;
@@ -34,7 +33,7 @@ pub(crate) fn load_constant(
     state: &mut SymState,
     entry: u16,
 ) -> Result<Outcome, NoMemory>
-    requires { CanStep turn.now.world.now turn.now.bounds state.old }
+    requires { state.old.carried < turn.now.bounds.run.steps }
     ensures { IfOk result (λ outcome. told state.new outcome ≡ led_by turn.now state.old (planned state.old (int_entry_of turn.now.world.now (class_number turn.now.world.now (method_now state.old.method state.old.stage)) entry) (pushes_int state.old))) }
 {
     let (method, _) = state.stands_at();

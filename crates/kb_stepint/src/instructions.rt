@@ -21,13 +21,14 @@ use kb_picture::Choice;
 use kb_terms::Op;
 
 /// Carries out an instruction by the alternative that was chosen, whose conditions the state has.
+#[tactic(auto, using(crate::proofs::OperandLaws::within))]
 pub(crate) fn carry_out(
     turn: &Turn<'_>,
     state: &mut SymState,
     choice: &Choice,
     instr: &Instr,
 ) -> Result<Outcome, NoMemory>
-    requires { CanStep turn.now.world.now turn.now.bounds state.old }
+    requires { CanStep turn.now.bounds state.old }
     ensures { IfOk result (λ outcome. told state.new outcome ≡ led_by turn.now state.old (plan_of turn.now.world.now state.old choice.now instr.now)) }
 {
     match instr {

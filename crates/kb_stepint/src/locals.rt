@@ -1,5 +1,5 @@
 //! Instructions on locals that are ints (JVMS 8 section 6.5).
-ghost use Rattle.std.specs.Prelude.{◌≡◌, drop, nat_lt, IfOk};
+ghost use Rattle.std.specs.Prelude.{◌≡◌, ◌<◌, drop, nat_lt, IfOk};
 ghost use Rattle.kb_terms.specs.Terms.{IsTerm};
 ghost use Rattle.kb_semantics.specs.Config.{max_locals_of};
 ghost use Rattle.kb_frames.specs.Lent.{stack_of};
@@ -18,7 +18,7 @@ use kb_terms::{Op, TermId};
 
 /// iload
 pub(crate) fn load(turn: &Turn<'_>, state: &mut SymState, local: u16) -> Result<Outcome, NoMemory>
-    requires { CanStep turn.now.world.now turn.now.bounds state.old }
+    requires { state.old.carried < turn.now.bounds.run.steps }
     ensures { IfOk result (λ outcome. told state.new outcome ≡ led_by turn.now state.old (loads turn.now.world.now state.old local)) }
 {
     match int_local(turn, state, local) {
@@ -29,7 +29,7 @@ pub(crate) fn load(turn: &Turn<'_>, state: &mut SymState, local: u16) -> Result<
 
 /// istore
 pub(crate) fn store(turn: &Turn<'_>, state: &mut SymState, local: u16) -> Result<Outcome, NoMemory>
-    requires { CanStep turn.now.world.now turn.now.bounds state.old }
+    requires { state.old.carried < turn.now.bounds.run.steps }
     ensures { IfOk result (λ outcome. told state.new outcome ≡ led_by turn.now state.old (stores turn.now.world.now state.old local)) }
 {
     match one_int(state) {
@@ -39,13 +39,14 @@ pub(crate) fn store(turn: &Turn<'_>, state: &mut SymState, local: u16) -> Result
 }
 
 /// iinc
+#[tactic(auto, using(crate::proofs::OperandLaws::local_there, crate::proofs::OperandLaws::within, crate::proofs::SideLaws::operands_there))]
 pub(crate) fn increase(
     turn: &Turn<'_>,
     state: &mut SymState,
     local: u16,
     by: i32,
 ) -> Result<Outcome, NoMemory>
-    requires { CanStep turn.now.world.now turn.now.bounds state.old }
+    requires { CanStep turn.now.bounds state.old }
     ensures { IfOk result (λ outcome. told state.new outcome ≡ led_by turn.now state.old (increases turn.now.world.now state.old local by)) }
 {
     let Some(term) = int_local(turn, state, local) else {
@@ -86,7 +87,7 @@ fn set(
     term: TermId,
     count: usize,
 ) -> Result<Outcome, NoMemory>
-    requires { CanStep turn.now.world.now turn.now.bounds state.old }
+    requires { state.old.carried < turn.now.bounds.run.steps }
     ensures { IfOk result (λ outcome. told state.new outcome ≡ led turn.now state.old (in_local turn.now.world.now state.old local term (drop count (stack_of state.old.stage)))) }
 {
     if !is_local(turn, state, local) {

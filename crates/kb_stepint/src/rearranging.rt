@@ -1,7 +1,6 @@
 //! Instructions that rearrange the operand stack (JVMS 8 section 6.5). Values are named from the top down, and pushed from the bottom up.
-ghost use Rattle.std.specs.Prelude.{◌≡◌, ◌∷◌, [], IfOk};
+ghost use Rattle.std.specs.Prelude.{◌≡◌, ◌<◌, ◌∷◌, [], IfOk};
 ghost use Rattle.kb_stepint.specs.Effects.{rearranges};
-ghost use Rattle.kb_stepint.specs.Needs.{CanStep};
 ghost use Rattle.kb_stepint.specs.Turns.{led_by, told};
 
 use crate::NoMemory;
@@ -11,7 +10,7 @@ use kb_frames::{Outcome, SymState};
 
 /// pop
 pub(crate) fn pop(turn: &Turn<'_>, state: &mut SymState) -> Result<Outcome, NoMemory>
-    requires { CanStep turn.now.world.now turn.now.bounds state.old }
+    requires { state.old.carried < turn.now.bounds.run.steps }
     ensures { IfOk result (λ outcome. told state.new outcome ≡ led_by turn.now state.old (rearranges state.old 1 [])) }
 {
     match state.value_at(0) {
@@ -22,7 +21,7 @@ pub(crate) fn pop(turn: &Turn<'_>, state: &mut SymState) -> Result<Outcome, NoMe
 
 /// pop2
 pub(crate) fn pop2(turn: &Turn<'_>, state: &mut SymState) -> Result<Outcome, NoMemory>
-    requires { CanStep turn.now.world.now turn.now.bounds state.old }
+    requires { state.old.carried < turn.now.bounds.run.steps }
     ensures { IfOk result (λ outcome. told state.new outcome ≡ led_by turn.now state.old (rearranges state.old 2 [])) }
 {
     match state.value_at(1) {
@@ -33,7 +32,7 @@ pub(crate) fn pop2(turn: &Turn<'_>, state: &mut SymState) -> Result<Outcome, NoM
 
 /// dup
 pub(crate) fn dup(turn: &Turn<'_>, state: &mut SymState) -> Result<Outcome, NoMemory>
-    requires { CanStep turn.now.world.now turn.now.bounds state.old }
+    requires { state.old.carried < turn.now.bounds.run.steps }
     ensures { IfOk result (λ outcome. told state.new outcome ≡ led_by turn.now state.old (rearranges state.old 1 (0 ∷ 0 ∷ []))) }
 {
     match state.value_at(0) {
@@ -44,7 +43,7 @@ pub(crate) fn dup(turn: &Turn<'_>, state: &mut SymState) -> Result<Outcome, NoMe
 
 /// dup_x1
 pub(crate) fn dup_x1(turn: &Turn<'_>, state: &mut SymState) -> Result<Outcome, NoMemory>
-    requires { CanStep turn.now.world.now turn.now.bounds state.old }
+    requires { state.old.carried < turn.now.bounds.run.steps }
     ensures { IfOk result (λ outcome. told state.new outcome ≡ led_by turn.now state.old (rearranges state.old 2 (0 ∷ 1 ∷ 0 ∷ []))) }
 {
     match (state.value_at(0), state.value_at(1)) {
@@ -55,7 +54,7 @@ pub(crate) fn dup_x1(turn: &Turn<'_>, state: &mut SymState) -> Result<Outcome, N
 
 /// dup_x2
 pub(crate) fn dup_x2(turn: &Turn<'_>, state: &mut SymState) -> Result<Outcome, NoMemory>
-    requires { CanStep turn.now.world.now turn.now.bounds state.old }
+    requires { state.old.carried < turn.now.bounds.run.steps }
     ensures { IfOk result (λ outcome. told state.new outcome ≡ led_by turn.now state.old (rearranges state.old 3 (0 ∷ 1 ∷ 2 ∷ 0 ∷ []))) }
 {
     match (state.value_at(0), state.value_at(1), state.value_at(2)) {
@@ -68,7 +67,7 @@ pub(crate) fn dup_x2(turn: &Turn<'_>, state: &mut SymState) -> Result<Outcome, N
 
 /// dup2
 pub(crate) fn dup2(turn: &Turn<'_>, state: &mut SymState) -> Result<Outcome, NoMemory>
-    requires { CanStep turn.now.world.now turn.now.bounds state.old }
+    requires { state.old.carried < turn.now.bounds.run.steps }
     ensures { IfOk result (λ outcome. told state.new outcome ≡ led_by turn.now state.old (rearranges state.old 2 (0 ∷ 1 ∷ 0 ∷ 1 ∷ []))) }
 {
     match (state.value_at(0), state.value_at(1)) {
@@ -81,7 +80,7 @@ pub(crate) fn dup2(turn: &Turn<'_>, state: &mut SymState) -> Result<Outcome, NoM
 
 /// dup2_x1
 pub(crate) fn dup2_x1(turn: &Turn<'_>, state: &mut SymState) -> Result<Outcome, NoMemory>
-    requires { CanStep turn.now.world.now turn.now.bounds state.old }
+    requires { state.old.carried < turn.now.bounds.run.steps }
     ensures { IfOk result (λ outcome. told state.new outcome ≡ led_by turn.now state.old (rearranges state.old 3 (0 ∷ 1 ∷ 2 ∷ 0 ∷ 1 ∷ []))) }
 {
     match (state.value_at(0), state.value_at(1), state.value_at(2)) {
@@ -94,7 +93,7 @@ pub(crate) fn dup2_x1(turn: &Turn<'_>, state: &mut SymState) -> Result<Outcome, 
 
 /// dup2_x2
 pub(crate) fn dup2_x2(turn: &Turn<'_>, state: &mut SymState) -> Result<Outcome, NoMemory>
-    requires { CanStep turn.now.world.now turn.now.bounds state.old }
+    requires { state.old.carried < turn.now.bounds.run.steps }
     ensures { IfOk result (λ outcome. told state.new outcome ≡ led_by turn.now state.old (rearranges state.old 4 (0 ∷ 1 ∷ 2 ∷ 3 ∷ 0 ∷ 1 ∷ []))) }
 {
     let two = (state.value_at(0), state.value_at(1));
@@ -108,7 +107,7 @@ pub(crate) fn dup2_x2(turn: &Turn<'_>, state: &mut SymState) -> Result<Outcome, 
 
 /// swap
 pub(crate) fn swap(turn: &Turn<'_>, state: &mut SymState) -> Result<Outcome, NoMemory>
-    requires { CanStep turn.now.world.now turn.now.bounds state.old }
+    requires { state.old.carried < turn.now.bounds.run.steps }
     ensures { IfOk result (λ outcome. told state.new outcome ≡ led_by turn.now state.old (rearranges state.old 2 (1 ∷ 0 ∷ []))) }
 {
     match (state.value_at(0), state.value_at(1)) {

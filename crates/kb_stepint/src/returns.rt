@@ -28,8 +28,9 @@ use kb_terms::{Op, TermId};
 use kb_world::World;
 
 /// ireturn
+#[tactic(auto, using(crate::proofs::OperandLaws::one_there))]
 pub(crate) fn return_int(turn: &Turn<'_>, state: &mut SymState) -> Result<Outcome, NoMemory>
-    requires { CanStep turn.now.world.now turn.now.bounds state.old }
+    requires { CanStep turn.now.bounds state.old }
     ensures { IfOk result (λ outcome. told state.new outcome ≡ led_by turn.now state.old (returns_int turn.now.world.now state.old)) }
 {
     let Some(term) = one_int(state) else {
@@ -65,6 +66,7 @@ fn result_of(world: &World, method: MethodId) -> Option<&JType>
 }
 
 // The low bit of a term.
+#[tactic(auto, using(crate::proofs::SideLaws::operands_there))]
 fn mask(state: &mut SymState, term: TermId) -> Result<TermId, NoMemory>
     requires { IsTerm state.old.nodes term }
     ensures state { OnOk result (state.new ≡ with_nodes state.old (masked state.old term (interned state.old.nodes (Const (pos 1)))).0) }

@@ -1,7 +1,7 @@
 //! What a state becomes when an alternative is taken.
 ghost use Rattle.std.specs.Prelude.{◌≡◌, ◌<◌, true, IfOk, OnOk};
 ghost use Rattle.kb_class.specs.Naming.{Has};
-ghost use Rattle.kb_terms.specs.Terms.{Extends, IsTerm};
+ghost use Rattle.kb_terms.specs.Terms.{IsTerm};
 ghost use Rattle.kb_frames.specs.Lent.{stack_of};
 ghost use Rattle.kb_frames.specs.Next.{next_is_int};
 ghost use Rattle.kb_picture.specs.declared.choice.Choice.TheVariants.{Default, Key};
@@ -47,6 +47,23 @@ pub fn take_int(
     ensures take { IfOk result (λ outcome. told state.new outcome ≡ taken world.now bounds.now state.old choice.now) }
     ensures reached { OnOk result (IsReached world.now state.new) }
 {
+    let outcome = read_or_take_up(alloc, world, state, choice, bounds)?;
+    let _ = state.pool().nodes();
+    Ok(outcome)
+}
+
+// Reads the next argument, or takes up the next instruction.
+#[tactic(auto, using(crate::proofs::TakeLaws::reads_next, crate::proofs::TakeLaws::cut_here, crate::proofs::TakeLaws::taken_up_here, crate::proofs::TakeLaws::can_step))]
+fn read_or_take_up(
+    alloc: Global,
+    world: &World,
+    state: &mut SymState,
+    choice: &Choice,
+    bounds: &Bounds,
+) -> Result<Outcome, NoMemory>
+    requires { IsReached world.now state.old }
+    ensures { IfOk result (λ outcome. told state.new outcome ≡ taken world.now bounds.now state.old choice.now) }
+{
     if let Some(kind) = state.next_kind(world) {
         state.read_int(kind)?;
         return Ok(Outcome::Asks);
@@ -59,6 +76,7 @@ pub fn take_int(
 }
 
 // Takes up the next instruction of a run whose arguments are read.
+#[tactic(auto, using(crate::proofs::TakeLaws::asked_can_step))]
 fn take_up(
     alloc: Global,
     world: &World,
@@ -66,7 +84,7 @@ fn take_up(
     choice: &Choice,
     bounds: &Bounds,
 ) -> Result<Outcome, NoMemory>
-    requires { CanStep world.now bounds.now state.old }
+    requires { CanStep bounds.now state.old }
     ensures { IfOk result (λ outcome. told state.new outcome ≡ takes_up world.now bounds.now choice.now state.old) }
 {
     let (method, at) = state.stands_at();
@@ -85,10 +103,10 @@ fn take_up(
 }
 
 // Adds the conditions that an alternative of an instruction asks for.
+#[tactic(auto, using(crate::proofs::OperandLaws::one_there, crate::proofs::OperandLaws::left_there, crate::proofs::OperandLaws::right_there))]
 fn ask_for(state: &mut SymState, instr: &Instr, choice: &Choice) -> Result<(), NoMemory>
     requires { HasTerms state.old }
-    ensures state { OnOk result (state.new ≡ all_asked state.old (conditions_of instr.now (stack_of state.old.stage) choice.now)) }
-    ensures terms { OnOk result (HasTerms state.new) }
+    ensures { OnOk result (state.new ≡ all_asked state.old (conditions_of instr.now (stack_of state.old.stage) choice.now)) }
 {
     match instr {
         Instr::IfInt(cond, _) => match one_int(state) {
@@ -115,6 +133,7 @@ fn ask_for(state: &mut SymState, instr: &Instr, choice: &Choice) -> Result<(), N
     }
 }
 
+#[tactic(auto, using(crate::proofs::SideLaws::branch_sides))]
 fn ask_branch(
     state: &mut SymState,
     cond: Cond,
@@ -124,8 +143,7 @@ fn ask_branch(
 ) -> Result<(), NoMemory>
     requires first { IsSide state.old.nodes left }
     requires second { IsSide state.old.nodes right }
-    ensures state { OnOk result (state.new ≡ all_asked state.old (branch_conditions cond left right choice.now)) }
-    ensures extends { OnOk result (Extends state.old.nodes state.new.nodes) }
+    ensures { OnOk result (state.new ≡ all_asked state.old (branch_conditions cond left right choice.now)) }
 {
     match choice {
         Choice::Branch(so) => ask(state, &branch_condition(cond, left, right, *so)),
@@ -140,8 +158,7 @@ fn ask_division(
     choice: &Choice,
 ) -> Result<(), NoMemory>
     requires { IsTerm state.old.nodes divisor }
-    ensures state { OnOk result (state.new ≡ all_asked state.old (division_conditions op divisor choice.now)) }
-    ensures extends { OnOk result (Extends state.old.nodes state.new.nodes) }
+    ensures { OnOk result (state.new ≡ all_asked state.old (division_conditions op divisor choice.now)) }
 {
     match op {
         IntOp::Div | IntOp::Rem => ask_divisor(state, divisor, choice),
@@ -149,10 +166,10 @@ fn ask_division(
     }
 }
 
+#[tactic(auto, using(crate::proofs::SideLaws::key_sides))]
 fn ask_divisor(state: &mut SymState, divisor: TermId, choice: &Choice) -> Result<(), NoMemory>
     requires { IsTerm state.old.nodes divisor }
-    ensures state { OnOk result (state.new ≡ all_asked state.old (divisor_conditions divisor choice.now)) }
-    ensures extends { OnOk result (Extends state.old.nodes state.new.nodes) }
+    ensures { OnOk result (state.new ≡ all_asked state.old (divisor_conditions divisor choice.now)) }
 {
     match choice {
         Choice::Zero => ask(state, &equal(Side::Term(divisor), Side::Number(0), true)),
@@ -168,8 +185,7 @@ fn ask_key(
     choice: &Choice,
 ) -> Result<(), NoMemory>
     requires { IsTerm state.old.nodes x }
-    ensures state { OnOk result (state.new ≡ all_asked state.old (key_conditions x (keys_of keys.now) choice.now)) }
-    ensures extends { OnOk result (Extends state.old.nodes state.new.nodes) }
+    ensures { OnOk result (state.new ≡ all_asked state.old (key_conditions x (keys_of keys.now) choice.now)) }
 {
     match choice {
         Choice::Key(place) => ask_one_key(state, x, keys, *place as usize),
@@ -179,6 +195,7 @@ fn ask_key(
 }
 
 // That the int is the key of that place.
+#[tactic(auto, using(crate::proofs::SideLaws::key_sides))]
 fn ask_one_key(
     state: &mut SymState,
     x: TermId,
@@ -186,25 +203,28 @@ fn ask_one_key(
     place: usize,
 ) -> Result<(), NoMemory>
     requires { IsTerm state.old.nodes x }
-    ensures state { OnOk result (state.new ≡ all_asked state.old (key_conditions x (keys_of keys.now) (Key place))) }
-    ensures extends { OnOk result (Extends state.old.nodes state.new.nodes) }
+    ensures { OnOk result (state.new ≡ all_asked state.old (key_conditions x (keys_of keys.now) (Key place))) }
 {
     if place >= keys.len() {
         return Ok(());
     }
-    let (key, _) = keys.key_at(place)?;
-    ask(state, &equal(Side::Term(x), Side::Number(key), true))
+    let Ok(entry) = keys.key_at(place) else {
+        return Err(NoMemory);
+    };
+    ask(state, &equal(Side::Term(x), Side::Number(entry.0), true))
 }
 
 // That the int is none of the keys.
+#[tactic(auto, using(crate::proofs::SideLaws::key_sides))]
 fn ask_default(state: &mut SymState, x: TermId, keys: &Keys<'_>) -> Result<(), NoMemory>
     requires { IsTerm state.old.nodes x }
-    ensures state { OnOk result (state.new ≡ all_asked state.old (key_conditions x (keys_of keys.now) Default)) }
-    ensures extends { OnOk result (Extends state.old.nodes state.new.nodes) }
+    ensures { OnOk result (state.new ≡ all_asked state.old (key_conditions x (keys_of keys.now) Default)) }
 {
     for place in 0..keys.len() {
-        let (key, _) = keys.key_at(place)?;
-        ask(state, &equal(Side::Term(x), Side::Number(key), false))?;
+        let Ok(entry) = keys.key_at(place) else {
+            return Err(NoMemory);
+        };
+        ask(state, &equal(Side::Term(x), Side::Number(entry.0), false))?;
     }
     Ok(())
 }

@@ -4,7 +4,6 @@ ghost use Rattle.kb_semantics.specs.Config.{has_room, max_stack_of};
 ghost use Rattle.kb_frames.specs.Lent.{carried_on, locals_of, on_frame, stack_of};
 ghost use Rattle.kb_frames.specs.Next.{method_now};
 ghost use Rattle.kb_frames.specs.declared.frame.SymFrame.{SymFrame};
-ghost use Rattle.kb_stepint.specs.Needs.{CanStep};
 ghost use Rattle.kb_stepint.specs.Turns.{led, told};
 ghost use Rattle.kb_stepint.specs.Ways.{Goes, Jumps, Fails};
 
@@ -66,7 +65,7 @@ pub(crate) fn replaces(
     count: usize,
     values: &[SymValue],
 ) -> Result<Outcome, NoMemory>
-    requires { CanStep turn.now.world.now turn.now.bounds state.old }
+    requires { state.old.carried < turn.now.bounds.run.steps }
     ensures { IfOk result (λ outcome. told state.new outcome ≡ led turn.now state.old (Goes (locals_of state.old.stage) (reverse values.now ++ drop count (stack_of state.old.stage)))) }
 {
     let kept = state.height().saturating_sub(count);
@@ -98,7 +97,7 @@ pub(crate) fn jumps(
     count: usize,
     target: u32,
 ) -> Result<Outcome, NoMemory>
-    requires { CanStep turn.now.world.now turn.now.bounds state.old }
+    requires { state.old.carried < turn.now.bounds.run.steps }
     ensures { IfOk result (λ outcome. told state.new outcome ≡ led turn.now state.old (Jumps target (drop count (stack_of state.old.stage)))) }
 {
     let kept = state.height().saturating_sub(count);
