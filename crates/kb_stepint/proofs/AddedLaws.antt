@@ -48,6 +48,7 @@ use Rattle.kb_stepint.specs.Ways.{Take, Way, Goes, Jumps, Leaves, Throws, Fails,
 use Rattle.kb_stepint.proofs.AskedLaws.{AreAskable, all_asked_adds}
 use Rattle.kb_stepint.proofs.ComparedLaws.{instr_askable}
 use Rattle.kb_stepint.proofs.GrowLaws.{if_has, option_has, nodes_grow}
+use Rattle.kb_stepint.proofs.OneInstances.{same_variables}
 use Rattle.kb_stepint.proofs.KeepLaws.{Stays, plan_makes, stays_grown, stays_on, takes_next_stays, went_stays}
 
 -- an empty stack asks for nothing
@@ -121,13 +122,6 @@ module _ (world : World) (bounds : Bounds) (old : State) where
         instr_askable s c old.nodes variables (value_of_sym (reading_at world old input places)) ints frame.stack stood.0.stack (stack_terms frame.stack sound.0.stack) found.0 choice
         (up_is frame found stood.0 at)
 
-  -- the variables of the picture, which stays
-  same_variables : (input : Input) (shape : HasShape old.picture input) (picture : Picture) → picture ≡ old.picture → (other : HasShape picture input)
-      → variable_values old.picture input shape.places.objects ≡ variable_values picture input other.places.objects
-  same_variables input shape picture same =
-      subst (λ (p : Picture). (other : HasShape p input) → variable_values old.picture input shape.places.objects ≡ variable_values p input other.places.objects) (sym same)
-      (λ other. ap (λ (l : PlaceLists). variable_values old.picture input l.objects) (sym (same_places old.picture input shape.places shape.placed other)))
-
   answered_adds : (choice : Choice) (found : Instr × ℕ) → IsReached world old → nat_le bounds.run.steps old.carried ≡ false
       → instruction_at world (method_now old.method (begun_stage world old old.stage)) (offset_now (begun_stage world old old.stage)) ≡ Some found
       → Stays old (answered world bounds choice (begun world old) found).state → AddsComparisons world bounds old (answered world bounds choice (begun world old) found).state
@@ -143,7 +137,7 @@ module _ (world : World) (bounds : Bounds) (old : State) where
           ap (λ (l : List (TermId × Bool)). slice_get l i) (sym (went_when world bounds found.1 (with_nodes grown plan.nodes) plan.way)) ∙ at in
       let compared = all_asked_adds (IsComparedBy s c) (variables input c stands reached within) conditions (begun world old)
           (askable input c stands reached within old.stage found choice refl up) i condition from early new.nodes extends in
-      subst (λ (values : List ℤ). IsComparedBy s c (comparison_of new.nodes values condition.0)) (same_variables input stands.instance_of.shape new.picture stays.picture shape) compared
+      subst (λ (values : List ℤ). IsComparedBy s c (comparison_of new.nodes values condition.0)) (same_variables old.picture input stands.instance_of.shape new.picture stays.picture shape) compared
 
   takes_up_adds : (choice : Choice) → IsReached world old → nat_le bounds.run.steps old.carried ≡ false → Stays old (takes_up world bounds choice (begun world old)).state
       → AddsComparisons world bounds old (takes_up world bounds choice (begun world old)).state

@@ -37,12 +37,14 @@ use Rattle.kb_stepint.specs.Asked.{all_asked, is_refuted}
 use Rattle.kb_stepint.specs.Choices.{choices_of, conditions_of, listed, offered, only}
 use Rattle.kb_stepint.specs.Effects.{Planned, plan_of}
 use Rattle.kb_stepint.specs.Laws.{IsAtInts}
-use Rattle.kb_stepint.specs.Operands.{one_int, two_ints}
+use Rattle.kb_stepint.specs.Operands.{int_term, one_int, two_ints}
+use Rattle.kb_stepint.specs.Needs.{IsTermOf}
 use Rattle.kb_stepint.specs.Reached.{HasRisingKeys, IsAlone, IsReached}
 use Rattle.kb_stepint.specs.Simulation.{ExactlyOneIs, NoneIs, TakesOneWay}
 use Rattle.kb_stepint.specs.Takes.{answered, reads_argument, taken, takes_next, takes_up}
 use Rattle.kb_stepint.specs.Ways.{ill_typed}
 use Rattle.kb_stepint.proofs.AddedLaws.{went_when}
+use Rattle.kb_stepint.proofs.ComparedLaws.{int_is_term, two_parts}
 use Rattle.kb_stepint.proofs.GrowLaws.{Grows, all_asked_grows}
 use Rattle.kb_stepint.proofs.KeepLaws.{plan_makes, went_stays}
 use Rattle.kb_stepint.proofs.OneAsked.{AllHold, AllSides, IsReady, conditions_there}
@@ -79,53 +81,37 @@ module _ {A : Type 0} (P Q : A → Type 0) (keep : A → Bool) (kept : (x : A) �
 
 -- ---- the operands are terms
 
-module _ (nodes : List Node) where
-  -- the value is a term of the pool, where it is an int
-  abbrev pub IsTermAt : SymValue → Type 0
-  IsTermAt (Int t) = IsTerm nodes t
-  IsTermAt _ = Unit {0}
+-- each int of a stack is a term of the pool
+abbrev pub AreStackTerms : List Node → List SymValue → Type 0
+AreStackTerms nodes stack = (depth : ℕ) → IsTermOf nodes (slice_get stack depth)
 
-  pub one_term : (stack : List SymValue) (x : TermId) → Each IsTermAt stack → one_int stack ≡ Some x → IsTerm nodes x
-  one_term [] x each e = absurd cc
-  one_term (Int t ∷ stack) x each e = (let same : t ≡ x = cc in subst (IsTerm nodes) same (each 0 (Int t) refl))
-  one_term (Null ∷ stack) x each e = absurd cc
-  one_term (Obj n ∷ stack) x each e = absurd cc
-  one_term (Literal n ∷ stack) x each e = absurd cc
-  one_term (New n ∷ stack) x each e = absurd cc
-  one_term (Loc n ∷ stack) x each e = absurd cc
+pub one_term : (nodes : List Node) (stack : List SymValue) (x : TermId) → AreStackTerms nodes stack → one_int stack ≡ Some x → IsTerm nodes x
+one_term nodes stack x terms e = int_is_term nodes (slice_get stack 0) x (terms 0) e
 
-  pub two_terms : (stack : List SymValue) (p : TermId × TermId) → Each IsTermAt stack → two_ints stack ≡ Some p → IsTerm nodes p.0 × IsTerm nodes p.1
-  two_terms [] p each e = absurd cc
-  two_terms (Int r ∷ []) p each e = absurd cc
-  two_terms (Int r ∷ Int l ∷ stack) p each e =
-      let same : (l, r) ≡ p = cc in
-      (subst (λ (q : TermId × TermId). IsTerm nodes q.0) same (each 1 (Int l) refl), subst (λ (q : TermId × TermId). IsTerm nodes q.1) same (each 0 (Int r) refl))
-  two_terms (Int r ∷ Null ∷ stack) p each e = absurd cc
-  two_terms (Int r ∷ Obj n ∷ stack) p each e = absurd cc
-  two_terms (Int r ∷ Literal n ∷ stack) p each e = absurd cc
-  two_terms (Int r ∷ New n ∷ stack) p each e = absurd cc
-  two_terms (Int r ∷ Loc n ∷ stack) p each e = absurd cc
-  two_terms (Null ∷ stack) p each e = absurd cc
-  two_terms (Obj n ∷ stack) p each e = absurd cc
-  two_terms (Literal n ∷ stack) p each e = absurd cc
-  two_terms (New n ∷ stack) p each e = absurd cc
-  two_terms (Loc n ∷ stack) p each e = absurd cc
+pub two_terms : (nodes : List Node) (stack : List SymValue) (p : TermId × TermId) → AreStackTerms nodes stack → two_ints stack ≡ Some p → IsTerm nodes p.0 × IsTerm nodes p.1
+two_terms nodes stack p terms e =
+    let parts = two_parts (int_term (slice_get stack 0)) (int_term (slice_get stack 1)) p e in
+    (int_is_term nodes (slice_get stack 1) p.0 (terms 1) parts.1, int_is_term nodes (slice_get stack 0) p.1 (terms 0) parts.0)
 
-pub sym_terms : (world : World) (state : State) (stack : List SymValue) → Each (IsSymValue world state) stack → Each (IsTermAt state.nodes) stack
-sym_terms world state stack each i item at = go item (each i item at) where
-  go : (value : SymValue) → IsSymValue world state value → IsTermAt state.nodes value
-  go (Int t) is = is
-  go Null is = tt
-  go (Obj n) is = tt
-  go (Literal n) is = tt
-  go (New n) is = tt
-  go (Loc n) is = tt
+pub sym_term : (world : World) (state : State) (value : SymValue) → IsSymValue world state value → IsTermOf state.nodes (Some value)
+sym_term world state (Int t) is = is
+sym_term world state Null is = tt
+sym_term world state (Obj n) is = tt
+sym_term world state (Literal n) is = tt
+sym_term world state (New n) is = tt
+sym_term world state (Loc n) is = tt
+
+pub sym_terms : (world : World) (state : State) (stack : List SymValue) → Each (IsSymValue world state) stack → AreStackTerms state.nodes stack
+sym_terms world state stack each depth = go (slice_get stack depth) refl where
+  go : (it : Option SymValue) → slice_get stack depth ≡ it → IsTermOf state.nodes it
+  go None e = tt
+  go (Some value) e = sym_term world state value (each depth value e)
 
 -- those of the frame with which a run goes on
-pub begun_terms : (world : World) (state : State) → IsStage world state state.stage → Each (IsTermAt state.nodes) (stack_of (begun_stage world state state.stage))
+pub begun_terms : (world : World) (state : State) → IsStage world state state.stage → AreStackTerms state.nodes (stack_of (begun_stage world state state.stage))
 begun_terms world state = go state.stage where
-  go : (stage : Stage) → IsStage world state stage → Each (IsTermAt state.nodes) (stack_of (begun_stage world state stage))
-  go (Begins read) is = λ i item at. absurd cc
+  go : (stage : Stage) → IsStage world state stage → AreStackTerms state.nodes (stack_of (begun_stage world state stage))
+  go (Begins read) is = λ depth. tt
   go (Runs frame callers) is = sym_terms world state frame.stack is.0.stack
 
 -- ---- where a run stands

@@ -25,12 +25,13 @@ use Rattle.kb_stepint.specs.declared.condition.Side.{Side}
 use Rattle.kb_stepint.specs.declared.condition.Side.TheVariants.{Term, Number}
 use Rattle.kb_stepint.specs.Asked.{branch_condition, equal_sides}
 use Rattle.kb_stepint.specs.Choices.{only, both_ways, keys_from, divisors, listed, branch_conditions, key_conditions, divisor_conditions, division_conditions, conditions_of}
-use Rattle.kb_stepint.specs.Needs.{IsSide, AreSides}
+use Rattle.kb_stepint.specs.Needs.{IsSide}
 use Rattle.kb_stepint.specs.Operands.{one_int, two_ints}
 use Rattle.kb_stepint.specs.Reached.{AreRising, AreAbove}
 use Rattle.kb_stepint.specs.Simulation.{NoneIs, ExactlyOneIs}
 use Rattle.kb_stepint.proofs.AskedLaws.{side_value}
 use Rattle.kb_stepint.proofs.OneAsked.{Holds, AllHold, AllSides, IsTruth}
+use Rattle.kb_stepint.proofs.SideLaws.{branch_sides, key_sides}
 use Rattle.kb_stepint.proofs.OneDecided.{AreAlike, truth_same}
 
 -- ---- keys that rise
@@ -301,34 +302,26 @@ conditions_alike _ stack choice = tt
 -- ---- their sides are terms
 
 module _ (nodes : List Node) where
-  branch_sides : (cond : Cond) (a b : Side) (so : Bool) → IsSide nodes a → IsSide nodes b → AreSides nodes (branch_condition cond a b so)
-  branch_sides conds.Eq a b so p q = record { left = p; right = q; binary = refl }
-  branch_sides conds.Ne a b so p q = record { left = p; right = q; binary = refl }
-  branch_sides conds.Lt a b so p q = record { left = p; right = q; binary = refl }
-  branch_sides conds.Ge a b so p q = record { left = p; right = q; binary = refl }
-  branch_sides conds.Gt a b so p q = record { left = q; right = p; binary = refl }
-  branch_sides conds.Le a b so p q = record { left = q; right = p; binary = refl }
-
   branches_sides : (cond : Cond) (a b : Side) (choice : Choice) → IsSide nodes a → IsSide nodes b → AllSides nodes (branch_conditions cond a b choice)
-  branches_sides cond a b (Branch so) p q = (branch_sides cond a b so p q, tt)
+  branches_sides cond a b (Branch so) p q = (branch_sides nodes cond a b so p q, tt)
   branches_sides cond a b _ p q = tt
 
   default_sides : (x : TermId) (keys : List (ℤ × ℕ)) → IsTerm nodes x → AllSides nodes (map (λ (key : ℤ × ℕ). equal_sides (Term x) (Number key.0) false) keys)
   default_sides x [] is = tt
-  default_sides x (key ∷ keys) is = (record { left = is; right = tt; binary = refl }, default_sides x keys is)
+  default_sides x (key ∷ keys) is = (key_sides nodes x key.0 false is, default_sides x keys is)
 
   some_sides : {A : Type 0} (it : Option A) (f : A → List Condition) → ((x : A) → it ≡ Some x → AllSides nodes (f x)) → AllSides nodes (if_some it f)
   some_sides None f h = tt
   some_sides (Some x) f h = h x refl
 
   keys_sides : (x : TermId) (keys : List (ℤ × ℕ)) (choice : Choice) → IsTerm nodes x → AllSides nodes (key_conditions x keys choice)
-  keys_sides x keys (Key place) is = some_sides (slice_get keys place) (λ (key : ℤ × ℕ). equal_sides (Term x) (Number key.0) true ∷ []) (λ key e. (record { left = is; right = tt; binary = refl }, tt))
+  keys_sides x keys (Key place) is = some_sides (slice_get keys place) (λ (key : ℤ × ℕ). equal_sides (Term x) (Number key.0) true ∷ []) (λ key e. (key_sides nodes x key.0 true is, tt))
   keys_sides x keys Default is = default_sides x keys is
   keys_sides x keys _ is = tt
 
   divisor_sides : (x : TermId) (choice : Choice) → IsTerm nodes x → AllSides nodes (divisor_conditions x choice)
-  divisor_sides x Zero is = (record { left = is; right = tt; binary = refl }, tt)
-  divisor_sides x NotZero is = (record { left = is; right = tt; binary = refl }, tt)
+  divisor_sides x Zero is = (key_sides nodes x (pos 0) true is, tt)
+  divisor_sides x NotZero is = (key_sides nodes x (pos 0) false is, tt)
   divisor_sides x _ is = tt
 
   division_sides : (op : IntOp) (x : TermId) (choice : Choice) → IsTerm nodes x → AllSides nodes (division_conditions op x choice)

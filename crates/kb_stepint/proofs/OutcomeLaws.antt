@@ -35,13 +35,13 @@ use Rattle.kb_frames.specs.Lent.{begun, begun_stage, stack_of}
 use Rattle.kb_frames.specs.Next.{argument_next, instruction_next, is_int, is_int_instruction, is_int_next, is_reference, method_now, offset_now}
 use Rattle.kb_frames.specs.StandsFor.{FrameStandsFor, IsInstanceOf, StandsFor, reading_at}
 use Rattle.kb_frames.specs.State.{State}
-use Rattle.kb_frames.specs.States.{IsSymValue}
 use Rattle.kb_frames.proofs.RunLaws.{counters_agree}
 use Rattle.kb_stepint.specs.declared.condition.Condition.{Condition}
 use Rattle.kb_stepint.specs.Asked.{all_asked, is_refuted}
 use Rattle.kb_stepint.specs.Choices.{choices_of, conditions_of, listed, offered, only}
 use Rattle.kb_stepint.specs.Effects.{Planned, plan_of}
 use Rattle.kb_stepint.specs.Laws.{IsAtInts}
+use Rattle.kb_stepint.specs.Needs.{IsTermOf}
 use Rattle.kb_stepint.specs.Reached.{IsAlone}
 use Rattle.kb_stepint.specs.Simulation.{FollowsStep, IsOutcome}
 use Rattle.kb_stepint.specs.Takes.{answered, carried_out, reads_argument, taken, takes_next, takes_up}
@@ -50,7 +50,7 @@ use Rattle.kb_stepint.proofs.GrowLaws.{Grows, all_asked_grows}
 use Rattle.kb_stepint.proofs.KeepLaws.{plan_makes}
 use Rattle.kb_stepint.proofs.OneAsked.{AllHold, AllSides, IsReady, conditions_there, hold_later}
 use Rattle.kb_stepint.proofs.OneDecided.{all_ready}
-use Rattle.kb_stepint.proofs.OneLaws.{IsTermAt, begun_terms, instance_held, instr_rising, method_same, one_term, place_same, stack_same, sym_terms, two_terms}
+use Rattle.kb_stepint.proofs.OneLaws.{begun_terms, instance_held, instr_rising, method_same, one_term, place_same, stack_same, sym_term, sym_terms, two_terms}
 use Rattle.kb_stepint.proofs.OneListed.{HasRising, conditions_sides}
 use Rattle.kb_stepint.proofs.OutcomePlans.{HasFrameTerms, Reads, plan_is}
 use Rattle.kb_stepint.proofs.OutcomeReads.{reads_is}
@@ -137,17 +137,12 @@ module _ (world : World) (bounds : Bounds) (old : State) (at : IsAtInts world ol
   module _ (found : Instr × ℕ) (there : instruction_at world c.frame.method c.frame.at ≡ Some found) (int : is_int_instruction world run.frame.method found.0 ≡ true) (rising : HasRising found.0) where
     frame_terms : (nodes : List Node) → Extends old.nodes nodes → HasFrameTerms nodes run.frame
     frame_terms nodes more = record {
-      stack = λ k value e. later value (sym_terms world old run.frame.stack run.sound.stack k value e);
-      locals = λ k value e. later value (of_local k value e);
+      stack = λ depth. later (slice_get run.frame.stack depth) (sym_terms world old run.frame.stack run.sound.stack depth);
+      locals = λ k value e. later (Some value) (sym_term world old value (run.sound.locals k (Some value) e));
     } where
-      later : (value : SymValue) → IsTermAt old.nodes value → IsTermAt nodes value
-      later (Int t) is = IsTerm-extends old.nodes nodes t more is
+      later : (value : Option SymValue) → IsTermOf old.nodes value → IsTermOf nodes value
+      later (Some (Int t)) is = IsTerm-extends old.nodes nodes t more is
       later _ is = tt
-      of_local : (k : ℕ) (value : SymValue) → slice_get run.frame.locals k ≡ Some (Some value) → IsTermAt old.nodes value
-      of_local k value e = by_value value (run.sound.locals k (Some value) e) where
-        by_value : (v : SymValue) → IsSymValue world old v → IsTermAt old.nodes v
-        by_value (Int t) is = is
-        by_value _ is = tt
 
     module _ (nodes : List Node) (more : Extends old.nodes nodes) (ordered : IsOrdered nodes) (when : List (TermId × Bool)) (choice : Choice) (has : Has (listed found.0 run.frame.stack) choice)
         (held : AllHold nodes variables (conditions_of found.0 run.frame.stack choice)) where

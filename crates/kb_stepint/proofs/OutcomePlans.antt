@@ -50,13 +50,13 @@ use Rattle.kb_frames.specs.Lent.{local_in}
 use Rattle.kb_frames.specs.Next.{is_int_instruction}
 use Rattle.kb_frames.specs.StandsFor.{FrameStandsFor, value_of_sym, values_of_sym}
 use Rattle.kb_frames.specs.State.{State}
-use Rattle.kb_frames.specs.States.{Each}
 use Rattle.kb_stepint.specs.declared.condition.Side.{Side}
 use Rattle.kb_stepint.specs.declared.condition.Side.TheVariants.{Term, Number}
 use Rattle.kb_stepint.specs.Asked.{interned_op}
 use Rattle.kb_stepint.specs.Choices.{both_ways, branch_conditions, conditions_of, division_conditions, divisor_conditions, divisors, key_conditions, keys_from, listed, only}
 use Rattle.kb_stepint.specs.Effects.{Planned, plain, planned, pushes, with_stack, pushes_int, int_local, loads, in_local, stores, adds, increases, picked, rearranges, op_of, op_of_cut, computes, computes_by, computes_two, branch_way, switch_way, switches, masked, kept_int, leaves_with, returns_int, plan_of}
 use Rattle.kb_stepint.specs.Effects.{branches as branches_sym, returns_nothing as returns_nothing_sym}
+use Rattle.kb_stepint.specs.Needs.{IsTermOf}
 use Rattle.kb_stepint.specs.Operands.{int_term, one_int, two_ints}
 use Rattle.kb_stepint.specs.Reached.{AreRising}
 use Rattle.kb_stepint.specs.Ways.{Way, Goes, Jumps, Leaves, Throws, Fails}
@@ -65,7 +65,7 @@ use Rattle.kb_stepint.proofs.GrowLaws.{interned_extends, op_extends}
 use Rattle.kb_stepint.proofs.AskedLaws.{interned_is_term, side_value}
 use Rattle.kb_stepint.proofs.OneAsked.{AllHold}
 use Rattle.kb_stepint.proofs.OneListed.{HasRising, IsNoKey, branch_so, default_none, equal_so, fits_key, rising_none, rising_rest, table_rising}
-use Rattle.kb_stepint.proofs.OneLaws.{IsTermAt, one_term, two_terms}
+use Rattle.kb_stepint.proofs.OneLaws.{AreStackTerms, one_term, two_terms}
 use Rattle.kb_stepint.proofs.ValueLaws.{IsOrdered, constant_made, interned_ordered, op_made}
 
 -- ---- lists
@@ -208,8 +208,8 @@ pub record Reads (R : List Node → Reading) (nodes : List Node) (variables : Li
 
 -- the ints of a frame are terms
 pub record HasFrameTerms (nodes : List Node) (frame : SymFrame) : Type 0 where
-  pub stack : Each (IsTermAt nodes) frame.stack
-  pub locals : (k : ℕ) (value : SymValue) → slice_get frame.locals k ≡ Some (Some value) → IsTermAt nodes value
+  pub stack : AreStackTerms nodes frame.stack
+  pub locals : (k : ℕ) (value : SymValue) → slice_get frame.locals k ≡ Some (Some value) → IsTermOf nodes (Some value)
 
 module _ (s : Setting) (c : Config) (next : ℕ) (base : State) (frame : SymFrame) (nodes : List Node) (variables : List ℤ) (R : List Node → Reading)
     (reads : Reads R nodes variables frame c) (ordered : IsOrdered nodes) (terms : HasFrameTerms nodes frame) where
