@@ -1,5 +1,5 @@
 -- Each condition that the take of an alternative adds is on a comparison by which the step goes on.
-use Rattle.std.proofs.Common.{◌≡◌, ℕ, ◌<◌, ◌≤◌, ℤ, Bool, true, false, List, [], ◌∷◌, length, map, nat_le, slice_get, Option, Some, None, refl, sym, ap, subst, ◌∙◌, if◌then◌else◌, arith}
+use Rattle.std.proofs.Common.{◌≡◌, ℕ, ◌<◌, ◌≤◌, ℤ, Bool, true, false, List, [], length, nat_le, slice_get, Option, Some, None, refl, sym, ap, subst, ◌∙◌, if◌then◌else◌, arith}
 use Rattle.std.specs.Option.{option_map, option_map_or}
 use Rattle.std.proofs.lemmas.Option.{slice_get_within}
 use Rattle.kb_code.specs.declared.instruction.Instr.{Instr}
@@ -17,12 +17,9 @@ use Rattle.kb_terms.specs.declared.node.TermId.{TermId}
 use Rattle.kb_terms.specs.declared.node.Node.{Node}
 use Rattle.kb_terms.specs.Terms.{Extends, value_of}
 use Rattle.kb_picture.specs.declared.choice.Choice.{Choice}
-use Rattle.kb_picture.specs.declared.picture.Picture.{Picture}
 use Rattle.kb_picture.specs.declared.picture.PlaceLists.{PlaceLists}
 use Rattle.kb_picture.specs.Instances.{variable_values}
 use Rattle.kb_picture.specs.Queries.{kind_for}
-use Rattle.kb_picture.specs.Shapes.{HasShape}
-use Rattle.kb_picture.proofs.ShapeLaws.{same_places}
 use Rattle.kb_frames.specs.declared.frame.SymFrame.{SymFrame}
 use Rattle.kb_frames.specs.declared.state.Stage.{Stage}
 use Rattle.kb_frames.specs.declared.state.Stage.TheVariants.{Begins, Runs}
@@ -109,7 +106,7 @@ module _ (world : World) (bounds : Bounds) (old : State) where
         let count : c.carried ≡ old.carried = counters_agree s old input c stands in
         let steps : nat_le bounds.run.steps c.carried ≡ false = ap (nat_le bounds.run.steps) count ∙ within in
         let here : instruction_at world c.frame.method c.frame.at ≡ Some found =
-            ap (λ m. instruction_at world m c.frame.at) stood.method ∙ ap (instruction_at world frame.method) stood.at ∙ at in
+        ap (λ m. instruction_at world m c.frame.at) stood.method ∙ ap (instruction_at world frame.method) stood.at ∙ at in
         ap (λ (b : Bool). if b then None else option_map (λ (f : Instr × ℕ). f.0) (instruction_at world c.frame.method c.frame.at)) steps
         ∙ ap (option_map (λ (f : Instr × ℕ). f.0)) here
 
@@ -131,12 +128,12 @@ module _ (world : World) (bounds : Bounds) (old : State) where
       let plan = plan_of world grown choice found.0 in
       let new : State = (went world bounds found.1 (with_nodes grown plan.nodes) plan.way).state in
       let extends : Extends grown.nodes new.nodes =
-          (stays_on grown (with_nodes grown plan.nodes) new (stays_grown grown (with_nodes grown plan.nodes) (nodes_grow grown plan.nodes (plan_makes world grown choice found.0)))
-          (went_stays world bounds found.1 (with_nodes grown plan.nodes) plan.way)).terms in
+      (stays_on grown (with_nodes grown plan.nodes) new (stays_grown grown (with_nodes grown plan.nodes) (nodes_grow grown plan.nodes (plan_makes world grown choice found.0)))
+      (went_stays world bounds found.1 (with_nodes grown plan.nodes) plan.way)).terms in
       let early : slice_get grown.when i ≡ Some condition =
-          ap (λ (l : List (TermId × Bool)). slice_get l i) (sym (went_when world bounds found.1 (with_nodes grown plan.nodes) plan.way)) ∙ at in
+      ap (λ (l : List (TermId × Bool)). slice_get l i) (sym (went_when world bounds found.1 (with_nodes grown plan.nodes) plan.way)) ∙ at in
       let compared = all_asked_adds (IsComparedBy s c) (variables input c stands reached within) conditions (begun world old)
-          (askable input c stands reached within old.stage found choice refl up) i condition from early new.nodes extends in
+      (askable input c stands reached within old.stage found choice refl up) i condition from early new.nodes extends in
       subst (λ (values : List ℤ). IsComparedBy s c (comparison_of new.nodes values condition.0)) (same_variables old.picture input stands.instance_of.shape new.picture stays.picture shape) compared
 
   takes_up_adds : (choice : Choice) → IsReached world old → nat_le bounds.run.steps old.carried ≡ false → Stays old (takes_up world bounds choice (begun world old)).state

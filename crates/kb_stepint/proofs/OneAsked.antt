@@ -160,12 +160,16 @@ side_ordered nodes (Number z) ordered = interned_ordered nodes (Const z) ordered
 module _ (state : State) (c : Condition) (are : AreSides state.nodes c) (ready : IsReady state) where
   abbrev left : List Node × TermId
   left = interned_side state.nodes c.left
+
   abbrev right : List Node × TermId
   right = interned_side left.0 c.right
+
   abbrev term : List Node × TermId
   term = interned_condition state.nodes c
+
   abbrev grown : State
   grown = with_nodes state term.0
+
   abbrev next : Bool → State
   next b = if b then grown else record grown { when = state.when ++ (term.1, c.truth) ∷ [] }
 
@@ -213,6 +217,7 @@ module _ (state : State) (c : Condition) (are : AreSides state.nodes c) (ready :
   asked_met variables holds met = go (is_some (truth_in grown term.1)) where
     before : AreMetInPool term.0 variables state.when
     before = met_later state.nodes term.0 variables state.when state_term ready.terms met
+
     go : (b : Bool) → AreMetInPool (next b).nodes variables (next b).when
     go true = before
     go false = met_more term.0 variables state.when (term.1, c.truth) before (term_value variables ∙ holds)

@@ -47,24 +47,31 @@ module _ (old : State) (pool : IsPool old.nodes) (terms : AreTermsOf old.nodes o
     (c : Condition) (are : AreSides old.nodes c) where
   abbrev one : List Node × TermId
   one = interned_side state.nodes c.left
+
   abbrev other : List Node × TermId
   other = interned_side one.0 c.right
+
   abbrev made : List Node × TermId
   made = interned_condition state.nodes c
 
   one_other : Extends one.0 other.0
   one_other = side_extends one.0 c.right
+
   other_made : Extends other.0 made.0
   other_made = op_extends other.0 c.op one.1 (Some other.1)
+
   old_one : Extends old.nodes one.0
   old_one = Extends-trans old.nodes state.nodes one.0 e (side_extends state.nodes c.left)
+
   old_other : Extends old.nodes other.0
   old_other = Extends-trans old.nodes one.0 other.0 old_one one_other
+
   old_made : Extends old.nodes made.0
   old_made = Extends-trans old.nodes other.0 made.0 old_other other_made
 
   left_number : constant_at other.0 one.1 ≡ number_of old.nodes c.left
   left_number = number_same old.nodes state.nodes other.0 c.left e one_other are.left
+
   right_number : constant_at other.0 other.1 ≡ number_of old.nodes c.right
   right_number = number_same old.nodes one.0 other.0 c.right old_one (Extends-refl other.0) are.right
 
@@ -157,11 +164,11 @@ module _ (old : State) (pool : IsPool old.nodes) (terms : AreTermsOf old.nodes o
   one_holds c state e from ready are is met =
       let sides : AreSides state.nodes c = sides_later_one old.nodes state.nodes c e are in
       sym (compared_later old.nodes state.nodes variables c e are) ∙ asked_holds state c sides ready variables is.is wanted met where
-    wanted : (so : Bool) → truth_in (with_nodes state (interned_condition state.nodes c).0) (interned_condition state.nodes c).1 ≡ Some so → so ≡ c.truth
-    wanted so known = elim (decided_before old pool terms state e b from c are so known) [
-      | inl before ↦ not_against so c.truth (ap (λ (k : Option Bool). is_against k c.truth) (sym before) ∙ is.undecided)
-      | inr same ↦ same ∙ sym is.same
-    ]
+        wanted : (so : Bool) → truth_in (with_nodes state (interned_condition state.nodes c).0) (interned_condition state.nodes c).1 ≡ Some so → so ≡ c.truth
+        wanted so known = elim (decided_before old pool terms state e b from c are so known) [
+          | inl before ↦ not_against so c.truth (ap (λ (k : Option Bool). is_against k c.truth) (sym before) ∙ is.undecided)
+          | inr same ↦ same ∙ sym is.same
+        ]
 
   from_next : (c : Condition) (state : State) → IsReady state → AreSides state.nodes c → c.truth ≡ b → From old state b → From old (asked state c) b
   from_next c state ready are same from t so among = elim (asked_among state c are ready t so among) [ inl before ↦ from t so before | inr this ↦ inr (this ∙ same) ]
@@ -174,7 +181,7 @@ module _ (old : State) (pool : IsPool old.nodes) (terms : AreTermsOf old.nodes o
       let next : IsReady (asked state c) = asked_ready state c sides ready in
       let more : Extends old.nodes (asked state c).nodes = Extends-trans old.nodes state.nodes (asked state c).nodes e (asked_grows state c).terms in
       let first : AreMetInPool (asked state c).nodes variables (asked state c).when =
-          met_before (asked state c) (all_asked (asked state c) cs) variables (all_asked_grows cs (asked state c)) next.terms met in
+      met_before (asked state c) (all_asked (asked state c) cs) variables (all_asked_grows cs (asked state c)) next.terms met in
       (one_holds c state e from ready are.0 is.0 first, all_hold_from cs (asked state c) more (from_next c state ready sides is.0.same from) next are.1 is.1 met)
 
   pub all_hold : (cs : List Condition) → IsOrdered old.nodes → AllSides old.nodes cs → AllOpen old b cs → AreMetInPool (all_asked old cs).nodes variables (all_asked old cs).when → AllHold old.nodes variables cs
@@ -208,16 +215,16 @@ module _ (old : State) (ordered : IsOrdered old.nodes) (variables : List ℤ) (m
     by_numbers : (a b : ℤ) → number_of old.nodes c.left ≡ Some a → number_of old.nodes c.right ≡ Some b → not (int_eq (op_value c.op a b) (pos 0)) ≡ c.truth
     by_numbers a b p q =
         let value : op_value c.op a b ≡ truth c.truth =
-            ap (λ (z : ℤ). op_value c.op z b) (sym (side_of_number c.left a p)) ∙ ap (λ (z : ℤ). op_value c.op (side_value old.nodes variables c.left) z) (sym (side_of_number c.right b q)) ∙ holds in
+        ap (λ (z : ℤ). op_value c.op z b) (sym (side_of_number c.left a p)) ∙ ap (λ (z : ℤ). op_value c.op (side_value old.nodes variables c.left) z) (sym (side_of_number c.right b q)) ∙ holds in
         ap (λ (z : ℤ). not (int_eq z (pos 0))) value ∙ truth_not_0 c.truth
 
     by_term : (l r t : TermId) (so : Bool) → term_of old.nodes c.left ≡ Some l → term_of old.nodes c.right ≡ Some r → term_with old.nodes (Apply c.op l (Some r)) ≡ Some t
         → truth_among old.when t ≡ Some so → so ≡ c.truth
     by_term l r t so p q at among =
         let value : value_of old.nodes t variables ≡ truth c.truth =
-            operation_value old.nodes t c.op l (Some r) variables ordered (found old.nodes (Apply c.op l (Some r)) t at)
-            ∙ ap (λ (z : ℤ). op_value c.op z (value_of old.nodes r variables)) (side_of_term c.left l p)
-            ∙ ap (λ (z : ℤ). op_value c.op (side_value old.nodes variables c.left) z) (side_of_term c.right r q) ∙ holds in
+        operation_value old.nodes t c.op l (Some r) variables ordered (found old.nodes (Apply c.op l (Some r)) t at)
+        ∙ ap (λ (z : ℤ). op_value c.op z (value_of old.nodes r variables)) (side_of_term c.left l p)
+        ∙ ap (λ (z : ℤ). op_value c.op (side_value old.nodes variables c.left) z) (side_of_term c.right r q) ∙ holds in
         truth_same so c.truth (sym (met_among old.nodes variables old.when t so met among) ∙ value)
 
     by_terms : (l r : Option TermId) (so : Bool) → term_of old.nodes c.left ≡ l → term_of old.nodes c.right ≡ r

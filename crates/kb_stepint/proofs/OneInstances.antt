@@ -136,7 +136,7 @@ read_met world old input kind argument z sound e i =
     let nodes : List Node = old.nodes ++ Var (variables_of old.nodes) kind ∷ [] in
     let variables : List ℤ = variable_values old.picture input i.shape.places.objects in
     let met : AreMetInPool old.nodes (variables ++ z ∷ []) old.when =
-        met_inputs old.nodes variables (z ∷ []) old.when sound.pool (enough_values world old input i.shape.places.objects sound) i.conditions in
+    met_inputs old.nodes variables (z ∷ []) old.when sound.pool (enough_values world old input i.shape.places.objects sound) i.conditions in
     subst (λ (vs : List ℤ). AreMetInPool nodes vs old.when) (sym (variables_more old.picture input i.shape.places.objects argument (variables_of old.nodes) z e))
     (met_later old.nodes nodes (variables ++ z ∷ []) old.when (extends-more old.nodes (Var (variables_of old.nodes) kind)) (conditions_there old.nodes old.when sound.conditions) met)
 

@@ -140,16 +140,22 @@ instr_rising world method at found keys e = go found.0 found.1 e where
 module _ (world : World) (bounds : Bounds) (old : State) (reached : IsReached world old) (input : Input) (instance_of : IsInstanceOf old input) (found : Instr × ℕ) where
   abbrev start : State
   start = begun world old
+
   abbrev stack : List SymValue
   stack = stack_of (begun_stage world old old.stage)
+
   abbrev variables : List ℤ
   variables = variable_values old.picture input instance_of.shape.places.objects
+
   abbrev cs : Choice → List Condition
   cs choice = conditions_of found.0 stack choice
+
   abbrev grown : Choice → State
   grown choice = all_asked start (cs choice)
+
   abbrev plan : Choice → Planned
   plan choice = plan_of world (grown choice) choice found.0
+
   abbrev new : Choice → State
   new choice = (answered world bounds choice start found).state
 
@@ -177,8 +183,10 @@ module _ (world : World) (bounds : Bounds) (old : State) (reached : IsReached wo
 
   abbrev Held : Choice → Type 0
   Held choice = AllHold old.nodes variables (cs choice)
+
   abbrev Instance : Choice → Type 0
   Instance choice = IsInstanceOf (new choice) input
+
   abbrev keep : Choice → Bool
   keep choice = not (is_refuted old (cs choice))
 
@@ -223,7 +231,7 @@ module _ (world : World) (bounds : Bounds) (old : State) (at : IsAtInts world ol
       (option_map_or (offered old (stack_of old.stage)) (instruction_next world old.method old.stage) only)
   one_taken_up =
       subst (λ (found : Option (Instr × ℕ)). ExactlyOneIs (λ (choice : Choice). IsInstanceOf (takes_up world bounds choice (begun world old)).state input)
-          (option_map_or (offered old (stack_of old.stage)) (option_map (λ (f : Instr × ℕ). f.0) found) only)) (place_same world old old.stage) (go place refl)
+      (option_map_or (offered old (stack_of old.stage)) (option_map (λ (f : Instr × ℕ). f.0) found) only)) (place_same world old old.stage) (go place refl)
     where
       go : (it : Option (Instr × ℕ)) → place ≡ it → ExactlyOneIs (λ (choice : Choice). IsInstanceOf (option_map_or (answered world bounds choice (begun world old)) it (ill_typed world (begun world old))).state input)
           (option_map_or (offered old (stack_of old.stage)) (option_map (λ (f : Instr × ℕ). f.0) it) only)
@@ -246,7 +254,7 @@ module _ (world : World) (bounds : Bounds) (old : State) (at : IsAtInts world ol
     by_info n (Some info) is h plain =
         let same : correct.method ≡ info = some_same correct.method info (sym correct.method_is ∙ is) in
         let found = argument_is world input.heap (argument_types world correct.method) input.args correct.arguments n type
-            (ap (λ (i : MethodInfo). slice_get (argument_types world i) n) same ∙ h) in
+        (ap (λ (i : MethodInfo). slice_get (argument_types world i) n) same ∙ h) in
         let int = int_argument world input.heap type found.0 plain found.2 in
         (int.0, found.1 ∙ ap Some int.1)
 

@@ -66,9 +66,11 @@ has_kept keep [] x (n, e) = absurd cc
 has_kept {A} keep (y ∷ xs) x has = go (λ (h : Has (filter keep xs) x). has_kept keep xs x h) (keep y) refl has where
   later : Has xs x × (keep x ≡ true) → Has (y ∷ xs) x × (keep x ≡ true)
   later both = ((suc both.0.0, both.0.1), both.1)
+
   at_place : keep y ≡ true → (n : ℕ) → slice_get (y ∷ filter keep xs) n ≡ Some x → (Has (filter keep xs) x → Has xs x × (keep x ≡ true)) → Has (y ∷ xs) x × (keep x ≡ true)
   at_place kept zero e again = (let same : y ≡ x = cc in ((zero, ap Some same), ap keep (sym same) ∙ kept))
   at_place kept (suc n) e again = later (again (n, e))
+
   go : (Has (filter keep xs) x → Has xs x × (keep x ≡ true)) → (b : Bool) → keep y ≡ b → Has (filter keep (y ∷ xs)) x → Has (y ∷ xs) x × (keep x ≡ true)
   go again true kept has = (let here : Has (y ∷ filter keep xs) x = subst (λ (l : List A). Has l x) (let same : filter keep (y ∷ xs) ≡ y ∷ filter keep xs = rw kept refl in same) has in at_place kept here.0 here.1 again)
   go again false kept has = later (again (subst (λ (l : List A). Has l x) (let same : filter keep (y ∷ xs) ≡ filter keep xs = rw kept refl in same) has))
@@ -85,8 +87,10 @@ module _ (world : World) (bounds : Bounds) (old : State) (at : IsAtInts world ol
     (stands : StandsFor (setting_of world bounds) old input c) (none : argument_next world old.method old.stage ≡ None) (within : nat_le bounds.run.steps old.carried ≡ false) where
   abbrev s : Setting
   s = setting_of world bounds
+
   abbrev places : PlaceLists
   places = stands.instance_of.shape.places
+
   abbrev variables : List ℤ
   variables = variable_values old.picture input places.objects
 
@@ -148,6 +152,7 @@ module _ (world : World) (bounds : Bounds) (old : State) (at : IsAtInts world ol
         (held : AllHold nodes variables (conditions_of found.0 run.frame.stack choice)) where
       abbrev R : List Node → Reading
       R later = reading_at world (canon later when) input places
+
       abbrev plan : Planned
       plan = plan_of world (canon nodes when) choice found.0
 
@@ -179,7 +184,7 @@ module _ (world : World) (bounds : Bounds) (old : State) (at : IsAtInts world ol
         let grown : State = all_asked start cs in
         let grows : Grows start grown = all_asked_grows cs start in
         let here : Has (filter (λ (x : Choice). not (is_refuted old (conditions_of found.0 stack x))) (listed found.0 stack)) choice =
-            subst (λ (l : List SymValue). Has (offered old l found.0) choice) (sym (stack_same world old old.stage)) has in
+        subst (λ (l : List SymValue). Has (offered old l found.0) choice) (sym (stack_same world old old.stage)) has in
         let both = has_kept (λ (x : Choice). not (is_refuted old (conditions_of found.0 stack x))) (listed found.0 stack) choice here in
         let each = begun_terms world old at.reached.sound.stage in
         let sides : AllSides old.nodes cs = conditions_sides old.nodes stack (λ x e. one_term old.nodes stack x each e) (λ p e. two_terms old.nodes stack p each e) found.0 choice in
@@ -199,7 +204,7 @@ module _ (world : World) (bounds : Bounds) (old : State) (at : IsAtInts world ol
   int_here : (found : Instr × ℕ) → place ≡ Some found → is_int_instruction world run.frame.method found.0 ≡ true
   int_here found e =
       let now : is_int_next world (method_now old.method old.stage) (instruction_next world old.method old.stage) ≡ true =
-          int_next (argument_next world old.method old.stage) (is_int_next world (method_now old.method old.stage) (instruction_next world old.method old.stage)) none at.next in
+      int_next (argument_next world old.method old.stage) (is_int_next world (method_now old.method old.stage) (instruction_next world old.method old.stage)) none at.next in
       let next : instruction_next world old.method old.stage ≡ Some found.0 = ap (option_map (λ (f : Instr × ℕ). f.0)) (sym (place_same world old old.stage) ∙ e) in
       let method : run.frame.method ≡ method_now old.method old.stage = run.method ∙ sym (stands_at old.stage at.reached.alone) in
       ap (λ (m : MethodId). is_int_instruction world m found.0) method

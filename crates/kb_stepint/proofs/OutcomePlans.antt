@@ -95,6 +95,7 @@ picked-map {A} {B} f depth picks xs =
         ap (λ (l : List B). l ++ drop depth (map f xs)) (picks-map f xs picks)
         ∙ ap (λ (l : List B). map f (filter_map (λ (place : ℕ). slice_get xs place) picks) ++ l) (drop-map f depth xs)
         ∙ sym (map-append f (filter_map (λ (place : ℕ). slice_get xs place) picks) (drop depth xs))
+
     go : (b : Bool) → (if b then Some (map f (filter_map (λ (place : ℕ). slice_get xs place) picks ++ drop depth xs)) else None)
         ≡ option_map (map f) (if b then Some (filter_map (λ (place : ℕ). slice_get xs place) picks ++ drop depth xs) else None)
     go true = refl
@@ -183,6 +184,7 @@ target_of_key z (first ∷ keys) default (suc i) key rising at e =
     among [] j none h = absurd cc
     among (k ∷ ks) zero none h = (let same : k ≡ key = cc in true≢false (sym e ∙ ap (λ (x : ℤ × ℕ). int_eq z x.0) (sym same) ∙ none.0))
     among (k ∷ ks) (suc j) none h = among ks j none.1 h
+
     go : switch_target z keys default ≡ key.1 → (b : Bool) → int_eq z first.0 ≡ b → (if b then first.1 else switch_target z keys default) ≡ key.1
     go later true same = absurd (among keys i (rising_none z first keys same rising) at)
     go later false other = later
@@ -320,7 +322,7 @@ module _ (s : Setting) (c : Config) (next : ℕ) (base : State) (frame : SymFram
     go None e h = absurd (true≢false (sym h))
     go (Some z) e h =
         let found : int_entry_of s.world (class_number s.world c.frame.method) entry ≡ Some z =
-            ap (λ (m : MethodId). int_entry_of s.world (class_number s.world m) entry) (reads.stands nodes itself).method ∙ e in
+        ap (λ (m : MethodId). int_entry_of s.world (class_number s.world m) entry) (reads.stands nodes itself).method ∙ e in
         ap (λ (it : Option ℤ). with s c (or_else (option_map IntValue it) (option_map (λ literal. Ref (c.inputs + literal)) (literal_entry_of s.world (class_number s.world c.frame.method) entry))) (λ v. goes s c next (v ∷ c.frame.stack))) found
         ∙ pushes_int_is z
 
@@ -392,6 +394,7 @@ module _ (s : Setting) (c : Config) (next : ℕ) (base : State) (frame : SymFram
           ap (λ (l : List (Option Value)). slice_set l k (Some (IntValue z))) (reads.stands later more).locals
           ∙ ap (λ (v : Value). slice_set (map (option_map (value_of_sym (R later))) frame.locals) k (Some v)) (ap IntValue e ∙ sym (reads.ints later t))
           ∙ set-map (option_map (value_of_sym (R later))) frame.locals k (Some (Int t))
+
       go : (b : Bool) → with s c (only_where b (slice_set c.frame.locals k (Some (IntValue z)))) (λ locals. goes_on s c next locals values c.heap)
           ≡ led_to s c next (R later) (if b then Goes (slice_set frame.locals k (Some (Int t))) stack else Fails)
       go true =
@@ -416,8 +419,8 @@ module _ (s : Setting) (c : Config) (next : ℕ) (base : State) (frame : SymFram
           let more : Extends nodes made.0 = Extends-trans nodes one.0 made.0 first (op_extends one.0 Add t (Some one.1)) in
           let operands : AreOperands one.0 Add t (Some one.1) = record { first = IsTerm-extends nodes one.0 t first is; second = interned_is_term nodes (Const by) } in
           let value : word_add (V t) by ≡ value_of made.0 made.1 variables =
-              sym (op_made one.0 Add t (Some one.1) variables (interned_ordered nodes (Const by) ordered tt) operands
-              ∙ ap (λ (z : ℤ). word_add z (value_of one.0 one.1 variables)) (value_of-extends nodes one.0 t variables first is) ∙ ap (λ (z : ℤ). word_add (V t) z) (constant_made nodes by variables)) in
+          sym (op_made one.0 Add t (Some one.1) variables (interned_ordered nodes (Const by) ordered tt) operands
+          ∙ ap (λ (z : ℤ). word_add z (value_of one.0 one.1 variables)) (value_of-extends nodes one.0 t variables first is) ∙ ap (λ (z : ℤ). word_add (V t) z) (constant_made nodes by variables)) in
           sets_is made.0 more k made.1 (word_add (V t) by) value frame.stack c.frame.stack (reads.stands made.0 more).stack
 
   -- ---- the operand stack
@@ -495,6 +498,7 @@ module _ (s : Setting) (c : Config) (next : ℕ) (base : State) (frame : SymFram
   ] where
     by_zero : AllHold nodes variables (divisor_conditions p.1 Zero) → IsPlan (valued (int2_value op (V p.0) (V p.1)) (drop 2 c.frame.stack)) (computes_by state op p Zero)
     by_zero h = ap (λ (v : Option ℤ). valued v (drop 2 c.frame.stack)) (value true (equal_so nodes variables p.1 (pos 0) true h.0))
+
     not_by_zero : AllHold nodes variables (divisor_conditions p.1 NotZero) → IsPlan (valued (int2_value op (V p.0) (V p.1)) (drop 2 c.frame.stack)) (computes_by state op p NotZero)
     not_by_zero h = computed_is op p e (value false (equal_so nodes variables p.1 (pos 0) false h.0))
 
@@ -617,8 +621,8 @@ module _ (s : Setting) (c : Config) (next : ℕ) (base : State) (frame : SymFram
           let first : Extends nodes one.0 = interned_extends nodes (Const (pos 1)) in
           let operands : AreOperands one.0 And t (Some one.1) = record { first = IsTerm-extends nodes one.0 t first is; second = interned_is_term nodes (Const (pos 1)) } in
           let value : word_and (V t) (pos 1) ≡ value_of made.0 made.1 variables =
-              sym (op_made one.0 And t (Some one.1) variables (interned_ordered nodes (Const (pos 1)) ordered tt) operands
-              ∙ ap (λ (z : ℤ). word_and z (value_of one.0 one.1 variables)) (value_of-extends nodes one.0 t variables first is) ∙ ap (λ (z : ℤ). word_and (V t) z) (constant_made nodes (pos 1) variables)) in
+          sym (op_made one.0 And t (Some one.1) variables (interned_ordered nodes (Const (pos 1)) ordered tt) operands
+          ∙ ap (λ (z : ℤ). word_and z (value_of one.0 one.1 variables)) (value_of-extends nodes one.0 t variables first is) ∙ ap (λ (z : ℤ). word_and (V t) z) (constant_made nodes (pos 1) variables)) in
           ap (λ (v : Value). hands_over s c (Some v)) (ap IntValue value ∙ sym (reads.ints made.0 made.1))
 
       go : (result : Option JType) → option_map_or (λ v. hands_over s c (Some v)) (option_and_then (λ type. kept type (IntValue (V t))) result) (ill_typed s c)

@@ -46,14 +46,19 @@ module _ (world : World) (bounds : Bounds) (old : State) (sound : IsState world 
     (read : List SymValue) (is : old.stage ≡ Begins read) (kind : VarKind) where
   abbrev places : PlaceLists
   places = stands.instance_of.shape.places
+
   abbrev variable : ℕ
   variable = variables_of old.nodes
+
   abbrev nodes : List Node
   nodes = old.nodes ++ Var variable kind ∷ []
+
   abbrev term : TermId
   term = record { 0 = length old.nodes }
+
   abbrev variables : List ℤ
   variables = variable_values old.picture input places.objects
+
   abbrev new : State
   new = record old { stage = Begins (read ++ Int term ∷ []); picture = saw_argument old.picture (length read) variable; nodes = nodes }
 

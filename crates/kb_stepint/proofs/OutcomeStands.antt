@@ -58,7 +58,7 @@ as_many world heap (kind ∷ kinds) (value ∷ args) are = ap suc (as_many world
 all_read : (world : World) (method : MethodId) (input : Input) (read : List SymValue) → IsTypeCorrect world method input → argument_next world method (Begins read) ≡ None → length input.args ≤ length read
 all_read world method input read correct none =
     let found : slice_get (argument_types world correct.method) (length read) ≡ None =
-        ap (λ (o : Option MethodInfo). option_and_then (λ (i : MethodInfo). slice_get (argument_types world i) (length read)) o) (sym correct.method_is) ∙ none in
+    ap (λ (o : Option MethodInfo). option_and_then (λ (i : MethodInfo). slice_get (argument_types world i) (length read)) o) (sym correct.method_is) ∙ none in
     let past : length (argument_types world correct.method) ≤ length read = past_end (argument_types world correct.method) (length read) found in
     let many : length input.args ≡ length (argument_types world correct.method) = as_many world input.heap (argument_types world correct.method) input.args correct.arguments in
     omega (arith, past, many)
@@ -76,9 +76,9 @@ module _ (v : SymValue → Value) where
   first_ones read args limit e =
       let many : length args ≡ length read = ap length (sym e) ∙ length-map read v in
       let front : map (λ (value : Value). Some value) args ≡ map (option_map v) (map (λ (value : SymValue). Some value) read) =
-          ap (map (λ (value : Value). Some value)) (sym e) ∙ sym (written_locals read) in
+      ap (map (λ (value : Value). Some value)) (sym e) ∙ sym (written_locals read) in
       let back : replicate (limit - length args) None ≡ map (option_map v) (replicate (limit - length read) None) =
-          ap (λ (n : ℕ). replicate (limit - n) None) many ∙ sym (other_locals (limit - length read)) in
+      ap (λ (n : ℕ). replicate (limit - n) None) many ∙ sym (other_locals (limit - length read)) in
       ap (λ (l : List (Option Value)). l ++ replicate (limit - length args) None) front
       ∙ ap (λ (l : List (Option Value)). map (option_map v) (map (λ (value : SymValue). Some value) read) ++ l) back
       ∙ sym (map-append (option_map v) (map (λ (value : SymValue). Some value) read) (replicate (limit - length read) None))

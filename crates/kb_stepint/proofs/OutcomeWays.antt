@@ -139,12 +139,16 @@ module _ (world : World) (bounds : Bounds) (old : State) (reached : IsReached wo
     (framed : FrameStandsFor (reading_at world (record old { stage = Runs frame []; nodes = nodes; when = when }) input stands.instance_of.shape.places) frame c.frame) where
   abbrev s : Setting
   s = setting_of world bounds
+
   abbrev places : PlaceLists
   places = stands.instance_of.shape.places
+
   abbrev state : State
   state = record old { stage = Runs frame []; nodes = nodes; when = when }
+
   abbrev first : Heap
   first = first_heap world input.heap
+
   abbrev r : Reading
   r = reading_at world state input places
 
@@ -175,21 +179,24 @@ module _ (world : World) (bounds : Bounds) (old : State) (reached : IsReached wo
       → (i : IsInstanceOf (after symbolic) input) → IsOutcome world bounds c (after symbolic) input i OutcomeGoes
   unfolding reading_at
   goes_stands symbolic behind framed e i =
-      let d : Config = record { frame = behind; callers = c.callers; heap = c.heap; inputs = c.inputs; carried = c.carried + 1 } in
-      (d, e, record {
-        run = run_more d e;
-        instance_of = record {
-          shape = stands.instance_of.shape;
-          conditions = subst (λ (vs : List ℤ). AreMetInPool nodes vs when) (sym (same_variables old.picture input stands.instance_of.shape old.picture refl i.shape)) i.conditions;
-        };
-        stage = (framed, subst (FramesStandFor r []) (sym callers) tt);
-        heap = heap_later world old (after symbolic) (reading_at world old input places) r first c.heap later reached.sound.cells reached.sound.made refl refl stands.heap;
-        written = λ slot inside. (
-          (λ has. (let k = (stands.written slot inside).0 (subst (λ (l : List Slot). Has l slot) written_same has) in
-              record { object = k.object; place = k.place; value = k.value; cell = k.cell })),
-          (λ k. subst (λ (l : List Slot). Has l slot) (sym written_same) ((stands.written slot inside).1 (record { object = k.object; place = k.place; value = k.value; cell = k.cell }))),
-        );
-      })
+      let d : Config = record { frame = behind; callers = c.callers; heap = c.heap; inputs = c.inputs; carried = c.carried + 1 } in (
+        d,
+        e,
+        record {
+          run = run_more d e;
+          instance_of = record {
+            shape = stands.instance_of.shape;
+            conditions = subst (λ (vs : List ℤ). AreMetInPool nodes vs when) (sym (same_variables old.picture input stands.instance_of.shape old.picture refl i.shape)) i.conditions;
+          };
+          stage = (framed, subst (FramesStandFor r []) (sym callers) tt);
+          heap = heap_later world old (after symbolic) (reading_at world old input places) r first c.heap later reached.sound.cells reached.sound.made refl refl stands.heap;
+          written = λ slot inside. (
+            (λ has. (let k = (stands.written slot inside).0 (subst (λ (l : List Slot). Has l slot) written_same has) in
+                record { object = k.object; place = k.place; value = k.value; cell = k.cell })),
+            (λ k. subst (λ (l : List Slot). Has l slot) (sym written_same) ((stands.written slot inside).1 (record { object = k.object; place = k.place; value = k.value; cell = k.cell }))),
+          );
+        },
+      )
 
   -- ---- it ends
 
@@ -232,6 +239,7 @@ module _ (world : World) (bounds : Bounds) (old : State) (reached : IsReached wo
 
   abbrev inputs : ℕ
   inputs = length input.heap.objects
+
   abbrev literals : ℕ
   literals = length world.literals
 
@@ -246,6 +254,7 @@ module _ (world : World) (bounds : Bounds) (old : State) (reached : IsReached wo
     by_order i below false e =
         subst (λ (o : Option Object). IsLike o (object_at first i)) (sym (stands.heap.others i below (no_place inputs places.objects i (all_below old.picture input stands.instance_of.shape) (ltb-false i inputs e))))
         (like_itself (object_at first i))
+
     each : (i : ℕ) → i < inputs + literals → i < length c.heap.objects
     each i below = inside_like c.heap.objects first.objects i (omega (arith, below, first_length)) (by_order i below (nat_lt i inputs) refl)
 
@@ -258,10 +267,13 @@ module _ (world : World) (bounds : Bounds) (old : State) (reached : IsReached wo
   module _ (class : List ℕ) where
     abbrev nought : List Node × TermId
     nought = interned nodes (Const (pos 0))
+
     abbrev made : State
     made = with_made world state class
+
     abbrev r' : Reading
     r' = reading_at world made input places
+
     abbrev new_heap : Heap
     new_heap = with_object c.heap (new_object world class)
 
@@ -300,9 +312,9 @@ module _ (world : World) (bounds : Bounds) (old : State) (reached : IsReached wo
     unfolding throws throws_in nearest_handler reading_at
     throws_step =
         let none : nearest_handler world (exact.Class class) (map standpoint (c.frame ∷ c.callers)) ≡ None =
-            ap (λ (fs : List Frame). nearest_handler world (exact.Class class) (map standpoint (c.frame ∷ fs))) callers
-            ∙ ap (λ (h : Option ℕ). option_map_or (λ target. Some (0, target)) h (option_map (λ (found : ℕ × ℕ). (suc found.0, found.1)) (nearest_handler world (exact.Class class) [])))
-            (ap (λ (m : MethodId). handler_at world m c.frame.at (exact.Class class)) (framed.method ∙ method_is) ∙ no_handler world old.method c.frame.at (exact.Class class) reached.unhandled) in
+        ap (λ (fs : List Frame). nearest_handler world (exact.Class class) (map standpoint (c.frame ∷ fs))) callers
+        ∙ ap (λ (h : Option ℕ). option_map_or (λ target. Some (0, target)) h (option_map (λ (found : ℕ × ℕ). (suc found.0, found.1)) (nearest_handler world (exact.Class class) [])))
+        (ap (λ (m : MethodId). handler_at world m c.frame.at (exact.Class class)) (framed.method ∙ method_is) ∙ no_handler world old.method c.frame.at (exact.Class class) reached.unhandled) in
         ap (λ (h : Option (ℕ × ℕ)). option_map_or (λ (found : ℕ × ℕ). lands s c new_heap (length c.heap.objects) found.1 (drop found.0 (c.frame ∷ c.callers))) h
         (StepEnds (record { ending = RunThrew (length c.heap.objects); heap = new_heap }))) none
         ∙ ap (λ (n : ℕ). StepEnds (record { ending = RunThrew n; heap = new_heap })) heap_length
@@ -323,13 +335,13 @@ module _ (world : World) (bounds : Bounds) (old : State) (reached : IsReached wo
   goes_is locals stack e =
       go (has_room world frame.method (length stack))
       (e ∙ ap (λ (b : Bool). if b then carries_out_step c (record c.frame { at = next; locals = map (option_map (value_of_sym r)) locals; stack = values_of_sym r stack }) c.callers c.heap else ill_typed_step s c) (room_same stack))
-   where
-    go : (b : Bool) → step s c ≡ (if b then carries_out_step c (record c.frame { at = next; locals = map (option_map (value_of_sym r)) locals; stack = values_of_sym r stack }) c.callers c.heap else ill_typed_step s c)
-        → Follows (if b then carries_out state (λ (f : SymFrame). record f { at = next; locals = locals; stack = stack }) else ill_typed world state)
-    go true e =
-        goes_stands (record frame { at = next; locals = locals; stack = stack }) (record c.frame { at = next; locals = map (option_map (value_of_sym r)) locals; stack = values_of_sym r stack })
-        (record { method = framed.method; at = refl; locals = refl; stack = refl; transfers = framed.transfers }) e
-    go false e = ill_typed_is e
+    where
+      go : (b : Bool) → step s c ≡ (if b then carries_out_step c (record c.frame { at = next; locals = map (option_map (value_of_sym r)) locals; stack = values_of_sym r stack }) c.callers c.heap else ill_typed_step s c)
+          → Follows (if b then carries_out state (λ (f : SymFrame). record f { at = next; locals = locals; stack = stack }) else ill_typed world state)
+      go true e =
+          goes_stands (record frame { at = next; locals = locals; stack = stack }) (record c.frame { at = next; locals = map (option_map (value_of_sym r)) locals; stack = values_of_sym r stack })
+          (record { method = framed.method; at = refl; locals = refl; stack = refl; transfers = framed.transfers }) e
+      go false e = ill_typed_is e
 
   -- where the transfers are counted
   counted_is : (target : ℕ) (stack : List SymValue) (n : Option ℕ)

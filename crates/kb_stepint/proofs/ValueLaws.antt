@@ -37,12 +37,15 @@ pool_ordered nodes pool = record { each = λ i node e. go i node (pool.fits i no
   go i (Apply op left right) fits = fits.0
 
 ordered_more : (nodes : List Node) (node : Node) → IsOrdered nodes → HasOperands nodes node → IsOrdered (nodes ++ node ∷ [])
-ordered_more nodes node ordered has = record { each = λ i other e. elim (end-cases nodes node i other e) [
-  | inl before ↦ subst (λ (front : List Node). HasOperands front other) (sym (early i before.0)) (ordered.each i other before.1)
-  | inr last ↦ subst (λ (n : Node). HasOperands (take i (nodes ++ node ∷ [])) n) last.1 (subst (λ (front : List Node). HasOperands front node) (sym (whole i last.0)) has)
-] } where
+ordered_more nodes node ordered has = record {
+  each = λ i other e. elim (end-cases nodes node i other e) [
+    | inl before ↦ subst (λ (front : List Node). HasOperands front other) (sym (early i before.0)) (ordered.each i other before.1)
+    | inr last ↦ subst (λ (n : Node). HasOperands (take i (nodes ++ node ∷ [])) n) last.1 (subst (λ (front : List Node). HasOperands front node) (sym (whole i last.0)) has)
+  ];
+} where
   early : (i : ℕ) → i < length nodes → take i (nodes ++ node ∷ []) ≡ take i nodes
   early i below = take-append-le i nodes (node ∷ []) (omega (arith, below))
+
   whole : (i : ℕ) → i ≡ length nodes → take i (nodes ++ node ∷ []) ≡ nodes
   whole i e = ap (λ (n : ℕ). take n (nodes ++ node ∷ [])) e ∙ take-append_seam nodes (node ∷ [])
 
@@ -147,7 +150,7 @@ pub more_inputs : (nodes : List Node) (inputs more : List ℤ) → IsPool nodes 
 unfolding values
 more_inputs nodes inputs more pool enough =
     more_of_nodes inputs more [] nodes (λ i v kind e. below i v kind e) where
-  below : (i v : ℕ) (kind : VarKind) → slice_get nodes i ≡ Some (Var v kind) → v < length inputs
-  below i v kind e =
-      let inside : i < length nodes = slice_get_within nodes i (Var v kind) e in
-      can_compute nodes i (Var v kind) inputs (values inputs (take i nodes)) pool e enough (length-values inputs (take i nodes) ∙ omega (arith, length-take i nodes, inside))
+      below : (i v : ℕ) (kind : VarKind) → slice_get nodes i ≡ Some (Var v kind) → v < length inputs
+      below i v kind e =
+          let inside : i < length nodes = slice_get_within nodes i (Var v kind) e in
+          can_compute nodes i (Var v kind) inputs (values inputs (take i nodes)) pool e enough (length-values inputs (take i nodes) ∙ omega (arith, length-take i nodes, inside))
