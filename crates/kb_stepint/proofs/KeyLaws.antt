@@ -30,7 +30,7 @@ table_many (target ∷ targets) low = ap suc (table_many targets (low +ℤ pos 1
 
 -- ---- the alternatives, one by one
 
-filter_first : {A : Type 0} (p : A → Bool) (x : A) (xs : List A) → filter p (x ∷ xs) ≡ filter p (x ∷ []) ++ filter p xs
+pub filter_first : {A : Type 0} (p : A → Bool) (x : A) (xs : List A) → filter p (x ∷ xs) ≡ filter p (x ∷ []) ++ filter p xs
 filter_first p x xs = go (p x) refl where
   go : (b : Bool) → p x ≡ b → filter p (x ∷ xs) ≡ filter p (x ∷ []) ++ filter p xs
   go true e = rw e refl

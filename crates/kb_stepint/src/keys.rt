@@ -1,5 +1,6 @@
 //! The keys of a switch.
-ghost use Rattle.std.specs.Prelude.{◌≡◌, ◌+ℤ◌, pos, Some, length, slice_get, IfOk};
+ghost use Rattle.std.specs.Prelude.{◌≡◌, ◌+ℤ◌, pos, Some, length, slice_get, FitsSigned, IfOk};
+ghost use Rattle.std.specs.Int.{w32};
 ghost use Rattle.kb_semantics.specs.Comparisons.{table_keys};
 ghost use Rattle.kb_stepint.specs.Turns.{keys_of};
 
@@ -35,7 +36,6 @@ impl Keys<'_> {
     }
 }
 
-#[tactic(auto, using(crate::proofs::KeyLaws::table_at))]
 fn table_entry(low: i32, targets: &[u32], place: usize) -> Result<(i32, u32), NoMemory>
     ensures { IfOk result (λ key. slice_get (table_keys low targets.now) place ≡ Some key) }
 {
@@ -59,7 +59,8 @@ fn lookup_entry(keys: &[(i32, u32)], place: usize) -> Result<(i32, u32), NoMemor
 
 // The key of that place behind the lowest one.
 fn table_key(low: i32, place: usize) -> Result<i32, NoMemory>
-    ensures { IfOk result (λ key. key ≡ low +ℤ pos place) }
+    ensures key { IfOk result (λ key. key ≡ low +ℤ pos place) }
+    ensures range { IfOk result (λ key. FitsSigned w32 key) }
 {
     let Ok(place) = i32::try_from(place) else {
         return Err(NoMemory);
