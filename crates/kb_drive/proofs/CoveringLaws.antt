@@ -13,7 +13,7 @@ use Rattle.kb_picture.specs.declared.path.Leaf.TheVariants.{Ended as EndedLeaf, 
 use Rattle.kb_picture.specs.declared.path.Path.{Path}
 use Rattle.kb_picture.specs.Instances.{IsInstance}
 use Rattle.kb_frames.specs.Cuts.{IsLicensed}
-use Rattle.kb_drive.specs.Division.{ExactlyOneHas}
+use Rattle.kb_picture.specs.Exactly.{ExactlyOneHas}
 use Rattle.kb_drive.specs.Covers.{Covers}
 use Rattle.kb_drive.specs.Within.{IsDecided, AreDecided, IsWithin, EndsOnPath}
 

@@ -5,19 +5,9 @@ use Rattle.kb_class.specs.declared.ids.MethodId.{MethodId}
 use Rattle.kb_heap.specs.declared.heap.Input.{Input}
 use Rattle.kb_link.specs.World.{World}
 use Rattle.kb_semantics.specs.Inputs.{IsTypeCorrect}
+use Rattle.kb_picture.specs.Exactly.{ExactlyOneHas}
 
 -- ---- sets of inputs
-
--- the input is in none of the sets of these things
-abbrev pub NoneHas : {A : Type 0} → (A → Input → Type 0) → List A → Input → Type 0
-NoneHas Has [] input = Unit {0}
-NoneHas Has (first ∷ others) input = (Has first input → ⊥) × NoneHas Has others input
-
--- the input is in the set of exactly one of them
-abbrev pub ExactlyOneHas : {A : Type 0} → (A → Input → Type 0) → List A → Input → Type 0
-ExactlyOneHas Has [] input = ⊥
-ExactlyOneHas Has (first ∷ others) input =
-    (Has first input × NoneHas Has others input) ⊎ ((Has first input → ⊥) × ExactlyOneHas Has others input)
 
 -- each of those inputs is in the set of exactly one of them
 abbrev pub DivideThose : {A : Type 0} → (Input → Type 0) → (A → Input → Type 0) → List A → Type 0

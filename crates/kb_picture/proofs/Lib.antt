@@ -5,3 +5,8 @@ pub mod ChainLaws
 pub mod EndingLaws
 pub mod WriteLaws
 pub mod InstanceLaws
+pub mod GrownPictures
+pub mod GrownShapes
+pub mod GrownTypes
+pub mod Taking
+pub mod HeldLaws

@@ -9,3 +9,7 @@ pub mod WellFormed
 pub mod Queries
 pub mod Depths
 pub mod Laws
+pub mod Exactly
+pub mod Growth
+pub mod WellTyped
+pub mod Growing

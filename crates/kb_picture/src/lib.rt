@@ -2,12 +2,13 @@
 //! ends.
 //!
 //! `specs/` has the definitions: where the objects of a picture lie in an input (`Places`), which inputs are instances of a path
-//! (`Shapes`, `Instances`), the ending and the heap that an ended path states (`Endings`), and when a path is well-formed
-//! (`WellFormed`).
+//! (`Shapes`, `Instances`), the ending and the heap that an ended path states (`Endings`), when a path is well-formed
+//! (`WellFormed`), and how a picture grows (`Growth`) and keeps the types of a method (`WellTyped`).
 #![tactic(auto)]
 
 mod choice;
 mod ending;
+mod growth;
 mod instance;
 mod laws;
 mod marks;
@@ -18,6 +19,7 @@ mod values;
 
 pub use choice::{Choice, Init};
 pub use ending::ending_at;
+pub use growth::{pictures_grow, pictures_grow_by_ints};
 pub use instance::is_instance;
 pub use kb_rows::Row;
 pub use kb_terms::{Operand, Term};

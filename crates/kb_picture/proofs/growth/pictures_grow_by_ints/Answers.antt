@@ -1,0 +1,12 @@
+use Rattle.kb_picture.proofs.GrownPictures.{int_formed}
+use Rattle.kb_picture.proofs.GrownShapes.{int_shape, int_places}
+use Rattle.kb_picture.proofs.GrownTypes.{int_typed}
+use Rattle.kb_picture.proofs.growth.pictures_grow_by_ints.Goals as goal
+
+pub returns : goal.returns
+returns c = record {
+  formed = int_formed;
+  types = λ world id picture slot typed unread holds. int_typed world id picture slot typed unread holds;
+  shape = int_shape;
+  places = int_places;
+}
