@@ -11,7 +11,8 @@ mod told_oracle;
 
 pub use answer::{Answer, OracleStop};
 pub use law::{
-    larger_pools_ask_the_same, models_are_not_refuted, models_meet_every_pool, refuted_are_never_met,
+    larger_pools_ask_the_same, models_are_not_refuted, models_meet_every_pool,
+    refuted_are_never_met,
 };
 pub use oracle::Oracle;
 pub use solver_oracle::SolverOracle;

@@ -48,6 +48,7 @@ made old new t node formed h = elim h.added [ inl same ↦ kept same | inr more 
   kept same =
       let there : term_with old node ≡ Some t = ap (λ (ns : List Node). term_with ns node) (sym same) ∙ found_there new node t formed h.node_is in
       ap (λ (f : Option TermId). option_map_or (λ (u : TermId). (old, u)) f (old ++ node ∷ [], record { 0 = length old })) there ∙ ap (λ (ns : List Node). (ns, t)) (sym same)
+
   grown : new ≡ old ++ node ∷ [] → (f : Option TermId) → term_with old node ≡ f → interned old node ≡ (new, t)
   grown more None at =
       let last : node_at new (record { 0 = length old }) ≡ Some node = ap (λ (ns : List Node). slice_get ns (length old)) more ∙ slice_get-append-end old node [] in
