@@ -1,6 +1,6 @@
 -- The path of a state is well-formed, in the parts that the leaf adds.
-use Rattle.std.proofs.Common.{◌≡◌, ◌≢◌, ℕ, zero, suc, ◌+◌, ◌<◌, Bool, List, [], ◌∷◌, ◌++◌, length, map, slice_get, Option, Some, None, option_map, refl, sym, ap, subst, ◌∙◌, arith}
-use Rattle.std.specs.List.{flat_map, filter_map, cons_option}
+use Rattle.std.proofs.Common.{◌≡◌, ◌≢◌, ℕ, zero, suc, ◌+◌, Bool, List, [], ◌∷◌, ◌++◌, length, map, slice_get, Option, Some, None, option_map, refl, sym, ap, subst, ◌∙◌, arith}
+use Rattle.std.specs.List.{filter_map, cons_option}
 use Rattle.std.proofs.lemmas.Bool.{and_parts}
 use Rattle.std.proofs.lemmas.List.{length-map}
 use Rattle.std.proofs.lemmas.Option.{slice_get-map, slice_get_within}
@@ -12,10 +12,10 @@ use Rattle.kb_terms.specs.declared.node.Node.{Node}
 use Rattle.kb_terms.specs.declared.node.Node.TheVariants.{Const, Var, Op as Apply}
 use Rattle.kb_terms.specs.declared.listing.Operand.TheVariants.{Const as ConstOperand, Var as VarOperand, Term as TermOperand}
 use Rattle.kb_terms.specs.Terms.{IsTerm, AreTerms, node_at, variables_of}
-use Rattle.kb_terms.specs.Numbering.{numbering, IsNumbering}
+use Rattle.kb_terms.specs.Numbering.{IsNumbering}
 use Rattle.kb_terms.proofs.Interned.{variables-append}
 use Rattle.kb_terms.proofs.Order.{term-at, numbering-is}
-use Rattle.kb_blast.specs.Query.{roots_of as condition_roots, kinds_of, listed, numbered_conditions, AreConditions}
+use Rattle.kb_blast.specs.Query.{roots_of as condition_roots, kinds_of, listed, AreConditions}
 use Rattle.kb_picture.specs.declared.picture.Origin.{Origin}
 use Rattle.kb_picture.specs.declared.picture.Seen.{Seen}
 use Rattle.kb_picture.specs.declared.picture.Picture.{Picture}
@@ -29,13 +29,13 @@ use Rattle.kb_picture.specs.declared.path.Ended.{Ended}
 use Rattle.kb_picture.specs.declared.path.Leaf.{Leaf}
 use Rattle.kb_picture.specs.declared.path.Leaf.TheVariants.{Ended as EndedLeaf, Cut, Undecided, Open}
 use Rattle.kb_picture.specs.declared.path.Path.{Path}
-use Rattle.kb_picture.specs.Numbering.{terms_of_out, ended_outs, leaf_outs, met_from}
-use Rattle.kb_picture.specs.Queries.{kind_for, type_of_slot, kind_seen, kinds_seen}
+use Rattle.kb_picture.specs.Numbering.{ended_outs, leaf_outs, met_from}
+use Rattle.kb_picture.specs.Queries.{kind_for, type_of_slot, kinds_seen}
 use Rattle.kb_picture.specs.WellFormed.{variable_seen, variables_seen, IsSlot, IsOut, IsObjectOut, IsThrown, written_slot, written_slots, AreWrites, HasValues, IsEnded, IsLeaf, IsWellFormed}
 use Rattle.kb_frames.specs.State.{State}
 use Rattle.kb_frames.specs.States.{IsState, IsOutIn, IsEndedIn, IsLeafIn}
 use Rattle.kb_frames.specs.Paths.{term_id, terms_stated, path_roots, path_numbering, numbered_out, numbered_ending, numbered_write, numbered_made, numbered_ended, numbered_leaf, numbered_path, path_of}
-use Rattle.kb_frames.proofs.Renumbering.{listed-length, met-is}
+use Rattle.kb_frames.proofs.Renumbering.{met-is}
 use Rattle.kb_frames.proofs.OnceLaws.{terms-once}
 use Rattle.kb_frames.proofs.PathLaws.{comparison-shape, operand-in, terms-there, root-below, conditions-there, ended-outs, roots-same}
 

@@ -1,5 +1,5 @@
 -- The terms of a path are all different: equal operations of a pool are one, and so are their operands.
-use Rattle.std.proofs.Common.{◌≡◌, ℕ, suc, ◌+◌, ◌<◌, Bool, true, false, List, [], ◌∷◌, ◌++◌, length, take, drop, get_or, slice_get, pos, Option, Some, None, refl, sym, ap, subst, ◌∙◌, arith, inl, inr, ◌⊎◌, length-take, take-take}
+use Rattle.std.proofs.Common.{◌≡◌, ℕ, suc, ◌<◌, Bool, true, false, List, [], ◌∷◌, length, take, drop, get_or, slice_get, pos, Option, Some, None, refl, sym, ap, subst, ◌∙◌, arith, inl, inr, ◌⊎◌, length-take, take-take}
 use Rattle.std.proofs.lemmas.Bool.{cases_order}
 use Rattle.std.proofs.lemmas.Option.{slice_get_within, slice_get-get_or}
 use Rattle.kb_terms.specs.declared.op.Op.{Op}
@@ -7,7 +7,6 @@ use Rattle.kb_terms.specs.declared.node.TermId.{TermId}
 use Rattle.kb_terms.specs.declared.node.VarKind.{VarKind}
 use Rattle.kb_terms.specs.declared.node.Node.{Node}
 use Rattle.kb_terms.specs.declared.node.Node.TheVariants.{Const, Var, Op as Apply}
-use Rattle.kb_terms.specs.declared.listing.Operand.{Operand}
 use Rattle.kb_terms.specs.declared.listing.Term.{Term}
 use Rattle.kb_terms.specs.Op.{is_binary}
 use Rattle.kb_terms.specs.Terms.{IsTerm, node_at, variables_of, IsPool, IsSecond}

@@ -1,28 +1,26 @@
 -- The path of a state is well-formed: its terms are those that a walk from its conditions and its leaf meets, in its order, each with
 -- the operands that its operation has.
-use Rattle.std.proofs.Common.{◌≡◌, ◌≢◌, ℕ, zero, suc, ◌+◌, ◌<◌, ◌≤◌, pos, Bool, true, false, List, [], ◌∷◌, ◌++◌, length, map, take, get_or, slice_get, Option, Some, None, refl, sym, ap, subst, ◌∙◌, arith, true≢false, inl, inr, append_assoc}
+use Rattle.std.proofs.Common.{◌≡◌, ℕ, zero, suc, ◌<◌, pos, Bool, true, false, List, [], ◌∷◌, ◌++◌, length, map, take, get_or, slice_get, Option, Some, None, refl, sym, ap, subst, ◌∙◌, arith, inl, inr}
 use Rattle.std.specs.Prelude.{unwrap_or, replicate, ◌==◌}
-use Rattle.std.specs.List.{flat_map, list_all}
+use Rattle.std.specs.List.{flat_map}
 use Rattle.std.proofs.lemmas.Bool.{and_parts}
 use Rattle.std.proofs.lemmas.Bool.Decides.{Decides-eqb}
 use Rattle.std.proofs.lemmas.Grind.{flat_map-append}
-use Rattle.std.proofs.lemmas.List.{append-nil, map-append, length-map, length-replicate}
+use Rattle.std.proofs.lemmas.List.{append-nil, map-append, length-replicate}
 use Rattle.std.proofs.lemmas.List.Quantifiers.{position-Some}
-use Rattle.std.proofs.lemmas.Option.{slice_get_within, slice_get-map, slice_get-get_or}
+use Rattle.std.proofs.lemmas.Option.{slice_get_within, slice_get-get_or}
 use Rattle.kb_terms.specs.declared.op.Op.{Op}
 use Rattle.kb_terms.specs.declared.node.TermId.{TermId}
 use Rattle.kb_terms.specs.declared.node.VarKind.{VarKind}
 use Rattle.kb_terms.specs.declared.node.Node.{Node}
 use Rattle.kb_terms.specs.declared.node.Node.TheVariants.{Const, Var, Op as Apply}
-use Rattle.kb_terms.specs.declared.listing.Operand.{Operand}
 use Rattle.kb_terms.specs.declared.listing.Operand.TheVariants.{Const as ConstOperand, Var as VarOperand, Term as TermOperand}
 use Rattle.kb_terms.specs.declared.listing.Term.{Term}
 use Rattle.kb_terms.specs.Op.{is_binary}
-use Rattle.kb_terms.specs.Terms.{IsTerm, AreTerms, node_at, variables_of, IsPool, IsSecond as IsSecondTerm}
-use Rattle.kb_terms.specs.Numbering.{place_of, numbering, is_operation, IsOperandOf, IsNumbering}
+use Rattle.kb_terms.specs.Terms.{node_at, variables_of, IsPool, IsSecond as IsSecondTerm}
+use Rattle.kb_terms.specs.Numbering.{place_of, is_operation, IsOperandOf, IsNumbering}
 use Rattle.kb_terms.proofs.Computing.{can_compute}
-use Rattle.kb_terms.proofs.Order.{term-at, numbering-is}
-use Rattle.kb_blast.specs.Query.{number_in, operand_from, operand_of, operands_of, listed, roots_of as condition_roots, numbered_conditions, node_passes, is_comparison, AreConditions, kinds_of}
+use Rattle.kb_blast.specs.Query.{number_in, operand_from, operand_of, operands_of, listed, roots_of as condition_roots, numbered_conditions, node_passes, is_comparison, AreConditions}
 use Rattle.kb_blast.specs.Meaning.{IsComparison}
 use Rattle.kb_picture.specs.declared.picture.Picture.{Picture}
 use Rattle.kb_picture.specs.declared.path.Out.{Out}

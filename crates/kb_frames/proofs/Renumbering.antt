@@ -1,29 +1,26 @@
 -- The walk over a path's own list of terms meets them in the order of that list: it goes the same way as the walk over the pool that
 -- numbered them.
-use Rattle.std.proofs.Common.{◌≡◌, ℕ, zero, suc, ◌+◌, ◌<◌, ◌≤◌, List, [], ◌∷◌, ◌++◌, length, take, fold, slice_get, Option, Some, None, Bool, true, false, cond, refl, sym, ap, subst, ◌∙◌, arith, if◌then◌else◌, ◌||◌, ◌==◌, true≢false, append_assoc, length-append, inl, inr}
-use Rattle.std.specs.Prelude.{unwrap_or, map}
-use Rattle.std.specs.List.{list_any, flat_map, cons_option}
+use Rattle.std.proofs.Common.{◌≡◌, ℕ, zero, suc, ◌<◌, ◌≤◌, List, [], ◌∷◌, ◌++◌, length, take, fold, slice_get, Option, Some, None, Bool, true, false, refl, sym, ap, subst, ◌∙◌, arith, if◌then◌else◌, ◌||◌, ◌==◌, true≢false, append_assoc, length-append, inl, inr}
+use Rattle.std.specs.Prelude.{unwrap_or}
+use Rattle.std.specs.List.{flat_map, cons_option}
 use Rattle.std.specs.Option.{option_map_or}
 use Rattle.std.proofs.lemmas.Bool.Decides.{Decides-eqb}
 use Rattle.std.proofs.lemmas.List.{append-nil}
 use Rattle.std.proofs.lemmas.List.Folds.{list_any-append}
 use Rattle.std.proofs.lemmas.List.Sums.{fold-append}
 use Rattle.std.proofs.lemmas.List.Quantifiers.{position-Some}
-use Rattle.std.proofs.lemmas.Option.{slice_get_within}
 use Rattle.kb_terms.specs.declared.op.Op.{Op}
 use Rattle.kb_terms.specs.declared.node.TermId.{TermId}
 use Rattle.kb_terms.specs.declared.node.Node.{Node}
 use Rattle.kb_terms.specs.declared.node.Node.TheVariants.{Const, Var, Op as Apply}
-use Rattle.kb_terms.specs.declared.listing.Operand.{Operand}
-use Rattle.kb_terms.specs.declared.listing.Operand.TheVariants.{Const as ConstOperand, Var as VarOperand, Term as TermOperand}
 use Rattle.kb_terms.specs.declared.listing.Term.{Term}
-use Rattle.kb_terms.specs.Terms.{IsTerm, AreTerms, node_at, IsPool}
+use Rattle.kb_terms.specs.Terms.{node_at, IsPool}
 use Rattle.kb_terms.specs.Numbering.{has_term, place_of, with_term, visit_node, visit, numbering, is_operation, IsOperandOf, IsNumbering}
 use Rattle.kb_terms.proofs.Walking.{first-before, second-before}
-use Rattle.kb_terms.proofs.Order.{earlier-place, there-place}
+use Rattle.kb_terms.proofs.Order.{earlier-place}
 use Rattle.kb_blast.specs.Query.{number_in, operand_from, operand_of, operands_of, listed_from, listed}
 use Rattle.kb_semantics.specs.Looks.{numbers_below}
-use Rattle.kb_picture.specs.Numbering.{terms_of_operand, terms_of_second, terms_below, has_number, met_below, met_from}
+use Rattle.kb_picture.specs.Numbering.{terms_of_operand, terms_below, has_number, met_below, met_from}
 
 -- ---- numbers below one
 

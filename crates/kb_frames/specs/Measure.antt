@@ -1,6 +1,6 @@
 -- How many choices a state can still need before its next instruction is carried out. A further instruction that chooses is a further
 -- case of `questions_of`; none needs more than five, so that each argument counts more than an instruction.
-use Rattle.std.specs.Prelude.{ℕ, suc, zero, ◌+◌, ◌-◌, ◌*◌, length, Option, Some, None}
+use Rattle.std.specs.Prelude.{ℕ, suc, zero, ◌-◌, ◌*◌, length}
 use Rattle.std.specs.Option.{option_map_or}
 use Rattle.kb_class.specs.declared.ids.MethodId.{MethodId}
 use Rattle.kb_class.specs.declared.members.MethodInfo.{MethodInfo}

@@ -1,6 +1,6 @@
 -- The path of a state: its picture and its conditions, with decisions and a leaf that are given. The terms are those that the
 -- conditions and the leaf meet, in the order of a walk from them; before that the leaf has the numbers of the pool.
-use Rattle.std.specs.Prelude.{ℕ, Bool, List, [], ◌∷◌, ◌++◌, map, Option, Some, None, option_map}
+use Rattle.std.specs.Prelude.{ℕ, List, ◌++◌, map, option_map}
 use Rattle.std.specs.List.{flat_map}
 use Rattle.kb_blast.specs.Query.{roots_of as condition_roots, operand_of, listed, numbered_conditions}
 use Rattle.kb_terms.specs.Numbering.{numbering}
