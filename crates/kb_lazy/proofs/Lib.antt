@@ -1,0 +1,5 @@
+pub mod Exactness
+pub mod OneTypes
+pub mod TakesLaws
+pub mod FitLaws
+pub mod DepthLaws
