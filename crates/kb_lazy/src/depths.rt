@@ -8,6 +8,7 @@ use kb_picture::{Origin, Picture};
 
 /// Whether a new object in the slot would lie deeper than `most` objects, the one that an argument holds being the first. It takes
 /// a step for each object from the slot to its argument, and at most `most` of them.
+#[tactic(auto, using(crate::proofs::DepthLaws::step_deeper, crate::proofs::DepthLaws::no_step, crate::proofs::DepthLaws::none_left))]
 pub(crate) fn is_deeper(picture: &Picture, slot: Origin, most: u32) -> bool
     ensures { result ≡ nat_lt most (depth_at picture.now slot) }
 {
