@@ -5,6 +5,7 @@ pub mod Tables
 pub mod ItemLaws
 pub mod Marking
 pub mod ListingLaws
+pub mod RisingKeys
 pub mod Listings
 pub mod Answering
 pub mod Walking

@@ -25,7 +25,7 @@ use Rattle.kb_code.specs.declared.listing.Handler.{Handler}
 use Rattle.kb_code.specs.declared.refusal.CodeRefusal.{CodeRefusal}
 use Rattle.kb_code.specs.declared.refusal.CodeRefusal.TheVariants as refusals
 use Rattle.kb_code.specs.Forms.{form_of, wide_form_of, local_instr, entry_instr, branch_instr}
-use Rattle.kb_code.specs.Listing.{SpellsWideForm, SpellsForm, SpellsOperands, SpellsLoose, SpellsItem, Stands, whole_pair, targets_of, begins, Begins, IsInRange, Lists}
+use Rattle.kb_code.specs.Listing.{IsIncreasing, SpellsWideForm, SpellsForm, SpellsOperands, SpellsLoose, SpellsItem, Stands, whole_pair, targets_of, begins, Begins, IsInRange, Lists}
 use Rattle.kb_code.specs.Reading.{item, walk, without_place}
 use Rattle.kb_code.specs.Answers.{and_then, each_of, Starts, starts_of, target_of, pair_of, placed, placed_item, is_in_range, handlers_fault, unless_fault, listing_of, decoding}
 use Rattle.kb_code.specs.Starts.{AreWithin}
@@ -48,11 +48,13 @@ each_ok f x xs ys h =
     let others = and_then_ok (each_of f xs) (λ zs. Ok (first.0 ∷ zs)) ys first.2 in
     (first.0, others.0, first.1, others.1, sym (ok_same (first.0 ∷ others.0) ys others.2))
 
--- ---- targets of instructions that are read
+-- ---- what holds of instructions that are read
 
-abbrev HasNoTargets : Loose → Type 0
-HasNoTargets (looses.Straight instr) = targets_of instr ≡ []
-HasNoTargets _ = Unit {0}
+-- a straight one has no targets, and the ints of a lookupswitch rise
+abbrev pub IsRead : Loose → Type 0
+IsRead (looses.Straight instr) = targets_of instr ≡ []
+IsRead (looses.Lookup default pairs) = IsIncreasing pairs
+IsRead _ = Unit {0}
 
 local_has_none : (local : Local) (k : ℕ) → targets_of (local_instr local k) ≡ []
 local_has_none locals.LoadInt k = refl
@@ -79,34 +81,34 @@ branch_has_one (branches.IfSame same) to = refl
 branch_has_one (branches.IfNull null) to = refl
 branch_has_one branches.Goto to = refl
 
-wide_has_none : (form : Option WideForm) (loose : Loose) (at : ℕ) (bytes : List ℕ) → SpellsWideForm form loose at bytes → HasNoTargets loose
-wide_has_none None loose at bytes s = absurd s
-wide_has_none (Some (wides.Local local)) loose at bytes s = subst HasNoTargets (sym s.1) (local_has_none local s.0)
-wide_has_none (Some wides.Increment) loose at bytes s = subst HasNoTargets (sym s.2) refl
-wide_has_none (Some (wides.Skipped op)) loose at bytes s = subst HasNoTargets (sym s.0) refl
+wide_is_read : (form : Option WideForm) (loose : Loose) (at : ℕ) (bytes : List ℕ) → SpellsWideForm form loose at bytes → IsRead loose
+wide_is_read None loose at bytes s = absurd s
+wide_is_read (Some (wides.Local local)) loose at bytes s = subst IsRead (sym s.1) (local_has_none local s.0)
+wide_is_read (Some wides.Increment) loose at bytes s = subst IsRead (sym s.2) refl
+wide_is_read (Some (wides.Skipped op)) loose at bytes s = subst IsRead (sym s.0) refl
 
-form_has_none : (op from : ℕ) (form : Form) (loose : Loose) (at : ℕ) (bytes : List ℕ) → form_of op ≡ Some form → SpellsForm from form loose at bytes → HasNoTargets loose
-form_has_none op from (forms.Alone instr) loose at bytes is s = subst HasNoTargets (sym s.0) (alone_has_no_targets op instr is)
-form_has_none op from forms.PushByte loose at bytes is s = subst HasNoTargets (sym s.1) refl
-form_has_none op from forms.PushShort loose at bytes is s = subst HasNoTargets (sym s.1) refl
-form_has_none op from forms.Constant loose at bytes is s = subst HasNoTargets (sym s.1) refl
-form_has_none op from (forms.Local local) loose at bytes is s = subst HasNoTargets (sym s.1) (local_has_none local s.0)
-form_has_none op from forms.Increment loose at bytes is s = subst HasNoTargets (sym s.2) refl
-form_has_none op from (forms.Entry entry) loose at bytes is s = subst HasNoTargets (sym s.1) (entry_has_none entry s.0)
-form_has_none op from forms.Interface loose at bytes is s = subst HasNoTargets (sym s.1) refl
-form_has_none op from forms.Primitive loose at bytes is s = subst HasNoTargets (sym s.1) refl
-form_has_none op from (forms.Near branch) loose at bytes is s = subst HasNoTargets (sym s.1) tt
-form_has_none op from (forms.Far branch) loose at bytes is s = subst HasNoTargets (sym s.1) tt
-form_has_none op from forms.Table loose at bytes is s = subst HasNoTargets (sym s.3) tt
-form_has_none op from forms.Lookup loose at bytes is s = subst HasNoTargets (sym s.2) tt
-form_has_none op from forms.Wide loose at bytes is s = wide_has_none (wide_form_of s.0) loose (at + length s.1.front) s.1.back s.1.ends
-form_has_none op from (forms.Skipped other n) loose at bytes is s = subst HasNoTargets (sym s.0) refl
+form_is_read : (op from : ℕ) (form : Form) (loose : Loose) (at : ℕ) (bytes : List ℕ) → form_of op ≡ Some form → SpellsForm from form loose at bytes → IsRead loose
+form_is_read op from (forms.Alone instr) loose at bytes is s = subst IsRead (sym s.0) (alone_has_no_targets op instr is)
+form_is_read op from forms.PushByte loose at bytes is s = subst IsRead (sym s.1) refl
+form_is_read op from forms.PushShort loose at bytes is s = subst IsRead (sym s.1) refl
+form_is_read op from forms.Constant loose at bytes is s = subst IsRead (sym s.1) refl
+form_is_read op from (forms.Local local) loose at bytes is s = subst IsRead (sym s.1) (local_has_none local s.0)
+form_is_read op from forms.Increment loose at bytes is s = subst IsRead (sym s.2) refl
+form_is_read op from (forms.Entry entry) loose at bytes is s = subst IsRead (sym s.1) (entry_has_none entry s.0)
+form_is_read op from forms.Interface loose at bytes is s = subst IsRead (sym s.1) refl
+form_is_read op from forms.Primitive loose at bytes is s = subst IsRead (sym s.1) refl
+form_is_read op from (forms.Near branch) loose at bytes is s = subst IsRead (sym s.1) tt
+form_is_read op from (forms.Far branch) loose at bytes is s = subst IsRead (sym s.1) tt
+form_is_read op from forms.Table loose at bytes is s = subst IsRead (sym s.3) tt
+form_is_read op from forms.Lookup loose at bytes is s = subst IsRead (sym s.2) s.3.increasing
+form_is_read op from forms.Wide loose at bytes is s = wide_is_read (wide_form_of s.0) loose (at + length s.1.front) s.1.back s.1.ends
+form_is_read op from (forms.Skipped other n) loose at bytes is s = subst IsRead (sym s.0) refl
 
-loose_has_none : (loose : Loose) (at : ℕ) (bytes : List ℕ) → SpellsLoose loose at bytes → HasNoTargets loose
-loose_has_none loose at bytes s = go (form_of s.0) refl s.1.ends where
-  go : (form : Option Form) → form_of s.0 ≡ form → SpellsOperands at form loose (at + length s.1.front) s.1.back → HasNoTargets loose
+pub loose_is_read : (loose : Loose) (at : ℕ) (bytes : List ℕ) → SpellsLoose loose at bytes → IsRead loose
+loose_is_read loose at bytes s = go (form_of s.0) refl s.1.ends where
+  go : (form : Option Form) → form_of s.0 ≡ form → SpellsOperands at form loose (at + length s.1.front) s.1.back → IsRead loose
   go None is h = absurd h
-  go (Some form) is h = form_has_none s.0 at form loose (at + length s.1.front) s.1.back is h
+  go (Some form) is h = form_is_read s.0 at form loose (at + length s.1.front) s.1.back is h
 
 -- ---- placing
 
@@ -166,7 +168,7 @@ pairs_found items at (p ∷ ps) h = rw (target_found items at p.1 h.0, pairs_fou
 abbrev BeginAt : {A : Type 0} → List (ℕ × A) → Instr → Type 0
 BeginAt items instr = AllByRecursion (Begins items) (targets_of instr)
 
-placed_ok : {A : Type 0} (items : List (ℕ × A)) (at : ℕ) (loose : Loose) (instr : Instr) → HasNoTargets loose → placed (starts_of items) at loose ≡ Ok instr
+placed_ok : {A : Type 0} (items : List (ℕ × A)) (at : ℕ) (loose : Loose) (instr : Instr) → IsRead loose → placed (starts_of items) at loose ≡ Ok instr
     → Stands loose instr × BeginAt items instr
 placed_ok items at (looses.Straight straight) instr none h =
     let same : straight ≡ instr = ok_same straight instr h in
@@ -240,7 +242,7 @@ items_placed all [] ys at bytes s h =
 items_placed all (x ∷ xs) ys at bytes s h =
     let e = each_ok (placed_item (starts_of all)) x xs ys h in
     let a = and_then_ok (placed (starts_of all) x.0 x.1) (λ instr. Ok (x.0, instr)) e.0 e.2 in
-    let first = placed_ok all x.0 x.1 a.0 (loose_has_none x.1 at s.front s.begins.1) a.1 in
+    let first = placed_ok all x.0 x.1 a.0 (loose_is_read x.1 at s.front s.begins.1) a.1 in
     let is : (x.0, a.0) ≡ e.0 = ok_same (x.0, a.0) e.0 a.2 in
     let others = items_placed all xs e.1 (at + length s.front) s.back s.ends e.3 in
     let P : List (ℕ × Instr) → Type 0 = λ l. AreLoose (x ∷ xs) l × AllBegin all l in

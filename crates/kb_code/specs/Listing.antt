@@ -152,6 +152,11 @@ targets_of (instrs.Table low default targets) = default ∷ targets
 targets_of (instrs.Lookup default pairs) = default ∷ map (λ pair. pair.1) pairs
 targets_of _ = []
 
+-- the ints of a lookupswitch rise
+abbrev pub HasRisingKeys : Instr → Type 0
+HasRisingKeys (instrs.Lookup default pairs) = IsIncreasing (map whole_pair pairs)
+HasRisingKeys _ = Unit {0}
+
 -- whether an instruction begins at the offset
 abbrev pub begins : {A : Type 0} → List (ℕ × A) → ℕ → Bool
 begins items at = list_any (λ item. nat_eq item.0 at) items

@@ -19,7 +19,7 @@ mod switch_reader;
 pub use decoding::decode;
 pub use instruction::{Cond, Elem, Instr, IntCut, IntOp};
 pub use kb_rows::Row;
-pub use laws::one_listing;
+pub use laws::{keys_rise, one_listing};
 pub use listing::{Handler, Listing};
 pub use name::op_name;
 pub use refusal::CodeRefusal;

@@ -10,8 +10,9 @@ use Rattle.kb_class.specs.Class.{Class}
 use Rattle.kb_classfile.specs.declared.file.ClassFile.{ClassFile}
 use Rattle.kb_classfile.specs.declared.file.Code.{Code}
 use Rattle.kb_classfile.specs.declared.file.Method.{Method as ClassMethod}
-use Rattle.kb_code.specs.Listing.{Begins, IsInRange, targets_of}
+use Rattle.kb_code.specs.Listing.{Begins, HasRisingKeys, IsInRange, targets_of}
 use Rattle.kb_code.specs.declared.listing.Listing.{Listing}
+use Rattle.kb_code.proofs.RisingKeys.{items_rise}
 use Rattle.kb_class.specs.Given.{AreGiven, IsGiven, IsListing, AreListings}
 use Rattle.kb_class.specs.Loading.{IsWhole, IsClassOf, IsCodeOf, AreMethodsOf}
 use Rattle.kb_class.specs.Platform.{PlatformClass, PlatformMethod, IsPlatformMethod, platform_table}
@@ -31,6 +32,7 @@ code_placed (Some c) (Some l) None listed is = absurd is
 code_placed (Some c) (Some l) (Some i) listed is = record {
   targets = subst (λ (k : Listing). AllByRecursion (λ item. AllByRecursion (Begins k.items) (targets_of item.1)) k.items) (sym is.listed) listed.targets;
   ranges = rw (is.listed, is.size, is.handlers) listed.ranges;
+  keys = subst (λ (k : Listing). AllByRecursion (λ item. HasRisingKeys item.1) k.items) (sym is.listed) (items_rise l.items 0 c.bytes listed.instructions);
 }
 
 methods_placed : (id : ℕ) (file : ClassFile) (methods : List ClassMethod) (listings : List (Option Listing)) (infos : List MethodInfo) → AreListings methods listings → AreMethodsOf id file methods listings infos

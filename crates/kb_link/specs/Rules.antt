@@ -7,7 +7,7 @@ use Rattle.kb_class.specs.Naming.{Has}
 use Rattle.kb_class.specs.declared.members.FieldInfo.{FieldInfo}
 use Rattle.kb_class.specs.declared.members.MethodCode.{MethodCode}
 use Rattle.kb_class.specs.declared.members.MethodInfo.{MethodInfo}
-use Rattle.kb_code.specs.Listing.{Begins, IsInRange, targets_of}
+use Rattle.kb_code.specs.Listing.{Begins, HasRisingKeys, IsInRange, targets_of}
 use Rattle.kb_class.specs.Loading.{IsWhole}
 use Rattle.kb_link.specs.declared.claims.ClaimKind.{ClaimKind}
 use Rattle.kb_link.specs.declared.claims.ClaimKind.TheVariants.{Parent, Interface}
@@ -50,10 +50,11 @@ pub record IsGivenTwice (classes : List Class) (name : List ℕ) : Type 0 where
 abbrev pub HasWholeCode : MethodInfo → Type 0
 HasWholeCode method = IfSome method.code IsWhole
 
--- Targets and handlers are where instructions begin (JVMS 8 sections 4.7.3 and 4.9.1).
+-- Targets and handlers are where instructions begin, and the ints of each lookupswitch rise (JVMS 8 sections 4.7.3, 4.9.1 and 6.5).
 pub record HasItsPlaces (code : MethodCode) : Type 0 where
   pub targets : AllByRecursion (λ item. AllByRecursion (Begins code.listing.items) (targets_of item.1)) code.listing.items
   pub ranges : AllByRecursion (IsInRange code.listing.items code.size) code.handlers
+  pub keys : AllByRecursion (λ item. HasRisingKeys item.1) code.listing.items
 
 -- where the method has code, that has its places
 abbrev pub HasPlacedCode : MethodInfo → Type 0
