@@ -96,6 +96,8 @@ for text in [SUM + LEAST, SWAP, NAMES, "~illtyped A.f()V 0|end|~past depth|end|"
 # How a run ends, in the words of the test.
 ask("run", SWAP, ["returns i1|out i0 5 null|out i1 3 i0|"])
 ask("run", ZERO, ["throws n0|new n0 java/lang/ArithmeticException|"])
+MADE = f"test A.f(LNode;)V|{BOUNDS}arg i0|in i0 Node 5 null|throws n0|out i0 5 n0|new n0 Node 3 s0|end|"
+ask("run", MADE, ["throws n0|out i0 5 n0|new n0 Node 3 s0|"], 1)
 ask("run", "".join(f"~{ending}end|" for ending in ENDINGS[9:]), ENDINGS[9:])
 
 # An object's number in the heap: the input's first, then the literals, then the run's.

@@ -10,8 +10,6 @@ mod reading;
 mod script;
 mod settling;
 mod test_case;
-#[cfg(test)]
-mod tests;
 mod words;
 mod writing;
 
