@@ -6,16 +6,15 @@
 //! `examples/machine/` has both.
 #![tactic(auto)]
 
-mod classes;
 mod endings;
 mod rows;
 
 ghost use Rattle.kb_world.specs.Reach.{IsAccepted};
 
-use classes::world_of;
 use endings::ending_text;
 use kb_class::MethodId;
 use kb_heap::{Ending, Heap};
+use kb_load::world_of;
 use kb_machine::{fits_types, run};
 use kb_outside::{FileShelf, OutSink, Shelf, Sink, send_all};
 use kb_world::World;

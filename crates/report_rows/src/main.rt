@@ -5,7 +5,6 @@
 #![tactic(auto)]
 
 mod arrays;
-mod classes;
 mod ints;
 mod leaves;
 mod locations;

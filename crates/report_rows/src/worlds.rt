@@ -1,6 +1,6 @@
 //! The world of the reports: three classes without methods, by the bytes of their files (JVMS 8 section 4.1).
 
-use crate::classes::world_of;
+use kb_load::world_of;
 use kb_world::World;
 use std::alloc::Global;
 use std::io::{self, Error, ErrorKind};

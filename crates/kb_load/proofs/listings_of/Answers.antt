@@ -4,7 +4,7 @@ use Rattle.std.proofs.lemmas.Grind.{take_at_read}
 use Rattle.kb_classfile.specs.declared.file.Method.{Method}
 use Rattle.kb_class.specs.Given.{AreListings}
 use Rattle.kb_class.proofs.Listings.{listings_pushed}
-use Rattle.report_rows.proofs.classes.listings_of.Goals as goal
+use Rattle.kb_load.proofs.listings_of.Goals as goal
 
 pub loop-method-preserved : goal.loop-method-preserved
 loop-method-preserved c =

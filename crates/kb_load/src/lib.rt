@@ -1,4 +1,6 @@
-//! From the bytes of class files to their world.
+//! From the bytes of class files to their world, for programs that want no reason where there is none: those that ask questions
+//! from tables of rows.
+#![tactic(auto)]
 
 ghost use Rattle.std.specs.Prelude.{[], ◌∷◌, IfOk, IfSome};
 ghost use Rattle.kb_class.specs.Given.{AreGiven, AreListings, IsGiven};
@@ -10,7 +12,8 @@ use kb_rows::Row;
 use kb_world::{World, link};
 use std::alloc::Global;
 
-/// The world of the classes that these bytes spell, in order.
+/// The world of the classes that these bytes spell, in order; None where some bytes are no class file, code that cannot be decoded
+/// is among them, the classes cannot be linked, or memory runs out.
 pub fn world_of(alloc: Global, files: &[Vec<u8>]) -> Option<World> {
     let classes = given_classes(alloc, files)?;
     match link(alloc, classes) {

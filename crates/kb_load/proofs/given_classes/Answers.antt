@@ -1,6 +1,6 @@
 use Rattle.kb_class.specs.Given.{IsGiven}
 use Rattle.kb_link.proofs.Walks.{pushed}
-use Rattle.report_rows.proofs.classes.given_classes.Goals as goal
+use Rattle.kb_load.proofs.given_classes.Goals as goal
 
 pub loop-bytes-preserved : goal.loop-bytes-preserved
 loop-bytes-preserved c =
