@@ -21,24 +21,21 @@ import sys
 
 from built import ROOT, Program, with_main, with_those_below
 
-ROWS = ROOT / "crates" / "picture_rows"
 NAME = "picturing"
 CRATES = with_those_below(
-    f"{NAME}: kb_class kb_classfile kb_code kb_heap kb_link kb_machine kb_names kb_picture kb_rows kb_terms kb_world"
+    f"{NAME}: kb_class kb_heap kb_load kb_machine kb_names kb_picture kb_rows kb_terms kb_world"
 )
 
 SOURCE = with_main("""\
 //! Makes a path and an input of so many nodes, and one call on them so many times.
 #![tactic(auto)]
 
-mod classes;
-
 ghost use Rattle.std.specs.Prelude.{◌≡◌, Some};
 ghost use Rattle.kb_picture.specs.Places.{places_of};
 
-use classes::world_of;
 use kb_class::MethodId;
 use kb_heap::{Heap, Input, Object, Value};
+use kb_load::world_of;
 use kb_machine::fits_types;
 use kb_names::{ExactType, Name, read_target};
 use kb_picture::{
@@ -55,9 +52,31 @@ use std::alloc::{AllocError, AllocFailed, Global};
 
 @STOP@
 
+/// A call that is timed.
+#[derive(Clone, Copy)]
+enum Call {
+    Places,
+    IsInstance,
+    EndingAt,
+    FitsTypes,
+}
+
+fn call_of(word: &[u8]) -> Option<Call> {
+    match word {
+        b"places" => Some(Call::Places),
+        b"is_instance" => Some(Call::IsInstance),
+        b"ending_at" => Some(Call::EndingAt),
+        b"fits_types" => Some(Call::FitsTypes),
+        _ => None,
+    }
+}
+
 /// The words are a class file in digits to base 16, a call, how many nodes there are, and how often the call is made.
 fn answer(alloc: Global, words: &[String]) -> Result<Option<u32>, Stop> {
     let [class, call, size, times] = words else {
+        return Ok(None);
+    };
+    let Some(call) = call_of(call.as_bytes()) else {
         return Ok(None);
     };
     let Ok(size) = size.as_str().parse::<u32>() else {
@@ -67,14 +86,14 @@ fn answer(alloc: Global, words: &[String]) -> Result<Option<u32>, Stop> {
         return Ok(None);
     };
     let world = world_in(alloc, class.as_bytes())?;
-    count_in(alloc, &world, call.as_str(), size, times)
+    count_in(alloc, &world, call, size, times)
 }
 
 /// How often the call on path and input of so many nodes answers as it should.
 fn count_in(
     alloc: Global,
     world: &World,
-    call: &str,
+    call: Call,
     size: u32,
     times: u32,
 ) -> Result<Option<u32>, Stop> {
@@ -86,7 +105,7 @@ fn count_of(
     alloc: Global,
     world: &World,
     path: &Path,
-    call: &str,
+    call: Call,
     size: u32,
     times: u32,
 ) -> Result<Option<u32>, Stop> {
@@ -99,7 +118,7 @@ fn count(
     world: &World,
     path: &Path,
     input: &Input,
-    call: &str,
+    call: Call,
     times: u32,
 ) -> Result<Option<u32>, Stop> {
     match places(alloc, path, input) {
@@ -114,34 +133,33 @@ fn count_placed(
     world: &World,
     asked: (&Path, &Input),
     lists: &PlaceLists,
-    call: &str,
+    call: Call,
     times: u32,
 ) -> Result<Option<u32>, Stop>
     requires { places_of asked.0.now.picture asked.1.now ≡ Some lists.now }
 {
+    let method = method_of(alloc, world)?;
     let (path, input) = asked;
-    match call.as_bytes() {
-        b"places" => count_places(alloc, path, input, times),
-        b"is_instance" => count_instances(alloc, world, path, input, lists, times),
-        b"ending_at" => count_endings(alloc, world, path, input, lists, times),
-        b"fits_types" => count_fitting(alloc, world, input, times),
-        _ => Ok(None),
-    }
-}
-
-fn count_places(
-    alloc: Global,
-    path: &Path,
-    input: &Input,
-    times: u32,
-) -> Result<Option<u32>, Stop> {
     let mut count: u32 = 0;
     for _ in 0..times {
-        if has_places(alloc, path, input)? {
+        let is_so = match call {
+            Call::Places => has_places(alloc, path, input)?,
+            Call::IsInstance => is_such(is_instance(alloc, world, path, input, lists))?,
+            Call::EndingAt => has_ending(alloc, world, path, input, lists)?,
+            Call::FitsTypes => fits_types(world, method, input),
+        };
+        if is_so {
             count = count.saturating_add(1);
         }
     }
     Ok(Some(count))
+}
+
+fn is_such(answer: Result<bool, kb_picture::NoMemory>) -> Result<bool, Stop> {
+    match answer {
+        Ok(is_so) => Ok(is_so),
+        Err(_) => Err(Stop),
+    }
 }
 
 fn has_places(alloc: Global, path: &Path, input: &Input) -> Result<bool, Stop> {
@@ -151,77 +169,22 @@ fn has_places(alloc: Global, path: &Path, input: &Input) -> Result<bool, Stop> {
     }
 }
 
-fn count_instances(
+fn has_ending(
     alloc: Global,
     world: &World,
     path: &Path,
     input: &Input,
     lists: &PlaceLists,
-    times: u32,
-) -> Result<Option<u32>, Stop>
-    requires { places_of path.now.picture input.now ≡ Some lists.now }
-{
-    let mut count: u32 = 0;
-    for _ in 0..times {
-        match is_instance(alloc, world, path, input, lists) {
-            Ok(true) => count = count.saturating_add(1),
-            Ok(false) => {}
-            Err(_) => return Err(Stop),
-        }
-    }
-    Ok(Some(count))
-}
-
-fn count_endings(
-    alloc: Global,
-    world: &World,
-    path: &Path,
-    input: &Input,
-    lists: &PlaceLists,
-    times: u32,
-) -> Result<Option<u32>, Stop>
-    requires { places_of path.now.picture input.now ≡ Some lists.now }
-{
-    let mut count: u32 = 0;
-    for _ in 0..times {
-        end(alloc, world, path, input, lists)?;
-        count = count.saturating_add(1);
-    }
-    Ok(Some(count))
-}
-
-fn end(
-    alloc: Global,
-    world: &World,
-    path: &Path,
-    input: &Input,
-    lists: &PlaceLists,
-) -> Result<(), Stop>
+) -> Result<bool, Stop>
     requires { places_of path.now.picture input.now ≡ Some lists.now }
 {
     let Leaf::Ended(_) = &path.leaf else {
-        return Err(Stop);
+        return Ok(false);
     };
     match ending_at(alloc, world, path, input, lists) {
-        Ok(_) => Ok(()),
+        Ok(_) => Ok(true),
         Err(_) => Err(Stop),
     }
-}
-
-fn count_fitting(
-    alloc: Global,
-    world: &World,
-    input: &Input,
-    times: u32,
-) -> Result<Option<u32>, Stop> {
-    let method = method_of(alloc, world)?;
-    let mut count: u32 = 0;
-    for _ in 0..times {
-        if fits_types(world, method, input) {
-            count = count.saturating_add(1);
-        }
-    }
-    Ok(Some(count))
 }
 
 fn method_of(alloc: Global, world: &World) -> Result<MethodId, Stop> {
@@ -393,21 +356,12 @@ fn add_object(alloc: Global, origin: Origin, picture: &mut Picture) -> Result<()
 """)
 
 
-def world_files():
-    """The file of picture_rows that makes a world of class files, with its proofs."""
-    files = {"src/classes.rt": (ROWS / "src" / "classes.rt").read_text(), "proofs/Lib.antt": ""}
-    for file in sorted((ROWS / "proofs" / "classes").rglob("*.antt")):
-        files[str(file.relative_to(ROWS))] = file.read_text().replace("Rattle.picture_rows.", f"Rattle.{NAME}.")
-    return files
-
-
-CLASS = (ROWS / "data" / "Node.class").read_bytes().hex()
+CLASS = (ROOT / "crates" / "picture_rows" / "data" / "Node.class").read_bytes().hex()
 PROGRAM = Program(
     name=NAME,
     crates=CRATES,
     source=SOURCE,
     trial=[CLASS, "places", "10", "1"],
-    proofs=world_files(),
 )
 
 CALLS = ["places", "is_instance", "ending_at", "fits_types"]

@@ -1,6 +1,8 @@
 //! The lines of a table, one after the other.
 
 use crate::answers::add_answer;
+use crate::choosing::add_choices;
+use crate::emitting::emit;
 use crate::inputs::{add_to_input, no_input};
 use crate::paths::{add_to_path, no_path};
 use crate::texts::{add, split};
@@ -47,8 +49,8 @@ fn add_lines(
     Ok(())
 }
 
-/// A line `ask` asks of the path and the input before it, a line `#` speaks to the reader alone, and the lines with the names of
-/// paths and inputs are written as they are.
+/// A line `ask` asks of the path and the input before it, `choices` of the picture alone, and `emit` makes the input that the path
+/// carries; a line `#` speaks to the reader alone, and the lines with the names of paths and inputs are written as they are.
 fn add_line(
     alloc: Global,
     world: &World,
@@ -60,13 +62,25 @@ fn add_line(
     match word.as_bytes() {
         b"" | b"#" => Ok(()),
         b"ask" => add_answer(alloc, world, asked, text),
+        b"choices" => {
+            add_itself(line, text)?;
+            add_choices(alloc, world, &asked.path.picture, rest, text)
+        }
+        b"emit" => {
+            add_itself(line, text)?;
+            emit(alloc, world, rest, asked, text)
+        }
         b"path" | b"input" => {
-            add(line.as_bytes(), text)?;
-            add(b"\n", text)?;
+            add_itself(line, text)?;
             take(alloc, word, rest, asked)
         }
         _ => take(alloc, word, rest, asked),
     }
+}
+
+fn add_itself(line: &str, text: &mut Vec<u8>) -> io::Result<()> {
+    add(line.as_bytes(), text)?;
+    add(b"\n", text)
 }
 
 /// Takes a line of a path or an input; the first line of either begins it anew.

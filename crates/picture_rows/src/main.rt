@@ -1,6 +1,7 @@
 //! Paths and inputs on tables of rows. A table has paths in the lines of a report and inputs in those of a test. For each input
 //! the program writes where the picture of the path lies in it, whether it is an instance of the path, how its run ends by the
-//! path, and whether the machine's run ends so.
+//! path, and whether the machine's run ends so. Of a path it also writes the alternatives for a slot that is read for the first
+//! time, and the input that the path carries.
 //!
 //! The gate runs it over the files of `data/` and compares what it writes with `stdout`, so that a row costs no proof. What is
 //! expected there was written by hand.
@@ -8,7 +9,8 @@
 
 mod answers;
 mod asked;
-mod classes;
+mod choosing;
+mod emitting;
 mod inputs;
 mod paths;
 mod pictures;
@@ -16,7 +18,7 @@ mod texts;
 mod words;
 
 use asked::add_answers;
-use classes::world_of;
+use kb_load::world_of;
 use kb_outside::{FileShelf, OutSink, Shelf, send_all};
 use kb_world::World;
 use std::alloc::Global;
@@ -41,7 +43,22 @@ fn main(rt: HostRuntime) -> io::Result<ExitCode> {
 
 fn add_tables<S: Shelf>(alloc: Global, shelf: &mut S, text: &mut Vec<u8>) -> io::Result<()> {
     add_table(alloc, "Node.class", "rows", shelf, text)?;
-    add_table(alloc, "Node.class Low.class", "rows-with-low", shelf, text)
+    add_table(alloc, "Node.class Low.class", "rows-with-low", shelf, text)?;
+    add_table(alloc, "Node.class", "choices", shelf, text)?;
+    add_table(
+        alloc,
+        "H.class S.class A.class B.class",
+        "choices-with-types",
+        shelf,
+        text,
+    )?;
+    add_table(
+        alloc,
+        "Shape.class Lonely.class Bare.class Square.class Holder.class",
+        "choices-with-arrays",
+        shelf,
+        text,
+    )
 }
 
 /// Adds the answers of a table to the text, in the world of these class files.

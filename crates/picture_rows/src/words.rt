@@ -31,7 +31,7 @@ pub fn number(word: &str) -> io::Result<u32> {
     }
 }
 
-fn int(word: &str) -> io::Result<i32> {
+pub fn int(word: &str) -> io::Result<i32> {
     match word.parse::<i32>() {
         Ok(int) => Ok(int),
         Err(_) => Err(malformed()),

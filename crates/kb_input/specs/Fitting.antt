@@ -1,0 +1,12 @@
+-- What is known of the types that were asked for: of each the first exact type that fits.
+use Rattle.std.specs.Prelude.{◌≡◌, List}
+use Rattle.std.specs.List.{AllByRecursion}
+use Rattle.kb_link.specs.World.{World}
+use Rattle.kb_input.specs.declared.fitting.Fitting.{Fitting}
+use Rattle.kb_input.specs.Emitted.{first_fitting}
+
+abbrev pub IsFitting : World → Fitting → Type 0
+IsFitting world fitting = fitting.first ≡ first_fitting world fitting.kind
+
+abbrev pub AreFitting : World → List Fitting → Type 0
+AreFitting world known = AllByRecursion (IsFitting world) known

@@ -1,0 +1,30 @@
+//! What a reference that is read for the first time may be.
+//!
+//! `specs/Choices.antt` has the alternatives and their order, `specs/Laws.antt` what they are to the inputs of a method: each
+//! one takes exactly one of them.
+#![tactic(auto)]
+
+mod choices;
+mod depths;
+mod fresh;
+mod laws;
+
+pub use choices::read_choices;
+pub use laws::{choices_fit, takes_exactly_one};
+use std::alloc::AllocError;
+
+/// Memory ran out.
+#[derive(Clone, Copy, Debug, PartialEq, Eq)]
+pub struct NoMemory;
+
+impl From<AllocError> for NoMemory {
+    fn from(_error: AllocError) -> NoMemory {
+        NoMemory
+    }
+}
+
+impl From<kb_names::NoMemory> for NoMemory {
+    fn from(_error: kb_names::NoMemory) -> NoMemory {
+        NoMemory
+    }
+}

@@ -1,4 +1,0 @@
-use Rattle.picture_rows.proofs.classes.given_class.Goals as goal
-
-pub returns : goal.returns
-returns c = record { bytes = c.args.bytes.now; spelled = c.in-Ok.ensures.found.spelled; listed = rw c.from_vec.ensures c.in-Ok-listings_of.ensures }
