@@ -19,6 +19,7 @@ mod value;
 
 pub use code::{Found, instruction_at};
 pub use laws::{paths_are_well_formed, paths_mean_their_states, states_begin};
+pub use next::is_int_instruction;
 pub use path::PathStop;
 pub use state::{SymState, start};
 use std::alloc::{AllocError, AllocFailed};

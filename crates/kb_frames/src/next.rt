@@ -125,7 +125,9 @@ fn variable_kind(kind: &JType) -> VarKind
     }
 }
 
-fn is_int_instruction(world: &World, method: MethodId, instr: &Instr) -> bool
+/// Whether an instruction of the method is one of those on ints, on locals that are ints and on the stack, a branch on ints, or a
+/// return of an int or of nothing. An ldc is one of them where its constant is an int.
+pub fn is_int_instruction(world: &World, method: MethodId, instr: &Instr) -> bool
     ensures { result ≡ is_int_instruction world.now method instr.now }
 {
     match instr {

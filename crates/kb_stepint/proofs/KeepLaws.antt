@@ -5,7 +5,6 @@ use Rattle.kb_code.specs.declared.instruction.Instr.{Instr}
 use Rattle.kb_code.specs.declared.instruction.Instr.TheVariants as instrs
 use Rattle.kb_code.specs.declared.instruction.IntOp.{IntOp}
 use Rattle.kb_heap.specs.declared.bounds.Bounds.{Bounds}
-use Rattle.kb_heap.specs.declared.heap.Input.{Input}
 use Rattle.kb_link.specs.World.{World, int_entry_of}
 use Rattle.kb_names.specs.declared.types.JType.{JType}
 use Rattle.kb_names.specs.declared.types.JType.TheVariants as types
@@ -25,9 +24,9 @@ use Rattle.kb_picture.specs.declared.picture.Origin.TheVariants.{Arg}
 use Rattle.kb_picture.specs.declared.picture.Seen.{Seen}
 use Rattle.kb_picture.specs.declared.picture.Seen.TheVariants as seens
 use Rattle.kb_picture.specs.declared.picture.Picture.{Picture}
-use Rattle.kb_picture.specs.Places.{places_of}
 use Rattle.kb_picture.specs.Queries.{kind_for}
-use Rattle.kb_picture.specs.Shapes.{HasShape, HoldEach}
+use Rattle.kb_picture.specs.Shapes.{HasShape}
+use Rattle.kb_picture.proofs.GrownShapes.{before_seen}
 use Rattle.kb_frames.specs.declared.frame.SymFrame.{SymFrame}
 use Rattle.kb_frames.specs.declared.value.Outcome.TheVariants.{Asks}
 use Rattle.kb_frames.specs.Cuts.{setting_of}
@@ -198,29 +197,13 @@ kept_of_stays old new h = record {
   shapes = λ input shape. subst (λ (p : Picture). HasShape p input) h.picture shape;
 }
 
-hold_front : (input : Input) (places : List ℕ) (seen more : List (Origin × Seen)) → HoldEach input places (seen ++ more) → HoldEach input places seen
-hold_front input places [] more h = tt
-hold_front input places (slot ∷ seen) more h = (h.0, hold_front input places seen more h.1)
-
--- an input has the shape of a picture of which one slot more is seen only where it had it before
-seen_before : (picture : Picture) (slot : Origin × Seen) (input : Input) → HasShape (record picture { seen = picture.seen ++ slot ∷ [] }) input → HasShape picture input
-unfolding places_of
-seen_before picture slot input h = record {
-  places = h.places;
-  placed = h.placed;
-  seen = hold_front input h.places.objects picture.seen (slot ∷ []) h.seen;
-  apart = h.apart;
-  such = h.such;
-  stands = h.stands;
-}
-
 argument_kept : (old : State) (kind : VarKind) → Keeps old (read_int old kind)
 argument_kept old kind = record {
   method = refl;
   init = refl;
   terms = record { kept = seam old.nodes (Var (variables_of old.nodes) kind ∷ []) };
   conditions = front_itself old.when;
-  shapes = λ input shape. seen_before old.picture (Arg (read_count old.stage), seens.Int (variables_of old.nodes)) input shape;
+  shapes = λ input shape. (before_seen old.picture (Arg (read_count old.stage), seens.Int (variables_of old.nodes)) input shape).shape;
 } where
   seam : (xs ys : List Node) → take (length xs) (xs ++ ys) ≡ xs
   seam [] ys = refl

@@ -1,15 +1,19 @@
 mod AddedLaws
 mod AskedLaws
+mod ChoiceLaws
 mod ComparedLaws
 mod GrowLaws
+mod IntMethodLaws
 mod ItemLaws
 mod KeepLaws
+mod KeyLaws
 mod MeasureLaws
 mod OneAsked
 mod OneDecided
 mod OneInstances
 mod OneLaws
 mod OneListed
+mod OperandLaws
 mod OutcomeLaws
 mod OutcomePlans
 mod OutcomeReads
@@ -22,4 +26,6 @@ mod PlanLaws
 mod ReachedLaws
 mod SideLaws
 mod SoundLaws
+mod TakeLaws
+mod TermLaws
 mod ValueLaws

@@ -4,6 +4,7 @@ use Rattle.std.specs.Option.{option_map, option_map_or, option_and_then}
 use Rattle.std.proofs.lemmas.Bool.{not-true}
 use Rattle.kb_class.specs.declared.ids.MethodId.{MethodId}
 use Rattle.kb_class.specs.declared.members.MethodInfo.{MethodInfo}
+use Rattle.kb_code.specs.Listing.{HasRisingKeys}
 use Rattle.kb_code.specs.declared.instruction.Instr.{Instr}
 use Rattle.kb_code.specs.declared.instruction.Instr.TheVariants as instrs
 use Rattle.kb_heap.specs.declared.bounds.Bound.TheVariants.{Steps}
@@ -39,7 +40,7 @@ use Rattle.kb_stepint.specs.Effects.{Planned, plan_of}
 use Rattle.kb_stepint.specs.Laws.{IsAtInts}
 use Rattle.kb_stepint.specs.Operands.{int_term, one_int, two_ints}
 use Rattle.kb_stepint.specs.Needs.{IsTermOf}
-use Rattle.kb_stepint.specs.Reached.{HasRisingKeys, IsAlone, IsReached}
+use Rattle.kb_stepint.specs.Reached.{IsAlone, IsReached}
 use Rattle.kb_stepint.specs.Simulation.{ExactlyOneIs, NoneIs, TakesOneWay}
 use Rattle.kb_stepint.specs.Takes.{answered, reads_argument, taken, takes_next, takes_up}
 use Rattle.kb_stepint.specs.Ways.{ill_typed}
@@ -50,7 +51,7 @@ use Rattle.kb_stepint.proofs.KeepLaws.{plan_makes, went_stays}
 use Rattle.kb_stepint.proofs.OneAsked.{AllHold, AllSides, IsReady, conditions_there}
 use Rattle.kb_stepint.proofs.OneDecided.{all_hold, all_met, all_open, all_ready, not_refuted}
 use Rattle.kb_stepint.proofs.OneInstances.{argument_is, instance_of_met, int_argument, met_of_instance, read_instance}
-use Rattle.kb_stepint.proofs.OneListed.{HasRising, conditions_alike, conditions_sides, listed_one, wanted_of}
+use Rattle.kb_stepint.proofs.OneListed.{conditions_alike, conditions_sides, listed_one, wanted_of}
 use Rattle.kb_stepint.proofs.ValueLaws.{pool_ordered}
 
 -- ---- one of those that are left
@@ -129,12 +130,6 @@ pub method_same : (world : World) (old : State) (stage : Stage) → IsAlone old.
 method_same world old (Begins read) alone = refl
 method_same world old (Runs frame callers) alone = alone.0
 
-pub instr_rising : (world : World) (method : MethodId) (at : ℕ) (found : Instr × ℕ) → HasRisingKeys world method → instruction_at world method at ≡ Some found → HasRising found.0
-instr_rising world method at found keys e = go found.0 found.1 e where
-  go : (instr : Instr) (next : ℕ) → instruction_at world method at ≡ Some (instr, next) → HasRising instr
-  go (instrs.Lookup default list) next e = keys at next default list e
-  go _ next e = tt
-
 -- ---- an instruction that is taken up
 
 module _ (world : World) (bounds : Bounds) (old : State) (reached : IsReached world old) (input : Input) (instance_of : IsInstanceOf old input) (found : Instr × ℕ) where
@@ -207,7 +202,7 @@ module _ (world : World) (bounds : Bounds) (old : State) (reached : IsReached wo
       (met_of_instance old.picture (grown choice).nodes (grown choice).when (all_ready (cs choice) start (sides choice) ready).terms (new choice) input
       (answered_picture choice) (answered_when choice) (answered_terms choice) instance_of.shape i)
 
-  pub one_answered : HasRising found.0 → ExactlyOneIs Instance (offered old (stack_of old.stage) found.0)
+  pub one_answered : HasRisingKeys found.0 → ExactlyOneIs Instance (offered old (stack_of old.stage) found.0)
   one_answered rising =
       subst (λ (s : List SymValue). ExactlyOneIs Instance (offered old s found.0)) (stack_same world old old.stage)
       (one_left Held Instance keep held_kept held_instance instance_held (listed found.0 stack) (listed_one old.nodes variables found.0 stack rising))
@@ -222,9 +217,9 @@ module _ (world : World) (bounds : Bounds) (old : State) (at : IsAtInts world ol
   begun_instance : IsInstanceOf (begun world old) input
   begun_instance = record { shape = stands.instance_of.shape; conditions = stands.instance_of.conditions }
 
-  rising : (found : Instr × ℕ) → place ≡ Some found → HasRising found.0
+  rising : (found : Instr × ℕ) → place ≡ Some found → HasRisingKeys found.0
   rising found e =
-      instr_rising world old.method (offset_now (begun_stage world old old.stage)) found at.reached.keys
+      at.reached.keys (offset_now (begun_stage world old old.stage)) found
       (ap (λ (m : MethodId). instruction_at world m (offset_now (begun_stage world old old.stage))) (sym (method_same world old old.stage at.reached.alone)) ∙ e)
 
   one_taken_up : ExactlyOneIs (λ (choice : Choice). IsInstanceOf (takes_up world bounds choice (begun world old)).state input)

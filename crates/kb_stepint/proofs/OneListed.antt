@@ -5,6 +5,7 @@ use Rattle.std.proofs.lemmas.Bool.{not-false, not-true, false_from_ne_true}
 use Rattle.std.proofs.lemmas.Bool.Decides.{Decides-int_eq}
 use Rattle.std.proofs.lemmas.Int.{ints}
 use Rattle.kb_arith.specs.Word.{truth, word_eq, word_lt}
+use Rattle.kb_code.specs.Listing.{IsAbove, IsIncreasing, whole_pair, HasRisingKeys}
 use Rattle.kb_code.specs.declared.instruction.Cond.{Cond}
 use Rattle.kb_code.specs.declared.instruction.Cond.TheVariants as conds
 use Rattle.kb_code.specs.declared.instruction.Instr.{Instr}
@@ -27,7 +28,6 @@ use Rattle.kb_stepint.specs.Asked.{branch_condition, equal_sides}
 use Rattle.kb_stepint.specs.Choices.{only, both_ways, keys_from, divisors, listed, branch_conditions, key_conditions, divisor_conditions, division_conditions, conditions_of}
 use Rattle.kb_stepint.specs.Needs.{IsSide}
 use Rattle.kb_stepint.specs.Operands.{one_int, two_ints}
-use Rattle.kb_stepint.specs.Reached.{AreRising, AreAbove}
 use Rattle.kb_stepint.specs.Simulation.{NoneIs, ExactlyOneIs}
 use Rattle.kb_stepint.proofs.AskedLaws.{side_value}
 use Rattle.kb_stepint.proofs.OneAsked.{Holds, AllHold, AllSides, IsTruth}
@@ -35,6 +35,12 @@ use Rattle.kb_stepint.proofs.SideLaws.{branch_sides, key_sides}
 use Rattle.kb_stepint.proofs.OneDecided.{AreAlike, truth_same}
 
 -- ---- keys that rise
+
+abbrev pub AreAbove : ℤ → List (ℤ × ℕ) → Type 0
+AreAbove low keys = IsAbove low (map whole_pair keys)
+
+abbrev pub AreRising : List (ℤ × ℕ) → Type 0
+AreRising keys = IsIncreasing (map whole_pair keys)
 
 pub rising_rest : (key : ℤ × ℕ) (keys : List (ℤ × ℕ)) → AreRising (key ∷ keys) → AreRising keys
 rising_rest key [] rising = tt
@@ -67,11 +73,6 @@ pub rising_none : (z : ℤ) (key : ℤ × ℕ) (keys : List (ℤ × ℕ)) → in
 rising_none z key keys e rising =
     let same : z ≡ key.0 = (Decides-int_eq z key.0).0 e in
     above_none z key.0 keys (omega (arith, ints, same)) rising
-
--- the keys of a lookupswitch rise
-abbrev pub HasRising : Instr → Type 0
-HasRising (instrs.Lookup default keys) = AreRising keys
-HasRising _ = Unit {0}
 
 -- ---- one of two
 
@@ -202,7 +203,7 @@ module _ (nodes : List Node) (variables : List ℤ) where
 
   -- ---- instructions
 
-  pub listed_one : (instr : Instr) (stack : List SymValue) → HasRising instr → ExactlyOneIs (λ (choice : Choice). AllHold nodes variables (conditions_of instr stack choice)) (listed instr stack)
+  pub listed_one : (instr : Instr) (stack : List SymValue) → HasRisingKeys instr → ExactlyOneIs (λ (choice : Choice). AllHold nodes variables (conditions_of instr stack choice)) (listed instr stack)
   listed_one (instrs.IfInt cond target) stack rising = go (one_int stack) where
     go : (it : Option TermId) → ExactlyOneIs (λ (choice : Choice). AllHold nodes variables (if_some it (λ x. branch_conditions cond (Term x) (Number (pos 0)) choice))) (if is_some it then both_ways else only)
     go None = inl (tt, tt)

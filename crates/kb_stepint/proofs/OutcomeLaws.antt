@@ -4,6 +4,7 @@ use Rattle.std.specs.Option.{option_map, option_map_or}
 use Rattle.std.proofs.lemmas.Bool.{leb-true}
 use Rattle.kb_class.specs.declared.ids.MethodId.{MethodId}
 use Rattle.kb_class.specs.Naming.{Has}
+use Rattle.kb_code.specs.Listing.{HasRisingKeys}
 use Rattle.kb_code.specs.declared.instruction.Instr.{Instr}
 use Rattle.kb_code.specs.declared.instruction.Instr.TheVariants as instrs
 use Rattle.kb_heap.specs.declared.bounds.Bound.TheVariants.{Steps}
@@ -50,8 +51,8 @@ use Rattle.kb_stepint.proofs.GrowLaws.{Grows, all_asked_grows}
 use Rattle.kb_stepint.proofs.KeepLaws.{plan_makes}
 use Rattle.kb_stepint.proofs.OneAsked.{AllHold, AllSides, IsReady, conditions_there, hold_later}
 use Rattle.kb_stepint.proofs.OneDecided.{all_ready}
-use Rattle.kb_stepint.proofs.OneLaws.{begun_terms, instance_held, instr_rising, method_same, one_term, place_same, stack_same, sym_term, sym_terms, two_terms}
-use Rattle.kb_stepint.proofs.OneListed.{HasRising, conditions_sides}
+use Rattle.kb_stepint.proofs.OneLaws.{begun_terms, instance_held, method_same, one_term, place_same, stack_same, sym_term, sym_terms, two_terms}
+use Rattle.kb_stepint.proofs.OneListed.{conditions_sides}
 use Rattle.kb_stepint.proofs.OutcomePlans.{HasFrameTerms, Reads, plan_is}
 use Rattle.kb_stepint.proofs.OutcomeReads.{reads_is}
 use Rattle.kb_stepint.proofs.OutcomeStands.{Running, running}
@@ -138,7 +139,7 @@ module _ (world : World) (bounds : Bounds) (old : State) (at : IsAtInts world ol
 
   -- ---- an instruction is carried out
 
-  module _ (found : Instr × ℕ) (there : instruction_at world c.frame.method c.frame.at ≡ Some found) (int : is_int_instruction world run.frame.method found.0 ≡ true) (rising : HasRising found.0) where
+  module _ (found : Instr × ℕ) (there : instruction_at world c.frame.method c.frame.at ≡ Some found) (int : is_int_instruction world run.frame.method found.0 ≡ true) (rising : HasRisingKeys found.0) where
     frame_terms : (nodes : List Node) → Extends old.nodes nodes → HasFrameTerms nodes run.frame
     frame_terms nodes more = record {
       stack = λ depth. later (slice_get run.frame.stack depth) (sym_terms world old run.frame.stack run.sound.stack depth);
@@ -218,9 +219,9 @@ module _ (world : World) (bounds : Bounds) (old : State) (at : IsAtInts world ol
       stands_at (Begins read) alone = refl
       stands_at (Runs frame callers) alone = alone.0
 
-  rising_here : (found : Instr × ℕ) → place ≡ Some found → HasRising found.0
+  rising_here : (found : Instr × ℕ) → place ≡ Some found → HasRisingKeys found.0
   rising_here found e =
-      instr_rising world old.method (offset_now (begun_stage world old old.stage)) found at.reached.keys
+      at.reached.keys (offset_now (begun_stage world old old.stage)) found
       (ap (λ (m : MethodId). instruction_at world m (offset_now (begun_stage world old old.stage))) (sym (method_same world old old.stage at.reached.alone)) ∙ e)
 
   pub takes_up_follows : (choice : Choice) → Has (option_map_or (offered old (stack_of old.stage)) (instruction_next world old.method old.stage) only) choice → Follows (takes_up world bounds choice (begun world old))

@@ -9,6 +9,7 @@ use Rattle.kb_arith.specs.Word.{word_add, word_and, word_neg}
 use Rattle.kb_class.specs.declared.ids.MethodId.{MethodId}
 use Rattle.kb_class.specs.declared.members.MethodInfo.{MethodInfo}
 use Rattle.kb_class.specs.Naming.{Has}
+use Rattle.kb_code.specs.Listing.{HasRisingKeys}
 use Rattle.kb_code.specs.declared.instruction.Cond.{Cond}
 use Rattle.kb_code.specs.declared.instruction.Instr.{Instr}
 use Rattle.kb_code.specs.declared.instruction.Instr.TheVariants as instrs
@@ -58,13 +59,12 @@ use Rattle.kb_stepint.specs.Effects.{Planned, plain, planned, pushes, with_stack
 use Rattle.kb_stepint.specs.Effects.{branches as branches_sym, returns_nothing as returns_nothing_sym}
 use Rattle.kb_stepint.specs.Needs.{IsTermOf}
 use Rattle.kb_stepint.specs.Operands.{int_term, one_int, two_ints}
-use Rattle.kb_stepint.specs.Reached.{AreRising}
 use Rattle.kb_stepint.specs.Ways.{Way, Goes, Jumps, Leaves, Throws, Fails}
 use Rattle.kb_stepint.proofs.ComparedLaws.{one_int_is, two_ints_are}
 use Rattle.kb_stepint.proofs.GrowLaws.{interned_extends, op_extends}
 use Rattle.kb_stepint.proofs.AskedLaws.{interned_is_term, side_value}
 use Rattle.kb_stepint.proofs.OneAsked.{AllHold}
-use Rattle.kb_stepint.proofs.OneListed.{HasRising, IsNoKey, branch_so, default_none, equal_so, fits_key, rising_none, rising_rest, table_rising}
+use Rattle.kb_stepint.proofs.OneListed.{AreRising, IsNoKey, branch_so, default_none, equal_so, fits_key, rising_none, rising_rest, table_rising}
 use Rattle.kb_stepint.proofs.OneLaws.{AreStackTerms, one_term, two_terms}
 use Rattle.kb_stepint.proofs.ValueLaws.{IsOrdered, constant_made, interned_ordered, op_made}
 
@@ -657,7 +657,7 @@ module _ (s : Setting) (c : Config) (next : ℕ) (base : State) (frame : SymFram
     go (Some info) h = h
 
   pub plan_is : (instr : Instr) (choice : Choice) → is_int_instruction s.world frame.method instr ≡ true → Has (listed instr frame.stack) choice
-      → AllHold nodes variables (conditions_of instr frame.stack choice) → HasRising instr → IsPlan (effect instr s next c) (plan_of s.world state choice instr)
+      → AllHold nodes variables (conditions_of instr frame.stack choice) → HasRisingKeys instr → IsPlan (effect instr s next c) (plan_of s.world state choice instr)
   unfolding effect nop push_int load_constant load_int store_int increase rearrange apply_two negate narrow if_int if_ints goto switch return_int return_nothing
   plan_is instrs.Nop choice int has held rising = goes_is nodes itself frame.stack c.frame.stack here
   plan_is (instrs.PushInt z) choice int has held rising = pushes_int_is z

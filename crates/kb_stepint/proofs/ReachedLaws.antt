@@ -22,6 +22,7 @@ use Rattle.kb_picture.specs.declared.choice.Choice.{Choice}
 use Rattle.kb_picture.specs.declared.choice.Choice.TheVariants as choices
 use Rattle.kb_picture.specs.declared.picture.Picture.{Picture}
 use Rattle.kb_picture.specs.Queries.{kind_for}
+use Rattle.kb_picture.specs.WellTyped.{IsReceiverSeen}
 use Rattle.kb_frames.specs.declared.frame.SymFrame.{SymFrame}
 use Rattle.kb_frames.specs.declared.state.Stage.{Stage}
 use Rattle.kb_frames.specs.declared.state.Stage.TheVariants.{Begins, Runs}
@@ -39,14 +40,14 @@ use Rattle.kb_stepint.specs.Choices.{branch_conditions, conditions_of, division_
 use Rattle.kb_stepint.specs.Effects.{plan_of}
 use Rattle.kb_stepint.specs.Laws.{IsAtInts}
 use Rattle.kb_stepint.specs.Operands.{one_int, two_ints}
-use Rattle.kb_stepint.specs.Reached.{CanBeInput, IsReached}
+use Rattle.kb_stepint.specs.Reached.{IsReached}
 use Rattle.kb_stepint.specs.Simulation.{HasInput}
 use Rattle.kb_stepint.specs.Takes.{answered, taken, takes_next, takes_up}
 use Rattle.kb_stepint.specs.Ways.{Take, Way, Goes, Jumps, Leaves, Throws, Fails, carries_out, ill_typed, went}
 use Rattle.kb_stepint.proofs.GrowLaws.{Grows, all_asked_grows, if_has, option_has}
 use Rattle.kb_stepint.proofs.KeepLaws.{Stays, plan_makes, takes_next_stays}
 use Rattle.kb_stepint.proofs.PlanLaws.{IsGood, plan_good}
-use Rattle.kb_stepint.proofs.SoundLaws.{AllCompare, Sound, asked_sound, begun_sound, carried_sound, frame_sound, input_of_picture, int_input, int_sound, made_sound, nodes_sound, reached_sound, receiver_seen, sound_reached}
+use Rattle.kb_stepint.proofs.SoundLaws.{AllCompare, Sound, asked_sound, begun_sound, carried_sound, frame_sound, int_receiver, int_sound, made_sound, nodes_sound, reached_sound, receiver_seen, sound_reached}
 
 -- ---- what is asked for are comparisons
 
@@ -178,13 +179,13 @@ module _ (world : World) (bounds : Bounds) (choice : Choice) where
   -- ---- the picture
 
   pub has_input : (old : State) → IsAtInts world old → HasInput world (taken world bounds old choice).state
-  has_input old at = go (argument_next world old.method old.stage) refl where
+  has_input old at = record { typed = (taken_sound old at).typed; receiver = go (argument_next world old.method old.stage) refl } where
     sound : Sound world old
     sound = sound_reached world old at.reached
 
-    go : (next : Option JType) → argument_next world old.method old.stage ≡ next → HasInput world (after old next).state
+    go : (next : Option JType) → argument_next world old.method old.stage ≡ next → IsReceiverSeen world (after old next).state.method (after old next).state.picture
     go None e =
         let stays : Stays old (takes_next world bounds choice old).state = takes_next_stays world bounds choice old in
-        subst (λ m. CanBeInput world m (takes_next world bounds choice old).state.picture) (sym stays.method)
-        (subst (λ (p : Picture). CanBeInput world old.method p) (sym stays.picture) (input_of_picture world old sound (receiver_seen world old sound e)))
-    go (Some type) e = int_input world old sound type e at.next
+        subst (λ m. IsReceiverSeen world m (takes_next world bounds choice old).state.picture) (sym stays.method)
+        (subst (λ (p : Picture). IsReceiverSeen world old.method p) (sym stays.picture) (receiver_seen world old sound e))
+    go (Some type) e = int_receiver world old sound type e at.next

@@ -12,9 +12,9 @@ use Rattle.kb_frames.specs.State.{State}
 use Rattle.kb_stepint.specs.declared.condition.Condition.{Condition}
 use Rattle.kb_stepint.specs.declared.condition.Side.{Side}
 use Rattle.kb_stepint.specs.declared.condition.Side.TheVariants.{Term, Number}
-use Rattle.kb_stepint.specs.Asked.{all_asked, asked, branch_condition, equal_sides}
+use Rattle.kb_stepint.specs.Asked.{asked, branch_condition, equal_sides}
 use Rattle.kb_stepint.specs.Needs.{AreSides, IsSide}
-use Rattle.kb_stepint.proofs.GrowLaws.{all_asked_grows, asked_grows}
+use Rattle.kb_stepint.proofs.GrowLaws.{asked_grows}
 
 pub branch_sides : (nodes : List Node) (cond : Cond) (a b : Side) (so : Bool) → IsSide nodes a → IsSide nodes b → AreSides nodes (branch_condition cond a b so)
 branch_sides nodes conds.Eq a b so p q = record { left = p; right = q; binary = refl }
@@ -36,6 +36,3 @@ operands_there before nodes op left right first e second binary = record {
 
 pub asked_extends : (state : State) (c : Condition) → Extends state.nodes (asked state c).nodes
 asked_extends state c = (asked_grows state c).terms
-
-pub all_asked_extends : (state : State) (cs : List Condition) → Extends state.nodes (all_asked state cs).nodes
-all_asked_extends state cs = (all_asked_grows cs state).terms

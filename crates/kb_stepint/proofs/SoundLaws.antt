@@ -36,8 +36,10 @@ use Rattle.kb_picture.specs.declared.picture.Seen.TheVariants as seens
 use Rattle.kb_picture.specs.declared.picture.PicLoc.{PicLoc}
 use Rattle.kb_picture.specs.declared.picture.PicObject.{PicObject}
 use Rattle.kb_picture.specs.declared.picture.Picture.{Picture}
+use Rattle.kb_picture.specs.Growing.{HoldsInt, IsUnread, params_of}
 use Rattle.kb_picture.specs.Queries.{kind_for, kind_seen, kinds_seen}
-use Rattle.kb_picture.specs.WellFormed.{IsPicture, slots_seen}
+use Rattle.kb_picture.specs.WellFormed.{slots_seen}
+use Rattle.kb_picture.specs.WellTyped.{IsReceiverSeen, IsWellTyped, is_int_type}
 use Rattle.kb_frames.specs.declared.frame.SymFrame.{SymFrame}
 use Rattle.kb_frames.specs.declared.state.Stage.{Stage}
 use Rattle.kb_frames.specs.declared.state.Stage.TheVariants.{Begins, Runs}
@@ -55,42 +57,36 @@ use Rattle.kb_frames.specs.Truths.{truth_in}
 use Rattle.kb_frames.proofs.FormedPaths.{variables-same}
 use Rattle.kb_stepint.specs.declared.condition.Condition.{Condition}
 use Rattle.kb_stepint.specs.Asked.{all_asked, asked, interned_condition, interned_side}
-use Rattle.kb_stepint.specs.Reached.{CanBeInput, HasNoHandlers, HasNoneLeftOut, HasReadReceiver, HasRisingKeys, IsAlone, IsInt, IsReached, IsWellTyped, SeesReceiver, is_static_method}
+use Rattle.kb_stepint.specs.Reached.{HasNoHandlers, HasNoneLeftOut, HasReadReceiver, IsAlone, IsReached, SwitchesRise}
 use Rattle.kb_stepint.specs.Ways.{carries_out}
 use Rattle.kb_stepint.proofs.AskedLaws.{interned_is_term, interned_node, later_node, no_constant, not_folded}
 use Rattle.kb_stepint.proofs.GrowLaws.{GoesOn, Grows, all_asked_grows, condition_goes_on, interned_goes_on}
 use Rattle.kb_stepint.proofs.ItemLaws.{each_append, each_cons, each_copy, each_map, each_mapped, no_items, none_passes}
-use Rattle.kb_stepint.proofs.PictureLaws.{has_kept, seen_formed, seen_typed, slots_are}
+use Rattle.kb_stepint.proofs.PictureLaws.{receiver_still, saw_typed, slots_are}
 
 -- ---- what holds
 
 pub record Sound (world : World) (state : State) : Type 0 where
-  pub info : MethodInfo
-  pub info_is : info_of world state.method ≡ Some info
-  pub picture : IsPicture world (length (argument_types world info)) state.picture
+  pub typed : IsWellTyped world state.method state.picture
   pub kinds : kinds_of state.nodes ≡ kinds_seen world state.method state.picture
   pub conditions : AreConditions state.nodes state.when
   pub stage : IsStage world state state.stage
   pub cells : AreCells world state
   pub made : Each (IsMade world state) state.made
-  pub typed : IsWellTyped world state.method state.picture
   pub receiver : HasReadReceiver world state.method state.stage state.picture
   pub alone : IsAlone state.method state.stage
   pub unhandled : HasNoHandlers world state.method
   pub parameters : HasNoneLeftOut world state.method
-  pub keys : HasRisingKeys world state.method
+  pub keys : SwitchesRise world state.method
 
 pub sound_reached : (world : World) (state : State) → IsReached world state → Sound world state
 sound_reached world state h = record {
-  info = h.sound.info;
-  info_is = h.sound.info_is;
-  picture = h.sound.picture;
+  typed = h.typed;
   kinds = h.sound.kinds;
   conditions = h.sound.conditions;
   stage = h.sound.stage;
   cells = h.sound.cells;
   made = h.sound.made;
-  typed = h.typed;
   receiver = h.receiver;
   alone = h.alone;
   unhandled = h.unhandled;
@@ -101,9 +97,9 @@ sound_reached world state h = record {
 pub reached_sound : (world : World) (state : State) → Sound world state → IsPool state.nodes → IsReached world state
 reached_sound world state h pool = record {
   sound = record {
-    info = h.info;
-    info_is = h.info_is;
-    picture = h.picture;
+    info = h.typed.method;
+    info_is = h.typed.method_is;
+    picture = h.typed.formed;
     pool = pool;
     kinds = h.kinds;
     conditions = h.conditions;
@@ -244,15 +240,12 @@ module _ (world : World) (state : State) (nodes : List Node) (when : List (TermI
 
   pub grown_sound : Sound world grown_state
   grown_sound = record {
-    info = sound.info;
-    info_is = sound.info_is;
-    picture = sound.picture;
+    typed = sound.typed;
     kinds = on.kinds ∙ sound.kinds;
     conditions = are;
     stage = stage_still state.stage sound.stage;
     cells = cells_still world state grown_state grown_still refl sound.cells.seen sound.cells;
     made = made_still world state grown_state grown_still state.made sound.made;
-    typed = sound.typed;
     receiver = sound.receiver;
     alone = sound.alone;
     unhandled = sound.unhandled;
@@ -279,7 +272,7 @@ module _ (world : World) (state : State) (frame : SymFrame) (callers : List SymF
   frame_alone : (frame.method ≡ state.method) × (callers ≡ [])
   frame_alone = subst (IsAlone state.method) running sound.alone
 
-  frame_receiver : SeesReceiver (is_static_method world state.method) state.picture
+  frame_receiver : IsReceiverSeen world state.method state.picture
   frame_receiver = subst (λ (stage : Stage). HasReadReceiver world state.method stage state.picture) running sound.receiver
 
   -- another frame of the method
@@ -292,9 +285,7 @@ module _ (world : World) (state : State) (frame : SymFrame) (callers : List SymF
 
     running_sound : Sound world (carried_state (Runs frame callers))
     running_sound = record {
-      info = sound.info;
-      info_is = sound.info_is;
-      picture = sound.picture;
+      typed = sound.typed;
       kinds = sound.kinds;
       conditions = sound.conditions;
       stage = (
@@ -303,7 +294,6 @@ module _ (world : World) (state : State) (frame : SymFrame) (callers : List SymF
       );
       cells = cells_still world state (carried_state (Runs frame callers)) carried_still refl sound.cells.seen sound.cells;
       made = made_still world state (carried_state (Runs frame callers)) carried_still state.made sound.made;
-      typed = sound.typed;
       receiver = frame_receiver;
       alone = (same ∙ frame_alone.0, frame_alone.1);
       unhandled = sound.unhandled;
@@ -353,16 +343,13 @@ module _ (world : World) (state : State) (class : List ℕ) (sound : Sound world
 
   pub made_sound : Sound world made_state
   made_sound = record {
-    info = sound.info;
-    info_is = sound.info_is;
-    picture = sound.picture;
+    typed = sound.typed;
     kinds = zero_on.kinds ∙ sound.kinds;
     conditions = conditions_still state.nodes zero_made.0 state.when zero_on.terms sound.conditions;
     stage = made_stage state.stage sound.stage;
     cells = cells_still world state made_state made_state_still refl sound.cells.seen sound.cells;
     made = each_append (IsMade world made_state) state.made (new_sym_object world class zero_made.1 ∷ []) (made_still world state made_state made_state_still state.made sound.made)
         (each_cons (IsMade world made_state) (new_sym_object world class zero_made.1) [] object_is (no_items (IsMade world made_state)));
-    typed = sound.typed;
     receiver = sound.receiver;
     alone = sound.alone;
     unhandled = sound.unhandled;
@@ -392,9 +379,9 @@ not_before n slots are h =
         omega (arith, same, less)
 
 -- the type of an argument that is no reference is int or boolean
-int_type : (type : JType) → is_left_out type ≡ false → is_reference type ≡ false → IsInt (Some type)
-int_type types.Bool out reference = tt
-int_type types.Int out reference = tt
+int_type : (type : JType) → is_left_out type ≡ false → is_reference type ≡ false → is_int_type type ≡ true
+int_type types.Bool out reference = refl
+int_type types.Int out reference = refl
 int_type types.Byte out reference = absurd (true≢false out)
 int_type types.Char out reference = absurd (true≢false out)
 int_type types.Short out reference = absurd (true≢false out)
@@ -428,30 +415,16 @@ none_static : (world : World) (info : MethodInfo) (static : Bool) → slice_get 
 none_static world info true at = refl
 none_static world info false at = absurd cc
 
-sees_static : (static : Bool) (picture : Picture) → static ≡ true → SeesReceiver static picture
-sees_static static picture e = subst (λ (b : Bool). SeesReceiver b picture) (sym e) tt
-
-sees_still : (static : Bool) (old : Picture) (n v : ℕ) → SeesReceiver static old → SeesReceiver static (saw_argument old n v)
-sees_still true old n v h = tt
-sees_still false old n v h = (h.0, has_kept old.seen (Arg n, seens.Int v) (Arg 0, h.0) h.1, h.2)
-
 module _ (world : World) (state : State) (sound : Sound world state) where
-  static_is : is_static_method world state.method ≡ is_static sound.info.access
-  static_is = ap (λ (o : Option MethodInfo). option_map_or (λ (info : MethodInfo). is_static info.access) o true) sound.info_is
-
   -- once no argument is left to be read, the receiver was
-  pub receiver_seen : argument_next world state.method state.stage ≡ None → SeesReceiver (is_static_method world state.method) state.picture
+  pub receiver_seen : argument_next world state.method state.stage ≡ None → IsReceiverSeen world state.method state.picture
   receiver_seen none = go state.stage none sound.receiver where
-    go : (stage : Stage) → argument_next world state.method stage ≡ None → HasReadReceiver world state.method stage state.picture → SeesReceiver (is_static_method world state.method) state.picture
-    go (Begins []) e h =
-        let first : slice_get (argument_types world sound.info) 0 ≡ None =
-        ap (option_and_then (λ (info : MethodInfo). slice_get (argument_types world info) 0)) (sym sound.info_is) ∙ e in
-        sees_static (is_static_method world state.method) state.picture (static_is ∙ none_static world sound.info (is_static sound.info.access) first)
+    go : (stage : Stage) → argument_next world state.method stage ≡ None → HasReadReceiver world state.method stage state.picture → IsReceiverSeen world state.method state.picture
+    go (Begins []) e h = λ method is own.
+        let first : slice_get (argument_types world method) 0 ≡ None = ap (option_and_then (λ (info : MethodInfo). slice_get (argument_types world info) 0)) (sym is) ∙ e in
+        absurd (true≢false (sym (none_static world method (is_static method.access) first) ∙ own))
     go (Begins (value ∷ read)) e h = h
     go (Runs frame callers) e h = h
-
-  pub input_of_picture : SeesReceiver (is_static_method world state.method) state.picture → CanBeInput world state.method state.picture
-  input_of_picture sees = record { info = sound.info; info_is = sound.info_is; formed = sound.picture; typed = sound.typed; receiver = sees }
 
   -- an int that is read
   module _ (read : List SymValue) (begins : state.stage ≡ Begins read) (type : JType) (next : argument_next world state.method (Begins read) ≡ Some type) (int : is_reference type ≡ false) where
@@ -479,21 +452,34 @@ module _ (world : World) (state : State) (sound : Sound world state) where
     beginning : IsBeginning world state read
     beginning = subst (IsStage world state) begins sound.stage
 
-    at : slice_get (argument_types world sound.info) n ≡ Some type
-    at = ap (option_and_then (λ (info : MethodInfo). slice_get (argument_types world info) n)) (sym sound.info_is) ∙ next
+    at : (info : MethodInfo) → info_of world state.method ≡ Some info → slice_get (argument_types world info) n ≡ Some type
+    at info is = ap (option_and_then (λ (m : MethodInfo). slice_get (argument_types world m) n)) (sym is) ∙ next
 
     kept_type : is_left_out type ≡ false
     kept_type =
-        let none : list_any is_left_out sound.info.kind.params ≡ false =
-        ap (λ (o : Option MethodInfo). option_map_or (λ (info : MethodInfo). list_any is_left_out info.kind.params) o false) (sym sound.info_is) ∙ sound.parameters in
-        argument_kept world sound.info (is_static sound.info.access) n type none int at
+        let none : list_any is_left_out sound.typed.method.kind.params ≡ false =
+        ap (λ (o : Option MethodInfo). option_map_or (λ (info : MethodInfo). list_any is_left_out info.kind.params) o false) (sym sound.typed.method_is) ∙ sound.parameters in
+        argument_kept world sound.typed.method (is_static sound.typed.method.access) n type none int (at sound.typed.method sound.typed.method_is)
 
-    pub read_sees : SeesReceiver (is_static_method world state.method) seen
-    read_sees = go read at (subst (λ (stage : Stage). HasReadReceiver world state.method stage state.picture) begins sound.receiver) where
-      go : (values : List SymValue) → slice_get (argument_types world sound.info) (length values) ≡ Some type → HasReadReceiver world state.method (Begins values) state.picture
-          → SeesReceiver (is_static_method world state.method) seen
-      go [] e h = sees_static (is_static_method world state.method) seen (static_is ∙ first_static world sound.info (is_static sound.info.access) type int e)
-      go (first ∷ values) e h = sees_still (is_static_method world state.method) state.picture n v h
+    -- the argument was not read, and is an int or a boolean
+    unread : IsUnread world (params_of world sound.typed.method) state.picture (Arg n)
+    unread = record {
+      formed = sound.typed.formed;
+      there = slice_get_within (argument_types world sound.typed.method) n type (at sound.typed.method sound.typed.method_is);
+      unread = not_before n (slots_seen state.picture) beginning.seen;
+    }
+
+    holds : HoldsInt world state.method state.picture (Arg n)
+    holds = record { type = type; declared = next; int = int_type type kept_type int }
+
+    pub read_sees : IsReceiverSeen world state.method seen
+    read_sees = go read next (subst (λ (stage : Stage). HasReadReceiver world state.method stage state.picture) begins sound.receiver) where
+      go : (values : List SymValue) → argument_next world state.method (Begins values) ≡ Some type → HasReadReceiver world state.method (Begins values) state.picture
+          → IsReceiverSeen world state.method seen
+      go [] e h = λ method is own.
+          let first : slice_get (argument_types world method) 0 ≡ Some type = ap (option_and_then (λ (info : MethodInfo). slice_get (argument_types world info) 0)) (sym is) ∙ e in
+          absurd (true≢false (sym (first_static world method (is_static method.access) type int first) ∙ own))
+      go (first ∷ values) e h = receiver_still world state.method state.picture n v h
 
     read_receiver : (values : List SymValue) → HasReadReceiver world state.method (Begins (values ++ value ∷ [])) seen
     read_receiver [] = read_sees
@@ -512,7 +498,7 @@ module _ (world : World) (state : State) (sound : Sound world state) where
         ∙ sym (filter_map-append (kind_seen world state.method state.picture) state.picture.seen ((Arg n, seens.Int v) ∷ []))
 
     touched : (i : ℕ) (slot : Origin) → slice_get (slots_seen seen) i ≡ Some slot → IsTouched state.cells slot
-    touched i slot e = elim (get_pushed (slots_seen state.picture) (Arg n) i slot (ap (λ (l : List Origin). slice_get l i) (sym (slots_are state.picture n v)) ∙ e)) [
+    touched i slot e = elim (get_pushed (slots_seen state.picture) (Arg n) i slot (ap (λ (l : List Origin). slice_get l i) (sym (slots_are world state.method state.picture n v)) ∙ e)) [
       | inl h ↦ sound.cells.seen i slot h
       | inr h ↦ subst (IsTouched state.cells) h.1 tt
     ]
@@ -520,15 +506,12 @@ module _ (world : World) (state : State) (sound : Sound world state) where
     one_slot : slots_seen seen ≡ map Arg (numbers_below (length (read ++ value ∷ [])))
     one_slot =
         let longer : length (read ++ value ∷ []) ≡ suc n = omega (arith, length-append read (value ∷ [])) in
-        slots_are state.picture n v ∙ ap (λ (slots : List Origin). slots ++ Arg n ∷ []) beginning.seen ∙ sym (map-append Arg (numbers_below n) (n ∷ []))
+        slots_are world state.method state.picture n v ∙ ap (λ (slots : List Origin). slots ++ Arg n ∷ []) beginning.seen ∙ sym (map-append Arg (numbers_below n) (n ∷ []))
         ∙ ap (λ (m : ℕ). map Arg (numbers_below m)) (sym longer)
 
     pub read_sound : Sound world read_state
     read_sound = record {
-      info = sound.info;
-      info_is = sound.info_is;
-      picture = seen_formed state.picture n v world (length (argument_types world sound.info)) sound.picture (slice_get_within (argument_types world sound.info) n type at)
-          (not_before n (slots_seen state.picture) beginning.seen) (variables-same world state.method state.nodes state.picture sound.kinds);
+      typed = saw_typed world state.method state.picture n v sound.typed unread (variables-same world state.method state.nodes state.picture sound.kinds) holds;
       kinds = one_kind;
       conditions = conditions_still state.nodes nodes state.when (extends-more state.nodes (Var v kind)) sound.conditions;
       stage = record {
@@ -539,7 +522,6 @@ module _ (world : World) (state : State) (sound : Sound world state) where
       };
       cells = cells_still world state read_state read_still refl touched sound.cells;
       made = made_still world state read_state read_still state.made sound.made;
-      typed = seen_typed state.picture n v world state.method sound.typed (subst IsInt (sym next) (int_type type kept_type int));
       receiver = read_receiver read;
       alone = tt;
       unhandled = sound.unhandled;
@@ -570,12 +552,10 @@ module _ (world : World) (state : State) (sound : Sound world state) (type : JTy
       none : None ≡ Some type → ⊥
       none e = cc
 
-  pub int_input : CanBeInput world state.method (read_int state (kind_for (Some type))).picture
-  int_input = go state.stage refl where
-    go : (stage : Stage) → state.stage ≡ stage → CanBeInput world state.method (after_read stage).picture
-    go (Begins read) is =
-        let here : argument_next world state.method (Begins read) ≡ Some type = subst (λ (s : Stage). argument_next world state.method s ≡ Some type) is next in
-        input_of_picture world (after_read (Begins read)) (read_sound world state sound read is type here no_reference) (read_sees world state sound read is type here no_reference)
+  pub int_receiver : IsReceiverSeen world state.method (read_int state (kind_for (Some type))).picture
+  int_receiver = go state.stage refl where
+    go : (stage : Stage) → state.stage ≡ stage → IsReceiverSeen world state.method (after_read stage).picture
+    go (Begins read) is = read_sees world state sound read is type (subst (λ (s : Stage). argument_next world state.method s ≡ Some type) is next) no_reference
     go (Runs frame callers) is = absurd (none (subst (λ (s : Stage). argument_next world state.method s ≡ Some type) is next)) where
       none : None ≡ Some type → ⊥
       none e = cc
@@ -610,15 +590,12 @@ module _ (world : World) (state : State) (sound : Sound world state) (none : arg
     go : (stage : Stage) → state.stage ≡ stage → Sound world (begun_state stage)
     go (Runs frame callers) is = subst (λ (s : Stage). Sound world (record state { stage = s })) is sound
     go (Begins read) is = record {
-      info = sound.info;
-      info_is = sound.info_is;
-      picture = sound.picture;
+      typed = sound.typed;
       kinds = sound.kinds;
       conditions = sound.conditions;
       stage = (begun_frame read (subst (IsStage world state) is sound.stage), no_items (IsFrame world (begun_state (Begins read))));
       cells = cells_still world state (begun_state (Begins read)) (begun_still (Begins read)) refl sound.cells.seen sound.cells;
       made = made_still world state (begun_state (Begins read)) (begun_still (Begins read)) state.made sound.made;
-      typed = sound.typed;
       receiver = receiver_seen world state sound none;
       alone = (refl, refl);
       unhandled = sound.unhandled;

@@ -25,6 +25,7 @@ use Rattle.kb_picture.specs.declared.picture.PlaceLists.{PlaceLists}
 use Rattle.kb_picture.specs.Endings.{ending_at}
 use Rattle.kb_picture.specs.Instances.{variable_values}
 use Rattle.kb_picture.specs.Shapes.{HasShape}
+use Rattle.kb_picture.specs.WellTyped.{IsWellTyped, IsReceiverSeen}
 use Rattle.kb_frames.specs.declared.value.Outcome.{Outcome}
 use Rattle.kb_frames.specs.declared.value.Outcome.TheVariants.{Asks, Goes, Ends, Cut}
 use Rattle.kb_frames.specs.Comparing.{comparison_of}
@@ -32,7 +33,6 @@ use Rattle.kb_frames.specs.Cuts.{setting_of, IsLicensed}
 use Rattle.kb_frames.specs.Measure.{choices_left}
 use Rattle.kb_frames.specs.StandsFor.{StandsFor, HeapStandsFor, IsInstanceOf, reading_at, beginning_of, written_by}
 use Rattle.kb_frames.specs.State.{State}
-use Rattle.kb_stepint.specs.Reached.{CanBeInput}
 use Rattle.kb_stepint.specs.Ways.{Take}
 
 -- ---- 1: one alternative
@@ -84,9 +84,10 @@ pub record Keeps (old new : State) : Type 0 where
   -- whoever has the shape now had it before
   pub shapes : (input : Input) → HasShape new.picture input → HasShape old.picture input
 
--- an input can be made of the picture of a state
-abbrev pub HasInput : World → State → Type 0
-HasInput world state = CanBeInput world state.method state.picture
+-- An input can be made of the picture of a state: it keeps the types of its slots, and the receiver was read.
+pub record HasInput (world : World) (state : State) : Type 0 where
+  pub typed : IsWellTyped world state.method state.picture
+  pub receiver : IsReceiverSeen world state.method state.picture
 
 -- ---- 4: what is compared
 

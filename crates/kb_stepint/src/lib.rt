@@ -4,8 +4,56 @@
 //! that this simulates the machine.
 #![tactic(auto)]
 
+mod arithmetic;
+mod asked;
+mod branching;
+mod choices;
 mod condition;
+mod constants;
+mod instructions;
+mod int_methods;
+mod keys;
 mod laws;
+mod locals;
+mod operands;
+mod place;
+mod rearranging;
+mod returns;
+mod take;
+mod terms;
+mod turn;
+mod ways;
 
-pub use condition::{Condition, Side};
-pub use laws::{int_steps_get_on, int_steps_keep, int_steps_simulate};
+pub use choices::choices_int;
+pub use int_methods::is_int_method;
+pub use laws::{int_methods_begin, int_steps_get_on, int_steps_keep, int_steps_simulate};
+use std::alloc::{AllocError, AllocFailed};
+pub use take::take_int;
+
+/// Memory ran out.
+#[derive(Clone, Copy, Debug, PartialEq, Eq)]
+pub struct NoMemory;
+
+impl From<AllocError> for NoMemory {
+    fn from(_error: AllocError) -> NoMemory {
+        NoMemory
+    }
+}
+
+impl<T: Drop> From<AllocFailed<T>> for NoMemory {
+    fn from(_error: AllocFailed<T>) -> NoMemory {
+        NoMemory
+    }
+}
+
+impl From<kb_frames::NoMemory> for NoMemory {
+    fn from(_error: kb_frames::NoMemory) -> NoMemory {
+        NoMemory
+    }
+}
+
+impl From<kb_names::NoMemory> for NoMemory {
+    fn from(_error: kb_names::NoMemory) -> NoMemory {
+        NoMemory
+    }
+}

@@ -1,0 +1,10 @@
+use Rattle.std.proofs.Common.{ℕ, ◌<◌, sym, subst}
+use Rattle.kb_stepint.specs.Needs.{CanStep}
+use Rattle.kb_stepint.proofs.TakeLaws.{can_step}
+use Rattle.kb_stepint.proofs.take.read_or_take_up.Goals as goal
+
+pub take_up-requires : goal.take_up-requires
+take_up-requires c =
+    subst (CanStep c.args.bounds.now) (sym c.in_ok-begin.ensures)
+    (can_step c.args.world.now c.args.bounds.now c.args.state.now c.in_default.ensures c.requires
+    (subst (λ (n : ℕ). n < c.args.bounds.now.run.steps) c.carried.ensures c.if-bounds-carried.false))

@@ -1,0 +1,101 @@
+//! Instructions on locals that are ints (JVMS 8 section 6.5).
+ghost use Rattle.std.specs.Prelude.{◌≡◌, ◌<◌, drop, nat_lt, IfOk};
+ghost use Rattle.kb_semantics.specs.Config.{max_locals_of};
+ghost use Rattle.kb_frames.specs.Lent.{stack_of};
+ghost use Rattle.kb_frames.specs.Next.{method_now};
+ghost use Rattle.kb_stepint.specs.Effects.{in_local, increases, int_local, loads, stores};
+ghost use Rattle.kb_stepint.specs.Needs.{CanStep};
+ghost use Rattle.kb_stepint.specs.Turns.{led, led_by, told};
+
+use crate::NoMemory;
+use crate::operands::{int_term, one_int};
+use crate::terms::{constant, make};
+use crate::turn::Turn;
+use crate::ways::{carry_on, has_room, ill_typed, replaces};
+use kb_frames::{Outcome, SymState, SymValue};
+use kb_terms::{Op, TermId};
+
+/// iload
+pub(crate) fn load(turn: &Turn<'_>, state: &mut SymState, local: u16) -> Result<Outcome, NoMemory>
+    requires { state.old.carried < turn.now.bounds.run.steps }
+    ensures { IfOk result (λ outcome. told state.new outcome ≡ led_by turn.now state.old (loads turn.now.world.now state.old local)) }
+{
+    match int_local(turn, state, local) {
+        Some(term) => replaces(turn, state, 0, &[SymValue::Int(term)]),
+        None => ill_typed(turn, state),
+    }
+}
+
+/// istore
+pub(crate) fn store(turn: &Turn<'_>, state: &mut SymState, local: u16) -> Result<Outcome, NoMemory>
+    requires { state.old.carried < turn.now.bounds.run.steps }
+    ensures { IfOk result (λ outcome. told state.new outcome ≡ led_by turn.now state.old (stores turn.now.world.now state.old local)) }
+{
+    match one_int(state) {
+        Some(term) => set(turn, state, local, term, 1),
+        None => ill_typed(turn, state),
+    }
+}
+
+/// iinc
+pub(crate) fn increase(
+    turn: &Turn<'_>,
+    state: &mut SymState,
+    local: u16,
+    by: i32,
+) -> Result<Outcome, NoMemory>
+    requires { CanStep turn.now.bounds state.old }
+    ensures { IfOk result (λ outcome. told state.new outcome ≡ led_by turn.now state.old (increases turn.now.world.now state.old local by)) }
+{
+    let Some(term) = int_local(turn, state, local) else {
+        return ill_typed(turn, state);
+    };
+    let by = constant(state, by)?;
+    let sum = make(state, Op::Add, term, Some(by))?;
+    set(turn, state, local, sum, 0)
+}
+
+// Whether a local of that number lies below the limit.
+fn is_local(turn: &Turn<'_>, state: &SymState, local: u16) -> bool
+    ensures { result ≡ nat_lt local (max_locals_of turn.now.world.now (method_now state.now.method state.now.stage)) }
+{
+    let (method, _) = state.stands_at();
+    match turn.world.find_code(method) {
+        Some(code) => local < code.max_locals,
+        None => false,
+    }
+}
+
+// The int of a local that lies below the limit.
+fn int_local(turn: &Turn<'_>, state: &SymState, local: u16) -> Option<TermId>
+    ensures { result ≡ int_local turn.now.world.now state.now local }
+{
+    if !is_local(turn, state, local) {
+        return None;
+    }
+    int_term(state.local(local))
+}
+
+// It goes on at the next offset with a term in a local, and with so many values fewer on the stack.
+fn set(
+    turn: &Turn<'_>,
+    state: &mut SymState,
+    local: u16,
+    term: TermId,
+    count: usize,
+) -> Result<Outcome, NoMemory>
+    requires { state.old.carried < turn.now.bounds.run.steps }
+    ensures { IfOk result (λ outcome. told state.new outcome ≡ led turn.now state.old (in_local turn.now.world.now state.old local term (drop count (stack_of state.old.stage)))) }
+{
+    if !is_local(turn, state, local) {
+        return ill_typed(turn, state);
+    }
+    let kept = state.height().saturating_sub(count);
+    if !has_room(turn, state, kept, 0) {
+        return ill_typed(turn, state);
+    }
+    state.store(local, SymValue::Int(term));
+    state.pop(count);
+    carry_on(state, turn.next, turn.bounds.run.steps);
+    Ok(Outcome::Goes)
+}

@@ -1,0 +1,234 @@
+//! What a state becomes when an alternative is taken.
+ghost use Rattle.std.specs.Prelude.{◌≡◌, ◌<◌, true, IfOk, OnOk};
+ghost use Rattle.kb_class.specs.Naming.{Has};
+ghost use Rattle.kb_terms.specs.Terms.{IsTerm};
+ghost use Rattle.kb_frames.specs.Lent.{stack_of};
+ghost use Rattle.kb_frames.specs.Next.{next_is_int};
+ghost use Rattle.kb_picture.specs.declared.choice.Choice.TheVariants.{Default, Key};
+ghost use Rattle.kb_stepint.specs.Asked.{all_asked};
+ghost use Rattle.kb_stepint.specs.Choices.{branch_conditions, choices_of, conditions_of, division_conditions, divisor_conditions, key_conditions};
+ghost use Rattle.kb_stepint.specs.Needs.{CanStep, HasTerms, IsSide};
+ghost use Rattle.kb_stepint.specs.Reached.{IsReached};
+ghost use Rattle.kb_stepint.specs.Takes.{taken, takes_up};
+ghost use Rattle.kb_stepint.specs.Turns.{keys_of, told};
+
+use crate::NoMemory;
+use crate::asked::ask;
+use crate::condition::{Side, branch_condition, equals_number};
+use crate::instructions::carry_out;
+use crate::keys::Keys;
+use crate::operands::{one_int, two_ints};
+use crate::place::place_of;
+use crate::turn::Turn;
+use kb_code::{Cond, Instr, IntOp};
+use kb_frames::{Outcome, SymState, instruction_at};
+use kb_heap::{Bound, Bounds};
+use kb_picture::{Choice, SymEnding};
+use kb_terms::TermId;
+use kb_world::World;
+use std::alloc::Global;
+
+/// Takes an alternative that [`crate::choices_int`] lists for the state. An argument that is read is a new variable, and the state
+/// asks for its next choice. Else the conditions of the alternative are added, as far as they are not decided, and the instruction is
+/// carried out: it goes on, the run ends, or it is cut at a bound.
+///
+/// After want of memory the state is only dropped or undone. It takes time in proportion to the conditions that are added, whatever
+/// the state has met.
+pub fn take_int(
+    alloc: Global,
+    world: &World,
+    state: &mut SymState,
+    choice: &Choice,
+    bounds: &Bounds,
+) -> Result<Outcome, NoMemory>
+    requires reached { IsReached world.now state.old }
+    requires int { next_is_int world.now state.old ≡ true }
+    requires listed { Has (choices_of world.now state.old bounds.now) choice.now }
+    ensures take { IfOk result (λ outcome. told state.new outcome ≡ taken world.now bounds.now state.old choice.now) }
+    ensures reached { OnOk result (IsReached world.now state.new) }
+{
+    let outcome = read_or_take_up(alloc, world, state, choice, bounds)?;
+    let _ = state.pool().nodes();
+    Ok(outcome)
+}
+
+// Reads the next argument, or takes up the next instruction.
+fn read_or_take_up(
+    alloc: Global,
+    world: &World,
+    state: &mut SymState,
+    choice: &Choice,
+    bounds: &Bounds,
+) -> Result<Outcome, NoMemory>
+    requires { IsReached world.now state.old }
+    ensures { IfOk result (λ outcome. told state.new outcome ≡ taken world.now bounds.now state.old choice.now) }
+{
+    if let Some(kind) = state.next_kind(world) {
+        state.read_int(kind)?;
+        return Ok(Outcome::Asks);
+    }
+    if bounds.run.steps <= state.carried() {
+        return Ok(Outcome::Cut(Bound::Steps));
+    }
+    state.begin(world)?;
+    take_up(alloc, world, state, choice, bounds)
+}
+
+// Takes up the next instruction of a run whose arguments are read.
+fn take_up(
+    alloc: Global,
+    world: &World,
+    state: &mut SymState,
+    choice: &Choice,
+    bounds: &Bounds,
+) -> Result<Outcome, NoMemory>
+    requires { CanStep bounds.now state.old }
+    ensures { IfOk result (λ outcome. told state.new outcome ≡ takes_up world.now bounds.now choice.now state.old) }
+{
+    let (method, at) = state.stands_at();
+    let Some(found) = instruction_at(world, method, at) else {
+        let place = place_of(alloc, world, state)?;
+        return Ok(Outcome::Ends(SymEnding::IllTyped(place)));
+    };
+    ask_for(state, found.instr, choice)?;
+    let turn = Turn {
+        alloc,
+        world,
+        bounds: *bounds,
+        next: found.next,
+    };
+    carry_out(&turn, state, choice, found.instr)
+}
+
+// Adds the conditions that an alternative of an instruction asks for.
+#[tactic(auto, using(crate::proofs::OperandLaws::one_there, crate::proofs::OperandLaws::left_there, crate::proofs::OperandLaws::right_there))]
+fn ask_for(state: &mut SymState, instr: &Instr, choice: &Choice) -> Result<(), NoMemory>
+    requires { HasTerms state.old }
+    ensures { OnOk result (state.new ≡ all_asked state.old (conditions_of instr.now (stack_of state.old.stage) choice.now)) }
+{
+    match instr {
+        Instr::IfInt(cond, _) => match one_int(state) {
+            Some(x) => ask_branch(state, *cond, Side::Term(x), Side::Number(0), choice),
+            None => Ok(()),
+        },
+        Instr::IfPair(cond, _) => match two_ints(state) {
+            Some((left, right)) => ask_branch(
+                state,
+                *cond,
+                Side::Term(left),
+                Side::Term(right),
+                choice,
+            ),
+            None => Ok(()),
+        },
+        Instr::Table(low, _, targets) => match one_int(state) {
+            Some(x) => ask_key(state, x, &Keys::Table(*low, targets.as_slice()), choice),
+            None => Ok(()),
+        },
+        Instr::Lookup(_, keys) => match one_int(state) {
+            Some(x) => ask_key(state, x, &Keys::Lookup(keys.as_slice()), choice),
+            None => Ok(()),
+        },
+        Instr::Int2(op) => match two_ints(state) {
+            Some((_, right)) => ask_division(state, *op, right, choice),
+            None => Ok(()),
+        },
+        _ => Ok(()),
+    }
+}
+
+#[tactic(auto, using(crate::proofs::SideLaws::branch_sides))]
+fn ask_branch(
+    state: &mut SymState,
+    cond: Cond,
+    left: Side,
+    right: Side,
+    choice: &Choice,
+) -> Result<(), NoMemory>
+    requires first { IsSide state.old.nodes left }
+    requires second { IsSide state.old.nodes right }
+    ensures { OnOk result (state.new ≡ all_asked state.old (branch_conditions cond left right choice.now)) }
+{
+    match choice {
+        Choice::Branch(so) => ask(state, &branch_condition(cond, left, right, *so)),
+        _ => Ok(()),
+    }
+}
+
+fn ask_division(
+    state: &mut SymState,
+    op: IntOp,
+    divisor: TermId,
+    choice: &Choice,
+) -> Result<(), NoMemory>
+    requires { IsTerm state.old.nodes divisor }
+    ensures { OnOk result (state.new ≡ all_asked state.old (division_conditions op divisor choice.now)) }
+{
+    match op {
+        IntOp::Div | IntOp::Rem => ask_divisor(state, divisor, choice),
+        _ => Ok(()),
+    }
+}
+
+#[tactic(auto, using(crate::proofs::SideLaws::key_sides))]
+fn ask_divisor(state: &mut SymState, divisor: TermId, choice: &Choice) -> Result<(), NoMemory>
+    requires { IsTerm state.old.nodes divisor }
+    ensures { OnOk result (state.new ≡ all_asked state.old (divisor_conditions divisor choice.now)) }
+{
+    match choice {
+        Choice::Zero => ask(state, &equals_number(divisor, 0, true)),
+        Choice::NotZero => ask(state, &equals_number(divisor, 0, false)),
+        _ => Ok(()),
+    }
+}
+
+fn ask_key(
+    state: &mut SymState,
+    x: TermId,
+    keys: &Keys<'_>,
+    choice: &Choice,
+) -> Result<(), NoMemory>
+    requires { IsTerm state.old.nodes x }
+    ensures { OnOk result (state.new ≡ all_asked state.old (key_conditions x (keys_of keys.now) choice.now)) }
+{
+    match choice {
+        Choice::Key(place) => ask_one_key(state, x, keys, *place as usize),
+        Choice::Default => ask_default(state, x, keys),
+        _ => Ok(()),
+    }
+}
+
+// That the int is the key of that place.
+#[tactic(auto, using(crate::proofs::SideLaws::key_sides))]
+fn ask_one_key(
+    state: &mut SymState,
+    x: TermId,
+    keys: &Keys<'_>,
+    place: usize,
+) -> Result<(), NoMemory>
+    requires { IsTerm state.old.nodes x }
+    ensures { OnOk result (state.new ≡ all_asked state.old (key_conditions x (keys_of keys.now) (Key place))) }
+{
+    if place >= keys.len() {
+        return Ok(());
+    }
+    let Ok(entry) = keys.key_at(place) else {
+        return Err(NoMemory);
+    };
+    ask(state, &equals_number(x, entry.0, true))
+}
+
+// That the int is none of the keys.
+#[tactic(auto, using(crate::proofs::SideLaws::key_sides))]
+fn ask_default(state: &mut SymState, x: TermId, keys: &Keys<'_>) -> Result<(), NoMemory>
+    requires { IsTerm state.old.nodes x }
+    ensures { OnOk result (state.new ≡ all_asked state.old (key_conditions x (keys_of keys.now) Default)) }
+{
+    for place in 0..keys.len() {
+        let Ok(entry) = keys.key_at(place) else {
+            return Err(NoMemory);
+        };
+        ask(state, &equals_number(x, entry.0, false))?;
+    }
+    Ok(())
+}
