@@ -25,7 +25,7 @@ class Small {
         return turns;
     }
 
-    /** A tableswitch over 1, 2 and 3, of which 3 goes where the default goes. */
+    /** A tableswitch from 1 to 4, of which 3 goes where the default goes. */
     static int table(int x) {
         switch (x) {
             case 1:

@@ -3,7 +3,7 @@
 //! taken, what comes of it, and the terms that it makes; at the end what the state has met, in the lines of a report.
 //!
 //! The gate runs it over the files of `data/` and compares what it writes with `stdout`, so that a row costs no proof. What is
-//! expected there is no output of this program: it follows by hand from what each instruction does.
+//! expected there is no output of this program: `examples/steps/make.py` writes it by a model of the steps.
 #![tactic(auto)]
 
 mod ends;
