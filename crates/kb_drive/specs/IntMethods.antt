@@ -1,0 +1,41 @@
+-- The methods that can be explored by now: static, over ints and booleans, without handlers and calls (JVMS 8 section 6.5; the list is an
+-- own rule for as long as other methods are not built).
+use Rattle.std.specs.Prelude.{ℕ, Bool, true, false, ◌&&◌, List, [], ◌∷◌, Option}
+use Rattle.std.specs.List.{list_all}
+use Rattle.std.specs.Option.{option_map_or}
+use Rattle.kb_class.specs.declared.ids.MethodId.{MethodId}
+use Rattle.kb_class.specs.declared.members.MethodCode.{MethodCode}
+use Rattle.kb_class.specs.declared.members.MethodInfo.{MethodInfo}
+use Rattle.kb_code.specs.declared.instruction.Instr.{Instr}
+use Rattle.kb_code.specs.declared.listing.Handler.{Handler}
+use Rattle.kb_link.specs.Slots.{is_static}
+use Rattle.kb_link.specs.World.{World}
+use Rattle.kb_names.specs.declared.types.JType.{JType}
+use Rattle.kb_names.specs.declared.types.JType.TheVariants as types
+use Rattle.kb_semantics.specs.Config.{info_of}
+use Rattle.kb_frames.specs.Next.{is_int_instruction}
+
+-- an int or a boolean
+abbrev pub is_int_type : JType → Bool
+is_int_type types.Int = true
+is_int_type types.Bool = true
+is_int_type _ = false
+
+abbrev pub is_none_or_int : Option JType → Bool
+is_none_or_int result = option_map_or is_int_type result true
+
+abbrev pub has_none : List Handler → Bool
+has_none [] = true
+has_none (handler ∷ others) = false
+
+abbrev pub is_int_code : World → MethodId → MethodCode → Bool
+is_int_code world id code = has_none code.handlers && list_all (λ (item : ℕ × Instr). is_int_instruction world id item.1) code.listing.items
+
+abbrev pub is_int_info : World → MethodId → MethodInfo → Bool
+is_int_info world id info =
+    is_static info.access && (list_all is_int_type info.kind.params && (is_none_or_int info.kind.result && option_map_or (is_int_code world id) info.code false))
+
+-- The method takes ints and booleans and gives one or nothing; it has code, no handlers, and uses instructions on ints and the stack
+-- alone.
+abbrev pub is_int_method : World → MethodId → Bool
+is_int_method world id = option_map_or (is_int_info world id) (info_of world id) false
