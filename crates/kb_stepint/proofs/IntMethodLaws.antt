@@ -29,25 +29,25 @@ use Rattle.kb_stepint.specs.Reached.{IsAlone, IsReached, SwitchesRise}
 
 -- ---- what an int method has
 
-and_both : (a b : Bool) → (a && b) ≡ true → (a ≡ true) × (b ≡ true)
+pub and_both : (a b : Bool) → (a && b) ≡ true → (a ≡ true) × (b ≡ true)
 and_both true b e = (refl, e)
 and_both false b e = absurd cc
 
 -- its types, each of which is an int or a boolean, and its code
-record IsIntInfo (world : World) (id : MethodId) (info : MethodInfo) : Type 0 where
-  static : is_static info.access ≡ true
-  params : list_all is_int_type info.kind.params ≡ true
-  code : MethodCode
-  code_is : info.code ≡ Some code
-  handlers : has_none code.handlers ≡ true
-  instructions : list_all (λ (item : ℕ × Instr). is_int_instruction world id item.1) code.listing.items ≡ true
+pub record IsIntInfo (world : World) (id : MethodId) (info : MethodInfo) : Type 0 where
+  pub static : is_static info.access ≡ true
+  pub params : list_all is_int_type info.kind.params ≡ true
+  pub code : MethodCode
+  pub code_is : info.code ≡ Some code
+  pub handlers : has_none code.handlers ≡ true
+  pub instructions : list_all (λ (item : ℕ × Instr). is_int_instruction world id item.1) code.listing.items ≡ true
 
-record HasIntInfo (world : World) (id : MethodId) : Type 0 where
-  info : MethodInfo
-  info_is : info_of world id ≡ Some info
-  int_info : IsIntInfo world id info
+pub record HasIntInfo (world : World) (id : MethodId) : Type 0 where
+  pub info : MethodInfo
+  pub info_is : info_of world id ≡ Some info
+  pub int_info : IsIntInfo world id info
 
-int_info : (world : World) (id : MethodId) → is_int_method world id ≡ true → HasIntInfo world id
+pub int_info : (world : World) (id : MethodId) → is_int_method world id ≡ true → HasIntInfo world id
 int_info world id e = go (info_of world id) refl e where
   with_code : (info : MethodInfo) (code : Option MethodCode) → info.code ≡ code → is_static info.access ≡ true → list_all is_int_type info.kind.params ≡ true
       → option_map_or (is_int_code world id) code false ≡ true → IsIntInfo world id info
@@ -67,12 +67,12 @@ int_info world id e = go (info_of world id) refl e where
   go None at is = absurd cc
   go (Some info) at is = record { info = info; info_is = at; int_info = parts info is }
 
-code_is : (world : World) (id : MethodId) (h : HasIntInfo world id) → code_of world id ≡ Some h.int_info.code
+pub code_is : (world : World) (id : MethodId) (h : HasIntInfo world id) → code_of world id ≡ Some h.int_info.code
 code_is world id h = rw h.info_is h.int_info.code_is
 
 -- ---- arguments
 
-int_is_no_reference : (type : JType) → is_int_type type ≡ true → is_reference type ≡ false
+pub int_is_no_reference : (type : JType) → is_int_type type ≡ true → is_reference type ≡ false
 int_is_no_reference types.Int e = refl
 int_is_no_reference types.Bool e = refl
 int_is_no_reference (types.Class name) e = absurd cc
@@ -103,7 +103,7 @@ none_left_out (type ∷ kinds) e =
     let built : is_left_out type ≡ false = int_is_built type both.0 in
     rw built (none_left_out kinds both.1)
 
-all_at : {A : Type 0} (test : A → Bool) (xs : List A) (i : ℕ) (x : A) → list_all test xs ≡ true → slice_get xs i ≡ Some x → test x ≡ true
+pub all_at : {A : Type 0} (test : A → Bool) (xs : List A) (i : ℕ) (x : A) → list_all test xs ≡ true → slice_get xs i ≡ Some x → test x ≡ true
 all_at test [] i x all e = absurd cc
 all_at test (y ∷ ys) zero x all e = let same : y ≡ x = cc in rw (sym same) (and_both (test y) (list_all test ys) all).0
 all_at test (y ∷ ys) (suc i) x all e = all_at test ys i x (and_both (test y) (list_all test ys) all).1 e

@@ -1,31 +1,31 @@
-mod AddedLaws
-mod AskedLaws
-mod ChoiceLaws
-mod ComparedLaws
-mod GrowLaws
-mod IntMethodLaws
-mod ItemLaws
-mod KeepLaws
-mod KeyLaws
-mod MeasureLaws
-mod OneAsked
-mod OneDecided
-mod OneInstances
-mod OneLaws
-mod OneListed
-mod OperandLaws
-mod OutcomeLaws
-mod OutcomePlans
-mod OutcomeReads
-mod OutcomeStands
-mod OutcomeValues
-mod OutcomeWays
-mod PastLaws
-mod PictureLaws
-mod PlanLaws
-mod ReachedLaws
-mod SideLaws
-mod SoundLaws
-mod TakeLaws
-mod TermLaws
-mod ValueLaws
+pub mod AddedLaws
+pub mod AskedLaws
+pub mod ChoiceLaws
+pub mod ComparedLaws
+pub mod GrowLaws
+pub mod IntMethodLaws
+pub mod ItemLaws
+pub mod KeepLaws
+pub mod KeyLaws
+pub mod MeasureLaws
+pub mod OneAsked
+pub mod OneDecided
+pub mod OneInstances
+pub mod OneLaws
+pub mod OneListed
+pub mod OperandLaws
+pub mod OutcomeLaws
+pub mod OutcomePlans
+pub mod OutcomeReads
+pub mod OutcomeStands
+pub mod OutcomeValues
+pub mod OutcomeWays
+pub mod PastLaws
+pub mod PictureLaws
+pub mod PlanLaws
+pub mod ReachedLaws
+pub mod SideLaws
+pub mod SoundLaws
+pub mod TakeLaws
+pub mod TermLaws
+pub mod ValueLaws

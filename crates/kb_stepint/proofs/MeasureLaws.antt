@@ -58,7 +58,7 @@ few (instrs.Lookup default keys) = omega arith
 few (instrs.Int2 op) = few_of_op op
 few _ = omega arith
 
-few_next : (found : Option Instr) → option_map_or questions_of found 0 ≤ 5
+pub few_next : (found : Option Instr) → option_map_or questions_of found 0 ≤ 5
 few_next None = omega arith
 few_next (Some instr) = few instr
 
