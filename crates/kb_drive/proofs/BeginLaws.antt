@@ -11,9 +11,10 @@ use Rattle.kb_frames.specs.StandsFor.{IsInstanceOf}
 use Rattle.kb_drive.specs.declared.piece.Piece.{Piece}
 use Rattle.kb_drive.specs.declared.walk.Walk.{Walk}
 use Rattle.kb_drive.specs.Covers.{EachPath, decisions_of}
-use Rattle.kb_drive.specs.Division.{DivideThose, ExactlyOneHas, IsFrontOf, NoneHas}
+use Rattle.kb_picture.specs.Exactly.{ExactlyOneHas, NoneHas}
+use Rattle.kb_drive.specs.Division.{DivideThose, IsFrontOf}
 use Rattle.kb_drive.specs.Following.{waits_at, walk_with}
-use Rattle.kb_drive.specs.IntMethods.{is_int_method}
+use Rattle.kb_drive.specs.Explorable.{IsExplorable}
 use Rattle.kb_drive.specs.Parts.{IsInPart, Listed, Waits, alternatives_from, decisions_of_part, parts_of}
 use Rattle.kb_drive.specs.Pieces.{IsPiece}
 use Rattle.kb_drive.specs.Steps.{StepsLead}
@@ -33,7 +34,7 @@ no_path : {A : Type 0} (i : ℕ) (x : A) → slice_get [] i ≡ Some x → ⊥
 no_path i x e = absurd cc
 
 module _ (world : World) (bounds : Bounds) (paths budget : ℕ) (piece : Piece) (is : IsPiece world piece.state.method bounds piece)
-    (ints : is_int_method world piece.state.method ≡ true) (leads : StepsLead world bounds piece.state) where
+    (explorable : IsExplorable world piece.state.method) (leads : StepsLead world bounds piece.state) where
   abbrev first_walk : List Choice → Walk
   first_walk choices = walk_with (no_walk piece.state.method paths) (waits_at piece choices)
 
@@ -44,7 +45,7 @@ module _ (world : World) (bounds : Bounds) (paths budget : ℕ) (piece : Piece) 
 
   walk_begins_with : (choices : List Choice) → choices ≡ choices_at world bounds piece.state → IsWalk world bounds budget (first_walk choices)
   walk_begins_with [] e = record {
-    method = ints;
+    explorable = explorable;
     rising = tt;
     right = λ i path at. absurd (no_path i path at);
     waits = tt;
@@ -52,7 +53,7 @@ module _ (world : World) (bounds : Bounds) (paths budget : ℕ) (piece : Piece) 
     open_last = record { most = omega arith; full = λ i path at o. absurd (no_path i path at); last = λ i j one other at f less o. absurd (no_path i one at) };
   }
   walk_begins_with (choice ∷ others) e = record {
-    method = ints;
+    explorable = explorable;
     rising = rw (first_parts (choice ∷ others)) (alternatives_rise piece (choice ∷ others));
     right = λ i path at. absurd (no_path i path at);
     waits = (record { piece = is; choices = e; left = omega arith }, tt);

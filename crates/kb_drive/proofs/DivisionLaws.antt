@@ -1,7 +1,7 @@
 -- What is in exactly one of a list of things, and in none of it, when some of the things are replaced by others.
 use Rattle.std.proofs.Common.{◌⊎◌, List, [], ◌∷◌, ◌++◌, inl, inr}
 use Rattle.kb_heap.specs.declared.heap.Input.{Input}
-use Rattle.kb_drive.specs.Division.{NoneHas, ExactlyOneHas}
+use Rattle.kb_picture.specs.Exactly.{NoneHas, ExactlyOneHas}
 
 module _ {A : Type 0} (Has : A → Input → Type 0) (input : Input) where
   -- ---- lists put together

@@ -29,18 +29,21 @@ use Rattle.kb_drive.specs.declared.follow.Next.{Next}
 use Rattle.kb_drive.specs.declared.follow.Next.TheVariants.{Lists, Waits as WaitsNext, Leaves}
 use Rattle.kb_drive.specs.EmittedLaws.{InputsAreOfStates, IsOfState, input_for}
 use Rattle.kb_drive.specs.Following.{IsKnown, follows, follows_outcome, taken_from, waits_at}
-use Rattle.kb_drive.specs.IntMethods.{is_int_method}
+use Rattle.kb_stepint.specs.IntMethods.{is_int_method}
+use Rattle.kb_stepint.proofs.IntMethodLaws.{ints_next}
+use Rattle.kb_drive.specs.Explorable.{IsExplorable}
 use Rattle.kb_drive.specs.Parts.{Alternative, IsInPart, Waits, decisions_of_part, taken_of}
 use Rattle.kb_drive.specs.Pieces.{AreValuesFor, IsBehind, IsPiece}
-use Rattle.kb_drive.specs.StatePaths.{EndingsMean, PathMeans, PathsMean, ended_in}
+use Rattle.kb_drive.specs.StatePaths.{EndingsMean, IsPathOf, ended_in}
 use Rattle.kb_drive.specs.Steps.{GoesOn, StepsLead, StepsLeadOn}
 use Rattle.kb_drive.specs.Taking.{choices_at}
 use Rattle.kb_drive.specs.Walks.{AreRising, BeginWith, IsRightPath, IsWaiting, size_behind, size_left, size_of, size_of_choices}
 use Rattle.kb_drive.proofs.DivisionLaws.{Replaces}
-use Rattle.kb_drive.proofs.IntLaws.{bare, ints_next, kinds_fit}
+use Rattle.kb_drive.proofs.IntLaws.{bare, kinds_fit}
 use Rattle.kb_drive.proofs.LeafLaws.{cut_right, ended_right, open_right, some_short, undecided_right}
+use Rattle.kb_drive.proofs.PathLaws.{path_is}
 use Rattle.kb_drive.proofs.PartLaws.{alternatives_begin, alternatives_rise, parts_behind}
-use Rattle.kb_drive.proofs.RefutedLaws.{values_refuted}
+use Rattle.kb_oracle.proofs.AnswerLaws.{never-met}
 use Rattle.kb_drive.proofs.SettledLaws.{explored_with, piece_behind, values_kept, values_of_model}
 use Rattle.kb_drive.proofs.SizeLaws.{size_split}
 use Rattle.kb_drive.proofs.WaitLaws.{listed_replaces, refuted_replaces, waiting_replaces}
@@ -70,8 +73,8 @@ some_behind world bounds state Goes = omega arith
 some_behind world bounds state (Ends ending) = omega arith
 some_behind world bounds state (Cut bound) = omega arith
 
-module _ (steps : StepsLeadOn) (paths_mean : PathsMean) (endings_mean : EndingsMean) (emits : InputsAreOfStates) (one_places : OnePlaces) where
-  module _ (world : World) (target : MethodId) (bounds : Bounds) (budget : ℕ) (ints : is_int_method world target ≡ true) (alternative : Alternative) where
+module _ (steps : StepsLeadOn) (endings_mean : EndingsMean) (emits : InputsAreOfStates) (one_places : OnePlaces) where
+  module _ (world : World) (target : MethodId) (bounds : Bounds) (budget : ℕ) (explorable : IsExplorable world target) (alternative : Alternative) where
     abbrev after : Take
     after = taken_of world bounds alternative
 
@@ -79,7 +82,7 @@ module _ (steps : StepsLeadOn) (paths_mean : PathsMean) (endings_mean : EndingsM
     IsSucceeded next = Succeeds world target bounds budget alternative next
 
     -- a listed path, which is right and has the state's instances
-    listed : (count : ℕ) (values : List ℤ) (leaf : Leaf) → IsBehind world target bounds count values after → PathMeans world after.state alternative.decisions leaf
+    listed : (count : ℕ) (values : List ℤ) (leaf : Leaf) → IsBehind world target bounds count values after → IsPathOf world after.state alternative.decisions leaf
         → IsRightPath world target bounds budget (path_of after.state alternative.decisions leaf) → IsSucceeded (Lists (path_of after.state alternative.decisions leaf))
     unfolding path_of
     listed count values leaf behind means right = record {
@@ -117,7 +120,7 @@ module _ (steps : StepsLeadOn) (paths_mean : PathsMean) (endings_mean : EndingsM
       piece = record { state = after.state; decisions = alternative.decisions; values = values }
 
       carried : IsOfState world after.state (take (length after.state.when) after.state.when) (input_for world after.state values)
-      carried = some_short paths_mean endings_mean emits one_places world target bounds ints (length after.state.when) values after whole
+      carried = some_short endings_mean emits one_places world target bounds explorable (length after.state.when) values after whole
 
       -- it goes on, and waits at its next choice
       waits : (choices : List Choice) → choices ≡ choices_at world bounds after.state → GoesOn after.outcome → (suc (size_of world bounds after.state) ≡ size_behind (size_of world bounds) after.state after.outcome)
@@ -128,7 +131,7 @@ module _ (steps : StepsLeadOn) (paths_mean : PathsMean) (endings_mean : EndingsM
           is_piece = piece_behind world target bounds count before values alternative.decisions after behind goes met
 
           kind : next_is_int world after.state ≡ true
-          kind = ints_next world after.state behind.reached (subst (λ (m : MethodId). is_int_method world m ≡ true) (sym behind.explored.method) ints)
+          kind = ints_next world after.state behind.reached (subst (λ (m : MethodId). is_int_method world m ≡ true) (sym behind.explored.method) explorable.steps)
 
           leads : StepsLead world bounds after.state
           leads = steps world bounds after.state behind.reached kind
@@ -160,15 +163,15 @@ module _ (steps : StepsLeadOn) (paths_mean : PathsMean) (endings_mean : EndingsM
       settled Goes same = waits (choices_at world bounds after.state) refl (rw same tt) (rw same refl)
       settled (Ends ending) same =
           let ends = endings_mean world after.state alternative.decisions ending (input_for world after.state values) behind.explored.formed
-              (bare world after.state behind.reached (subst (λ (m : MethodId). is_int_method world m ≡ true) (sym behind.explored.method) ints))
+              (bare world after.state behind.reached (subst (λ (m : MethodId). is_int_method world m ≡ true) (sym behind.explored.method) explorable.steps))
               (rw same at behind.ending) carried.closed in
-          let means = paths_mean world after.state alternative.decisions (EndedLeaf (ended_in after.state ending (input_for world after.state values))) behind.explored.formed ends.leaf in
+          let means = path_is world after.state alternative.decisions (EndedLeaf (ended_in after.state ending (input_for world after.state values))) behind.explored.formed ends.leaf in
           listed (length after.state.when) values (EndedLeaf (ended_in after.state ending (input_for world after.state values))) whole means
-          (ended_right paths_mean endings_mean emits one_places world target bounds ints budget values after alternative.decisions ending same whole ends means)
+          (ended_right endings_mean emits one_places world target bounds explorable budget values after alternative.decisions ending same whole ends means)
       settled (Cut bound) same =
-          let means = paths_mean world after.state alternative.decisions (CutLeaf bound (input_for world after.state values)) behind.explored.formed carried.closed in
+          let means = path_is world after.state alternative.decisions (CutLeaf bound (input_for world after.state values)) behind.explored.formed carried.closed in
           listed (length after.state.when) values (CutLeaf bound (input_for world after.state values)) whole means
-          (cut_right paths_mean endings_mean emits one_places world target bounds ints budget values after alternative.decisions bound same whole means)
+          (cut_right endings_mean emits one_places world target bounds explorable budget values after alternative.decisions bound same whole means)
 
     -- ---- what is known
 
@@ -177,18 +180,18 @@ module _ (steps : StepsLeadOn) (paths_mean : PathsMean) (endings_mean : EndingsM
         → IsRefutation (formula_of (query_of after.state.nodes after.state.when)).clauses entries
         → (input : Input) → IsTypeCorrect world target input → IsInstanceOf after.state input → ⊥
     refuted count before entries behind refutation input correct instance_of =
-        values_refuted after.state.nodes after.state.when (variable_values after.state.picture input instance_of.shape.places.objects) entries
-        behind.explored.formed.pool behind.explored.formed.conditions
+        never-met after.state.nodes after.state.when (variable_values after.state.picture input instance_of.shape.places.objects) entries
+        behind.explored.formed.pool behind.explored.formed.conditions refutation
         (kinds_fit world after.state input behind.explored.formed (subst (λ (m : MethodId). IsTypeCorrect world m input) (sym behind.explored.method) correct) instance_of.shape)
-        instance_of.conditions refutation
+        instance_of.conditions
 
     -- By cases on what is known.
     pub follows_rightly : (known : Known) → IsBehind world target bounds (length alternative.piece.state.when) alternative.piece.values after
         → IsKnown budget (taken_from world bounds alternative) known → IsSucceeded (follows world bounds (taken_from world bounds alternative) known)
     follows_rightly Open behind is =
-        let means = paths_mean world after.state alternative.decisions OpenLeaf behind.explored.formed tt in
+        let means = path_is world after.state alternative.decisions OpenLeaf behind.explored.formed tt in
         listed (length alternative.piece.state.when) alternative.piece.values OpenLeaf behind means
-        (open_right paths_mean endings_mean emits one_places world target bounds ints (length alternative.piece.state.when) budget alternative.piece.values after alternative.decisions behind means)
+        (open_right endings_mean emits one_places world target bounds explorable (length alternative.piece.state.when) budget alternative.piece.values after alternative.decisions behind means)
     follows_rightly Kept behind is =
         settled (length alternative.piece.state.when) alternative.piece.values alternative.piece.values behind
         (values_kept world target bounds (length alternative.piece.state.when) alternative.piece.values after behind is) after.outcome refl
@@ -196,6 +199,6 @@ module _ (steps : StepsLeadOn) (paths_mean : PathsMean) (endings_mean : EndingsM
         settled (length alternative.piece.state.when) alternative.piece.values values behind (values_of_model world target bounds after.state values is.0 is.1) after.outcome refl
     follows_rightly (Answered (Refuted log)) behind is = left (refuted (length alternative.piece.state.when) alternative.piece.values log.entries behind is.0)
     follows_rightly (Answered (UndecidedAnswer log)) behind is =
-        let means = paths_mean world after.state alternative.decisions (Undecided log) behind.explored.formed tt in
+        let means = path_is world after.state alternative.decisions (Undecided log) behind.explored.formed tt in
         listed (length alternative.piece.state.when) alternative.piece.values (Undecided log) behind means
-        (undecided_right paths_mean endings_mean emits one_places world target bounds ints (length alternative.piece.state.when) budget alternative.piece.values after alternative.decisions log behind means is.0)
+        (undecided_right endings_mean emits one_places world target bounds explorable (length alternative.piece.state.when) budget alternative.piece.values after alternative.decisions log behind means is.0)

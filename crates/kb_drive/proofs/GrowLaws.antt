@@ -27,7 +27,7 @@ use Rattle.kb_picture.specs.Shapes.{HasShape, HoldEach, Holds}
 use Rattle.kb_picture.specs.WellFormed.{variable_seen, variables_seen}
 use Rattle.kb_frames.specs.State.{State}
 use Rattle.kb_frames.specs.States.{IsState}
-use Rattle.kb_stepint.specs.Simulation.{comparison_of}
+use Rattle.kb_frames.specs.Comparing.{comparison_of}
 use Rattle.kb_drive.specs.Steps.{StaysAtInputs}
 use Rattle.kb_drive.proofs.FrontLaws.{front_at, passes_term}
 

@@ -28,8 +28,10 @@ use Rattle.kb_terms.specs.declared.node.TermId.{TermId}
 use Rattle.kb_terms.specs.declared.node.VarKind.{VarKind}
 use Rattle.kb_picture.specs.Queries.{kinds_seen}
 use Rattle.kb_picture.specs.WellFormed.{IsClosed, IsWithin}
-use Rattle.kb_drive.specs.Emitted.{followed_by_zeros}
-use Rattle.kb_drive.specs.EmittedLaws.{AreAllValues, InputsAreOfPictures, InputsAreOfStates, IsOfPicture, input_for}
+use Rattle.kb_drive.specs.Values.{followed_by_zeros}
+use Rattle.kb_input.specs.Laws.{IsOfPicture, AreValuesFor as PictureValues, HasInput as PictureInput}
+use Rattle.kb_input.proofs.InputLaws.{emitted_of_picture}
+use Rattle.kb_drive.specs.EmittedLaws.{InputsAreOfStates, input_for}
 use Rattle.kb_drive.proofs.GrowLaws.{value_agrees}
 use Rattle.kb_drive.proofs.IntLaws.{each_at, typed_at}
 
@@ -107,26 +109,33 @@ met_alike nodes xs ys (condition ∷ when) pool same met =
 
 -- ---- the emitted input
 
-module _ (of_pictures : InputsAreOfPictures) where
-  pub inputs_of_states : InputsAreOfStates
-  inputs_of_states world state when values int_method formed can are =
-      let many : length (kinds_of state.nodes) ≡ variables_of state.nodes = length-kinds state.nodes in
-      let kinds : length (kinds_of state.nodes) ≡ length (kinds_seen world state.method state.picture) = ap length formed.kinds in
-      let filled : List ℤ = followed_by_zeros (variables_of state.nodes) values in
-      let same : (v : ℕ) → int_at filled v ≡ int_at values v = λ v. int_behind values (variables_of state.nodes - length values) v in
-      let full : length filled ≡ variables_of state.nodes = filled_length (variables_of state.nodes) values (omega (arith, are.few, many)) in
-      let all : AreAllValues world state.method state.picture filled = record {
-        count = omega (arith, full, many, kinds);
-        each = λ number kind value at there.
-            subst (KindFits kind) (sym (same number) ∙ int_there filled number value there)
-            (are.fits number kind (ap (λ (ks : List VarKind). slice_get ks number) formed.kinds ∙ at));
-      } in
-      let is : IsOfPicture world state.method state.picture filled (input_for world state values) = of_pictures world state.method state.picture filled int_method can all in
-      record {
-        correct = is.correct;
-        instance_of = record {
-          shape = is.shape;
-          conditions = subst (λ (vs : List ℤ). AreMetInPool state.nodes vs when) (sym is.variables) (met_alike state.nodes values filled when formed.pool same are.met);
-        };
-        closed = correct_is_closed world state.method (input_for world state values) is.correct;
-      }
+-- The emitted input of a state, by the law of emitted inputs.
+pub inputs_of_states : InputsAreOfStates
+inputs_of_states world state when values explorable formed has are =
+    let many : length (kinds_of state.nodes) ≡ variables_of state.nodes = length-kinds state.nodes in
+    let kinds : length (kinds_of state.nodes) ≡ length (kinds_seen world state.method state.picture) = ap length formed.kinds in
+    let filled : List ℤ = followed_by_zeros (variables_of state.nodes) values in
+    let same : (v : ℕ) → int_at filled v ≡ int_at values v = λ v. int_behind values (variables_of state.nodes - length values) v in
+    let full : length filled ≡ variables_of state.nodes = filled_length (variables_of state.nodes) values (omega (arith, are.few, many)) in
+    let all : PictureValues world state.method state.picture filled = record {
+      count = omega (arith, full, many, kinds);
+      each = λ number kind value at there.
+          subst (KindFits kind) (sym (same number) ∙ int_there filled number value there)
+          (are.fits number kind (ap (λ (ks : List VarKind). slice_get ks number) formed.kinds ∙ at));
+    } in
+    let input : PictureInput world state.method state.picture filled = record {
+      linked = explorable.linked;
+      accepted = explorable.accepted;
+      typed = has.typed;
+      receiver = has.receiver;
+      values_are = all;
+    } in
+    let is : IsOfPicture world state.method state.picture filled (input_for world state values) = emitted_of_picture world state.method state.picture filled input in
+    record {
+      correct = is.correct;
+      instance_of = record {
+        shape = is.shape;
+        conditions = subst (λ (vs : List ℤ). AreMetInPool state.nodes vs when) (sym is.variables) (met_alike state.nodes values filled when formed.pool same are.met);
+      };
+      closed = correct_is_closed world state.method (input_for world state values) is.correct;
+    }

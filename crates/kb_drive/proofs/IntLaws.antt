@@ -1,8 +1,7 @@
--- Methods over ints: the steps of their states are steps of ints, and what an input gives to the variables is what they can be.
-use Rattle.std.proofs.Common.{◌≡◌, ℕ, zero, suc, Bool, true, false, ◌&&◌, cond, List, [], ◌∷◌, length, Option, Some, None, slice_get, nat_eq, inl, inr, ℤ, refl, sym, ap, ◌∙◌, subst, map, option_and_then}
+-- What a type-correct input gives to the variables of a state is what they can be; and the states of methods over ints have met no objects.
+use Rattle.std.proofs.Common.{◌≡◌, ℕ, zero, suc, Bool, true, false, List, [], ◌∷◌, length, Option, Some, None, slice_get, inl, inr, ℤ, refl, sym, ap, ◌∙◌, subst, map, option_and_then}
 use Rattle.std.specs.Int.{w32}
-use Rattle.std.specs.List.{AllByRecursion, filter_map, list_all}
-use Rattle.std.specs.Option.{option_map, option_map_or}
+use Rattle.std.specs.List.{AllByRecursion, filter_map}
 use Rattle.std.specs.Prelude.{FitsSigned}
 use Rattle.std.proofs.lemmas.Option.{slice_get-map}
 use Rattle.kb_arith.proofs.Laws.{truth-fits}
@@ -11,34 +10,27 @@ use Rattle.kb_blast.specs.Meaning.{KindFits}
 use Rattle.kb_blast.specs.Query.{kinds_of}
 use Rattle.kb_class.specs.Naming.{Has}
 use Rattle.kb_class.specs.declared.ids.MethodId.{MethodId}
-use Rattle.kb_class.specs.declared.members.MethodCode.{MethodCode}
-use Rattle.kb_class.specs.declared.members.MethodInfo.{MethodInfo}
-use Rattle.kb_code.specs.Listing.{offset_of}
-use Rattle.kb_code.specs.declared.instruction.Instr.{Instr}
-use Rattle.kb_code.specs.declared.listing.Handler.{Handler}
 use Rattle.kb_heap.specs.Heap.{object_at, value_at}
 use Rattle.kb_heap.specs.declared.heap.Heap.{Heap}
 use Rattle.kb_heap.specs.declared.heap.Input.{Input}
 use Rattle.kb_heap.specs.declared.heap.Object.{Object}
 use Rattle.kb_heap.specs.declared.heap.Value.{Value}
 use Rattle.kb_heap.specs.declared.heap.Value.TheVariants.{Int as IntValue}
-use Rattle.kb_link.specs.Slots.{is_static}
 use Rattle.kb_link.specs.World.{World}
 use Rattle.kb_link.specs.declared.slots.FieldSlot.{FieldSlot}
 use Rattle.kb_names.specs.declared.types.ExactType.{ExactType}
 use Rattle.kb_names.specs.declared.types.ExactType.TheVariants as exact
 use Rattle.kb_names.specs.declared.types.JType.{JType}
 use Rattle.kb_names.specs.declared.types.JType.TheVariants as types
-use Rattle.kb_semantics.specs.Config.{code_of, info_of, instruction_at, instruction_in}
 use Rattle.kb_semantics.specs.Inputs.{HasValuesOf, IsInputObject, IsTypeCorrect, argument_types}
 use Rattle.kb_semantics.specs.Values.{AreValuesOf, IsValueOf, slots_of_class}
 use Rattle.kb_terms.specs.Terms.{int_at}
 use Rattle.kb_terms.specs.declared.node.VarKind.TheVariants.{Int as IntKind}
-use Rattle.kb_picture.specs.declared.choice.Init.{Init}
 use Rattle.kb_picture.specs.declared.picture.Origin.{Origin}
 use Rattle.kb_picture.specs.declared.picture.Origin.TheVariants.{Arg, Field, Element}
 use Rattle.kb_picture.specs.declared.picture.PicLoc.{PicLoc}
 use Rattle.kb_picture.specs.declared.picture.PicObject.{PicObject}
+use Rattle.kb_picture.specs.declared.picture.Picture.{Picture}
 use Rattle.kb_picture.specs.declared.picture.Seen.{Seen}
 use Rattle.kb_picture.specs.declared.picture.Seen.TheVariants as seens
 use Rattle.kb_picture.specs.Instances.{variable_value, variable_values}
@@ -46,158 +38,14 @@ use Rattle.kb_picture.specs.Places.{slot_value, value_in}
 use Rattle.kb_picture.specs.Queries.{component_of, kind_for, kind_seen, slot_of_class, type_of_slot}
 use Rattle.kb_picture.specs.Shapes.{AreSuch, HasShape, HoldEach}
 use Rattle.kb_picture.specs.WellFormed.{IsSlot, LeadsTo}
-use Rattle.kb_frames.specs.declared.state.Stage.{Stage}
-use Rattle.kb_frames.specs.declared.state.Stage.TheVariants.{Begins, Runs}
-use Rattle.kb_frames.specs.Next.{argument_next, instruction_next, is_int, is_int_instruction, is_int_next, is_reference, method_now, next_is_int}
-use Rattle.kb_frames.specs.State.{State, start_state}
+use Rattle.kb_picture.specs.WellTyped.{SeenFits, SeenFitsDeclared, is_reference_type}
+use Rattle.kb_frames.specs.State.{State}
 use Rattle.kb_frames.specs.States.{IsState}
-use Rattle.kb_frames.proofs.StateLaws.{start_is_state}
-use Rattle.kb_stepint.specs.Reached.{IsAlone, IsReached, IsReference}
+use Rattle.kb_stepint.specs.IntMethods.{is_int_method, is_int_type}
+use Rattle.kb_stepint.specs.Reached.{IsReached}
+use Rattle.kb_stepint.proofs.IntMethodLaws.{HasIntInfo, all_at, int_info}
 use Rattle.kb_drive.proofs.FrontLaws.{zero_fits}
 use Rattle.kb_drive.specs.StatePaths.{IsBare}
-use Rattle.kb_drive.specs.IntMethods.{has_none, is_int_code, is_int_info, is_int_method, is_int_type, is_none_or_int}
-
--- ---- what an int method has
-
-and_both : (a b : Bool) → (a && b) ≡ true → (a ≡ true) × (b ≡ true)
-and_both true b e = (refl, e)
-and_both false b e = absurd cc
-
--- its types, each of which is an int or a boolean, and its code
-record IsIntInfo (world : World) (id : MethodId) (info : MethodInfo) : Type 0 where
-  static : is_static info.access ≡ true
-  params : list_all is_int_type info.kind.params ≡ true
-  code : MethodCode
-  code_is : info.code ≡ Some code
-  int_code : is_int_code world id code ≡ true
-
-record HasIntInfo (world : World) (id : MethodId) : Type 0 where
-  info : MethodInfo
-  info_is : info_of world id ≡ Some info
-  int_info : IsIntInfo world id info
-
-pub int_info : (world : World) (id : MethodId) → is_int_method world id ≡ true → HasIntInfo world id
-int_info world id e = go (info_of world id) refl e
-  where
-    with_code : (info : MethodInfo) (code : Option MethodCode) → info.code ≡ code → is_static info.access ≡ true → list_all is_int_type info.kind.params ≡ true
-        → option_map_or (is_int_code world id) code false ≡ true → IsIntInfo world id info
-    with_code info None at static params is = absurd cc
-    with_code info (Some code) at static params is = record { static = static; params = params; code = code; code_is = at; int_code = is }
-
-    parts : (info : MethodInfo) → is_int_info world id info ≡ true → IsIntInfo world id info
-    parts info is =
-        let first = and_both (is_static info.access) (list_all is_int_type info.kind.params && (is_none_or_int info.kind.result && option_map_or (is_int_code world id) info.code false)) is in
-        let second = and_both (list_all is_int_type info.kind.params) (is_none_or_int info.kind.result && option_map_or (is_int_code world id) info.code false) first.1 in
-        let third = and_both (is_none_or_int info.kind.result) (option_map_or (is_int_code world id) info.code false) second.1 in
-        with_code info info.code refl first.0 second.0 third.1
-
-    go : (found : Option MethodInfo) → info_of world id ≡ found → option_map_or (is_int_info world id) found false ≡ true → HasIntInfo world id
-    go None at is = absurd cc
-    go (Some info) at is = record { info = info; info_is = at; int_info = parts info is }
-
--- ---- arguments
-
-int_is_no_reference : (type : JType) → is_int_type type ≡ true → is_reference type ≡ false
-int_is_no_reference types.Int e = refl
-int_is_no_reference types.Bool e = refl
-int_is_no_reference (types.Class name) e = absurd cc
-int_is_no_reference (types.Array component) e = absurd cc
-int_is_no_reference types.Byte e = absurd cc
-int_is_no_reference types.Char e = absurd cc
-int_is_no_reference types.Short e = absurd cc
-int_is_no_reference types.Long e = absurd cc
-int_is_no_reference types.Float e = absurd cc
-int_is_no_reference types.Double e = absurd cc
-
-all_at : {A : Type 0} (test : A → Bool) (xs : List A) (i : ℕ) (x : A) → list_all test xs ≡ true → slice_get xs i ≡ Some x → test x ≡ true
-all_at test [] i x all e = absurd cc
-all_at test (y ∷ ys) zero x all e = let same : y ≡ x = cc in rw (sym same) (and_both (test y) (list_all test ys) all).0
-all_at test (y ∷ ys) (suc i) x all e = all_at test ys i x (and_both (test y) (list_all test ys) all).1 e
-
--- ---- instructions
-
-module _ (world : World) (id : MethodId) where
-  -- the instruction that is found at an offset is one of the listing
-  pub found_is_int : (items : List (ℕ × Instr)) (size at : ℕ) (found : Instr × ℕ) → list_all (λ (item : ℕ × Instr). is_int_instruction world id item.1) items ≡ true
-      → instruction_in items size at ≡ Some found → is_int_instruction world id found.0 ≡ true
-  found_is_int [] size at found all e = absurd cc
-  found_is_int (item ∷ rest) size at found all e =
-      go (nat_eq item.0 at) (and_both (is_int_instruction world id item.1) (list_all (λ (i : ℕ × Instr). is_int_instruction world id i.1) rest) all)
-      (λ more later. found_is_int rest size at found more later) e
-    where
-      go : (here : Bool) → (is_int_instruction world id item.1 ≡ true) × (list_all (λ (i : ℕ × Instr). is_int_instruction world id i.1) rest ≡ true)
-          → (list_all (λ (i : ℕ × Instr). is_int_instruction world id i.1) rest ≡ true → instruction_in rest size at ≡ Some found → is_int_instruction world id found.0 ≡ true)
-          → cond here (Some (item.1, offset_of rest size)) (instruction_in rest size at) ≡ Some found → is_int_instruction world id found.0 ≡ true
-      go true both later same = let first : (item.1, offset_of rest size) ≡ found = cc in rw (sym first) both.0
-      go false both later same = later both.1 same
-
--- ---- states
-
--- While arguments are read the next one is an int or a boolean (`all_at`, `int_is_no_reference`); then the frame is the method's own
--- (`IsReached.alone`), and each instruction of its code is one of ints (`found_is_int`).
-pub ints_next : (world : World) (state : State) → IsReached world state → is_int_method world state.method ≡ true → next_is_int world state ≡ true
-ints_next world state reached ints = go state.stage reached.alone
-  where
-    h : HasIntInfo world state.method
-    h = int_info world state.method ints
-
-    code_is : code_of world state.method ≡ Some h.int_info.code
-    code_is = rw h.info_is h.int_info.code_is
-
-    -- the instruction at whatever offset, or none
-    at_offset : (at : ℕ) → is_int_next world state.method (option_map (λ (found : Instr × ℕ). found.0) (instruction_at world state.method at)) ≡ true
-    at_offset at = rw code_is (either (instruction_in h.int_info.code.listing.items h.int_info.code.size at) refl)
-      where
-        either : (found : Option (Instr × ℕ)) → instruction_in h.int_info.code.listing.items h.int_info.code.size at ≡ found
-            → is_int_next world state.method (option_map (λ (f : Instr × ℕ). f.0) found) ≡ true
-        either None e = refl
-        either (Some found) e =
-            found_is_int world state.method h.int_info.code.listing.items h.int_info.code.size at found
-            (and_both (has_none h.int_info.code.handlers) (list_all (λ (item : ℕ × Instr). is_int_instruction world state.method item.1) h.int_info.code.listing.items) h.int_info.int_code).1 e
-
-    types_are : argument_types world h.info ≡ h.info.kind.params
-    types_are = rw h.int_info.static refl
-
-    by_argument : (type : Option JType) (i : ℕ) → slice_get h.info.kind.params i ≡ type
-        → is_int (option_map is_reference type) (is_int_next world state.method (option_map (λ (found : Instr × ℕ). found.0) (instruction_at world state.method 0))) ≡ true
-    by_argument None i e = at_offset 0
-    by_argument (Some type) i e = let never = int_is_no_reference type (all_at is_int_type h.info.kind.params i type h.int_info.params e) in rw never refl
-
-    go : (stage : Stage) → IsAlone state.method stage
-        → is_int (option_map is_reference (argument_next world state.method stage)) (is_int_next world (method_now state.method stage) (instruction_next world state.method stage)) ≡ true
-    go (Begins read) alone = rw (h.info_is, types_are) (by_argument (slice_get h.info.kind.params (length read)) (length read) refl)
-    go (Runs frame callers) alone = rw alone.0 (at_offset frame.at)
-
--- The state before the arguments are read is one to which later calls lead: nothing was read, and the method has no handlers.
-pub start_reached : (world : World) (init : Init) (method : MethodId) → is_int_method world method ≡ true → IsReached world (start_state init method)
-start_reached world init method ints = record {
-  sound = start_is_state world init method h.info h.info_is;
-  typed = record {
-    seen = λ slot seen_as has. absurd (no_item has);
-    universe = λ object has. absurd (no_item has);
-    fit = λ slot number object type leads e declared. absurd (no_at number object e);
-    loose = λ slot type loose declared. elim loose [ | inl has ↦ absurd (no_item has) | inr rest ↦ elim rest [ | inl has ↦ absurd (no_item has) | inr has ↦ absurd (no_item has) ] ];
-  };
-  receiver = tt;
-  alone = tt;
-  unhandled = rw code_is (handlers_none h.int_info.code.handlers (and_both (has_none h.int_info.code.handlers) (list_all (λ (item : ℕ × Instr). is_int_instruction world method item.1) h.int_info.code.listing.items) h.int_info.int_code).0);
-}
-  where
-    h : HasIntInfo world method
-    h = int_info world method ints
-
-    code_is : code_of world method ≡ Some h.int_info.code
-    code_is = rw h.info_is h.int_info.code_is
-
-    no_at : {A : Type 0} (i : ℕ) (x : A) → slice_get [] i ≡ Some x → ⊥
-    no_at i x e = absurd cc
-
-    no_item : {A : Type 0} {x : A} → Has [] x → ⊥
-    no_item has = no_at has.0 _ has.1
-
-    handlers_none : (handlers : List Handler) → has_none handlers ≡ true → handlers ≡ []
-    handlers_none [] e = refl
-    handlers_none (handler ∷ others) e = absurd cc
 
 -- ---- what an input gives to the variables
 
@@ -349,6 +197,11 @@ kinds_fit world state input formed correct shape v = rw formed.kinds (all_fit wo
 
 -- ---- no objects
 
+-- the declared type is that of a reference
+abbrev IsReference : Option JType → Type 0
+IsReference None = ⊥
+IsReference (Some type) = is_reference_type type ≡ true
+
 -- no slot of a picture without objects has the type of a reference
 module _ (world : World) (id : MethodId) (ints : is_int_method world id ≡ true) where
   nowhere : (type_of : PicObject → Option JType) (number : ℕ) → IsReference (option_and_then type_of (slice_get [] number)) → ⊥
@@ -370,20 +223,29 @@ module _ (world : World) (id : MethodId) (ints : is_int_method world id ≡ true
       types_are = rw h.int_info.static refl
 
       of_type : (type : JType) → is_int_type type ≡ true → IsReference (Some type) → ⊥
-      of_type types.Int e is = is
-      of_type types.Bool e is = is
+      of_type types.Int e is = absurd cc
+      of_type types.Bool e is = absurd cc
       of_type (types.Class name) e is = absurd cc
       of_type (types.Array component) e is = absurd cc
-      of_type types.Byte e is = is
-      of_type types.Char e is = is
-      of_type types.Short e is = is
-      of_type types.Long e is = is
-      of_type types.Float e is = is
-      of_type types.Double e is = is
+      of_type types.Byte e is = absurd cc
+      of_type types.Char e is = absurd cc
+      of_type types.Short e is = absurd cc
+      of_type types.Long e is = absurd cc
+      of_type types.Float e is = absurd cc
+      of_type types.Double e is = absurd cc
 
       go : (type : Option JType) → slice_get h.info.kind.params number ≡ type → IsReference type → ⊥
       go None e is = is
       go (Some type) e is = of_type type (all_at is_int_type h.info.kind.params number type h.int_info.params e) is
+
+-- what is seen as an object or a location is the slot of a reference
+object_typed : (world : World) (picture : Picture) (declared : Option JType) (number : ℕ) → SeenFitsDeclared world picture declared (seens.Obj number) → IsReference declared
+object_typed world picture None number fits = fits
+object_typed world picture (Some type) number fits = fits
+
+loc_typed : (world : World) (picture : Picture) (declared : Option JType) (number : ℕ) → SeenFitsDeclared world picture declared (seens.Loc number) → IsReference declared
+loc_typed world picture None number fits = fits
+loc_typed world picture (Some type) number fits = fits.0
 
 -- A state over ints has met no object: the first one would have been led to by an argument, and so would the first location.
 pub bare : (world : World) (state : State) → IsReached world state → is_int_method world state.method ≡ true → IsBare state.picture
@@ -392,10 +254,20 @@ bare world state reached ints = record { objects = objects state.picture.objects
     sound : IsState world state
     sound = reached.sound
 
+    seen_as_object : (slot : Origin) (number : ℕ) → Has state.picture.seen (slot, seens.Obj number)
+        → IsReference (type_of_slot world state.method state.picture.objects slot)
+    seen_as_object slot number has =
+        object_typed world state.picture (type_of_slot world state.method state.picture.objects slot) number (reached.typed.seen has.0 (slot, seens.Obj number) has.1)
+
+    seen_as_loc : (slot : Origin) (number : ℕ) → Has state.picture.seen (slot, seens.Loc number)
+        → IsReference (type_of_slot world state.method state.picture.objects slot)
+    seen_as_loc slot number has =
+        loc_typed world state.picture (type_of_slot world state.method state.picture.objects slot) number (reached.typed.seen has.0 (slot, seens.Loc number) has.1)
+
     -- what leads to an object is the slot of a reference
     leads : (slot : Origin) (number : ℕ) → LeadsTo state.picture slot number → IsReference (type_of_slot world state.method state.picture.objects slot)
-    leads slot number (inl seen) = reached.typed.seen slot (seens.Obj number) seen
-    leads slot number (inr bound) = reached.typed.seen slot (seens.Loc bound.loc) bound.seen
+    leads slot number (inl seen) = seen_as_object slot number seen
+    leads slot number (inr bound) = seen_as_loc slot bound.loc bound.seen
 
     -- the origin of the first object is an argument, whose type is told without the objects
     first_origin : (object : PicObject) (others : List PicObject) (slot : Origin) → IsSlot world (length (argument_types world sound.info)) [] slot
@@ -425,4 +297,4 @@ bare world state reached ints = record { objects = objects state.picture.objects
         let seen = (sound.picture.locs 0 loc at).0 in
         absurd (no_reference world state.method ints loc.origin
         (subst (λ (l : List PicObject). IsReference (type_of_slot world state.method l loc.origin)) (objects state.picture.objects refl)
-        (reached.typed.seen loc.origin (seens.Loc 0) seen)))
+        (seen_as_loc loc.origin 0 seen)))

@@ -41,14 +41,17 @@ use Rattle.kb_frames.specs.State.{State}
 use Rattle.kb_stepint.specs.Asked.{all_asked}
 use Rattle.kb_stepint.specs.Choices.{choices_of, conditions_of}
 use Rattle.kb_stepint.specs.Effects.{plan_of}
-use Rattle.kb_stepint.specs.Laws.{IsAtInts, OfStates, OfTakes}
-use Rattle.kb_stepint.specs.Reached.{IsReached}
-use Rattle.kb_stepint.specs.Simulation.{AddsComparisons, FollowsStep, GetsOn, HasInput, Keeps, ReadsWhatItSees, TakesOneWay}
+use Rattle.kb_stepint.specs.Laws.{IsAtInts}
+use Rattle.kb_stepint.specs.Simulation.{GetsOn}
 use Rattle.kb_stepint.specs.Takes.{answered, taken, takes_next, takes_up}
 use Rattle.kb_stepint.specs.Ways.{Take, Way, Goes as WayGoes, Jumps, Leaves, Throws, Fails, carries_out, ill_typed, went}
 use Rattle.kb_stepint.proofs.GrowLaws.{Grows, all_asked_grows, front_itself, if_has, option_has}
-use Rattle.kb_stepint.proofs.KeepLaws.{takes_next_stays}
-use Rattle.kb_stepint.proofs.MeasureLaws.{few}
+use Rattle.kb_stepint.proofs.AddedLaws.{adds}
+use Rattle.kb_stepint.proofs.KeepLaws.{kept, reads, takes_next_stays}
+use Rattle.kb_stepint.proofs.MeasureLaws.{few_next, gets_on}
+use Rattle.kb_stepint.proofs.OneLaws.{one}
+use Rattle.kb_stepint.proofs.OutcomeLaws.{follows}
+use Rattle.kb_stepint.proofs.ReachedLaws.{has_input}
 use Rattle.kb_drive.specs.Steps.{GoesOn, LeadsOn, StaysAtInputs, StepsLeadOn, rank_of}
 use Rattle.kb_drive.proofs.EndLaws.{endings_there}
 use Rattle.kb_drive.proofs.FrontLaws.{take_append}
@@ -107,10 +110,6 @@ GoesFew world bounds old new Asks = Unit {0}
 GoesFew world bounds old new Goes = (old.carried < bounds.run.steps) × (choices_left world new ≤ 5)
 GoesFew world bounds old new (Ends ending) = Unit {0}
 GoesFew world bounds old new (Cut bound) = Unit {0}
-
-few_next : (found : Option Instr) → option_map_or questions_of found 0 ≤ 5
-few_next None = omega arith
-few_next (Some instr) = few instr
 
 abbrev pub IsRunning : Stage → Type 0
 IsRunning (Begins read) = ⊥
@@ -190,31 +189,21 @@ less_rank world bounds old new (Cut bound) on few goes = absurd goes
 
 -- ---- all of it
 
--- By the laws that kb_stepint's functions carry, and one that is owed: that the state behind a take is reached.
-module _ (one : OfStates (λ world bounds state. TakesOneWay world bounds state (choices_of world state bounds) (taken world bounds state)))
-    (outcome : OfTakes (λ world bounds state take. FollowsStep world bounds state take))
-    (kept : OfTakes (λ world bounds state take. Keeps state take.state))
-    (picture : OfTakes (λ world bounds state take. HasInput world take.state))
-    (compared : OfTakes (λ world bounds state take. AddsComparisons world bounds state take.state))
-    (read : OfTakes (λ world bounds state take. ReadsWhatItSees world bounds state take.state))
-    (gets_on : OfTakes (λ world bounds state take. GetsOn world state take.state take.outcome))
-    (reached : OfTakes (λ world bounds state take. IsReached world take.state)) where
-  leads : (world : World) (bounds : Bounds) (state : State) (choice : Choice) → IsAtInts world state → Has (choices_of world state bounds) choice
-      → LeadsOn world bounds state (taken world bounds state choice)
-  leads world bounds state choice at has = record {
-    outcome = outcome world bounds state choice at has;
-    kept = kept world bounds state choice at has;
-    compared = compared world bounds state choice at has;
-    read = read world bounds state choice at has;
-    reached = reached world bounds state choice at has;
-    picture = picture world bounds state choice at has;
-    stays = stays_behind world bounds state choice;
-    ending = endings_there world bounds state choice at has;
-    fewer = less_rank world bounds state (taken world bounds state choice).state (taken world bounds state choice).outcome
-        (gets_on world bounds state choice at has) (taken_few world bounds state choice);
-  }
+leads : (world : World) (bounds : Bounds) (state : State) (choice : Choice) → IsAtInts world state → Has (choices_of world state bounds) choice
+    → LeadsOn world bounds state (taken world bounds state choice)
+leads world bounds state choice at has = record {
+  outcome = follows world bounds state choice at has;
+  kept = kept world bounds state choice;
+  compared = adds world bounds state choice at.reached;
+  read = reads world bounds state choice;
+  picture = has_input world bounds choice state at;
+  stays = stays_behind world bounds state choice;
+  ending = endings_there world bounds state choice at has;
+  fewer = less_rank world bounds state (taken world bounds state choice).state (taken world bounds state choice).outcome
+      (gets_on world bounds state choice) (taken_few world bounds state choice);
+}
 
-  pub steps_lead : StepsLeadOn
-  steps_lead world bounds state is next =
-      let at : IsAtInts world state = record { reached = is; next = next } in
-      record { one = one world bounds state at; each = λ choice has. leads world bounds state choice at has }
+pub steps_lead : StepsLeadOn
+steps_lead world bounds state is next =
+    let at : IsAtInts world state = record { reached = is; next = next } in
+    record { one = one world bounds state at; each = λ choice has. leads world bounds state choice at has }

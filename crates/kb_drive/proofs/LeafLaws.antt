@@ -26,39 +26,38 @@ use Rattle.kb_frames.specs.declared.value.Outcome.TheVariants.{Ends, Cut}
 use Rattle.kb_frames.specs.Cuts.{IsLicensed, setting_of}
 use Rattle.kb_frames.specs.Paths.{numbered_ended, path_numbering, path_of}
 use Rattle.kb_frames.specs.StandsFor.{IsInstanceOf, reading_at}
-use Rattle.kb_stepint.specs.Reached.{CanBeInput}
-use Rattle.kb_stepint.specs.Simulation.{comparison_of}
+use Rattle.kb_frames.specs.Comparing.{comparison_of}
 use Rattle.kb_stepint.specs.Ways.{Take}
 use Rattle.kb_drive.specs.Compared.{ComparesAsRuns, IsMade, IsSuchComparison, comparison_at}
 use Rattle.kb_drive.specs.EmittedLaws.{InputsAreOfStates, IsOfState, input_for}
-use Rattle.kb_drive.specs.IntMethods.{is_int_method}
+use Rattle.kb_drive.specs.Explorable.{IsExplorable}
 use Rattle.kb_drive.specs.Pieces.{IsBehind}
 use Rattle.kb_drive.specs.ReadFirst.{AreReadFirst, SeesWhatIsRead}
 use Rattle.kb_drive.specs.Runs.{starts_of}
-use Rattle.kb_drive.specs.StatePaths.{EndingMeans, EndingsMean, PathMeans, PathsMean, ended_in}
+use Rattle.kb_drive.specs.StatePaths.{EndingMeans, EndingsMean, IsPathOf, ended_in}
 use Rattle.kb_drive.specs.Stops.{IsUnserved}
 use Rattle.kb_drive.specs.Walks.{IsRightPath}
 use Rattle.kb_drive.proofs.RunLaws.{run_ends}
 
-module _ (paths_mean : PathsMean) (endings_mean : EndingsMean) (emits : InputsAreOfStates) (one_places : OnePlaces) where
-  module _ (world : World) (target : MethodId) (bounds : Bounds) (ints : is_int_method world target ≡ true) where
+module _ (endings_mean : EndingsMean) (emits : InputsAreOfStates) (one_places : OnePlaces) where
+  module _ (world : World) (target : MethodId) (bounds : Bounds) (explorable : IsExplorable world target) where
     -- some input has the shape behind the alternative and meets the conditions from before it
     pub some_short : (count : ℕ) (values : List ℤ) (after : Take) → IsBehind world target bounds count values after
         → IsOfState world after.state (take count after.state.when) (input_for world after.state values)
     some_short count values after behind =
-        emits world after.state (take count after.state.when) values (subst (λ (m : MethodId). is_int_method world m ≡ true) (sym behind.explored.method) ints)
-        behind.explored.formed (subst (λ (m : MethodId). CanBeInput world m after.state.picture) (sym behind.explored.method) behind.picture) behind.explored.met
+        emits world after.state (take count after.state.when) values (subst (IsExplorable world) (sym behind.explored.method) explorable)
+        behind.explored.formed behind.picture behind.explored.met
 
     -- a condition of the path is one of the state, whose runs make the comparison
     condition_made : (count : ℕ) (values : List ℤ) (after : Take) (decisions : List ℕ) (leaf : Leaf) → IsBehind world target bounds count values after
-        → PathMeans world after.state decisions leaf
+        → IsPathOf world after.state decisions leaf
         → (input : Input) (short : IsShortInstance world target (path_of after.state decisions leaf) count input) (i : ℕ) (condition : ℕ × Bool)
         → slice_get (path_of after.state decisions leaf).when i ≡ Some condition
         → IsSuchComparison (IsMade world target bounds input) (comparison_at (path_of after.state decisions leaf) input short.instance_of.shape.places.objects condition.0)
     unfolding path_of
     condition_made count values after decisions leaf behind means input short i condition at =
-        let is = means.conditions i condition at in
-        let was = (means.short count input).0 short.instance_of in
+        let is = means.means.conditions i condition at in
+        let was = (means.means.short count input).0 short.instance_of in
         -- the places are those of the picture, whichever of the two shapes tells them
         let same = one_places after.state.picture input was.shape short.instance_of.shape in
         subst (IsSuchComparison (IsMade world target bounds input)) (sym (is.comparison input short.instance_of.shape.places.objects))
@@ -67,25 +66,25 @@ module _ (paths_mean : PathsMean) (endings_mean : EndingsMean) (emits : InputsAr
 
     -- The conditions of a path behind an alternative are comparisons that the runs make.
     pub compares : (count : ℕ) (values : List ℤ) (after : Take) (decisions : List ℕ) (leaf : Leaf) → IsBehind world target bounds count values after
-        → PathMeans world after.state decisions leaf → ComparesAsRuns world target bounds (path_of after.state decisions leaf)
+        → IsPathOf world after.state decisions leaf → ComparesAsRuns world target bounds (path_of after.state decisions leaf)
     compares count values after decisions leaf behind means = record {
       count = count;
-      within = omega (arith, behind.explored.within, means.count);
+      within = omega (arith, behind.explored.within, means.means.count);
       some = input_for world after.state values;
       some_is = record {
         correct = subst (λ (m : MethodId). IsTypeCorrect world m (input_for world after.state values)) behind.explored.method (some_short count values after behind).correct;
-        instance_of = (means.short count (input_for world after.state values)).1 (some_short count values after behind).instance_of;
+        instance_of = (means.means.short count (input_for world after.state values)).1 (some_short count values after behind).instance_of;
       };
       each = λ input short i condition at exempt. condition_made count values after decisions leaf behind means input short i condition at;
     }
 
     -- Every seen slot is read.
     pub sees : (count : ℕ) (values : List ℤ) (after : Take) (decisions : List ℕ) (leaf : Leaf) → IsBehind world target bounds count values after
-        → PathMeans world after.state decisions leaf → SeesWhatIsRead world target bounds (path_of after.state decisions leaf)
+        → IsPathOf world after.state decisions leaf → SeesWhatIsRead world target bounds (path_of after.state decisions leaf)
     unfolding path_of
     sees count values after decisions leaf behind means =
         λ decided input correct instance_of.
-        let was = (means.instances input).0 instance_of in
+        let was = (means.means.instances input).0 instance_of in
         subst (λ (places : PlaceLists). AreReadFirst (setting_of world bounds) (starts_of world target input) input places.objects after.state.picture.seen)
         (one_places after.state.picture input was.shape instance_of.shape) (behind.explored.read input correct was)
 
@@ -93,7 +92,7 @@ module _ (paths_mean : PathsMean) (endings_mean : EndingsMean) (emits : InputsAr
 
     -- An open path.
     pub open_right : (count budget : ℕ) (values : List ℤ) (after : Take) (decisions : List ℕ) → IsBehind world target bounds count values after
-        → PathMeans world after.state decisions Open → IsRightPath world target bounds budget (path_of after.state decisions Open)
+        → IsPathOf world after.state decisions Open → IsRightPath world target bounds budget (path_of after.state decisions Open)
     unfolding path_of
     open_right count budget values after decisions behind means = record {
       formed = subst (λ (m : MethodId). IsWellFormed world m (path_of after.state decisions Open)) behind.explored.method means.formed;
@@ -106,14 +105,14 @@ module _ (paths_mean : PathsMean) (endings_mean : EndingsMean) (emits : InputsAr
     }
 
     -- the query of a path is the one that its state asks
-    asks_same : (count : ℕ) (values : List ℤ) (after : Take) (decisions : List ℕ) (leaf : Leaf) → IsBehind world target bounds count values after → PathMeans world after.state decisions leaf
+    asks_same : (count : ℕ) (values : List ℤ) (after : Take) (decisions : List ℕ) (leaf : Leaf) → IsBehind world target bounds count values after → IsPathOf world after.state decisions leaf
         → query_of_path world target (path_of after.state decisions leaf) ≡ query_of after.state.nodes after.state.when
     asks_same count values after decisions leaf behind means =
-        subst (λ (m : MethodId). query_of_path world m (path_of after.state decisions leaf) ≡ query_of after.state.nodes after.state.when) behind.explored.method means.query
+        subst (λ (m : MethodId). query_of_path world m (path_of after.state decisions leaf) ≡ query_of after.state.nodes after.state.when) behind.explored.method means.means.query
 
     -- The open path of conditions that an oracle could not answer.
     pub unserved : (count : ℕ) (values : List ℤ) (after : Take) (decisions : List ℕ) (Unfit : ℕ → Query → Type 0) (i : ℕ) → IsBehind world target bounds count values after
-        → PathMeans world after.state decisions Open → Unfit i (query_of after.state.nodes after.state.when)
+        → IsPathOf world after.state decisions Open → Unfit i (query_of after.state.nodes after.state.when)
         → IsUnserved world target bounds Unfit i (path_of after.state decisions Open)
     unfolding path_of
     unserved count values after decisions Unfit i behind means unfit = record {
@@ -125,7 +124,7 @@ module _ (paths_mean : PathsMean) (endings_mean : EndingsMean) (emits : InputsAr
 
     -- An undecided path: what the oracle has said of its query is said of the path's own, which is the same.
     pub undecided_right : (count budget : ℕ) (values : List ℤ) (after : Take) (decisions : List ℕ) (log : Log) → IsBehind world target bounds count values after
-        → PathMeans world after.state decisions (Undecided log) → LeavesOpen (query_of after.state.nodes after.state.when) budget log
+        → IsPathOf world after.state decisions (Undecided log) → LeavesOpen (query_of after.state.nodes after.state.when) budget log
         → IsRightPath world target bounds budget (path_of after.state decisions (Undecided log))
     unfolding path_of
     undecided_right count budget values after decisions log behind means left = record {
@@ -143,7 +142,7 @@ module _ (paths_mean : PathsMean) (endings_mean : EndingsMean) (emits : InputsAr
 
     -- the input that a path carries whose values meet all conditions
     emitted_is : (values : List ℤ) (after : Take) (decisions : List ℕ) (leaf : Leaf) → IsBehind world target bounds (length after.state.when) values after
-        → PathMeans world after.state decisions leaf → (input : Input) → input_for world after.state values ≡ input
+        → IsPathOf world after.state decisions leaf → (input : Input) → input_for world after.state values ≡ input
         → IsTypeCorrect world target input × IsInstance (path_of after.state decisions leaf) input
     emitted_is values after decisions leaf behind means input same =
         let some = some_short (length after.state.when) values after behind in
@@ -155,14 +154,14 @@ module _ (paths_mean : PathsMean) (endings_mean : EndingsMean) (emits : InputsAr
         subst (λ (i : Input). IsTypeCorrect world target i × IsInstance (path_of after.state decisions leaf) i) same
         (
           subst (λ (m : MethodId). IsTypeCorrect world m (input_for world after.state values)) behind.explored.method some.correct,
-          (means.instances (input_for world after.state values)).1 all
+          (means.means.instances (input_for world after.state values)).1 all
         )
 
     -- A cut path: each instance's outcome is the cut, which is licensed; the input that it carries is an instance, since the values meet all
     -- conditions.
     pub cut_right : (budget : ℕ) (values : List ℤ) (after : Take) (decisions : List ℕ) (bound : Bound) → after.outcome ≡ Cut bound
         → IsBehind world target bounds (length after.state.when) values after
-        → PathMeans world after.state decisions (CutLeaf bound (input_for world after.state values))
+        → IsPathOf world after.state decisions (CutLeaf bound (input_for world after.state values))
         → IsRightPath world target bounds budget (path_of after.state decisions (CutLeaf bound (input_for world after.state values)))
     unfolding path_of
     cut_right budget values after decisions bound is behind means = record {
@@ -180,14 +179,14 @@ module _ (paths_mean : PathsMean) (endings_mean : EndingsMean) (emits : InputsAr
 
         licensed : (input : Input) → IsTypeCorrect world target input → IsInstance (path_of after.state decisions leaf) input → IsLicensed world target bounds after.state.picture bound input
         licensed input correct instance_of =
-            let h = behind.outcomes input correct ((means.instances input).0 instance_of) in
+            let h = behind.outcomes input correct ((means.means.instances input).0 instance_of) in
             subst (λ (m : MethodId). IsLicensed world m bounds after.state.picture bound input) behind.explored.method (rw is at h.outcome)
 
     -- An ended path: the step behind so many ends the run with the ending and the heap that the state stands for, which the path states.
     pub ended_right : (budget : ℕ) (values : List ℤ) (after : Take) (decisions : List ℕ) (ending : SymEnding) → after.outcome ≡ Ends ending
         → IsBehind world target bounds (length after.state.when) values after
         → EndingMeans world after.state decisions ending (input_for world after.state values)
-        → PathMeans world after.state decisions (EndedLeaf (ended_in after.state ending (input_for world after.state values)))
+        → IsPathOf world after.state decisions (EndedLeaf (ended_in after.state ending (input_for world after.state values)))
         → IsRightPath world target bounds budget (path_of after.state decisions (EndedLeaf (ended_in after.state ending (input_for world after.state values))))
     unfolding path_of
     ended_right budget values after decisions ending is behind ending_means means = record {
@@ -207,7 +206,7 @@ module _ (paths_mean : PathsMean) (endings_mean : EndingsMean) (emits : InputsAr
             → run_of (setting_of world bounds) target input
             ≡ stated_end world (path_of after.state decisions leaf) (numbered_ended after.state.nodes (path_numbering after.state leaf) (ended_in after.state ending (input_for world after.state values))) input
         ends input correct instance_of =
-            let was = (means.instances input).0 instance_of in
+            let was = (means.means.instances input).0 instance_of in
             let h = behind.outcomes input correct was in
             let end = rw is at h.outcome in
             run_ends (setting_of world bounds) target input h.steps h.config (record { ending = ending_at (reading_at world after.state input was.shape.places) ending; heap = end.0 }) h.config_is end.1

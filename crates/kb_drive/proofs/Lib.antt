@@ -12,14 +12,11 @@ pub mod InputLaws
 pub mod IntLaws
 pub mod LeadLaws
 pub mod LeafLaws
-pub mod MeaningLaws
 pub mod OpenLaws
 pub mod OrderLaws
 pub mod PartLaws
+pub mod PathLaws
 pub mod PieceLaws
-pub mod QueryLaws
-pub mod ReceiverLaws
-pub mod RefutedLaws
 pub mod RunLaws
 pub mod SettledLaws
 pub mod SizeLaws

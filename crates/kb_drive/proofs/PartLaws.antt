@@ -13,7 +13,8 @@ use Rattle.kb_drive.specs.declared.piece.Piece.{Piece}
 use Rattle.kb_drive.specs.declared.waiting.Waiting.{Waiting}
 use Rattle.kb_drive.specs.declared.follow.Next.{Next}
 use Rattle.kb_drive.specs.declared.follow.Next.TheVariants.{Lists, Waits as WaitsNext, Leaves}
-use Rattle.kb_drive.specs.Division.{NoneHas, ExactlyOneHas, IsFrontOf}
+use Rattle.kb_picture.specs.Exactly.{NoneHas, ExactlyOneHas}
+use Rattle.kb_drive.specs.Division.{IsFrontOf}
 use Rattle.kb_drive.specs.Following.{alternative_next, has_more, listed_with, waiting_with, waits_on}
 use Rattle.kb_drive.specs.Parts.{Alternative, Part, Listed, Waits, IsInPart, alternatives_from, alternatives_left, decisions_of_part, parts_of}
 use Rattle.kb_drive.specs.Taking.{taken_at}

@@ -19,15 +19,15 @@ use Rattle.kb_picture.specs.Shapes.{HasShape}
 use Rattle.kb_frames.specs.Cuts.{setting_of}
 use Rattle.kb_frames.specs.StandsFor.{IsInstanceOf, StandsFor, written_by}
 use Rattle.kb_frames.specs.State.{State}
-use Rattle.kb_stepint.specs.Reached.{CanBeInput}
 use Rattle.kb_stepint.specs.Simulation.{IsComparedBy as IsComparedByStep, IsRead as IsReadByStep, IsReadAt, comparison_of}
 use Rattle.kb_stepint.specs.Ways.{Take}
 use Rattle.kb_drive.specs.declared.piece.Piece.{Piece}
+use Rattle.kb_stepint.specs.Reached.{IsReached}
 use Rattle.kb_drive.specs.Compared.{IsMade, IsSuchComparison}
 use Rattle.kb_drive.specs.Pieces.{AreMadeIn, AreValuesFor, HasOutcome, IsBehind, IsPiece}
 use Rattle.kb_drive.specs.ReadFirst.{AreReadFirst, IsReadFirst, SomeReadsAt}
 use Rattle.kb_drive.specs.Runs.{starts_of}
-use Rattle.kb_drive.specs.StatePaths.{with_first}
+use Rattle.kb_frames.specs.Meant.{with_first}
 use Rattle.kb_drive.specs.Steps.{LeadsOn}
 use Rattle.kb_drive.proofs.FrontLaws.{at_front, front_at, front_length, values_stay, within_or_not}
 use Rattle.kb_drive.proofs.GrowLaws.{comparison_stays, met_before, seen_argument}
@@ -174,11 +174,11 @@ module _ (world : World) (target : MethodId) (bounds : Bounds) (piece : Piece) (
       }
 
   -- Behind an alternative of a piece, whatever becomes of it.
-  pub behind_piece : IsBehind world target bounds (length old.when) piece.values after
-  behind_piece = record {
+  pub behind_piece : IsReached world new → IsBehind world target bounds (length old.when) piece.values after
+  behind_piece reached = record {
     explored = record {
       method = same_method;
-      formed = leads.reached.sound;
+      formed = reached.sound;
       within = front_length new.when old.when leads.kept.conditions;
       met = subst (λ (when : List (TermId × Bool)). AreValuesFor new.nodes when piece.values) (sym leads.kept.conditions)
           (values_stay old.nodes new.nodes old.when piece.values leads.kept.terms is.reached.sound.conditions
@@ -186,8 +186,8 @@ module _ (world : World) (target : MethodId) (bounds : Bounds) (piece : Piece) (
       compared = compared_behind;
       read = read_behind;
     };
-    reached = leads.reached;
-    picture = subst (λ (m : MethodId). CanBeInput world m new.picture) same_method leads.picture;
+    reached = reached;
+    picture = leads.picture;
     ending = leads.ending;
     outcomes = outcome_behind;
   }

@@ -22,7 +22,7 @@ use Rattle.kb_stepint.specs.Reached.{IsReached}
 use Rattle.kb_stepint.specs.Ways.{Take}
 use Rattle.kb_drive.specs.declared.piece.Piece.{Piece}
 use Rattle.kb_drive.specs.Pieces.{AreValuesFor, HasOutcome, IsBehind, IsExplored, IsPiece, StandsForEach}
-use Rattle.kb_drive.specs.StatePaths.{with_first}
+use Rattle.kb_frames.specs.Meant.{with_first}
 use Rattle.kb_drive.specs.Steps.{GoesOn}
 
 nothing : {A : Type 0} (i : ℕ) (x : A) → slice_get [] i ≡ Some x → ⊥

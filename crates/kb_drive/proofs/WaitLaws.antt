@@ -15,7 +15,7 @@ use Rattle.kb_drive.specs.declared.piece.Piece.{Piece}
 use Rattle.kb_drive.specs.Following.{waits_at}
 use Rattle.kb_drive.specs.Parts.{Alternative, IsInPart, Listed, Waits, alternatives_from, taken_of}
 use Rattle.kb_drive.specs.Pieces.{IsPiece}
-use Rattle.kb_drive.specs.StatePaths.{PathMeans}
+use Rattle.kb_drive.specs.StatePaths.{IsPathOf}
 use Rattle.kb_drive.specs.Steps.{StepsLead}
 use Rattle.kb_drive.specs.Taking.{choices_at, taken_at}
 use Rattle.kb_drive.proofs.DivisionLaws.{Replaces, no_thing, same_thing, split_thing}
@@ -29,9 +29,9 @@ module _ (world : World) (target : MethodId) (bounds : Bounds) (alternative : Al
   after = taken_of world bounds alternative
 
   -- a path of the state behind it has the same inputs
-  pub listed_replaces : (leaf : Leaf) → PathMeans world after.state alternative.decisions leaf
+  pub listed_replaces : (leaf : Leaf) → IsPathOf world after.state alternative.decisions leaf
       → Replaces (IsInPart world bounds) input (Waits alternative ∷ []) (Listed (path_of after.state alternative.decisions leaf) ∷ [])
-  listed_replaces leaf means = same_thing (IsInPart world bounds) input (Waits alternative) (Listed (path_of after.state alternative.decisions leaf)) (means.instances input).1 (means.instances input).0
+  listed_replaces leaf means = same_thing (IsInPart world bounds) input (Waits alternative) (Listed (path_of after.state alternative.decisions leaf)) (means.means.instances input).1 (means.means.instances input).0
 
   -- one that is refuted has none
   pub refuted_replaces : (IsInstanceOf after.state input → ⊥) → Replaces (IsInPart world bounds) input (Waits alternative ∷ []) []

@@ -22,18 +22,19 @@ use Rattle.kb_drive.specs.declared.waiting.Taken.{Taken}
 use Rattle.kb_drive.specs.declared.waiting.Waiting.{Waiting}
 use Rattle.kb_drive.specs.declared.walk.Walk.{Walk}
 use Rattle.kb_drive.specs.Covers.{AreOpenLast, EachPath, closed_count, is_open}
-use Rattle.kb_drive.specs.Division.{ExactlyOneHas, NoneHas}
+use Rattle.kb_picture.specs.Exactly.{ExactlyOneHas, NoneHas}
 use Rattle.kb_drive.specs.EmittedLaws.{InputsAreOfStates}
 use Rattle.kb_drive.specs.Following.{IsAskedWithin, IsKnown, alternative_next, closed_with, follows, follows_outcome, has_more, input_of_piece, listed_with, path_of_piece, taken_from, waiting_with, waits_at, waits_on, walk_with}
-use Rattle.kb_drive.specs.IntMethods.{is_int_method}
+use Rattle.kb_stepint.specs.IntMethods.{is_int_method}
+use Rattle.kb_stepint.specs.Reached.{IsReached}
 use Rattle.kb_drive.specs.Parts.{Alternative, IsInPart, Listed, Waits, alternatives_left, decisions_of_part, parts_of}
-use Rattle.kb_drive.specs.StatePaths.{EndingsMean, PathsMean, ended_in}
+use Rattle.kb_drive.specs.StatePaths.{EndingsMean, ended_in}
 use Rattle.kb_drive.specs.Steps.{LeadsOn, StepsLeadOn}
 use Rattle.kb_drive.specs.Taking.{choices_at, taken_at}
 use Rattle.kb_drive.specs.Walks.{AreRising, BeginWith, EachWaiting, IsFurther, IsRefined, IsRightPath, IsWaiting, IsWalk, StaysIn, size_behind, size_left, size_of, size_of_choices, size_waiting}
 use Rattle.kb_drive.proofs.DivisionLaws.{Replaces, replaces_within}
 use Rattle.kb_drive.proofs.FollowLaws.{IsRightNext, Succeeds, follows_rightly, size_next}
-use Rattle.kb_drive.proofs.IntLaws.{ints_next}
+use Rattle.kb_stepint.proofs.IntMethodLaws.{ints_next}
 use Rattle.kb_drive.proofs.OpenLaws.{count_more, each_more, open_last_closed, open_last_open}
 use Rattle.kb_drive.proofs.OrderLaws.{begin_replaced, rising_replaced}
 use Rattle.kb_drive.proofs.PartLaws.{drop_at, drop_end, left_first, map_append, parts_behind, parts_with}
@@ -156,10 +157,11 @@ waits_with world target bounds budget waiting (WaitsNext one) each right = (righ
 waits_with world target bounds budget waiting Leaves each right = each
 
 -- A step keeps what holds of an exploration, refines its parts, and leaves less.
-module _ (steps : StepsLeadOn) (paths_mean : PathsMean) (endings_mean : EndingsMean) (emits : InputsAreOfStates) (one_places : OnePlaces) where
+module _ (steps : StepsLeadOn) (endings_mean : EndingsMean) (emits : InputsAreOfStates) (one_places : OnePlaces) where
   module _ (world : World) (bounds : Bounds) (budget : ℕ) (walk : Walk) (first : Waiting) (others : List Waiting) (choice : Choice) (known : Known)
       (is : IsWalk world bounds budget walk) (waits : walk.waiting ≡ first ∷ others) (at : slice_get first.choices first.next ≡ Some choice)
-      (knows : IsKnown budget (taken_from world bounds (alternative_next first choice)) known) (within : IsAskedWithin walk known) where
+      (knows : IsKnown budget (taken_from world bounds (alternative_next first choice)) known) (within : IsAskedWithin walk known)
+      (reached : IsReached world (taken_at world bounds first.piece.state choice).state) where
     abbrev next : Next
     next = follows world bounds (taken_from world bounds (alternative_next first choice)) known
 
@@ -175,13 +177,13 @@ module _ (steps : StepsLeadOn) (paths_mean : PathsMean) (endings_mean : EndingsM
     leads : LeadsOn world bounds first.piece.state (taken_at world bounds first.piece.state choice)
     leads =
         (steps world bounds first.piece.state one.piece.reached
-        (ints_next world first.piece.state one.piece.reached (subst (λ (m : MethodId). is_int_method world m ≡ true) (sym one.piece.explored.method) is.method))).each
+        (ints_next world first.piece.state one.piece.reached (subst (λ (m : MethodId). is_int_method world m ≡ true) (sym one.piece.explored.method) is.explorable.steps))).each
         choice (first.next, subst (λ (cs : List Choice). slice_get cs first.next ≡ Some choice) one.choices at)
 
     succeeds : Succeeds world walk.target bounds budget (alternative_next first choice) next
     succeeds =
-        follows_rightly steps paths_mean endings_mean emits one_places world walk.target bounds budget is.method (alternative_next first choice) known
-        (behind_piece world walk.target bounds first.piece one.piece (taken_at world bounds first.piece.state choice) leads) knows
+        follows_rightly steps endings_mean emits one_places world walk.target bounds budget is.explorable (alternative_next first choice) known
+        (behind_piece world walk.target bounds first.piece one.piece (taken_at world bounds first.piece.state choice) leads reached) knows
 
     -- the decisions of the parts, before and behind the step
     old_decisions : map decisions_of_part (parts_of walk.listed walk.waiting)
@@ -200,7 +202,7 @@ module _ (steps : StepsLeadOn) (paths_mean : PathsMean) (endings_mean : EndingsM
 
     pub step_walk : IsWalk world bounds budget new
     step_walk = record {
-      method = is.method;
+      explorable = is.explorable;
       rising = subst AreRising (sym new_decisions)
           (rising_replaced (map decisions_of_part (map Listed walk.listed)) (alternative_next first choice).decisions (map decisions_of_part (parts_behind next))
           (map decisions_of_part (map Waits (flat_map alternatives_left (waits_on first others)))) succeeds.begins succeeds.rising (subst AreRising old_decisions is.rising));

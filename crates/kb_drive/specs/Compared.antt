@@ -1,33 +1,17 @@
 -- That a path's conditions are comparisons which a run makes: an exploration splits the inputs by nothing of its own (path conditions
 -- are the branches that the program takes: King, 1976). It is said of the inputs that meet a front of the conditions, so that it speaks
 -- of the paths too of which nobody knows whether they have an instance.
-use Rattle.std.specs.Prelude.{◌≡◌, ℕ, ◌≤◌, ℤ, Bool, false, List, length, Option, Some, None, option_map, slice_get}
-use Rattle.kb_blast.specs.Meaning.{operand_value, second_value}
+use Rattle.std.specs.Prelude.{◌≡◌, ℕ, ◌≤◌, Bool, false, List, length, Option, Some, None, slice_get}
 use Rattle.kb_class.specs.declared.ids.MethodId.{MethodId}
 use Rattle.kb_heap.specs.declared.bounds.Bounds.{Bounds}
 use Rattle.kb_heap.specs.declared.heap.Input.{Input}
 use Rattle.kb_link.specs.World.{World}
-use Rattle.kb_semantics.specs.Comparisons.{Relation, Comparison}
-use Rattle.kb_terms.specs.declared.listing.Term.{Term}
+use Rattle.kb_semantics.specs.Comparisons.{Comparison}
 use Rattle.kb_picture.specs.declared.path.Path.{Path}
-use Rattle.kb_picture.specs.Instances.{IsShortInstance, variable_values, term_values}
+use Rattle.kb_picture.specs.Instances.{IsShortInstance}
 use Rattle.kb_frames.specs.Cuts.{setting_of}
-use Rattle.kb_stepint.specs.Simulation.{relation_of}
+use Rattle.kb_frames.specs.Comparing.{comparison_at}
 use Rattle.kb_drive.specs.Runs.{starts_of, SomeCompares}
-
--- ---- comparisons
-
--- the comparison that a listed term makes of the values of its operands, where it is one
-abbrev pub comparison_listed : List ℤ → List ℤ → Option Term → Option Comparison
-comparison_listed variables terms None = None
-comparison_listed variables terms (Some term) =
-    option_map (λ (relation : Relation). record { relation = relation; left = operand_value variables terms term.left; right = second_value variables terms term.right })
-    (relation_of term.op)
-
--- the one that the term of that number makes at an input, where `places` are those of the picture's objects
-abbrev pub comparison_at : Path → Input → List ℕ → ℕ → Option Comparison
-comparison_at path input places number =
-    comparison_listed (variable_values path.picture input places) (term_values path input places) (slice_get path.terms number)
 
 -- ---- which of them may be conditions
 

@@ -28,7 +28,8 @@ use Rattle.kb_drive.specs.declared.follow.Known.TheVariants.{Open, Kept, Answere
 use Rattle.kb_drive.specs.declared.follow.Next.{Next}
 use Rattle.kb_drive.specs.declared.follow.Next.TheVariants.{Lists, Waits, Leaves}
 use Rattle.kb_drive.specs.Covers.{is_open}
-use Rattle.kb_drive.specs.Emitted.{followed_by_zeros, emitted_input}
+use Rattle.kb_input.specs.Emitted.{emitted_input}
+use Rattle.kb_drive.specs.Values.{followed_by_zeros}
 use Rattle.kb_drive.specs.Parts.{Alternative, decided, taken_of}
 use Rattle.kb_drive.specs.StatePaths.{ended_in}
 use Rattle.kb_drive.specs.Taking.{choices_at}

@@ -5,9 +5,8 @@ pub mod Runs
 pub mod Compared
 pub mod ReadFirst
 pub mod Counts
-pub mod Emitted
 pub mod Values
-pub mod IntMethods
+pub mod Explorable
 pub mod Taking
 pub mod Steps
 pub mod StatePaths

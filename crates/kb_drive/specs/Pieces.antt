@@ -18,14 +18,15 @@ use Rattle.kb_frames.specs.Cuts.{setting_of}
 use Rattle.kb_frames.specs.StandsFor.{StandsFor, IsInstanceOf}
 use Rattle.kb_frames.specs.State.{State}
 use Rattle.kb_frames.specs.States.{IsState}
-use Rattle.kb_stepint.specs.Reached.{CanBeInput, IsReached}
-use Rattle.kb_stepint.specs.Simulation.{IsOutcome, comparison_of}
+use Rattle.kb_frames.specs.Comparing.{comparison_of}
+use Rattle.kb_frames.specs.Meant.{with_first}
+use Rattle.kb_stepint.specs.Reached.{IsReached}
+use Rattle.kb_stepint.specs.Simulation.{HasInput, IsOutcome}
 use Rattle.kb_stepint.specs.Ways.{Take}
 use Rattle.kb_drive.specs.declared.piece.Piece.{Piece}
 use Rattle.kb_drive.specs.Compared.{IsMade, IsSuchComparison}
 use Rattle.kb_drive.specs.ReadFirst.{AreReadFirst}
 use Rattle.kb_drive.specs.Runs.{starts_of}
-use Rattle.kb_drive.specs.StatePaths.{with_first}
 use Rattle.kb_drive.specs.Steps.{EndsIn}
 
 -- ---- values
@@ -88,7 +89,7 @@ pub record IsBehind (world : World) (target : MethodId) (bounds : Bounds) (count
   pub explored : IsExplored world target bounds count values after.state
   pub reached : IsReached world after.state
   -- an input can be made of its picture, so that some input has its shape and meets those conditions
-  pub picture : CanBeInput world target after.state.picture
+  pub picture : HasInput world after.state
   pub ending : EndsIn world after.state after.outcome
   pub outcomes : (input : Input) → IsTypeCorrect world target input → (instance_of : IsInstanceOf after.state input)
       → HasOutcome world target bounds after input instance_of

@@ -16,48 +16,22 @@ use Rattle.kb_picture.specs.Endings.{ending_at, stated_end}
 use Rattle.kb_picture.specs.Instances.{IsInstance, variable_values, with_conditions}
 use Rattle.kb_picture.specs.Queries.{query_of_path}
 use Rattle.kb_picture.specs.WellFormed.{IsWellFormed, IsClosed}
+use Rattle.kb_frames.specs.Meant.{PathMeans}
 use Rattle.kb_frames.specs.Paths.{numbered_ended, path_numbering, path_of, path_roots}
 use Rattle.kb_frames.specs.StandsFor.{HeapStandsFor, IsInstanceOf, reading_at}
 use Rattle.kb_frames.specs.State.{State}
 use Rattle.kb_frames.specs.Stated.{made_of, writes_of}
 use Rattle.kb_frames.specs.States.{IsState, IsLeafIn}
-use Rattle.kb_stepint.specs.Simulation.{comparison_of}
-use Rattle.kb_drive.specs.Compared.{comparison_at}
 use Rattle.kb_drive.specs.Steps.{IsEndingIn}
-
--- ---- states with fewer conditions
-
--- the state with the first so many of its conditions
-abbrev pub with_first : State → ℕ → State
-with_first state count = record state { when = take count state.when }
 
 -- ---- paths
 
--- a condition of the path is one of the state, in the same place, and makes the same comparison at an input
-pub record IsConditionOf (state : State) (decisions : List ℕ) (leaf : Leaf) (place : ℕ) (condition : ℕ × Bool) : Type 0 where
-  pub term : TermId
-  pub there : slice_get state.when place ≡ Some (term, condition.1)
-  pub comparison : (input : Input) (places : List ℕ)
-      → comparison_at (path_of state decisions leaf) input places condition.0
-      ≡ comparison_of state.nodes (variable_values state.picture input places) term
-
-pub record PathMeans (world : World) (state : State) (decisions : List ℕ) (leaf : Leaf) : Type 0 where
+-- What holds of the path of a state to which `start` and later calls lead, with a leaf that it may have: its terms are there, it is
+-- well-formed, and says of inputs what the state says.
+pub record IsPathOf (world : World) (state : State) (decisions : List ℕ) (leaf : Leaf) : Type 0 where
   pub terms : AreTerms state.nodes (path_roots state leaf)
   pub formed : IsWellFormed world state.method (path_of state decisions leaf)
-  -- its instances are the state's, also with the first so many conditions alone
-  pub instances : (input : Input) → IsInstance (path_of state decisions leaf) input ↔ IsInstanceOf state input
-  pub short : (count : ℕ) (input : Input)
-      → IsInstance (with_conditions (path_of state decisions leaf) count) input ↔ IsInstanceOf (with_first state count) input
-  -- what is asked about it is what the state asks
-  pub query : query_of_path world state.method (path_of state decisions leaf) ≡ query_of state.nodes state.when
-  pub count : length (path_of state decisions leaf).when ≡ length state.when
-  pub conditions : (place : ℕ) (condition : ℕ × Bool) → slice_get (path_of state decisions leaf).when place ≡ Some condition
-      → IsConditionOf state decisions leaf place condition
-
--- It is so for every state to which `start` and later calls lead, with each leaf that a path of the state may have.
-abbrev pub PathsMean : Type 0
-PathsMean =
-    (world : World) (state : State) (decisions : List ℕ) (leaf : Leaf) → IsState world state → IsLeafIn world state leaf → PathMeans world state decisions leaf
+  pub means : PathMeans world state decisions leaf
 
 -- ---- ended paths
 

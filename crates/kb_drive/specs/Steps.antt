@@ -19,8 +19,8 @@ use Rattle.kb_frames.specs.Measure.{choices_left}
 use Rattle.kb_frames.specs.Next.{next_is_int}
 use Rattle.kb_frames.specs.State.{State}
 use Rattle.kb_frames.specs.States.{IsOutIn}
-use Rattle.kb_stepint.specs.Reached.{CanBeInput, IsReached}
-use Rattle.kb_stepint.specs.Simulation.{AddsComparisons, FollowsStep, Keeps, ReadsWhatItSees, TakesOneWay}
+use Rattle.kb_stepint.specs.Reached.{IsReached}
+use Rattle.kb_stepint.specs.Simulation.{AddsComparisons, FollowsStep, HasInput, Keeps, ReadsWhatItSees, TakesOneWay}
 use Rattle.kb_stepint.specs.Ways.{Take}
 use Rattle.kb_drive.specs.Taking.{choices_at, taken_at}
 
@@ -65,16 +65,14 @@ rank_of world bounds state = 6 * (bounds.run.steps - state.carried) + choices_le
 
 -- ---- both
 
--- A take simulates the step, and leads to a state of which a path can be made and from which steps lead on; where that one goes on, fewer
--- takes can follow than before.
+-- A take simulates the step; where its state goes on, fewer takes can follow than before.
 pub record LeadsOn (world : World) (bounds : Bounds) (old : State) (after : Take) : Type 0 where
   pub outcome : FollowsStep world bounds old after
   pub kept : Keeps old after.state
   pub compared : AddsComparisons world bounds old after.state
   pub read : ReadsWhatItSees world bounds old after.state
-  pub reached : IsReached world after.state
   -- an input can be made of its picture
-  pub picture : CanBeInput world after.state.method after.state.picture
+  pub picture : HasInput world after.state
   pub stays : StaysAtInputs old.picture after.state.picture
   pub ending : EndsIn world after.state after.outcome
   pub fewer : GoesOn after.outcome → rank_of world bounds after.state < rank_of world bounds old

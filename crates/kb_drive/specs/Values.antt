@@ -1,5 +1,5 @@
 -- Where the values and the logs of listed paths come from: the answers that an oracle has given.
-use Rattle.std.specs.Prelude.{◌≡◌, ◌⊎◌, ℤ, List, [], length, take, drop, Option, Some, None}
+use Rattle.std.specs.Prelude.{◌≡◌, ◌⊎◌, ℕ, ◌-◌, ℤ, pos, List, [], ◌++◌, length, replicate, take, drop, Option, Some, None}
 use Rattle.std.specs.List.{filter_map}
 use Rattle.kb_chain.specs.declared.log.Log.{Log}
 use Rattle.kb_class.specs.Naming.{Has}
@@ -13,7 +13,7 @@ use Rattle.kb_picture.specs.declared.path.Leaf.TheVariants.{Ended as EndedLeaf, 
 use Rattle.kb_picture.specs.declared.path.Path.{Path}
 use Rattle.kb_picture.specs.WellFormed.{variables_seen}
 use Rattle.kb_drive.specs.Covers.{EachPath, input_carried}
-use Rattle.kb_drive.specs.Emitted.{followed_by_zeros, emitted_input}
+use Rattle.kb_input.specs.Emitted.{emitted_input}
 
 -- ---- logs
 
@@ -36,6 +36,10 @@ abbrev pub logs_given : List Answer → List Log
 logs_given answers = filter_map log_in answers
 
 -- ---- values
+
+-- these values, and 0 for each further one up to so many
+abbrev pub followed_by_zeros : ℕ → List ℤ → List ℤ
+followed_by_zeros count values = values ++ replicate (count - length values) (pos 0)
 
 -- a model that was given, or no values at all
 abbrev pub AreGiven : List Answer → List ℤ → Type 0

@@ -17,10 +17,11 @@ use Rattle.kb_stepint.specs.Reached.{IsReached}
 use Rattle.kb_drive.specs.declared.waiting.Waiting.{Waiting}
 use Rattle.kb_drive.specs.declared.walk.Walk.{Walk}
 use Rattle.kb_drive.specs.Counts.{RoseBy, undecided_count}
-use Rattle.kb_drive.specs.Division.{ExactlyOneHas, IsFrontOf, NoneHas}
+use Rattle.kb_picture.specs.Exactly.{ExactlyOneHas, NoneHas}
+use Rattle.kb_drive.specs.Division.{IsFrontOf}
 use Rattle.kb_drive.specs.Covers.{StatesRuns, IsCutRightly, CarriesInstance, IsUndecidedRightly, AreOpenLast, EachPath, closed_count}
 use Rattle.kb_drive.specs.Compared.{ComparesAsRuns}
-use Rattle.kb_drive.specs.IntMethods.{is_int_method}
+use Rattle.kb_drive.specs.Explorable.{IsExplorable}
 use Rattle.kb_drive.specs.Parts.{IsInPart, decisions_of_part, parts_of}
 use Rattle.kb_drive.specs.Pieces.{IsPiece}
 use Rattle.kb_drive.specs.ReadFirst.{SeesWhatIsRead}
@@ -80,8 +81,7 @@ EachWaiting P (waiting ∷ others) = P waiting × EachWaiting P others
 
 -- What holds of an exploration at each moment, with a solver of that budget.
 pub record IsWalk (world : World) (bounds : Bounds) (budget : ℕ) (walk : Walk) : Type 0 where
-  -- by now the steps are those of ints
-  pub method : is_int_method world walk.target ≡ true
+  pub explorable : IsExplorable world walk.target
   -- the decisions of the parts rise
   pub rising : AreRising (map decisions_of_part (parts_of walk.listed walk.waiting))
   pub right : EachPath (IsRightPath world walk.target bounds budget) walk.listed

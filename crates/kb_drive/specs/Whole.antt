@@ -9,7 +9,8 @@ use Rattle.kb_picture.specs.Instances.{IsInstance}
 use Rattle.kb_frames.specs.StandsFor.{IsInstanceOf}
 use Rattle.kb_drive.specs.declared.piece.Piece.{Piece}
 use Rattle.kb_drive.specs.Covers.{AreOpenLast, EachPath, decisions_of}
-use Rattle.kb_drive.specs.Division.{AreDecisions, DivideThose, IsFrontOf, NoneHas}
+use Rattle.kb_picture.specs.Exactly.{NoneHas}
+use Rattle.kb_drive.specs.Division.{AreDecisions, DivideThose, IsFrontOf}
 use Rattle.kb_drive.specs.Walks.{IsRightPath}
 
 -- an input of the piece's method that is an instance of its state

@@ -7,7 +7,7 @@ ghost use Rattle.kb_frames.specs.State.{start_state};
 ghost use Rattle.kb_drive.specs.Compared.{ComparesAsRuns};
 ghost use Rattle.kb_drive.specs.Counts.{RoseBy, undecided_count};
 ghost use Rattle.kb_drive.specs.Covers.{Covers, EachPath};
-ghost use Rattle.kb_drive.specs.IntMethods.{is_int_method};
+ghost use Rattle.kb_drive.specs.Explorable.{IsExplorable};
 ghost use Rattle.kb_drive.specs.Pieces.{IsPiece};
 ghost use Rattle.kb_drive.specs.ReadFirst.{SeesWhatIsRead};
 ghost use Rattle.kb_drive.specs.Stops.{IfOracle, IsUnserved};
@@ -76,7 +76,7 @@ pub(crate) fn explore_piece<O: Oracle>(
     oracle: &mut O,
 ) -> Result<Row<Path>, DriveStop>
     requires piece { IsPiece world.now piece.state.method bounds.now piece }
-    requires ints { is_int_method world.now piece.state.method ≡ true }
+    requires explorable { IsExplorable world.now piece.state.method }
     requires some { 1 ≤ paths }
     ensures covers { IfOk result (CoversPiece world.now bounds.now paths (O.budget oracle.old) piece) }
     ensures unsure { IfOk result (λ listed. RoseBy (undecided_count listed) (O.unsure oracle.old) (O.unsure oracle.new)) }

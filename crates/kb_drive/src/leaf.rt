@@ -3,7 +3,7 @@ ghost use Rattle.std.specs.Prelude.{◌≡◌, IfOk};
 ghost use Rattle.kb_terms.specs.Terms.{AreTerms};
 ghost use Rattle.kb_picture.specs.declared.path.Leaf.TheVariants.{Cut, Ended as EndedLeaf};
 ghost use Rattle.kb_frames.specs.Paths.{path_roots};
-ghost use Rattle.kb_drive.specs.Emitted.{followed_by_zeros};
+ghost use Rattle.kb_drive.specs.Values.{followed_by_zeros};
 ghost use Rattle.kb_drive.specs.Following.{input_of_piece, path_of_piece};
 ghost use Rattle.kb_drive.specs.StatePaths.{ended_in};
 

@@ -6,10 +6,8 @@
 #![tactic(auto)]
 
 mod ask;
-mod emitted;
 mod explore;
 mod follow;
-mod int_methods;
 mod laws;
 mod leaf;
 mod memory;
@@ -20,7 +18,6 @@ mod waiting;
 mod walk;
 
 pub use explore::explore_from;
-pub use int_methods::is_int_method;
 pub use kb_rows::Row;
 pub use laws::{inputs_within_the_bounds_end, none_throws_within_the_bounds};
 pub(crate) use memory::NoMemory;
