@@ -10,7 +10,9 @@ use Rattle.kb_semantics.specs.Step.{run_of}
 use Rattle.kb_picture.specs.declared.path.Ended.{Ended}
 use Rattle.kb_picture.specs.declared.path.Leaf.{Leaf}
 use Rattle.kb_picture.specs.declared.path.Leaf.TheVariants.{Ended as EndedLeaf, Cut, Undecided, Open}
+use Rattle.kb_picture.specs.declared.path.Out.{Out}
 use Rattle.kb_picture.specs.declared.path.Path.{Path}
+use Rattle.kb_picture.specs.declared.path.SymEnding.TheVariants.{Threw}
 use Rattle.kb_picture.specs.Endings.{stated_end}
 use Rattle.kb_picture.specs.Instances.{IsInstance}
 use Rattle.kb_frames.specs.Cuts.{setting_of, RunsPast}
@@ -26,6 +28,10 @@ IsDecided Open = ⊥
 -- no path is undecided or open
 abbrev pub AreDecided : List Path → Type 0
 AreDecided listed = EachPath (λ (path : Path). IsDecided path.leaf) listed
+
+-- no path states that something is thrown
+abbrev pub NoneThrows : List Path → Type 0
+NoneThrows listed = EachPath (λ (path : Path). (ended : Ended) (value : Out) → path.leaf ≡ EndedLeaf ended → ended.ending ≡ Threw value → ⊥) listed
 
 -- the input is past neither bound on inputs, and its run past no other bound
 pub record IsWithin (world : World) (target : MethodId) (bounds : Bounds) (input : Input) : Type 0 where

@@ -1,16 +1,24 @@
-//! What follows from a list of paths that covers a method. The function does nothing: it carries the law.
-ghost use Rattle.std.specs.Prelude.{ℕ, List};
+//! What follows from a list of paths that covers a method. The functions do nothing: they carry the laws.
+ghost use Rattle.std.specs.Prelude.{◌≡◌, ℕ, List};
 ghost use Rattle.kb_class.specs.declared.ids.MethodId.{MethodId};
 ghost use Rattle.kb_heap.specs.declared.bounds.Bounds.{Bounds};
+ghost use Rattle.kb_heap.specs.declared.ending.Ending.TheVariants.{Threw};
 ghost use Rattle.kb_heap.specs.declared.heap.Input.{Input};
 ghost use Rattle.kb_link.specs.World.{World};
 ghost use Rattle.kb_semantics.specs.Inputs.{IsTypeCorrect};
+ghost use Rattle.kb_semantics.specs.Step.{run_of};
 ghost use Rattle.kb_picture.specs.declared.path.Path.{Path};
+ghost use Rattle.kb_frames.specs.Cuts.{setting_of};
 ghost use Rattle.kb_drive.specs.Covers.{Covers};
-ghost use Rattle.kb_drive.specs.Within.{AreDecided, IsWithin, EndsOnPath};
+ghost use Rattle.kb_drive.specs.Within.{AreDecided, EndsOnPath, IsWithin, NoneThrows};
 
 /// Where no listed path is undecided or open, each type-correct input that passes none of the bounds lies on an ended path, which
 /// states the ending and the heap of its run.
 pub fn inputs_within_the_bounds_end()
     ensures { (world : World) (target : MethodId) (bounds : Bounds) (paths budget : ℕ) (listed : List Path) (input : Input) → Covers world target bounds paths budget listed → AreDecided listed → IsTypeCorrect world target input → IsWithin world target bounds input → EndsOnPath world target bounds listed input }
+{}
+
+/// Where besides no listed path throws, the run of no such input ends by an exception.
+pub fn none_throws_within_the_bounds()
+    ensures { (world : World) (target : MethodId) (bounds : Bounds) (paths budget : ℕ) (listed : List Path) (input : Input) → Covers world target bounds paths budget listed → AreDecided listed → NoneThrows listed → IsTypeCorrect world target input → IsWithin world target bounds input → (object : ℕ) → (run_of (setting_of world bounds) target input).ending ≡ Threw object → ⊥ }
 {}

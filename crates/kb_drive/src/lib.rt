@@ -1,9 +1,25 @@
-//! Exploration: by now its definitions, and a law of them.
+//! Exploration: the paths of a method, found by symbolic runs, and what it means that they cover its inputs.
 //!
-//! `specs/Division.antt` says when things with lists of decisions divide the inputs of a method, `specs/Covers.antt` when a list of
-//! paths covers them.
+//! `specs/Covers.antt` says when a list of paths covers a method, `specs/Compared.antt`, `ReadFirst.antt`, `Counts.antt` and
+//! `Values.antt` what else a list keeps, `specs/Stops.antt` what a stop says. `specs/Pieces.antt`, `Parts.antt` and `Walks.antt` say what
+//! holds of an exploration on its way, `specs/Steps.antt` and `StatePaths.antt` what it takes from the steps and the paths of states.
 #![tactic(auto)]
 
+mod ask;
+mod explore;
+mod follow;
 mod laws;
+mod leaf;
+mod memory;
+mod piece;
+mod steps;
+mod stop;
+mod waiting;
+mod walk;
 
-pub use laws::inputs_within_the_bounds_end;
+pub use explore::explore_from;
+pub use kb_rows::Row;
+pub use laws::{inputs_within_the_bounds_end, none_throws_within_the_bounds};
+pub(crate) use memory::NoMemory;
+pub use piece::Piece;
+pub use stop::DriveStop;

@@ -1,0 +1,204 @@
+-- What follows an alternative: its paths are right, its pieces wait rightly, and its inputs are divided among them.
+use Rattle.std.proofs.Common.{◌≡◌, ℕ, suc, ◌<◌, ◌≤◌, ℤ, true, List, [], ◌∷◌, length, map, take, refl, sym, subst, arith, append-nil}
+use Rattle.kb_blast.specs.Conditions.{formula_of}
+use Rattle.kb_blast.specs.Query.{query_of}
+use Rattle.kb_chain.specs.Chains.{IsRefutation}
+use Rattle.kb_chain.specs.declared.log.Chain.{Chain}
+use Rattle.kb_class.specs.declared.ids.MethodId.{MethodId}
+use Rattle.kb_heap.specs.declared.bounds.Bounds.{Bounds}
+use Rattle.kb_heap.specs.declared.heap.Input.{Input}
+use Rattle.kb_link.specs.World.{World}
+use Rattle.kb_oracle.specs.declared.answer.Answer.TheVariants.{Model, Refuted, Undecided as UndecidedAnswer}
+use Rattle.kb_semantics.specs.Inputs.{IsTypeCorrect}
+use Rattle.kb_picture.specs.declared.choice.Choice.{Choice}
+use Rattle.kb_picture.specs.declared.path.Leaf.{Leaf}
+use Rattle.kb_picture.specs.declared.path.Leaf.TheVariants.{Ended as EndedLeaf, Cut as CutLeaf, Undecided, Open as OpenLeaf}
+use Rattle.kb_picture.specs.Instances.{variable_values}
+use Rattle.kb_picture.specs.Laws.{OnePlaces}
+use Rattle.kb_frames.specs.declared.value.Outcome.{Outcome}
+use Rattle.kb_frames.specs.declared.value.Outcome.TheVariants.{Asks, Goes, Ends, Cut}
+use Rattle.kb_frames.specs.Next.{next_is_int}
+use Rattle.kb_frames.specs.Paths.{path_of}
+use Rattle.kb_frames.specs.StandsFor.{IsInstanceOf}
+use Rattle.kb_frames.specs.State.{State}
+use Rattle.kb_stepint.specs.Ways.{Take}
+use Rattle.kb_drive.specs.declared.piece.Piece.{Piece}
+use Rattle.kb_drive.specs.declared.follow.Known.{Known}
+use Rattle.kb_drive.specs.declared.follow.Known.TheVariants.{Open, Kept, Answered}
+use Rattle.kb_drive.specs.declared.follow.Next.{Next}
+use Rattle.kb_drive.specs.declared.follow.Next.TheVariants.{Lists, Waits as WaitsNext, Leaves}
+use Rattle.kb_drive.specs.EmittedLaws.{InputsAreOfStates, IsOfState, input_for}
+use Rattle.kb_drive.specs.Following.{IsKnown, follows, follows_outcome, taken_from, waits_at}
+use Rattle.kb_stepint.specs.IntMethods.{is_int_method}
+use Rattle.kb_stepint.proofs.IntMethodLaws.{ints_next}
+use Rattle.kb_drive.specs.Explorable.{IsExplorable}
+use Rattle.kb_drive.specs.Parts.{Alternative, IsInPart, Waits, decisions_of_part, taken_of}
+use Rattle.kb_drive.specs.Pieces.{AreValuesFor, IsBehind, IsPiece}
+use Rattle.kb_drive.specs.StatePaths.{EndingsMean, IsPathOf, ended_in}
+use Rattle.kb_drive.specs.Steps.{GoesOn, StepsLead, StepsLeadOn}
+use Rattle.kb_drive.specs.Taking.{choices_at}
+use Rattle.kb_drive.specs.Walks.{AreRising, BeginWith, IsRightPath, IsWaiting, size_behind, size_left, size_of, size_of_choices}
+use Rattle.kb_drive.proofs.DivisionLaws.{Replaces}
+use Rattle.kb_drive.proofs.IntLaws.{bare, kinds_fit}
+use Rattle.kb_drive.proofs.LeafLaws.{cut_right, ended_right, open_right, some_short, undecided_right}
+use Rattle.kb_drive.proofs.PathLaws.{path_is}
+use Rattle.kb_drive.proofs.PartLaws.{alternatives_begin, alternatives_rise, parts_behind}
+use Rattle.kb_oracle.proofs.AnswerLaws.{never-met}
+use Rattle.kb_drive.proofs.SettledLaws.{explored_with, piece_behind, values_kept, values_of_model}
+use Rattle.kb_drive.proofs.SizeLaws.{size_split}
+use Rattle.kb_drive.proofs.WaitLaws.{listed_replaces, refuted_replaces, waiting_replaces}
+
+-- the takes that are left in what follows
+abbrev pub size_next : World → Bounds → Next → ℕ
+size_next world bounds (Lists path) = 0
+size_next world bounds (WaitsNext waiting) = size_left world bounds waiting
+size_next world bounds Leaves = 0
+
+abbrev pub IsRightNext : World → MethodId → Bounds → ℕ → Next → Type 0
+IsRightNext world target bounds budget (Lists path) = IsRightPath world target bounds budget path
+IsRightNext world target bounds budget (WaitsNext waiting) = IsWaiting world target bounds waiting
+IsRightNext world target bounds budget Leaves = Unit {0}
+
+-- What follows is right, divides the inputs of the alternative, goes on from its decisions, and has fewer takes.
+pub record Succeeds (world : World) (target : MethodId) (bounds : Bounds) (budget : ℕ) (alternative : Alternative) (next : Next) : Type 0 where
+  pub right : IsRightNext world target bounds budget next
+  pub inputs : (input : Input) → IsTypeCorrect world target input → Replaces (IsInPart world bounds) input (Waits alternative ∷ []) (parts_behind next)
+  pub begins : BeginWith alternative.decisions (map decisions_of_part (parts_behind next))
+  pub rising : AreRising (map decisions_of_part (parts_behind next))
+  pub fewer : size_next world bounds next < size_behind (size_of world bounds) (taken_of world bounds alternative).state (taken_of world bounds alternative).outcome
+
+some_behind : (world : World) (bounds : Bounds) (state : State) (outcome : Outcome) → 0 < size_behind (size_of world bounds) state outcome
+some_behind world bounds state Asks = omega arith
+some_behind world bounds state Goes = omega arith
+some_behind world bounds state (Ends ending) = omega arith
+some_behind world bounds state (Cut bound) = omega arith
+
+module _ (steps : StepsLeadOn) (endings_mean : EndingsMean) (emits : InputsAreOfStates) (one_places : OnePlaces) where
+  module _ (world : World) (target : MethodId) (bounds : Bounds) (budget : ℕ) (explorable : IsExplorable world target) (alternative : Alternative) where
+    abbrev after : Take
+    after = taken_of world bounds alternative
+
+    abbrev IsSucceeded : Next → Type 0
+    IsSucceeded next = Succeeds world target bounds budget alternative next
+
+    -- a listed path, which is right and has the state's instances
+    listed : (count : ℕ) (values : List ℤ) (leaf : Leaf) → IsBehind world target bounds count values after → IsPathOf world after.state alternative.decisions leaf
+        → IsRightPath world target bounds budget (path_of after.state alternative.decisions leaf) → IsSucceeded (Lists (path_of after.state alternative.decisions leaf))
+    unfolding path_of
+    listed count values leaf behind means right = record {
+      right = right;
+      inputs = λ input correct. listed_replaces world target bounds alternative input correct leaf means;
+      begins = (([], sym (append-nil alternative.decisions)), tt);
+      rising = (tt, tt);
+      fewer = some_behind world bounds after.state after.outcome;
+    }
+
+    -- it has no inputs
+    left : ((input : Input) → IsTypeCorrect world target input → IsInstanceOf after.state input → ⊥) → IsSucceeded Leaves
+    left none = record {
+      right = tt;
+      inputs = λ input correct. refuted_replaces world target bounds alternative input correct (none input correct);
+      begins = tt;
+      rising = tt;
+      fewer = some_behind world bounds after.state after.outcome;
+    }
+
+    -- ---- where values meet all conditions
+
+    module _ (count : ℕ) (before values : List ℤ) (behind : IsBehind world target bounds count before after) (met : AreValuesFor after.state.nodes after.state.when values) where
+      -- with those values
+      whole : IsBehind world target bounds (length after.state.when) values after
+      whole = record {
+        explored = explored_with world target bounds after.state count before values behind.explored met;
+        reached = behind.reached;
+        picture = behind.picture;
+        ending = behind.ending;
+        outcomes = behind.outcomes;
+      }
+
+      abbrev piece : Piece
+      piece = record { state = after.state; decisions = alternative.decisions; values = values }
+
+      carried : IsOfState world after.state (take (length after.state.when) after.state.when) (input_for world after.state values)
+      carried = some_short endings_mean emits one_places world target bounds explorable (length after.state.when) values after whole
+
+      -- it goes on, and waits at its next choice
+      waits : (choices : List Choice) → choices ≡ choices_at world bounds after.state → GoesOn after.outcome → (suc (size_of world bounds after.state) ≡ size_behind (size_of world bounds) after.state after.outcome)
+          → IsSucceeded (waits_at piece choices)
+      waits choices same goes size = by_choices choices same
+        where
+          is_piece : IsPiece world target bounds piece
+          is_piece = piece_behind world target bounds count before values alternative.decisions after behind goes met
+
+          kind : next_is_int world after.state ≡ true
+          kind = ints_next world after.state behind.reached (subst (λ (m : MethodId). is_int_method world m ≡ true) (sym behind.explored.method) explorable.steps)
+
+          leads : StepsLead world bounds after.state
+          leads = steps world bounds after.state behind.reached kind
+
+          divided : (input : Input) → IsTypeCorrect world target input → Replaces (IsInPart world bounds) input (Waits alternative ∷ []) (parts_behind (waits_at piece (choices_at world bounds after.state)))
+          divided input correct = waiting_replaces world target bounds alternative input correct values is_piece leads
+
+          less : size_of_choices world bounds (size_of world bounds) after.state (choices_at world bounds after.state) ≤ size_of world bounds after.state
+          less = size_split world bounds after.state leads
+
+          by_choices : (cs : List Choice) → cs ≡ choices_at world bounds after.state → IsSucceeded (waits_at piece cs)
+          by_choices [] e = record {
+            right = tt;
+            inputs = λ input correct. subst (λ (l : List Choice). Replaces (IsInPart world bounds) input (Waits alternative ∷ []) (parts_behind (waits_at piece l))) (sym e) (divided input correct);
+            begins = tt;
+            rising = tt;
+            fewer = omega (arith, size);
+          }
+          by_choices (c ∷ cs) e = record {
+            right = record { piece = is_piece; choices = e; left = omega arith };
+            inputs = λ input correct. subst (λ (l : List Choice). Replaces (IsInPart world bounds) input (Waits alternative ∷ []) (parts_behind (waits_at piece l))) (sym e) (divided input correct);
+            begins = alternatives_begin piece (length (c ∷ cs)) 0 (c ∷ cs);
+            rising = alternatives_rise piece (c ∷ cs);
+            fewer = (let all : size_of_choices world bounds (size_of world bounds) after.state (c ∷ cs) ≤ size_of world bounds after.state = subst (λ (l : List Choice). size_of_choices world bounds (size_of world bounds) after.state l ≤ size_of world bounds after.state) (sym e) less in omega (arith, all, size));
+          }
+
+      settled : (outcome : Outcome) → after.outcome ≡ outcome → IsSucceeded (follows_outcome world bounds piece outcome)
+      settled Asks same = waits (choices_at world bounds after.state) refl (rw same tt) (rw same refl)
+      settled Goes same = waits (choices_at world bounds after.state) refl (rw same tt) (rw same refl)
+      settled (Ends ending) same =
+          let ends = endings_mean world after.state alternative.decisions ending (input_for world after.state values) behind.explored.formed
+          (bare world after.state behind.reached (subst (λ (m : MethodId). is_int_method world m ≡ true) (sym behind.explored.method) explorable.steps))
+          (rw same at behind.ending) carried.closed in
+          let means = path_is world after.state alternative.decisions (EndedLeaf (ended_in after.state ending (input_for world after.state values))) behind.explored.formed ends.leaf in
+          listed (length after.state.when) values (EndedLeaf (ended_in after.state ending (input_for world after.state values))) whole means
+          (ended_right endings_mean emits one_places world target bounds explorable budget values after alternative.decisions ending same whole ends means)
+      settled (Cut bound) same =
+          let means = path_is world after.state alternative.decisions (CutLeaf bound (input_for world after.state values)) behind.explored.formed carried.closed in
+          listed (length after.state.when) values (CutLeaf bound (input_for world after.state values)) whole means
+          (cut_right endings_mean emits one_places world target bounds explorable budget values after alternative.decisions bound same whole means)
+
+    -- ---- what is known
+
+    -- an input gives values to the variables that they can be; so it is no instance of what is refuted
+    refuted : (count : ℕ) (before : List ℤ) (entries : List Chain) → IsBehind world target bounds count before after
+        → IsRefutation (formula_of (query_of after.state.nodes after.state.when)).clauses entries
+        → (input : Input) → IsTypeCorrect world target input → IsInstanceOf after.state input → ⊥
+    refuted count before entries behind refutation input correct instance_of =
+        never-met after.state.nodes after.state.when (variable_values after.state.picture input instance_of.shape.places.objects) entries
+        behind.explored.formed.pool behind.explored.formed.conditions refutation
+        (kinds_fit world after.state input behind.explored.formed (subst (λ (m : MethodId). IsTypeCorrect world m input) (sym behind.explored.method) correct) instance_of.shape)
+        instance_of.conditions
+
+    -- By cases on what is known.
+    pub follows_rightly : (known : Known) → IsBehind world target bounds (length alternative.piece.state.when) alternative.piece.values after
+        → IsKnown budget (taken_from world bounds alternative) known → IsSucceeded (follows world bounds (taken_from world bounds alternative) known)
+    follows_rightly Open behind is =
+        let means = path_is world after.state alternative.decisions OpenLeaf behind.explored.formed tt in
+        listed (length alternative.piece.state.when) alternative.piece.values OpenLeaf behind means
+        (open_right endings_mean emits one_places world target bounds explorable (length alternative.piece.state.when) budget alternative.piece.values after alternative.decisions behind means)
+    follows_rightly Kept behind is =
+        settled (length alternative.piece.state.when) alternative.piece.values alternative.piece.values behind
+        (values_kept world target bounds (length alternative.piece.state.when) alternative.piece.values after behind is) after.outcome refl
+    follows_rightly (Answered (Model values)) behind is =
+        settled (length alternative.piece.state.when) alternative.piece.values values behind (values_of_model world target bounds after.state values is.0 is.1) after.outcome refl
+    follows_rightly (Answered (Refuted log)) behind is = left (refuted (length alternative.piece.state.when) alternative.piece.values log.entries behind is.0)
+    follows_rightly (Answered (UndecidedAnswer log)) behind is =
+        let means = path_is world after.state alternative.decisions (Undecided log) behind.explored.formed tt in
+        listed (length alternative.piece.state.when) alternative.piece.values (Undecided log) behind means
+        (undecided_right endings_mean emits one_places world target bounds explorable (length alternative.piece.state.when) budget alternative.piece.values after alternative.decisions log behind means is.0)

@@ -1,0 +1,209 @@
+-- The int steps lead on, by the laws of kb_stepint: what is seen of an input stays, and fewer takes can follow.
+use Rattle.std.proofs.Common.{◌≡◌, ℕ, ◌+◌, ◌-◌, ◌*◌, ◌<◌, ◌≤◌, ℤ, Bool, true, false, List, [], ◌∷◌, ◌++◌, length, take, nat_le, Some, refl, sym, ap, subst, ◌∙◌, if◌then◌else◌, arith}
+use Rattle.std.specs.List.{filter_map}
+use Rattle.std.specs.Option.{option_map_or}
+use Rattle.std.proofs.lemmas.Bool.{leb-false}
+use Rattle.std.proofs.lemmas.List.Elements.{filter_map-append}
+use Rattle.kb_class.specs.Naming.{Has}
+use Rattle.kb_class.specs.declared.ids.MethodId.{MethodId}
+use Rattle.kb_code.specs.declared.instruction.Instr.{Instr}
+use Rattle.kb_heap.specs.declared.bounds.Bound.TheVariants.{Steps}
+use Rattle.kb_heap.specs.declared.bounds.Bounds.{Bounds}
+use Rattle.kb_heap.specs.declared.heap.Input.{Input}
+use Rattle.kb_link.specs.World.{World}
+use Rattle.kb_names.specs.declared.types.JType.{JType}
+use Rattle.kb_semantics.specs.Config.{has_room, instruction_at}
+use Rattle.kb_semantics.specs.Ways.{counted}
+use Rattle.kb_terms.specs.Terms.{variables_of}
+use Rattle.kb_picture.specs.declared.choice.Choice.{Choice}
+use Rattle.kb_picture.specs.declared.picture.Origin.{Origin}
+use Rattle.kb_picture.specs.declared.picture.Origin.TheVariants.{Arg}
+use Rattle.kb_picture.specs.declared.picture.Picture.{Picture}
+use Rattle.kb_picture.specs.declared.picture.PlaceLists.{PlaceLists}
+use Rattle.kb_picture.specs.declared.picture.Seen.{Seen}
+use Rattle.kb_picture.specs.declared.picture.Seen.TheVariants as seens
+use Rattle.kb_picture.specs.Instances.{variable_value, variable_values}
+use Rattle.kb_picture.specs.Laws.{with_seen}
+use Rattle.kb_picture.specs.Places.{slot_value}
+use Rattle.kb_picture.specs.Queries.{kind_for}
+use Rattle.kb_picture.specs.Shapes.{HasShape}
+use Rattle.kb_picture.proofs.ShapeLaws.{same_places}
+use Rattle.kb_picture.proofs.PlaceLaws.{places_seen}
+use Rattle.kb_frames.specs.declared.frame.SymFrame.{SymFrame}
+use Rattle.kb_frames.specs.declared.state.Stage.{Stage}
+use Rattle.kb_frames.specs.declared.state.Stage.TheVariants.{Begins, Runs}
+use Rattle.kb_frames.specs.declared.value.Outcome.{Outcome}
+use Rattle.kb_frames.specs.declared.value.Outcome.TheVariants.{Asks, Goes, Ends, Cut}
+use Rattle.kb_frames.specs.Lent.{begun, begun_stage, read_count, read_int, stack_of, transfers_of, with_frame, with_nodes}
+use Rattle.kb_frames.specs.Measure.{choices_left, left_of, questions_of, unread_at}
+use Rattle.kb_frames.specs.Next.{argument_next, instruction_next, method_now, offset_now}
+use Rattle.kb_frames.specs.State.{State}
+use Rattle.kb_stepint.specs.Asked.{all_asked}
+use Rattle.kb_stepint.specs.Choices.{choices_of, conditions_of}
+use Rattle.kb_stepint.specs.Effects.{plan_of}
+use Rattle.kb_stepint.specs.Laws.{IsAtInts}
+use Rattle.kb_stepint.specs.Simulation.{GetsOn}
+use Rattle.kb_stepint.specs.Takes.{answered, taken, takes_next, takes_up}
+use Rattle.kb_stepint.specs.Ways.{Take, Way, Goes as WayGoes, Jumps, Leaves, Throws, Fails, carries_out, ill_typed, went}
+use Rattle.kb_stepint.proofs.GrowLaws.{Grows, all_asked_grows, front_itself, if_has, option_has}
+use Rattle.kb_stepint.proofs.AddedLaws.{adds}
+use Rattle.kb_stepint.proofs.KeepLaws.{kept, reads, takes_next_stays}
+use Rattle.kb_stepint.proofs.MeasureLaws.{few_next, gets_on}
+use Rattle.kb_stepint.proofs.OneLaws.{one}
+use Rattle.kb_stepint.proofs.OutcomeLaws.{follows}
+use Rattle.kb_stepint.proofs.ReachedLaws.{has_input}
+use Rattle.kb_drive.specs.Steps.{GoesOn, LeadsOn, StaysAtInputs, StepsLeadOn, rank_of}
+use Rattle.kb_drive.proofs.EndLaws.{endings_there}
+use Rattle.kb_drive.proofs.FrontLaws.{take_append}
+
+-- ---- what stays at inputs
+
+pub stays_itself : (picture : Picture) → StaysAtInputs picture picture
+stays_itself picture = record {
+  seen = front_itself picture.seen;
+  places = λ input before now.
+      ap (λ (l : PlaceLists). take (length before.places.objects) l.objects) (same_places picture input before.places before.placed now)
+      ∙ front_itself before.places.objects;
+  variables = λ input before now.
+      ap (λ (l : PlaceLists). take (length (variable_values picture input before.places.objects)) (variable_values picture input l.objects))
+      (same_places picture input before.places before.placed now)
+      ∙ front_itself (variable_values picture input before.places.objects);
+}
+
+module _ (picture : Picture) (slot : Origin × Seen) where
+  same_behind : (input : Input) (before : HasShape picture input) (now : HasShape (with_seen picture slot) input) → now.places ≡ before.places
+  same_behind input before now = same_places (with_seen picture slot) input before.places (places_seen picture input slot ∙ before.placed) now
+
+  abbrev further : Input → List ℕ → List ℤ
+  further input places = filter_map (λ (s : Origin × Seen). variable_value (slot_value input places s.0) s.1) (slot ∷ [])
+
+  values_behind : (input : Input) (places : List ℕ) → variable_values (with_seen picture slot) input places ≡ variable_values picture input places ++ further input places
+  unfolding variable_values
+  values_behind input places = filter_map-append (λ (s : Origin × Seen). variable_value (slot_value input places s.0) s.1) picture.seen (slot ∷ [])
+
+  -- another slot that is seen comes behind those that were, and so does its variable
+  pub stays_seen : StaysAtInputs picture (with_seen picture slot)
+  stays_seen = record {
+    seen = take_append picture.seen (slot ∷ []);
+    places = λ input before now.
+        ap (λ (l : PlaceLists). take (length before.places.objects) l.objects) (same_behind input before now)
+        ∙ front_itself before.places.objects;
+    variables = λ input before now.
+        ap (λ (l : PlaceLists). take (length (variable_values picture input before.places.objects)) (variable_values (with_seen picture slot) input l.objects))
+        (same_behind input before now)
+        ∙ ap (take (length (variable_values picture input before.places.objects))) (values_behind input before.places.objects)
+        ∙ take_append (variable_values picture input before.places.objects) (further input before.places.objects);
+  }
+
+stays_behind : (world : World) (bounds : Bounds) (old : State) (choice : Choice) → StaysAtInputs old.picture (taken world bounds old choice).state.picture
+stays_behind world bounds old choice =
+    option_has (λ (take : Take). StaysAtInputs old.picture take.state.picture) (argument_next world old.method old.stage)
+    (λ (type : JType). record { state = read_int old (kind_for (Some type)); outcome = Asks }) (takes_next world bounds choice old)
+    (λ type. stays_seen old.picture (Arg (read_count old.stage), seens.Int (variables_of old.nodes)))
+    (subst (StaysAtInputs old.picture) (sym (takes_next_stays world bounds choice old).picture) (stays_itself old.picture))
+
+-- ---- how many takes can follow
+
+-- an instruction that was carried out was one within the bound, and few choices come before the next
+abbrev GoesFew : World → Bounds → State → State → Outcome → Type 0
+GoesFew world bounds old new Asks = Unit {0}
+GoesFew world bounds old new Goes = (old.carried < bounds.run.steps) × (choices_left world new ≤ 5)
+GoesFew world bounds old new (Ends ending) = Unit {0}
+GoesFew world bounds old new (Cut bound) = Unit {0}
+
+abbrev pub IsRunning : Stage → Type 0
+IsRunning (Begins read) = ⊥
+IsRunning (Runs frame callers) = Unit {0}
+
+few_at : (world : World) (method : MethodId) (stage : Stage) → IsRunning stage
+    → left_of (unread_at world method stage) (option_map_or questions_of (instruction_next world method stage) 0) ≤ 5
+few_at world method (Begins read) running = absurd running
+few_at world method (Runs frame callers) running = few_next (instruction_next world method (Runs frame callers))
+
+pub framed_runs : (f : SymFrame → SymFrame) (stage : Stage) → IsRunning stage → IsRunning (with_frame f stage)
+framed_runs f (Begins read) running = absurd running
+framed_runs f (Runs frame callers) running = tt
+
+pub begun_runs : (world : World) (state : State) (stage : Stage) → IsRunning (begun_stage world state stage)
+begun_runs world state (Begins read) = tt
+begun_runs world state (Runs frame callers) = tt
+
+module _ (world : World) (bounds : Bounds) (old : State) where
+  abbrev Few : Take → Type 0
+  Few take = GoesFew world bounds old take.state take.outcome
+
+  module _ (within : old.carried < bounds.run.steps) where
+    carries_few : (state : State) (f : SymFrame → SymFrame) → IsRunning state.stage → Few (carries_out state f)
+    carries_few state f running = (within, few_at world state.method (with_frame f state.stage) (framed_runs f state.stage running))
+
+    went_few : (next : ℕ) (state : State) (way : Way) → IsRunning state.stage → Few (went world bounds next state way)
+    went_few next state (WayGoes locals stack) running =
+        if_has Few (has_room world (method_now state.method state.stage) (length stack)) _ _
+        (carries_few state (λ (frame : SymFrame). record frame { at = next; locals = locals; stack = stack }) running) tt
+    went_few next state (Jumps target stack) running =
+        if_has Few (has_room world (method_now state.method state.stage) (length stack)) _ _
+        (option_has Few (counted bounds.run (offset_now state.stage) target (transfers_of state.stage)) _ _
+        (λ n. carries_few state (λ (frame : SymFrame). record frame { at = target; stack = stack; transfers = n }) running) tt) tt
+    went_few next state (Leaves value) running = tt
+    went_few next state (Throws class) running = tt
+    went_few next state Fails running = tt
+
+    answers_few : (choice : Choice) (state : State) (found : Instr × ℕ) → IsRunning state.stage → Few (answered world bounds choice state found)
+    answers_few choice state found running =
+        let conditions = conditions_of found.0 (stack_of state.stage) choice in
+        let grown : Grows state (all_asked state conditions) = all_asked_grows conditions state in
+        let same : (all_asked state conditions).stage ≡ state.stage = ap (λ (s : State). s.stage) grown.rest in
+        let plan = plan_of world (all_asked state conditions) choice found.0 in
+        went_few found.1 (with_nodes (all_asked state conditions) plan.nodes) plan.way (subst IsRunning (sym same) running)
+
+    takes_up_few : (choice : Choice) (state : State) → IsRunning state.stage → Few (takes_up world bounds choice state)
+    takes_up_few choice state running =
+        option_has Few (instruction_at world (method_now state.method state.stage) (offset_now state.stage)) (answered world bounds choice state) (ill_typed world state)
+        (λ found. answers_few choice state found running) tt
+
+  takes_next_few : (choice : Choice) → Few (takes_next world bounds choice old)
+  takes_next_few choice = go (nat_le bounds.run.steps old.carried) refl where
+    go : (b : Bool) → nat_le bounds.run.steps old.carried ≡ b → Few (if b then record { state = old; outcome = Cut Steps } else takes_up world bounds choice (begun world old))
+    go true e = tt
+    go false e = takes_up_few (leb-false bounds.run.steps old.carried e) choice (begun world old) (begun_runs world old old.stage)
+
+  taken_few : (choice : Choice) → Few (taken world bounds old choice)
+  taken_few choice =
+      option_has Few (argument_next world old.method old.stage) (λ (type : JType). record { state = read_int old (kind_for (Some type)); outcome = Asks }) (takes_next world bounds choice old)
+      (λ type. tt) (takes_next_few choice)
+
+asks_less : (steps was now before after : ℕ) → now ≡ was → after < before → 6 * (steps - now) + after < 6 * (steps - was) + before
+asks_less steps was now before after same less = omega (arith, same, less)
+
+goes_less : (steps was now before after : ℕ) → now ≡ was + 1 → was < steps → after ≤ 5 → 6 * (steps - now) + after < 6 * (steps - was) + before
+goes_less steps was now before after one within few = omega (arith, one, within, few)
+
+less_rank : (world : World) (bounds : Bounds) (old new : State) (outcome : Outcome) → GetsOn world old new outcome → GoesFew world bounds old new outcome
+    → GoesOn outcome → rank_of world bounds new < rank_of world bounds old
+less_rank world bounds old new Asks on few goes =
+    asks_less bounds.run.steps old.carried new.carried (choices_left world old) (choices_left world new) on.0 on.1
+less_rank world bounds old new Goes on few goes =
+    goes_less bounds.run.steps old.carried new.carried (choices_left world old) (choices_left world new) on few.0 few.1
+less_rank world bounds old new (Ends ending) on few goes = absurd goes
+less_rank world bounds old new (Cut bound) on few goes = absurd goes
+
+-- ---- all of it
+
+leads : (world : World) (bounds : Bounds) (state : State) (choice : Choice) → IsAtInts world state → Has (choices_of world state bounds) choice
+    → LeadsOn world bounds state (taken world bounds state choice)
+leads world bounds state choice at has = record {
+  outcome = follows world bounds state choice at has;
+  kept = kept world bounds state choice;
+  compared = adds world bounds state choice at.reached;
+  read = reads world bounds state choice;
+  picture = has_input world bounds choice state at;
+  stays = stays_behind world bounds state choice;
+  ending = endings_there world bounds state choice at has;
+  fewer = less_rank world bounds state (taken world bounds state choice).state (taken world bounds state choice).outcome
+      (gets_on world bounds state choice) (taken_few world bounds state choice);
+}
+
+pub steps_lead : StepsLeadOn
+steps_lead world bounds state is next =
+    let at : IsAtInts world state = record { reached = is; next = next } in
+    record { one = one world bounds state at; each = λ choice has. leads world bounds state choice at has }

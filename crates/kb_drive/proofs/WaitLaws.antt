@@ -1,0 +1,70 @@
+-- What an alternative is replaced by: a path of its state, nothing, or the alternatives of its state.
+use Rattle.std.proofs.Common.{ℤ, List, [], ◌∷◌, length, map, sym, subst}
+use Rattle.kb_class.specs.declared.ids.MethodId.{MethodId}
+use Rattle.kb_heap.specs.declared.bounds.Bounds.{Bounds}
+use Rattle.kb_heap.specs.declared.heap.Input.{Input}
+use Rattle.kb_link.specs.World.{World}
+use Rattle.kb_semantics.specs.Inputs.{IsTypeCorrect}
+use Rattle.kb_picture.specs.declared.choice.Choice.{Choice}
+use Rattle.kb_picture.specs.declared.path.Leaf.{Leaf}
+use Rattle.kb_frames.specs.Paths.{path_of}
+use Rattle.kb_frames.specs.StandsFor.{IsInstanceOf}
+use Rattle.kb_stepint.specs.Simulation.{ExactlyOneIs, NoneIs}
+use Rattle.kb_stepint.specs.Ways.{Take}
+use Rattle.kb_drive.specs.declared.piece.Piece.{Piece}
+use Rattle.kb_drive.specs.Following.{waits_at}
+use Rattle.kb_drive.specs.Parts.{Alternative, IsInPart, Listed, Waits, alternatives_from, taken_of}
+use Rattle.kb_drive.specs.Pieces.{IsPiece}
+use Rattle.kb_drive.specs.StatePaths.{IsPathOf}
+use Rattle.kb_drive.specs.Steps.{StepsLead}
+use Rattle.kb_drive.specs.Taking.{choices_at, taken_at}
+use Rattle.kb_drive.proofs.DivisionLaws.{Replaces, no_thing, same_thing, split_thing}
+use Rattle.kb_drive.proofs.PartLaws.{none_of, none_taken, one_of, parts_behind}
+use Rattle.kb_drive.proofs.PieceLaws.{instance_before}
+
+-- ---- what an alternative is replaced by
+
+module _ (world : World) (target : MethodId) (bounds : Bounds) (alternative : Alternative) (input : Input) (correct : IsTypeCorrect world target input) where
+  abbrev after : Take
+  after = taken_of world bounds alternative
+
+  -- a path of the state behind it has the same inputs
+  pub listed_replaces : (leaf : Leaf) → IsPathOf world after.state alternative.decisions leaf
+      → Replaces (IsInPart world bounds) input (Waits alternative ∷ []) (Listed (path_of after.state alternative.decisions leaf) ∷ [])
+  listed_replaces leaf means = same_thing (IsInPart world bounds) input (Waits alternative) (Listed (path_of after.state alternative.decisions leaf)) (means.means.instances input).1 (means.means.instances input).0
+
+  -- one that is refuted has none
+  pub refuted_replaces : (IsInstanceOf after.state input → ⊥) → Replaces (IsInPart world bounds) input (Waits alternative ∷ []) []
+  refuted_replaces none = no_thing (IsInPart world bounds) input (Waits alternative) none
+
+  -- Its state waits at its next choice: each of its inputs goes one way, and no other input comes in.
+  pub waiting_replaces : (values : List ℤ) → IsPiece world target bounds (record { state = after.state; decisions = alternative.decisions; values = values })
+      → StepsLead world bounds after.state
+      → Replaces (IsInPart world bounds) input (Waits alternative ∷ [])
+      (parts_behind (waits_at (record { state = after.state; decisions = alternative.decisions; values = values }) (choices_at world bounds after.state)))
+  waiting_replaces values piece leads = by_choices (choices_at world bounds after.state) one none
+    where
+      here : Piece
+      here = record { state = after.state; decisions = alternative.decisions; values = values }
+
+      correct_here : IsTypeCorrect world after.state.method input
+      correct_here = subst (λ (m : MethodId). IsTypeCorrect world m input) (sym piece.explored.method) correct
+
+      one : IsInstanceOf after.state input → ExactlyOneIs (λ choice. IsInstanceOf (taken_at world bounds after.state choice).state input) (choices_at world bounds after.state)
+      one instance_of = let stands = piece.stands input correct instance_of in leads.one input stands.0 correct_here stands.1
+
+      -- whoever is an instance behind an alternative of the state is one of the state
+      none : (IsInstanceOf after.state input → ⊥) → NoneIs (λ choice. IsInstanceOf (taken_at world bounds after.state choice).state input) (choices_at world bounds after.state)
+      none not =
+          none_taken world bounds here input (choices_at world bounds after.state)
+          (λ choice has takes. not (instance_before world target bounds here piece (taken_at world bounds after.state choice) (leads.each choice has) input takes))
+
+      by_choices : (choices : List Choice)
+          → (IsInstanceOf after.state input → ExactlyOneIs (λ choice. IsInstanceOf (taken_at world bounds after.state choice).state input) choices)
+          → ((IsInstanceOf after.state input → ⊥) → NoneIs (λ choice. IsInstanceOf (taken_at world bounds after.state choice).state input) choices)
+          → Replaces (IsInPart world bounds) input (Waits alternative ∷ []) (parts_behind (waits_at here choices))
+      by_choices [] one none = no_thing (IsInPart world bounds) input (Waits alternative) (λ has. one has)
+      by_choices (choice ∷ others) one none =
+          split_thing (IsInPart world bounds) input (Waits alternative) (map Waits (alternatives_from here (length (choice ∷ others)) 0 (choice ∷ others)))
+          (λ has. one_of world bounds here input (length (choice ∷ others)) 0 (choice ∷ others) (one has))
+          (λ not. none_of world bounds here input (length (choice ∷ others)) 0 (choice ∷ others) (none not))

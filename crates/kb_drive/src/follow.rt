@@ -1,0 +1,129 @@
+//! What follows an alternative that was taken.
+ghost use Rattle.std.specs.Prelude.{◌≡◌, true, IfOk};
+ghost use Rattle.kb_frames.specs.Next.{next_is_int};
+ghost use Rattle.kb_stepint.specs.Reached.{IsReached};
+ghost use Rattle.kb_drive.specs.Following.{CanFollow, CanFollowOutcome, follows, follows_answer, follows_outcome, waits_at};
+ghost use Rattle.kb_drive.specs.Taking.{choices_at};
+
+use crate::NoMemory;
+use crate::leaf::{cut_path, ended_path, path_of};
+use crate::piece::Piece;
+use crate::steps::choices;
+use crate::waiting::{Taken, Waiting};
+use kb_frames::Outcome;
+use kb_heap::Bounds;
+use kb_oracle::Answer;
+use kb_picture::{Choice, Leaf, Path};
+use kb_rows::Row;
+use kb_world::World;
+use std::alloc::Global;
+
+/// What is known of an alternative's conditions.
+#[derive(Debug, Drop)]
+pub(crate) enum Known {
+    /// Nobody is asked.
+    Open,
+    /// They are those that stood before.
+    Kept,
+    /// What an oracle has answered.
+    Answered(Answer),
+}
+
+/// What follows an alternative.
+#[derive(Drop)]
+pub(crate) enum Next {
+    /// It is listed.
+    Lists(Path),
+    /// It waits at its next choice.
+    Waits(Waiting),
+    /// It has no inputs.
+    Leaves,
+}
+
+/// What follows an alternative of which this is known.
+pub(crate) fn follow(
+    alloc: Global,
+    world: &World,
+    bounds: &Bounds,
+    taken: Taken,
+    known: Known,
+) -> Result<Next, NoMemory>
+    requires { CanFollow world.now taken }
+    ensures { IfOk result (λ next. next ≡ follows world.now bounds.now taken known) }
+{
+    match known {
+        Known::Open => Ok(Next::Lists(path_of(&taken.piece, Leaf::Open)?)),
+        Known::Kept => follow_outcome(alloc, world, bounds, taken.piece, taken.outcome),
+        Known::Answered(answer) => follow_answer(alloc, world, bounds, taken, answer),
+    }
+}
+
+fn follow_answer(
+    alloc: Global,
+    world: &World,
+    bounds: &Bounds,
+    taken: Taken,
+    answer: Answer,
+) -> Result<Next, NoMemory>
+    requires { CanFollow world.now taken }
+    ensures { IfOk result (λ next. next ≡ follows_answer world.now bounds.now taken answer) }
+{
+    match answer {
+        Answer::Model(values) => {
+            let piece = taken.piece.with_values(values);
+            follow_outcome(alloc, world, bounds, piece, taken.outcome)
+        }
+        Answer::Refuted(_) => Ok(Next::Leaves),
+        Answer::Undecided(log) => {
+            let path = path_of(&taken.piece, Leaf::Undecided(log))?;
+            Ok(Next::Lists(path))
+        }
+    }
+}
+
+// What follows where the values of the piece meet its conditions.
+fn follow_outcome(
+    alloc: Global,
+    world: &World,
+    bounds: &Bounds,
+    piece: Piece,
+    outcome: Outcome,
+) -> Result<Next, NoMemory>
+    requires { CanFollowOutcome world.now piece outcome }
+    ensures { IfOk result (λ next. next ≡ follows_outcome world.now bounds.now piece outcome) }
+{
+    match outcome {
+        Outcome::Asks => wait(alloc, world, bounds, piece),
+        Outcome::Goes => wait(alloc, world, bounds, piece),
+        Outcome::Ends(ending) => Ok(Next::Lists(ended_path(alloc, world, &piece, ending)?)),
+        Outcome::Cut(bound) => Ok(Next::Lists(cut_path(alloc, world, &piece, bound)?)),
+    }
+}
+
+/// The piece waits at its next choice; where there is no alternative it has no inputs.
+pub(crate) fn wait(
+    alloc: Global,
+    world: &World,
+    bounds: &Bounds,
+    piece: Piece,
+) -> Result<Next, NoMemory>
+    requires reached { IsReached world.now piece.state }
+    requires kind { next_is_int world.now piece.state ≡ true }
+    ensures { IfOk result (λ next. next ≡ waits_at piece (choices_at world.now bounds.now piece.state)) }
+{
+    let choices = choices(alloc, world, &piece.state, bounds)?;
+    Ok(waits_at(piece, choices))
+}
+
+fn waits_at(piece: Piece, choices: Row<Choice>) -> Next
+    ensures { result ≡ waits_at piece choices }
+{
+    if choices.as_slice().is_empty() {
+        return Next::Leaves;
+    }
+    Next::Waits(Waiting {
+        piece,
+        choices,
+        next: 0,
+    })
+}

@@ -1,0 +1,49 @@
+//! What comes next in a state, and how it goes on.
+ghost use Rattle.std.specs.Prelude.{◌≡◌, true, IfOk, OnOk};
+ghost use Rattle.kb_class.specs.Naming.{Has};
+ghost use Rattle.kb_frames.specs.Next.{next_is_int};
+ghost use Rattle.kb_stepint.specs.Reached.{IsReached};
+ghost use Rattle.kb_stepint.specs.Turns.{told};
+ghost use Rattle.kb_drive.specs.Taking.{choices_at, taken_at};
+
+use crate::NoMemory;
+use kb_frames::{Outcome, SymState};
+use kb_heap::Bounds;
+use kb_picture::Choice;
+use kb_rows::Row;
+use kb_stepint::{choices_int, take_int};
+use kb_world::World;
+use std::alloc::Global;
+
+/// The alternatives of a state, in their order.
+pub(crate) fn choices(
+    alloc: Global,
+    world: &World,
+    state: &SymState,
+    bounds: &Bounds,
+) -> Result<Row<Choice>, NoMemory>
+    requires reached { IsReached world.now state.now }
+    requires kind { next_is_int world.now state.now ≡ true }
+    ensures { IfOk result (λ choices. choices ≡ choices_at world.now bounds.now state.now) }
+{
+    let choices = choices_int(alloc, world, state, bounds)?;
+    Ok(Row::from_vec(choices))
+}
+
+/// Takes an alternative of a state, which goes on by it. After want of memory the state is only dropped.
+pub(crate) fn take(
+    alloc: Global,
+    world: &World,
+    state: &mut SymState,
+    choice: &Choice,
+    bounds: &Bounds,
+) -> Result<Outcome, NoMemory>
+    requires reached { IsReached world.now state.old }
+    requires kind { next_is_int world.now state.old ≡ true }
+    requires offered { Has (choices_at world.now bounds.now state.old) choice.now }
+    ensures take { IfOk result (λ outcome. told state.new outcome ≡ taken_at world.now bounds.now state.old choice.now) }
+    ensures reached { OnOk result (IsReached world.now state.new) }
+{
+    let outcome = take_int(alloc, world, state, choice, bounds)?;
+    Ok(outcome)
+}
