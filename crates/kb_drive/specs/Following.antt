@@ -1,5 +1,5 @@
 -- What follows an alternative that was taken, by what is known of its conditions.
-use Rattle.std.specs.Prelude.{◌≡◌, ◌<◌, ◌≤◌, ℕ, suc, Bool, true, List, [], ◌∷◌, ◌++◌, length, nat_lt, Option, Some, None, option_map, slice_get, if◌then◌else◌}
+use Rattle.std.specs.Prelude.{◌≡◌, ◌≢◌, ◌<◌, ◌≤◌, ℕ, suc, Bool, true, List, [], ◌∷◌, ◌++◌, length, nat_lt, Option, Some, None, option_map, slice_get, if◌then◌else◌}
 use Rattle.kb_blast.specs.Meaning.{AreMetInPool}
 use Rattle.kb_blast.specs.Query.{query_of}
 use Rattle.kb_heap.specs.declared.bounds.Bounds.{Bounds}
@@ -58,6 +58,12 @@ IsKnown budget taken Kept = length taken.piece.state.when ≡ taken.stood
 IsKnown budget taken (Answered answer) =
     IsAnswerTo (query_of taken.piece.state.nodes taken.piece.state.when) budget answer
     × IfModel (λ values. AreMetInPool taken.piece.state.nodes values taken.piece.state.when) answer
+
+-- Nobody is asked about an alternative that adds no condition, and about every other one somebody is.
+abbrev pub IsLearnt : Taken → Known → Type 0
+IsLearnt taken Open = ⊥
+IsLearnt taken Kept = length taken.piece.state.when ≡ taken.stood
+IsLearnt taken (Answered answer) = length taken.piece.state.when ≢ taken.stood
 
 -- the answers of an oracle, where they are told, when this is known
 abbrev pub given_after : Option (List Answer) → Known → Option (List Answer)

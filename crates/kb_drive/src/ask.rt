@@ -6,7 +6,7 @@ ghost use Rattle.kb_oracle.specs.Answers.{IfBad};
 ghost use Rattle.kb_terms.specs.Terms.{AreTerms};
 ghost use Rattle.kb_picture.specs.declared.path.Leaf.TheVariants.{Open};
 ghost use Rattle.kb_frames.specs.Paths.{path_roots};
-ghost use Rattle.kb_drive.specs.Following.{HasCounted, IsKnown, given_after, path_of_piece};
+ghost use Rattle.kb_drive.specs.Following.{HasCounted, IsKnown, IsLearnt, given_after, path_of_piece};
 ghost use Rattle.kb_drive.specs.Stops.{IfOracle, IsOf};
 
 use crate::follow::Known;
@@ -25,6 +25,7 @@ pub(crate) fn learn<O: Oracle>(
     oracle: &mut O,
 ) -> Result<Known, OracleStop>
     requires { AreConditions taken.now.piece.state.nodes taken.now.piece.state.when }
+    ensures learnt { IfOk result (IsLearnt taken.now) }
     ensures known { IfOk result (IsKnown (O.budget oracle.old) taken.now) }
     ensures undecided { IfOk result (HasCounted (O.unsure oracle.old) (O.unsure oracle.new)) }
     ensures given { IfOk result (λ known. O.given oracle.new ≡ given_after (O.given oracle.old) known) }

@@ -7,6 +7,7 @@ ghost use Rattle.kb_frames.specs.State.{start_state};
 ghost use Rattle.kb_drive.specs.Compared.{ComparesAsRuns};
 ghost use Rattle.kb_drive.specs.Counts.{RoseBy, undecided_count};
 ghost use Rattle.kb_drive.specs.Covers.{Covers, EachPath};
+ghost use Rattle.kb_stepint.specs.IntMethods.{is_int_method};
 ghost use Rattle.kb_drive.specs.Explorable.{IsExplorable};
 ghost use Rattle.kb_drive.specs.Pieces.{IsPiece};
 ghost use Rattle.kb_drive.specs.ReadFirst.{SeesWhatIsRead};

@@ -8,9 +8,9 @@ ghost use Rattle.kb_drive.specs.Following.{input_of_piece, path_of_piece};
 ghost use Rattle.kb_drive.specs.StatePaths.{ended_in};
 
 use crate::NoMemory;
-use crate::emitted::input_of;
 use crate::piece::Piece;
 use kb_heap::{Bound, Input};
+use kb_input::input_of;
 use kb_picture::{Ended, Leaf, Path, SymEnding};
 use kb_world::World;
 use std::alloc::Global;
@@ -71,7 +71,8 @@ fn input_of_piece(alloc: Global, world: &World, piece: &Piece) -> Result<Input, 
     let state = &piece.state;
     let count = state.pool().variables() as usize;
     let values = all_values(alloc, piece.values.as_slice(), count)?;
-    input_of(alloc, world, state.method(), state.picture(), values.as_slice())
+    let input = input_of(alloc, world, state.method(), state.picture(), values.as_slice())?;
+    Ok(input)
 }
 
 // These values, and 0 for each further one up to so many.

@@ -22,3 +22,9 @@ impl From<kb_stepint::NoMemory> for NoMemory {
         NoMemory
     }
 }
+
+impl From<kb_input::NoMemory> for NoMemory {
+    fn from(_error: kb_input::NoMemory) -> NoMemory {
+        NoMemory
+    }
+}

@@ -1,5 +1,6 @@
 //! Choices that wait, and the taking of their alternatives.
-ghost use Rattle.std.specs.Prelude.{◌≡◌, suc, [], ◌∷◌, slice_get, IfOk, OnOk};
+ghost use Rattle.std.specs.Prelude.{◌≡◌, suc, [], ◌∷◌, slice_get, IfOk, IfSome, OnOk};
+ghost use Rattle.kb_stepint.specs.Reached.{IsReached};
 ghost use Rattle.kb_drive.specs.Following.{IsTakenFrom, IsTakenOf, has_more};
 ghost use Rattle.kb_drive.specs.Parts.{decided};
 ghost use Rattle.kb_drive.specs.Walks.{CanBeTaken, EachWaiting};
@@ -71,7 +72,8 @@ impl WaitingChoices {
         bounds: &Bounds,
     ) -> Result<Option<Taken>, NoMemory>
         requires { EachWaiting (CanBeTaken world.now bounds.now) self.old }
-        ensures { IfOk result (IsTakenFrom world.now bounds.now self.old self.new) }
+        ensures taken { IfOk result (IsTakenFrom world.now bounds.now self.old self.new) }
+        ensures reached { IfOk result (λ taken. IfSome taken (λ t. IsReached world.now t.piece.state)) }
     {
         let Some(last) = self.choices.pop() else {
             return Ok(None);
@@ -114,7 +116,8 @@ impl Waiting {
         bounds: &Bounds,
     ) -> Result<Taken, NoMemory>
         requires { CanBeTaken world.now bounds.now self.now }
-        ensures { IfOk result (IsTakenOf world.now bounds.now self.now (slice_get self.now.choices self.now.next)) }
+        ensures taken { IfOk result (IsTakenOf world.now bounds.now self.now (slice_get self.now.choices self.now.next)) }
+        ensures reached { IfOk result (λ taken. IsReached world.now taken.piece.state) }
     {
         let piece = self.piece.copied(alloc)?;
         take_in(alloc, world, bounds, piece, self.choices.as_slice(), self.next)
@@ -128,7 +131,8 @@ impl Waiting {
         bounds: &Bounds,
     ) -> Result<Taken, NoMemory>
         requires { CanBeTaken world.now bounds.now self }
-        ensures { IfOk result (IsTakenOf world.now bounds.now self (slice_get self.choices self.next)) }
+        ensures taken { IfOk result (IsTakenOf world.now bounds.now self (slice_get self.choices self.next)) }
+        ensures reached { IfOk result (λ taken. IsReached world.now taken.piece.state) }
     {
         let choices = self.choices;
         take_in(alloc, world, bounds, self.piece, choices.as_slice(), self.next)
@@ -145,7 +149,8 @@ fn take_in(
     next: u32,
 ) -> Result<Taken, NoMemory>
     requires { CanBeTaken world.now bounds.now (record { piece = piece; choices = choices.now; next = next }) }
-    ensures { IfOk result (IsTakenOf world.now bounds.now (record { piece = piece; choices = choices.now; next = next }) (slice_get choices.now next)) }
+    ensures taken { IfOk result (IsTakenOf world.now bounds.now (record { piece = piece; choices = choices.now; next = next }) (slice_get choices.now next)) }
+    ensures reached { IfOk result (λ taken. IsReached world.now taken.piece.state) }
 {
     let stood = piece.state.conditions().len();
     let mut piece = piece;
