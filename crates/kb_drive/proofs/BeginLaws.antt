@@ -1,5 +1,5 @@
 -- How an exploration of a piece begins, and what it has come to when nothing waits.
-use Rattle.std.proofs.Common.{◌≡◌, ℕ, zero, suc, true, List, [], ◌∷◌, length, map, Some, slice_get, refl, sym, ap, ◌∙◌, subst, arith, append-nil}
+use Rattle.std.proofs.Common.{◌≡◌, ℕ, zero, suc, List, [], ◌∷◌, length, map, Some, slice_get, refl, sym, ap, ◌∙◌, subst, arith, append-nil}
 use Rattle.kb_class.specs.declared.ids.MethodId.{MethodId}
 use Rattle.kb_heap.specs.declared.bounds.Bounds.{Bounds}
 use Rattle.kb_heap.specs.declared.heap.Input.{Input}
@@ -19,7 +19,7 @@ use Rattle.kb_drive.specs.Parts.{IsInPart, Listed, Waits, alternatives_from, dec
 use Rattle.kb_drive.specs.Pieces.{IsPiece}
 use Rattle.kb_drive.specs.Steps.{StepsLead}
 use Rattle.kb_drive.specs.Taking.{choices_at, taken_at}
-use Rattle.kb_drive.specs.Walks.{BeginWith, IsWalk}
+use Rattle.kb_drive.specs.Walks.{AreRising, BeginWith, IsWalk}
 use Rattle.kb_drive.specs.Whole.{CoversPiece, IsOfPiece}
 use Rattle.kb_drive.proofs.OrderLaws.{in_order}
 use Rattle.kb_drive.proofs.PartLaws.{alternatives_begin, alternatives_rise, none_listed, none_of, none_taken, one_listed, one_of}
@@ -54,7 +54,7 @@ module _ (world : World) (bounds : Bounds) (paths budget : ℕ) (piece : Piece) 
   }
   walk_begins_with (choice ∷ others) e = record {
     explorable = explorable;
-    rising = rw (first_parts (choice ∷ others)) (alternatives_rise piece (choice ∷ others));
+    rising = subst (λ parts. AreRising (map decisions_of_part parts)) (sym (first_parts (choice ∷ others))) (alternatives_rise piece (choice ∷ others));
     right = λ i path at. absurd (no_path i path at);
     waits = (record { piece = is; choices = e; left = omega arith }, tt);
     closed = refl;

@@ -4,7 +4,7 @@ use Rattle.kb_heap.specs.declared.bounds.Bounds.{Bounds}
 use Rattle.kb_link.specs.World.{World}
 use Rattle.kb_oracle.specs.declared.answer.Answer.TheVariants.{Model, Refuted, Undecided as UndecidedAnswer}
 use Rattle.kb_picture.specs.declared.choice.Choice.{Choice}
-use Rattle.kb_picture.specs.declared.path.Leaf.TheVariants.{Undecided}
+use Rattle.kb_picture.specs.declared.path.Leaf.TheVariants.{Undecided, Ended as EndedLeaf, Cut as CutLeaf, Open as OpenLeaf}
 use Rattle.kb_picture.specs.declared.path.Path.{Path}
 use Rattle.kb_frames.specs.declared.value.Outcome.{Outcome}
 use Rattle.kb_frames.specs.declared.value.Outcome.TheVariants.{Asks, Goes, Ends, Cut}
@@ -16,7 +16,8 @@ use Rattle.kb_drive.specs.declared.waiting.Taken.{Taken}
 use Rattle.kb_drive.specs.declared.waiting.Waiting.{Waiting}
 use Rattle.kb_drive.specs.declared.walk.Walk.{Walk}
 use Rattle.kb_drive.specs.Counts.{RoseBy, is_undecided, undecided_count}
-use Rattle.kb_drive.specs.Following.{HasCounted, follows, follows_outcome, listed_with, path_of_piece, waits_at, walk_with}
+use Rattle.kb_drive.specs.Following.{HasCounted, follows, follows_outcome, input_of_piece, listed_with, path_of_piece, waits_at, walk_with}
+use Rattle.kb_drive.specs.StatePaths.{ended_in}
 use Rattle.kb_drive.specs.Taking.{choices_at}
 use Rattle.kb_drive.specs.Walks.{KeepsCount}
 use Rattle.kb_drive.proofs.OpenLaws.{count_more}
@@ -34,8 +35,10 @@ outcome_same : (world : World) (bounds : Bounds) (listed : List Path) (piece : P
 unfolding path_of
 outcome_same world bounds listed piece Asks = waits_same listed piece (choices_at world bounds piece.state)
 outcome_same world bounds listed piece Goes = waits_same listed piece (choices_at world bounds piece.state)
-outcome_same world bounds listed piece (Ends ending) = let more = one_more listed _ false refl in omega (arith, more)
-outcome_same world bounds listed piece (Cut bound) = let more = one_more listed _ false refl in omega (arith, more)
+outcome_same world bounds listed piece (Ends ending) =
+    let more = one_more listed (path_of_piece piece (EndedLeaf (ended_in piece.state ending (input_of_piece world piece)))) false refl in omega (arith, more)
+outcome_same world bounds listed piece (Cut bound) =
+    let more = one_more listed (path_of_piece piece (CutLeaf bound (input_of_piece world piece))) false refl in omega (arith, more)
 
 kept_count : (walk new : Walk) (unsure now : ℕ) → undecided_count new.listed ≡ undecided_count walk.listed → unsure ≤ now → KeepsCount walk new unsure now
 kept_count walk new unsure now same later before by = subst (λ (n : ℕ). RoseBy n before now) (sym same) (rose_kept (undecided_count walk.listed) before unsure now by later)
@@ -44,7 +47,7 @@ pub keeps_count : (world : World) (bounds : Bounds) (walk : Walk) (waiting : Lis
     → KeepsCount walk (walk_with (record walk { waiting = waiting }) (follows world bounds taken known)) unsure now
 unfolding path_of
 keeps_count world bounds walk waiting taken Open unsure now counted later =
-    kept_count walk (walk_with (record walk { waiting = waiting }) (follows world bounds taken Open)) unsure now (let more = one_more walk.listed _ false refl in omega (arith, more)) later
+    kept_count walk (walk_with (record walk { waiting = waiting }) (follows world bounds taken Open)) unsure now (let more = one_more walk.listed (path_of_piece taken.piece OpenLeaf) false refl in omega (arith, more)) later
 keeps_count world bounds walk waiting taken Kept unsure now counted later =
     kept_count walk (walk_with (record walk { waiting = waiting }) (follows world bounds taken Kept)) unsure now (outcome_same world bounds walk.listed taken.piece taken.outcome) later
 keeps_count world bounds walk waiting taken (Answered (Model values)) unsure now counted later =
@@ -52,7 +55,8 @@ keeps_count world bounds walk waiting taken (Answered (Model values)) unsure now
     (outcome_same world bounds walk.listed (record taken.piece { values = values }) taken.outcome) later
 keeps_count world bounds walk waiting taken (Answered (Refuted log)) unsure now counted later =
     kept_count walk (walk_with (record walk { waiting = waiting }) (follows world bounds taken (Answered (Refuted log)))) unsure now refl later
-keeps_count world bounds walk waiting taken (Answered (UndecidedAnswer log)) unsure now counted later before by =
+keeps_count world bounds walk waiting taken (Answered (UndecidedAnswer log)) unsure now counted later =
+    λ before by.
     let more = one_more walk.listed (path_of_piece taken.piece (Undecided log)) true refl in
     let one : undecided_count (walk.listed ++ path_of_piece taken.piece (Undecided log) ∷ []) ≡ suc (undecided_count walk.listed) = omega (arith, more) in
     subst (λ (n : ℕ). RoseBy n before now) (sym one) (rose_more (undecided_count walk.listed) before unsure now by counted)

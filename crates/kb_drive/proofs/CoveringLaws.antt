@@ -18,7 +18,7 @@ use Rattle.kb_picture.specs.declared.path.Out.{Out}
 use Rattle.kb_picture.specs.declared.path.Path.{Path}
 use Rattle.kb_picture.specs.declared.path.SymEnding.{SymEnding}
 use Rattle.kb_picture.specs.declared.path.SymEnding.TheVariants.{Returned, Threw, IllTyped}
-use Rattle.kb_picture.specs.Endings.{ending_of}
+use Rattle.kb_picture.specs.Endings.{ending_at, ending_of, reading_of}
 use Rattle.kb_picture.specs.Instances.{IsInstance}
 use Rattle.kb_frames.specs.Cuts.{IsLicensed, setting_of}
 use Rattle.kb_picture.specs.Exactly.{ExactlyOneHas}
@@ -77,9 +77,13 @@ ends_within world target bounds paths budget listed input covers decided correct
 not-thrown : (world : World) (path : Path) (ended : Ended) (input : Input) (object : ℕ) (ending : SymEnding) → ended.ending ≡ ending
     → ((value : Out) → ended.ending ≡ Threw value → ⊥) → ending_of world path ended input ≡ RunThrew object → ⊥
 unfolding ending_of
-not-thrown world path ended input object (Returned value) e none run = let other : ended.ending ≡ Returned value = e in absurd (rw e at run)
+not-thrown world path ended input object (Returned value) e none run =
+    let never : ending_at (reading_of world path input) (Returned value) ≡ RunThrew object = rw e at run in
+    absurd cc
 not-thrown world path ended input object (Threw value) e none run = none value e
-not-thrown world path ended input object (IllTyped place) e none run = absurd (rw e at run)
+not-thrown world path ended input object (IllTyped place) e none run =
+    let never : ending_at (reading_of world path input) (IllTyped place) ≡ RunThrew object = rw e at run in
+    absurd cc
 
 pub none_throws : (world : World) (target : MethodId) (bounds : Bounds) (paths budget : ℕ) (listed : List Path) (input : Input) → Covers world target bounds paths budget listed
     → AreDecided listed → NoneThrows listed → IsTypeCorrect world target input → IsWithin world target bounds input

@@ -1,5 +1,5 @@
 -- Where a take of an int step ends a run, the ending states what is there in the state.
-use Rattle.std.proofs.Common.{◌≡◌, ℕ, zero, suc, ◌<◌, ℤ, pos, Bool, true, false, List, [], ◌∷◌, ◌++◌, length, length-append, slice_get, nat_le, nat_lt, Option, Some, None, refl, sym, ap, subst, ◌∙◌, option_and_then, arith}
+use Rattle.std.proofs.Common.{◌≡◌, ℕ, zero, suc, ◌<◌, ℤ, pos, true, false, List, [], ◌∷◌, ◌++◌, length, length-append, slice_get, nat_le, nat_lt, Option, Some, None, refl, sym, ap, subst, ◌∙◌, option_and_then, arith}
 use Rattle.std.specs.Prelude.{is_some}
 use Rattle.kb_code.specs.declared.instruction.Instr.{Instr}
 use Rattle.kb_code.specs.declared.instruction.Instr.TheVariants as instrs

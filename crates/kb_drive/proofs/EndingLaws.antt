@@ -1,7 +1,7 @@
 -- The leaf of an ending is one that a path may have, and the path states that ending and the heap that the run leaves: where no object was
 -- met, the input's objects and the literals are as at the start, and behind them stand the objects that the run made. (This belongs to
 -- kb_frames.)
-use Rattle.std.proofs.Common.{◌≡◌, ℕ, zero, suc, ◌+◌, ◌<◌, ℤ, true, List, [], ◌∷◌, ◌++◌, length, length-append, map, take, drop, Option, Some, None, slice_get, refl, sym, ap, ◌∙◌, subst, arith, append_assoc}
+use Rattle.std.proofs.Common.{◌≡◌, ℕ, zero, suc, ◌+◌, ◌<◌, ℤ, true, List, [], ◌∷◌, ◌++◌, length, length-append, map, take, drop, Option, Some, None, slice_get, refl, sym, ap, ◌∙◌, subst, arith}
 use Rattle.std.specs.Prelude.{option_and_then, replicate}
 use Rattle.std.specs.List.{flat_map}
 use Rattle.std.specs.Option.{option_map_or}
@@ -19,7 +19,7 @@ use Rattle.kb_link.specs.World.{World}
 use Rattle.kb_semantics.specs.Step.{first_heap}
 use Rattle.kb_semantics.specs.Values.{literal}
 use Rattle.kb_terms.specs.Numbering.{IsNumbering, is_operation, place_of}
-use Rattle.kb_terms.specs.Terms.{IsTerm, node_at, value_of, values}
+use Rattle.kb_terms.specs.Terms.{IsTerm, node_at, value_of}
 use Rattle.kb_terms.specs.declared.listing.Operand.TheVariants.{Const, Var, Term as TermOperand}
 use Rattle.kb_terms.specs.declared.node.TermId.{TermId}
 use Rattle.kb_terms.proofs.Order.{numbering-is, term-at}
@@ -41,7 +41,7 @@ use Rattle.kb_picture.specs.Numbering.{ended_outs, ending_outs, terms_of_out}
 use Rattle.kb_picture.specs.Places.{no_places, objects_placed, places_of, with_locs_placed}
 use Rattle.kb_picture.specs.Shapes.{IsNoPlace}
 use Rattle.kb_picture.specs.WellFormed.{AreWrites, HasValues, IsClosed}
-use Rattle.kb_frames.specs.declared.value.SymObject.{SymObject}
+use Rattle.kb_frames.specs.declared.state.SymObject.{SymObject}
 use Rattle.kb_frames.specs.declared.value.SymValue.{SymValue}
 use Rattle.kb_frames.specs.declared.value.SymValue.TheVariants.{Int, Null, Obj, Literal, New, Loc}
 use Rattle.kb_frames.specs.Paths.{numbered_ended, numbered_ending, numbered_made, numbered_out, numbered_write, path_numbering, path_of, path_roots, term_id, terms_stated}
@@ -52,12 +52,12 @@ use Rattle.kb_frames.specs.States.{Each, IsEndedIn, IsOutIn, IsState, IsSymValue
 use Rattle.kb_frames.proofs.FormedPaths.{roots_are_terms}
 use Rattle.kb_drive.specs.StatePaths.{EndingsMean, IsBare, ended_in}
 use Rattle.kb_drive.specs.Steps.{IsEndingIn}
-use Rattle.kb_drive.proofs.MeaningLaws.{operand_placed}
+use Rattle.kb_frames.proofs.MeaningLaws.{operand_placed}
 
 -- ---- items of lists
 
 each_append : {A : Type 0} (P : A → Type 0) (xs ys : List A) → Each P xs → Each P ys → Each P (xs ++ ys)
-each_append P [] ys one other = other
+each_append P [] ys one other i item e = other i item e
 each_append P (x ∷ xs) ys one other zero item e = one 0 item e
 each_append P (x ∷ xs) ys one other (suc i) item e = each_append P xs ys (λ j it at. one (suc j) it at) other i item e
 
@@ -76,7 +76,7 @@ each_map P f (x ∷ xs) h zero item e = let same : f x ≡ item = cc in subst P 
 each_map P f (x ∷ xs) h (suc i) item e = each_map P f xs (λ j it at. h (suc j) it at) i item e
 
 each_flat : {A B : Type 0} (P : B → Type 0) (f : A → List B) (xs : List A) → Each (λ x. Each P (f x)) xs → Each P (flat_map f xs)
-each_flat P f [] h i item e = absurd cc
+each_flat P f [] h = λ i item e. absurd cc
 each_flat P f (x ∷ xs) h = each_append P (f x) (flat_map f xs) (h 0 x refl) (each_flat P f xs (λ j it at. h (suc j) it at))
 
 none_of : {A : Type 0} (xs : List A) → length xs ≡ 0 → xs ≡ []
@@ -126,21 +126,21 @@ module _ (world : World) (state : State) (formed : IsState world state) (bare : 
 
     outs_in : Each (IsOutIn world state (length state.made)) (ended_outs ended)
     outs_in =
-        each_append (IsOutIn world state (length state.made)) (ending_outs ending) _ ends.outs
-        (each_append (IsOutIn world state (length state.made)) (map (λ (write : Write). write.value) (writes_of state)) _
-        (subst (λ (ws : List Write). Each (IsOutIn world state (length state.made)) (map (λ (write : Write). write.value) ws)) (sym writes_none) (λ i item e. absurd cc))
+        each_append (IsOutIn world state (length state.made)) (ending_outs ending ++ map (λ (write : Write). write.value) (writes_of state)) _
+        (each_append (IsOutIn world state (length state.made)) (ending_outs ending) _ ends.outs
+        (subst (λ (ws : List Write). Each (IsOutIn world state (length state.made)) (map (λ (write : Write). write.value) ws)) (sym writes_none) (λ i item e. absurd cc)))
         (each_flat (IsOutIn world state (length state.made)) (λ (made : Made). made.values) (made_of state)
         (each_map (λ (made : Made). Each (IsOutIn world state (length state.made)) made.values) (stated_object state.picture.locs) state.made
         (λ i made at. each_map (IsOutIn world state (length state.made)) (stated state.picture.locs) made.values
-        (λ j value there. stated_in value ((formed.made i made at).values j value there))))))
+        (λ j value there. stated_in value ((formed.made i made at).values j value there)))))
 
     leaf_in : IsClosed carried → IsEndedIn world state ended
     leaf_in closed = record {
-      outs = subst (λ (n : ℕ). Each (IsOutIn world state n) (ended_outs ended)) (sym (length-map (stated_object state.picture.locs) state.made)) outs_in;
+      outs = subst (λ (n : ℕ). Each (IsOutIn world state n) (ended_outs ended)) (sym (length-map state.made (stated_object state.picture.locs))) outs_in;
       thrown = ends.thrown;
       writes = subst (AreWrites world state.picture) (sym writes_none) (record { there = λ i write e. absurd cc; rising = λ i one other e f. absurd cc });
       made = each_map (λ (made : Made). HasValues world made.kind (length made.values)) (stated_object state.picture.locs) state.made
-          (λ i made at. subst (HasValues world made.kind) (sym (length-map (stated state.picture.locs) made.values)) (formed.made i made at).count);
+          (λ i made at. subst (HasValues world made.kind) (sym (length-map made.values (stated state.picture.locs))) (formed.made i made at).count);
       input = closed;
     }
 
@@ -253,7 +253,7 @@ module _ (world : World) (state : State) (formed : IsState world state) (bare : 
 
       made_numbered : Each OutNumbered (flat_map (λ (object : Made). object.values) (made_of state))
       made_numbered =
-          each_right OutNumbered (map (λ (write : Write). write.value) (writes_of state)) _ (each_right OutNumbered (ending_outs ending) _ each_numbered)
+          each_right OutNumbered (ending_outs ending ++ map (λ (write : Write). write.value) (writes_of state)) _ each_numbered
 
       -- ---- the heap
 
@@ -293,8 +293,6 @@ module _ (world : World) (state : State) (formed : IsState world state) (bare : 
           ap (λ (ws : List Write). heap_at (own instance_of.shape.places) input.heap (map (numbered_write state.nodes numbered) ws) (numbered_ended state.nodes numbered ended).made) writes_none
           ∙ ap (λ (l : List Object). record { objects = input.heap.objects ++ replicate (length world.literals) literal ++ l })
           (made_same state.made (λ i made at. (formed.made i made at).values) made_numbered)
-          ∙ ap (λ (l : List Object). record { objects = l })
-          (sym (append_assoc input.heap.objects (replicate (length world.literals) literal) (map (made_at r) state.made)))
 
       states : (heap : Heap) → HeapStandsFor r state first heap
           → stated_end world (path_of state decisions leaf) (numbered_ended state.nodes numbered ended) input ≡ record { ending = ending_at r ending; heap = heap }
@@ -308,7 +306,8 @@ module _ (world : World) (state : State) (formed : IsState world state) (bare : 
           ∙ ap (λ (e : Ending). record {
             ending = e;
             heap = heap_at (own instance_of.shape.places) input.heap (numbered_ended state.nodes numbered ended).writes (numbered_ended state.nodes numbered ended).made;
-          }) (ending_same ending ends.outs (each_left OutNumbered (ending_outs ending) _ each_numbered))
+          }) (ending_same ending ends.outs (each_left OutNumbered (ending_outs ending) _
+          (each_left OutNumbered (ending_outs ending ++ map (λ (write : Write). write.value) (writes_of state)) _ each_numbered)))
           ∙ ap (λ (h : Heap). record { ending = ending_at r ending; heap = h }) (heap_same ∙ sym all)
 
 pub endings_mean : EndingsMean

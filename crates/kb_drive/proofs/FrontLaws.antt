@@ -1,15 +1,17 @@
 -- Lists that go on from a front: terms, kinds, conditions and values that stay when a state grows.
-use Rattle.std.proofs.Common.{◌≡◌, ◌⊎◌, ℕ, zero, suc, ◌<◌, ◌≤◌, ℤ, pos, Bool, true, false, List, [], ◌∷◌, ◌++◌, length, take, drop, Option, Some, None, slice_get, inl, inr, refl, sym, ap, ◌∙◌, subst, arith}
-use Rattle.std.specs.List.{filter_map}
+use Rattle.std.proofs.Common.{◌≡◌, ◌⊎◌, ℕ, zero, suc, ◌<◌, ◌≤◌, ℤ, pos, Bool, true, List, [], ◌∷◌, ◌++◌, length, take, drop, Some, None, slice_get, inl, inr, refl, sym, ap, ◌∙◌, subst, arith, rules}
+use Rattle.std.specs.List.{filter_map, list_all}
+use Rattle.std.proofs.lemmas.List.Elements.{filter_map-append}
 use Rattle.std.proofs.lemmas.Bool.{false≢true}
 use Rattle.kb_blast.specs.Meaning.{AreMetInPool, KindFits}
-use Rattle.kb_blast.specs.Query.{AreConditions, is_comparison, kind_from, kinds_of, node_passes}
+use Rattle.kb_blast.specs.Query.{AreConditions, is_comparison, kind_from, kinds_of, node_passes, roots_of}
 use Rattle.kb_terms.specs.Terms.{Extends, IsTerm, int_at, node_at}
 use Rattle.kb_terms.specs.declared.node.Node.{Node}
 use Rattle.kb_terms.specs.declared.node.TermId.{TermId}
 use Rattle.kb_terms.specs.declared.node.VarKind.{VarKind}
 use Rattle.kb_terms.specs.declared.node.VarKind.TheVariants.{Int as IntKind, Bool as BoolKind}
 use Rattle.kb_terms.proofs.Values.{value_of-extends}
+use Rattle.kb_stepint.proofs.IntMethodLaws.{and_both}
 use Rattle.kb_drive.specs.Pieces.{AreValuesFor}
 
 -- ---- lists
@@ -41,18 +43,15 @@ front_rest xs [] e = refl
 front_rest [] (y ∷ ys) e = absurd cc
 front_rest (x ∷ xs) (y ∷ ys) e = let same : x ≡ y = cc in rw same (ap (λ l. y ∷ l) (front_rest xs ys (first_same e)))
 
+none_past : {A : Type 0} (xs : List A) (i : ℕ) → length xs ≤ i → slice_get xs i ≡ None
+none_past [] i le = refl
+none_past (x ∷ xs) zero le = absurd (omega (arith, le))
+none_past (x ∷ xs) (suc i) le = none_past xs i (omega (arith, le))
+
 pub within_or_not : (i n : ℕ) → (i < n) ⊎ (n ≤ i)
 within_or_not i zero = inr (omega arith)
 within_or_not zero (suc n) = inl (omega arith)
 within_or_not (suc i) (suc n) = elim (within_or_not i n) [ | inl less ↦ inl (omega (arith, less)) | inr more ↦ inr (omega (arith, more)) ]
-
-filter_map_append : {A B : Type 0} (f : A → Option B) (xs ys : List A) → filter_map f (xs ++ ys) ≡ filter_map f xs ++ filter_map f ys
-filter_map_append f [] ys = refl
-filter_map_append f (x ∷ xs) ys = go (f x) (filter_map_append f xs ys)
-  where
-    go : (o : Option B) → filter_map f (xs ++ ys) ≡ filter_map f xs ++ filter_map f ys → _
-    go None e = e
-    go (Some y) e = ap (λ l. y ∷ l) e
 
 pub take_append : {A : Type 0} (xs ys : List A) → take (length xs) (xs ++ ys) ≡ xs
 take_append [] ys = refl
@@ -62,7 +61,7 @@ take_append (x ∷ xs) ys = ap (λ l. x ∷ l) (take_append xs ys)
 
 pub kinds_front : (old new : List Node) → Extends old new → take (length (kinds_of old)) (kinds_of new) ≡ kinds_of old
 kinds_front old new extends =
-    let whole = ap kinds_of (front_rest new old extends.kept) ∙ filter_map_append kind_from old (drop (length old) new) in
+    let whole = ap kinds_of (front_rest new old extends.kept) ∙ filter_map-append kind_from old (drop (length old) new) in
     rw whole (take_append (kinds_of old) (filter_map kind_from (drop (length old) new)))
 
 -- a value behind the end of a list is 0
@@ -85,22 +84,30 @@ passes_term nodes t e = go (within_or_not t.0 (length nodes))
     go (inr more) = absurd (nothing more)
       where
         nothing : length nodes ≤ t.0 → ⊥
-        nothing le = let none : node_at nodes t ≡ None = search rules in false≢true (rw none at e)
+        nothing le = let none : node_at nodes t ≡ None = none_past nodes t.0 le in false≢true (rw none at e)
+
+-- the first condition, and the others
+pub conditions_both : (nodes : List Node) (condition : TermId × Bool) (when : List (TermId × Bool)) → AreConditions nodes (condition ∷ when)
+    → (node_passes is_comparison (node_at nodes condition.0) ≡ true) × AreConditions nodes when
+conditions_both nodes condition when are =
+    and_both (node_passes is_comparison (node_at nodes condition.0)) (list_all (λ (t : TermId). node_passes is_comparison (node_at nodes t)) (roots_of when)) are
 
 -- the term of a condition is one of the pool
 pub condition_term : (nodes : List Node) (when : List (TermId × Bool)) (i : ℕ) (condition : TermId × Bool) → AreConditions nodes when
     → slice_get when i ≡ Some condition → IsTerm nodes condition.0
 condition_term nodes [] i condition are e = absurd cc
-condition_term nodes (c ∷ when) zero condition are e = let here : node_passes is_comparison (node_at nodes condition.0) ≡ true = cc in passes_term nodes condition.0 here
-condition_term nodes (c ∷ when) (suc i) condition are e = condition_term nodes when i condition cc e
+condition_term nodes (c ∷ when) zero condition are e =
+    let same : c ≡ condition = cc in
+    subst (λ (x : TermId × Bool). IsTerm nodes x.0) same (passes_term nodes c.0 (conditions_both nodes c when are).0)
+condition_term nodes (c ∷ when) (suc i) condition are e = condition_term nodes when i condition (conditions_both nodes c when are).1 e
 
 -- conditions on terms of the pool are met in a longer pool
 pub met_stays : (old new : List Node) (values : List ℤ) (when : List (TermId × Bool)) → Extends old new → AreConditions old when
     → AreMetInPool old values when → AreMetInPool new values when
 met_stays old new values [] extends are met = tt
 met_stays old new values (condition ∷ when) extends are met =
-    let here : node_passes is_comparison (node_at old condition.0) ≡ true = cc in
-    (value_of-extends old new condition.0 values extends (passes_term old condition.0 here) ∙ met.0, met_stays old new values when extends cc met.1)
+    let both = conditions_both old condition when are in
+    (value_of-extends old new condition.0 values extends (passes_term old condition.0 both.0) ∙ met.0, met_stays old new values when extends both.1 met.1)
 
 -- values that fit and meet conditions do so in a longer pool: each further variable is 0
 pub values_stay : (old new : List Node) (when : List (TermId × Bool)) (values : List ℤ) → Extends old new → AreConditions old when

@@ -1,15 +1,16 @@
 -- What conditions and seen slots say of an input stays when a state grows: the variables that there were keep their values.
-use Rattle.std.proofs.Common.{◌≡◌, ℕ, zero, suc, ◌<◌, ℤ, Bool, true, List, [], ◌∷◌, ◌++◌, length, take, fold, Option, Some, None, slice_get, refl, sym, ap, ◌∙◌, subst, arith, length-take}
+use Rattle.std.proofs.Common.{◌≡◌, ℕ, zero, suc, ◌<◌, ℤ, Bool, true, false, List, [], ◌∷◌, ◌++◌, length, take, fold, cond, Option, Some, None, slice_get, refl, sym, ap, ◌∙◌, subst, arith, length-take}
 use Rattle.std.specs.List.{filter_map}
 use Rattle.std.proofs.lemmas.Option.{slice_get_within}
 use Rattle.kb_blast.specs.Meaning.{AreMetInPool}
-use Rattle.kb_blast.specs.Query.{AreConditions, is_comparison, node_passes}
+use Rattle.kb_blast.specs.Query.{AreConditions}
 use Rattle.kb_class.specs.declared.ids.MethodId.{MethodId}
 use Rattle.kb_heap.specs.declared.heap.Input.{Input}
 use Rattle.kb_heap.specs.declared.heap.Value.{Value}
 use Rattle.kb_link.specs.World.{World}
 use Rattle.kb_oracle.proofs.Queries.{length-kinds}
-use Rattle.kb_terms.specs.Terms.{Extends, IsPool, IsTerm, int_at, node_at, value_of, values, variables_of}
+use Rattle.kb_terms.specs.Op.{is_binary}
+use Rattle.kb_terms.specs.Terms.{Extends, IsPool, IsSecond, IsTerm, int_at, is_variable, node_at, value_of, values, variables_of}
 use Rattle.kb_terms.specs.declared.node.Node.{Node}
 use Rattle.kb_terms.specs.declared.node.Node.TheVariants.{Const, Var, Op as Apply}
 use Rattle.kb_terms.specs.declared.node.TermId.{TermId}
@@ -29,7 +30,8 @@ use Rattle.kb_frames.specs.State.{State}
 use Rattle.kb_frames.specs.States.{IsState}
 use Rattle.kb_frames.specs.Comparing.{comparison_of}
 use Rattle.kb_drive.specs.Steps.{StaysAtInputs}
-use Rattle.kb_drive.proofs.FrontLaws.{front_at, passes_term}
+use Rattle.kb_drive.proofs.FrontLaws.{conditions_both, front_at, passes_term}
+use Rattle.kb_drive.proofs.SumLaws.{count_first}
 
 -- ---- the values of terms hang on the first variables alone
 
@@ -51,10 +53,16 @@ variable_below nodes i v kind pool at = let number : v ≡ variables_of (take i 
   where
     counted : (ns : List Node) (k : ℕ) → slice_get ns k ≡ Some (Var v kind) → variables_of (take k ns) < variables_of ns
     counted [] k e = absurd cc
-    counted (n ∷ ns) zero e = let same : n ≡ Var v kind = cc in rw same (omega arith)
-    counted (Const c ∷ ns) (suc k) e = let less = counted ns k e in omega (arith, less)
-    counted (Var w other ∷ ns) (suc k) e = let less = counted ns k e in omega (arith, less)
-    counted (Apply op left right ∷ ns) (suc k) e = let less = counted ns k e in omega (arith, less)
+    counted (n ∷ ns) zero e =
+        let same : n ≡ Var v kind = cc in
+        let first = count_first is_variable n ns in
+        let one : cond (is_variable n) (suc zero) zero ≡ suc zero = rw same refl in
+        omega (arith, first, one)
+    counted (n ∷ ns) (suc k) e =
+        let less = counted ns k e in
+        let first = count_first is_variable n ns in
+        let front = count_first is_variable n (take k ns) in
+        omega (arith, less, first, front)
 
 pub value_agrees : (nodes : List Node) (t : TermId) (xs ys : List ℤ) → IsPool nodes → ((v : ℕ) → v < variables_of nodes → int_at xs v ≡ int_at ys v)
     → value_of nodes t xs ≡ value_of nodes t ys
@@ -104,7 +112,7 @@ module _ (old new : State) (input : Input) (terms : Extends old.nodes new.nodes)
   int_front xs [] v e less = absurd (omega (arith, less))
   int_front [] (y ∷ ys) v e less = absurd cc
   int_front (x ∷ xs) (y ∷ ys) zero e less = cc
-  int_front (x ∷ xs) (y ∷ ys) (suc v) e less = int_front xs ys v cc (omega (arith, less))
+  int_front (x ∷ xs) (y ∷ ys) (suc v) e less = int_front xs ys v (cc) (omega (arith, less))
 
   pub value_stays : (world : World) (t : TermId) → IsState world old → IsTerm old.nodes t → value_of new.nodes t are ≡ value_of old.nodes t was
   value_stays world t formed there =
@@ -116,8 +124,8 @@ module _ (old new : State) (input : Input) (terms : Extends old.nodes new.nodes)
       → AreMetInPool new.nodes are when → AreMetInPool old.nodes was when
   all_met_before world [] formed conditions met = tt
   all_met_before world (condition ∷ when) formed conditions met =
-      let here : node_passes is_comparison (node_at old.nodes condition.0) ≡ true = cc in
-      (sym (value_stays world condition.0 formed (passes_term old.nodes condition.0 here)) ∙ met.0, all_met_before world when formed cc met.1)
+      let both = conditions_both old.nodes condition when conditions in
+      (sym (value_stays world condition.0 formed (passes_term old.nodes condition.0 both.0)) ∙ met.0, all_met_before world when formed both.1 met.1)
 
 -- conditions that are met behind a take were met before it
 pub met_before : (world : World) (old new : State) (input : Input) → IsState world old → Extends old.nodes new.nodes → StaysAtInputs old.picture new.picture
@@ -130,6 +138,11 @@ pub slice_get_some : {A : Type 0} (xs : List A) (i : ℕ) → i < length xs → 
 slice_get_some [] i less = absurd (omega (arith, less))
 slice_get_some (x ∷ xs) zero less = (x, refl)
 slice_get_some (x ∷ xs) (suc i) less = slice_get_some xs i (omega (arith, less))
+
+-- the second operand of a node that has one is a term
+second_there : (binary : Bool) (before : List Node) (right : TermId) → IsSecond before binary (Some right) → IsTerm before right
+second_there true before right is = is
+second_there false before right is = absurd is
 
 -- and make the same comparisons
 pub comparison_stays : (world : World) (old new : State) (input : Input) → IsState world old → Extends old.nodes new.nodes → StaysAtInputs old.picture new.picture
@@ -162,7 +175,7 @@ comparison_stays world old new input formed terms stays before now t there = go 
         let there = same_node (Apply op left (Some right)) e in
         let fits = (formed.pool.fits t.0 (Apply op left (Some right)) e).0 in
         let first = stays_at left (earlier t.0 left fits.first) in
-        let second = stays_at right (earlier t.0 right fits.second) in
+        let second = stays_at right (earlier t.0 right (second_there (is_binary op) (take t.0 old.nodes) right fits.second)) in
         rw (e, there, first, second) refl
 
 -- ---- slots

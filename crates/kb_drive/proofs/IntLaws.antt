@@ -1,5 +1,5 @@
 -- What a type-correct input gives to the variables of a state is what they can be; and the states of methods over ints have met no objects.
-use Rattle.std.proofs.Common.{◌≡◌, ℕ, zero, suc, Bool, true, false, List, [], ◌∷◌, length, Option, Some, None, slice_get, inl, inr, ℤ, refl, sym, ap, ◌∙◌, subst, map, option_and_then}
+use Rattle.std.proofs.Common.{◌≡◌, ℕ, zero, suc, true, false, List, [], ◌∷◌, length, Option, Some, None, slice_get, inl, inr, ℤ, refl, sym, ap, ◌∙◌, subst, map, option_and_then}
 use Rattle.std.specs.Int.{w32}
 use Rattle.std.specs.List.{AllByRecursion, filter_map}
 use Rattle.std.specs.Prelude.{FitsSigned}
@@ -38,7 +38,7 @@ use Rattle.kb_picture.specs.Places.{slot_value, value_in}
 use Rattle.kb_picture.specs.Queries.{component_of, kind_for, kind_seen, slot_of_class, type_of_slot}
 use Rattle.kb_picture.specs.Shapes.{AreSuch, HasShape, HoldEach}
 use Rattle.kb_picture.specs.WellFormed.{IsSlot, LeadsTo}
-use Rattle.kb_picture.specs.WellTyped.{SeenFits, SeenFitsDeclared, is_reference_type}
+use Rattle.kb_picture.specs.WellTyped.{SeenFitsDeclared, is_reference_type}
 use Rattle.kb_frames.specs.State.{State}
 use Rattle.kb_frames.specs.States.{IsState}
 use Rattle.kb_stepint.specs.IntMethods.{is_int_method, is_int_type}
@@ -214,13 +214,16 @@ module _ (world : World) (id : MethodId) (ints : is_int_method world id ≡ true
   no_reference : (slot : Origin) → IsReference (type_of_slot world id [] slot) → ⊥
   no_reference (Field object slot) is = nowhere (λ (o : PicObject). slot_of_class world slot o.kind) object is
   no_reference (Element array index) is = nowhere (λ (o : PicObject). component_of o.kind) array is
-  no_reference (Arg number) is = go (slice_get h.info.kind.params number) refl (rw (h.info_is, types_are) is)
+  no_reference (Arg number) is = go (slice_get h.info.kind.params number) refl (subst IsReference declared is)
     where
       h : HasIntInfo world id
       h = int_info world id ints
 
       types_are : argument_types world h.info ≡ h.info.kind.params
       types_are = rw h.int_info.static refl
+
+      declared : type_of_slot world id [] (Arg number) ≡ slice_get h.info.kind.params number
+      declared = rw (h.info_is, types_are) refl
 
       of_type : (type : JType) → is_int_type type ≡ true → IsReference (Some type) → ⊥
       of_type types.Int e is = absurd cc

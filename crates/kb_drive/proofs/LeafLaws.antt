@@ -1,6 +1,6 @@
 -- What a listed path says is so: that of a piece behind an alternative, with each leaf that it can have. The laws of the paths of states and
 -- of emitted inputs are premises here.
-use Rattle.std.proofs.Common.{◌≡◌, ℕ, ℤ, Bool, true, List, length, take, Some, slice_get, refl, sym, ◌∙◌, subst, arith, take_all}
+use Rattle.std.proofs.Common.{◌≡◌, ℕ, ℤ, Bool, List, length, take, Some, slice_get, refl, sym, ◌∙◌, subst, arith, take_all}
 use Rattle.kb_blast.specs.Meaning.{AreMetInPool}
 use Rattle.kb_blast.specs.Query.{Query, query_of}
 use Rattle.kb_chain.specs.declared.log.Log.{Log}
@@ -26,9 +26,9 @@ use Rattle.kb_frames.specs.declared.value.Outcome.TheVariants.{Ends, Cut}
 use Rattle.kb_frames.specs.Cuts.{IsLicensed, setting_of}
 use Rattle.kb_frames.specs.Paths.{numbered_ended, path_numbering, path_of}
 use Rattle.kb_frames.specs.StandsFor.{IsInstanceOf, reading_at}
-use Rattle.kb_frames.specs.Comparing.{comparison_of}
+use Rattle.kb_frames.specs.Comparing.{comparison_at, comparison_of}
 use Rattle.kb_stepint.specs.Ways.{Take}
-use Rattle.kb_drive.specs.Compared.{ComparesAsRuns, IsMade, IsSuchComparison, comparison_at}
+use Rattle.kb_drive.specs.Compared.{ComparesAsRuns, IsMade, IsSuchComparison}
 use Rattle.kb_drive.specs.EmittedLaws.{InputsAreOfStates, IsOfState, input_for}
 use Rattle.kb_drive.specs.Explorable.{IsExplorable}
 use Rattle.kb_drive.specs.Pieces.{IsBehind}
@@ -167,7 +167,7 @@ module _ (endings_mean : EndingsMean) (emits : InputsAreOfStates) (one_places : 
     cut_right budget values after decisions bound is behind means = record {
       formed = subst (λ (m : MethodId). IsWellFormed world m (path_of after.state decisions leaf)) behind.explored.method means.formed;
       ending = λ ended input e correct instance_of. absurd cc;
-      cut = λ other carried input e correct instance_of. subst (λ (b : Bound). IsLicensed world target bounds after.state.picture b input) cc (licensed input correct instance_of);
+      cut = λ other carried input e correct instance_of. (let same : bound ≡ other = cc in subst (λ (b : Bound). IsLicensed world target bounds after.state.picture b input) same (licensed input correct instance_of));
       carried = λ input e. emitted_is values after decisions leaf behind means input cc;
       undecided = λ log e. absurd cc;
       compared = compares (length after.state.when) values after decisions leaf behind means;
@@ -191,7 +191,8 @@ module _ (endings_mean : EndingsMean) (emits : InputsAreOfStates) (one_places : 
     unfolding path_of
     ended_right budget values after decisions ending is behind ending_means means = record {
       formed = subst (λ (m : MethodId). IsWellFormed world m (path_of after.state decisions leaf)) behind.explored.method means.formed;
-      ending = λ other input e correct instance_of. subst (λ (it : Ended). run_of (setting_of world bounds) target input ≡ stated_end world (path_of after.state decisions leaf) it input) cc (ends input correct instance_of);
+      ending = λ other input e correct instance_of. (let same : numbered_ended after.state.nodes (path_numbering after.state leaf) (ended_in after.state ending (input_for world after.state values)) ≡ other = cc in
+          subst (λ (it : Ended). run_of (setting_of world bounds) target input ≡ stated_end world (path_of after.state decisions leaf) it input) same (ends input correct instance_of));
       cut = λ bound carried input e correct instance_of. absurd cc;
       carried = λ input e. emitted_is values after decisions leaf behind means input cc;
       undecided = λ log e. absurd cc;

@@ -21,6 +21,7 @@ pub mod RunLaws
 pub mod SettledLaws
 pub mod SizeLaws
 pub mod SourceLaws
+pub mod SumLaws
 pub mod StepLaws
 pub mod WaitLaws
 pub mod WalkLaws

@@ -4,6 +4,7 @@ use Rattle.std.specs.Prelude.{count_by}
 use Rattle.kb_picture.specs.declared.path.Leaf.{Leaf}
 use Rattle.kb_picture.specs.declared.path.Leaf.TheVariants.{Ended as EndedLeaf, Cut, Undecided, Open}
 use Rattle.kb_picture.specs.declared.path.Path.{Path}
+use Rattle.kb_drive.proofs.SumLaws.{count_first}
 use Rattle.kb_drive.specs.Covers.{AreOpenLast, EachPath, closed_count, is_open}
 
 -- what stands in a list with one more item: an earlier one in its place, or the last one
@@ -12,9 +13,9 @@ pub record StandsIn {A : Type 0} (xs : List A) (last item : A) (i : ℕ) : Type 
   pub at_end : length xs ≤ i → (i ≡ length xs) × (item ≡ last)
 
 pub stands_in : {A : Type 0} (xs : List A) (last item : A) (i : ℕ) → slice_get (xs ++ last ∷ []) i ≡ Some item → StandsIn xs last item i
-stands_in [] last item zero e = record { earlier = λ less. omega (arith, less); at_end = λ le. (refl, cc) }
+stands_in [] last item zero e = record { earlier = λ less. absurd (omega (arith, less)); at_end = λ le. (refl, cc) }
 stands_in [] last item (suc i) e = absurd cc
-stands_in (x ∷ xs) last item zero e = record { earlier = λ less. e; at_end = λ le. omega (arith, le) }
+stands_in (x ∷ xs) last item zero e = record { earlier = λ less. e; at_end = λ le. absurd (omega (arith, le)) }
 stands_in (x ∷ xs) last item (suc i) e = later (stands_in xs last item i e)
   where
     later : StandsIn xs last item i → StandsIn (x ∷ xs) last item (suc i)
@@ -22,7 +23,11 @@ stands_in (x ∷ xs) last item (suc i) e = later (stands_in xs last item i e)
 
 pub count_more : {A : Type 0} (test : A → Bool) (xs : List A) (x : A) → count_by test (xs ++ x ∷ []) ≡ count_by test xs + count_by test (x ∷ [])
 count_more test [] x = omega arith
-count_more test (y ∷ ys) x = let later = count_more test ys x in omega (arith, later)
+count_more test (y ∷ ys) x =
+    let later = count_more test ys x in
+    let whole = count_first test y (ys ++ x ∷ []) in
+    let first = count_first test y ys in
+    omega (arith, later, whole, first)
 
 pub within : (i n : ℕ) → (i < n) ⊎ (n ≤ i)
 within i zero = inr (omega arith)

@@ -1,5 +1,5 @@
 -- Lists of decisions that rise, when some of them go on.
-use Rattle.std.proofs.Common.{◌≡◌, ◌≢◌, ◌⊎◌, ℕ, zero, suc, ◌<◌, List, [], ◌∷◌, ◌++◌, map, Some, slice_get, inl, inr, refl, sym, ap, ◌∙◌, subst, arith}
+use Rattle.std.proofs.Common.{◌≡◌, ◌≢◌, ◌⊎◌, ℕ, zero, suc, ◌<◌, List, [], ◌∷◌, ◌++◌, map, Some, slice_get, inl, inr, refl, sym, ap, ◌∙◌, subst, arith, append_assoc}
 use Rattle.std.specs.Option.{option_map}
 use Rattle.std.proofs.lemmas.Option.{slice_get-map}
 use Rattle.kb_drive.specs.Division.{ComesBefore, IsFrontOf, AreDecisions}
@@ -100,7 +100,7 @@ begin_each front d [] begin h = tt
 begin_each front d (e ∷ ds) begin h = ((begin.0 ++ h.0.0, longer begin.1 h.0.1), begin_each front d ds begin h.1)
   where
     longer : d ≡ front ++ begin.0 → e ≡ d ++ h.0.0 → e ≡ front ++ (begin.0 ++ h.0.0)
-    longer de ee = cc
+    longer de ee = ee ∙ ap (λ (l : List ℕ). l ++ h.0.0) de ∙ append_assoc front begin.0 h.0.0
 
 pub begin_replaced : (front : List ℕ) (xs : List (List ℕ)) (d : List ℕ) (ds ys : List (List ℕ)) → BeginWith d ds → BeginWith front (xs ++ d ∷ ys) → BeginWith front (xs ++ (ds ++ ys))
 begin_replaced front [] d ds ys begin all = put ds (begin_each front d ds all.0 begin)

@@ -1,5 +1,6 @@
 -- The parts of an exploration behind a step: the first alternative that waits is replaced by what follows it.
-use Rattle.std.proofs.Common.{◌≡◌, ℕ, zero, suc, ◌<◌, Bool, true, false, List, [], ◌∷◌, ◌++◌, length, map, drop, Some, slice_get, nat_lt, inl, inr, refl, sym, ap, ◌∙◌, arith, append_assoc, append-nil}
+use Rattle.std.proofs.Common.{◌≡◌, ℕ, zero, suc, ◌<◌, ◌≤◌, Bool, true, false, List, [], ◌∷◌, ◌++◌, length, map, drop, Some, slice_get, nat_lt, inl, inr, refl, sym, ap, ◌∙◌, arith, append_assoc, append-nil}
+use Rattle.std.proofs.lemmas.Bool.{leb-false, lt-ltb}
 use Rattle.std.specs.Prelude.{flat_map, if◌then◌else◌}
 use Rattle.kb_class.specs.Naming.{Has}
 use Rattle.kb_heap.specs.declared.bounds.Bounds.{Bounds}
@@ -28,10 +29,14 @@ drop_at [] n x e = absurd cc
 drop_at (y ∷ ys) zero x e = let same : y ≡ x = cc in ap (λ z. z ∷ ys) same
 drop_at (y ∷ ys) (suc n) x e = drop_at ys n x e
 
+drop_past : {A : Type 0} (xs : List A) (n : ℕ) → length xs ≤ n → drop n xs ≡ []
+drop_past [] zero le = refl
+drop_past [] (suc n) le = refl
+drop_past (x ∷ xs) zero le = absurd (omega (arith, le))
+drop_past (x ∷ xs) (suc n) le = drop_past xs n (omega (arith, le))
+
 pub drop_end : {A : Type 0} (xs : List A) (n : ℕ) → nat_lt n (length xs) ≡ false → drop n xs ≡ []
-drop_end [] n e = search rules
-drop_end (x ∷ xs) zero e = absurd cc
-drop_end (x ∷ xs) (suc n) e = drop_end xs n e
+drop_end xs n e = drop_past xs n (let more = leb-false (suc n) (length xs) e in omega (arith, more))
 
 left_on : (first : Waiting) (others : List Waiting) (more : Bool) → nat_lt (suc first.next) (length first.choices) ≡ more
     → flat_map alternatives_left (if more then record first { next = suc first.next } ∷ others else others)
@@ -121,7 +126,8 @@ pub alternatives_rise : (piece : Piece) (choices : List Choice)
     → AreRising (map decisions_of_part (map Waits (alternatives_from piece (length choices) 0 choices)))
 alternatives_rise piece [] = tt
 alternatives_rise piece (choice ∷ []) = (tt, tt)
-alternatives_rise piece (choice ∷ other ∷ others) = several_rise piece (length (choice ∷ other ∷ others)) 0 (choice ∷ other ∷ others) refl
+alternatives_rise piece (choice ∷ other ∷ others) = several_rise piece (length (choice ∷ other ∷ others)) 0 (choice ∷ other ∷ others)
+    (lt-ltb 1 (length (choice ∷ other ∷ others)) (omega arith))
 
 -- ---- no parts but paths
 

@@ -19,7 +19,8 @@ use Rattle.kb_picture.specs.Shapes.{HasShape}
 use Rattle.kb_frames.specs.Cuts.{setting_of}
 use Rattle.kb_frames.specs.StandsFor.{IsInstanceOf, StandsFor, written_by}
 use Rattle.kb_frames.specs.State.{State}
-use Rattle.kb_stepint.specs.Simulation.{IsComparedBy as IsComparedByStep, IsRead as IsReadByStep, IsReadAt, comparison_of}
+use Rattle.kb_frames.specs.Comparing.{comparison_of}
+use Rattle.kb_stepint.specs.Simulation.{IsComparedBy as IsComparedByStep, IsRead as IsReadByStep, IsReadAt}
 use Rattle.kb_stepint.specs.Ways.{Take}
 use Rattle.kb_drive.specs.declared.piece.Piece.{Piece}
 use Rattle.kb_stepint.specs.Reached.{IsReached}

@@ -75,6 +75,7 @@ module _ (world : World) (target : MethodId) (bounds : Bounds) where
   -- values that meet all conditions: those of an answer
   pub explored_with : (state : State) (count : ℕ) (before values : List ℤ) → IsExplored world target bounds count before state → AreValuesFor state.nodes state.when values
       → IsExplored world target bounds (length state.when) values state
+  unfolding short_of
   explored_with state count before values is met = record {
     method = is.method;
     formed = is.formed;
@@ -87,7 +88,6 @@ module _ (world : World) (target : MethodId) (bounds : Bounds) where
   -- a model of the query, which meets the conditions in the pool
   pub values_of_model : (state : State) (values : List ℤ) → IsModelOf (query_of state.nodes state.when) values → AreMetInPool state.nodes values state.when
       → AreValuesFor state.nodes state.when values
-  unfolding query_of
   values_of_model state values model met = record { few = omega (arith, model.count); fits = model.fits; met = met }
 
   -- the piece behind an alternative that goes on

@@ -10,6 +10,7 @@ use Rattle.kb_frames.specs.State.{State}
 use Rattle.kb_drive.specs.Steps.{GoesOn, StepsLead, rank_of}
 use Rattle.kb_drive.specs.Taking.{choices_at, taken_at}
 use Rattle.kb_drive.specs.Walks.{size_behind, size_of, size_of_choices, size_within}
+use Rattle.kb_drive.proofs.SumLaws.{sum_more}
 
 module _ (world : World) (bounds : Bounds) where
   -- what is below one alternative, when what is below states that go on is no more
@@ -26,7 +27,9 @@ module _ (world : World) (bounds : Bounds) where
   choices_less one other state (choice ∷ others) less =
       let here = behind_less one other (taken_at world bounds state choice).state (taken_at world bounds state choice).outcome (less choice (0, refl)) in
       let rest = choices_less one other state others (λ c has. less c (suc has.0, has.1)) in
-      omega (arith, here, rest)
+      let first = sum_more (λ (c : Choice). size_behind one (taken_at world bounds state c).state (taken_at world bounds state c).outcome) choice others in
+      let second = sum_more (λ (c : Choice). size_behind other (taken_at world bounds state c).state (taken_at world bounds state c).outcome) choice others in
+      omega (arith, here, rest, first, second)
 
   -- deeper trees have no fewer takes
   size_grows : (n m : ℕ) (state : State) → n ≤ m → size_within n world bounds state ≤ size_within m world bounds state

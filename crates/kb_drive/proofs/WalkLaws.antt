@@ -37,6 +37,7 @@ use Rattle.kb_drive.proofs.FollowLaws.{IsRightNext, Succeeds, follows_rightly, s
 use Rattle.kb_stepint.proofs.IntMethodLaws.{ints_next}
 use Rattle.kb_drive.proofs.OpenLaws.{count_more, each_more, open_last_closed, open_last_open}
 use Rattle.kb_drive.proofs.OrderLaws.{begin_replaced, rising_replaced}
+use Rattle.kb_drive.proofs.SumLaws.{sum_more}
 use Rattle.kb_drive.proofs.PartLaws.{drop_at, drop_end, left_first, map_append, parts_behind, parts_with}
 use Rattle.kb_drive.proofs.PieceLaws.{behind_piece}
 
@@ -52,7 +53,7 @@ parts_refined world bounds walk first others choice next input waits at replaces
   none = λ none. subst (λ parts. NoneHas (IsInPart world bounds) parts input) (sym new) (all.none (subst (λ parts. NoneHas (IsInPart world bounds) parts input) old none));
 }
   where
-    old : parts_of walk.listed walk.waiting ≡ map Listed walk.listed ++ (Waits (alternative_next first choice) ∷ []) ++ map Waits (flat_map alternatives_left (waits_on first others))
+    old : parts_of walk.listed walk.waiting ≡ map Listed walk.listed ++ ((Waits (alternative_next first choice) ∷ []) ++ map Waits (flat_map alternatives_left (waits_on first others)))
     old = ap (λ (w : List Waiting). parts_of walk.listed w) waits ∙ ap (λ (those : List Alternative). map Listed walk.listed ++ map Waits those) (left_first first others choice at)
 
     new : parts_of (walk_with (record walk { waiting = waits_on first others }) next).listed (walk_with (record walk { waiting = waits_on first others }) next).waiting
@@ -74,6 +75,9 @@ module _ (world : World) (target : MethodId) (bounds : Bounds) where
       go true e = (record { piece = each.0.piece; choices = each.0.choices; left = more_left (suc first.next) (length first.choices) e }, each.1)
       go false e = each.1
 
+  abbrev size_taken : Waiting → Choice → ℕ
+  size_taken first c = size_behind (size_of world bounds) (taken_at world bounds first.piece.state c).state (taken_at world bounds first.piece.state c).outcome
+
   -- what is left behind the first alternative
   size_first : (first : Waiting) (others : List Waiting) (choice : Choice) → slice_get first.choices first.next ≡ Some choice
       → size_waiting world bounds (first ∷ others)
@@ -84,16 +88,25 @@ module _ (world : World) (target : MethodId) (bounds : Bounds) where
       here : size_left world bounds first ≡ size_of_choices world bounds (size_of world bounds) first.piece.state (choice ∷ drop (suc first.next) first.choices)
       here = ap (λ (cs : List Choice). size_of_choices world bounds (size_of world bounds) first.piece.state cs) (drop_at first.choices first.next choice at)
 
+      split : size_of_choices world bounds (size_of world bounds) first.piece.state (choice ∷ drop (suc first.next) first.choices)
+          ≡ size_taken first choice + size_of_choices world bounds (size_of world bounds) first.piece.state (drop (suc first.next) first.choices)
+      split = sum_more (size_taken first) choice (drop (suc first.next) first.choices)
+
+      all : size_waiting world bounds (first ∷ others) ≡ size_left world bounds first + size_waiting world bounds others
+      all = sum_more (size_left world bounds) first others
+
       go : (more : Bool) → has_more first ≡ more
           → size_waiting world bounds (first ∷ others)
           ≡ size_behind (size_of world bounds) (taken_at world bounds first.piece.state choice).state (taken_at world bounds first.piece.state choice).outcome
           + size_waiting world bounds (if more then record first { next = suc first.next } ∷ others else others)
-      go true e = omega (arith, here)
-      go false e = let none = drop_end first.choices (suc first.next) e in let all = rw none at here in omega (arith, all)
+      go true e =
+          let on = sum_more (size_left world bounds) (record first { next = suc first.next }) others in
+          omega (arith, here, split, all, on)
+      go false e = let none : size_of_choices world bounds (size_of world bounds) first.piece.state (drop (suc first.next) first.choices) ≡ 0 = rw (drop_end first.choices (suc first.next) e) refl in omega (arith, here, split, all, none)
 
 size_with : (world : World) (bounds : Bounds) (waiting : List Waiting) (next : Next) → size_waiting world bounds (waiting_with waiting next) ≡ size_next world bounds next + size_waiting world bounds waiting
 size_with world bounds waiting (Lists path) = omega arith
-size_with world bounds waiting (WaitsNext one) = refl
+size_with world bounds waiting (WaitsNext one) = sum_more (size_left world bounds) one waiting
 size_with world bounds waiting Leaves = omega arith
 
 closed_more : (listed : List Path) (closed : ℕ) (next : Next) → closed ≡ closed_count listed → closed_with closed next ≡ closed_count (listed_with listed next)

@@ -1,20 +1,16 @@
 -- What an exploration takes from the paths of states: that the path of a state says of inputs what the state says.
-use Rattle.std.specs.Prelude.{◌≡◌, ◌↔◌, ℕ, Bool, List, [], length, take, Some, slice_get}
+use Rattle.std.specs.Prelude.{◌≡◌, ℕ, List, []}
 use Rattle.kb_heap.specs.declared.heap.Heap.{Heap}
 use Rattle.kb_heap.specs.declared.heap.Input.{Input}
-use Rattle.kb_blast.specs.Query.{query_of}
 use Rattle.kb_link.specs.World.{World}
 use Rattle.kb_semantics.specs.Step.{first_heap}
 use Rattle.kb_terms.specs.Terms.{AreTerms}
-use Rattle.kb_terms.specs.declared.node.TermId.{TermId}
 use Rattle.kb_picture.specs.declared.path.Ended.{Ended}
 use Rattle.kb_picture.specs.declared.path.Leaf.{Leaf}
 use Rattle.kb_picture.specs.declared.path.Leaf.TheVariants.{Ended as EndedLeaf}
 use Rattle.kb_picture.specs.declared.path.SymEnding.{SymEnding}
 use Rattle.kb_picture.specs.declared.picture.Picture.{Picture}
 use Rattle.kb_picture.specs.Endings.{ending_at, stated_end}
-use Rattle.kb_picture.specs.Instances.{IsInstance, variable_values, with_conditions}
-use Rattle.kb_picture.specs.Queries.{query_of_path}
 use Rattle.kb_picture.specs.WellFormed.{IsWellFormed, IsClosed}
 use Rattle.kb_frames.specs.Meant.{PathMeans}
 use Rattle.kb_frames.specs.Paths.{numbered_ended, path_numbering, path_of, path_roots}
