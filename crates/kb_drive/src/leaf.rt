@@ -1,5 +1,5 @@
 //! The paths of pieces, and the inputs that they carry.
-ghost use Rattle.std.specs.Prelude.{◌≡◌, IfOk};
+ghost use Rattle.std.specs.Prelude.{◌≡◌, IfOk, OnOk};
 ghost use Rattle.kb_terms.specs.Terms.{AreTerms};
 ghost use Rattle.kb_picture.specs.declared.path.Leaf.TheVariants.{Cut, Ended as EndedLeaf};
 ghost use Rattle.kb_frames.specs.Paths.{path_roots};
@@ -80,8 +80,18 @@ fn all_values(alloc: Global, values: &[i32], count: usize) -> Result<Vec<i32>, N
     ensures { IfOk result (λ all. all.items ≡ followed_by_zeros count values.now) }
 {
     let mut all = values.to_vec(alloc)?;
-    for _ in values.len()..count {
-        all.push(0)?;
-    }
+    add_zeros(&mut all, count)?;
     Ok(all)
+}
+
+// Adds 0s, up to so many values.
+fn add_zeros(values: &mut Vec<i32>, count: usize) -> Result<(), NoMemory>
+    ensures { OnOk result (values.new.items ≡ followed_by_zeros count values.old.items) }
+{
+    if values.len() < count {
+        let Ok(()) = values.resize(count, 0) else {
+            return Err(NoMemory);
+        };
+    }
+    Ok(())
 }

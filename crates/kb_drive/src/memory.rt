@@ -1,5 +1,5 @@
 //! The refusal for want of memory.
-use std::alloc::AllocError;
+use std::alloc::{AllocError, AllocFailed};
 
 /// Memory ran out.
 #[derive(Clone, Copy, Debug, PartialEq, Eq)]
@@ -7,6 +7,12 @@ pub(crate) struct NoMemory;
 
 impl From<AllocError> for NoMemory {
     fn from(_error: AllocError) -> NoMemory {
+        NoMemory
+    }
+}
+
+impl<T: Drop> From<AllocFailed<T>> for NoMemory {
+    fn from(_error: AllocFailed<T>) -> NoMemory {
         NoMemory
     }
 }
