@@ -22,6 +22,7 @@ pub mod SettledLaws
 pub mod SizeLaws
 pub mod SourceLaws
 pub mod SumLaws
+pub mod TakenLaws
 pub mod StepLaws
 pub mod WaitLaws
 pub mod WalkLaws

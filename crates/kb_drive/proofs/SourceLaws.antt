@@ -143,7 +143,7 @@ given_on : (answers : List Answer) (answer : Answer) (waiting : List Waiting) �
 given_on answers answer [] each = tt
 given_on answers answer (one ∷ others) each = (given_still answers answer one.piece.values each.0, given_on answers answer others each.1)
 
-given_behind : (answers : List Answer) (first : Waiting) (others : List Waiting) → EachWaiting (λ (one : Waiting). AreGiven answers one.piece.values) (first ∷ others)
+pub given_behind : (answers : List Answer) (first : Waiting) (others : List Waiting) → EachWaiting (λ (one : Waiting). AreGiven answers one.piece.values) (first ∷ others)
     → EachWaiting (λ (one : Waiting). AreGiven answers one.piece.values) (waits_on first others)
 given_behind answers first others each = go (has_more first)
   where

@@ -36,7 +36,6 @@ use std::alloc::Global;
 /// and keeps one state for each choice that waits.
 ///
 /// Source: King, 1976; Khurshid, Păsăreanu and Visser, TACAS 2003.
-#[tactic(none)]
 pub fn explore_from<O: Oracle>(
     alloc: Global,
     world: &World,
@@ -69,7 +68,6 @@ pub fn explore_from<O: Oracle>(
 }
 
 // Explores a piece: the inputs that are instances of its state. The walk begins from any piece.
-#[tactic(none)]
 pub(crate) fn explore_piece<O: Oracle>(
     alloc: Global,
     world: &World,

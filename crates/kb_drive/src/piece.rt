@@ -6,8 +6,8 @@ use kb_frames::SymState;
 use kb_rows::Row;
 use std::alloc::Global;
 
-/// A state to which an exploration has led, with the decisions that led to it, and with values that meet its conditions: that of
-/// variable 0 first, and 0 for each variable behind the last one.
+/// A state to which an exploration has led, with the decisions that led to it, and with values that meet its conditions: that
+/// of variable 0 first, and 0 for each variable behind the last one.
 #[derive(Drop)]
 pub struct Piece {
     pub state: SymState,

@@ -109,33 +109,25 @@ impl Waiting {
     }
 
     // Takes the next alternative in a copy of the state: others wait for it.
-    fn take_copy(
-        &self,
-        alloc: Global,
-        world: &World,
-        bounds: &Bounds,
-    ) -> Result<Taken, NoMemory>
+    fn take_copy(&self, alloc: Global, world: &World, bounds: &Bounds) -> Result<Taken, NoMemory>
         requires { CanBeTaken world.now bounds.now self.now }
         ensures taken { IfOk result (IsTakenOf world.now bounds.now self.now (slice_get self.now.choices self.now.next)) }
         ensures reached { IfOk result (λ taken. IsReached world.now taken.piece.state) }
     {
         let piece = self.piece.copied(alloc)?;
-        take_in(alloc, world, bounds, piece, self.choices.as_slice(), self.next)
+        let choices = self.choices.as_slice();
+        take_in(alloc, world, bounds, piece, choices, self.next)
     }
 
     // Takes the last alternative in the state itself.
-    fn take_last(
-        self,
-        alloc: Global,
-        world: &World,
-        bounds: &Bounds,
-    ) -> Result<Taken, NoMemory>
+    fn take_last(self, alloc: Global, world: &World, bounds: &Bounds) -> Result<Taken, NoMemory>
         requires { CanBeTaken world.now bounds.now self }
         ensures taken { IfOk result (IsTakenOf world.now bounds.now self (slice_get self.choices self.next)) }
         ensures reached { IfOk result (λ taken. IsReached world.now taken.piece.state) }
     {
+        let piece = self.piece;
         let choices = self.choices;
-        take_in(alloc, world, bounds, self.piece, choices.as_slice(), self.next)
+        take_in(alloc, world, bounds, piece, choices.as_slice(), self.next)
     }
 }
 
@@ -154,7 +146,8 @@ fn take_in(
 {
     let stood = piece.state.conditions().len();
     let mut piece = piece;
-    let outcome = take(alloc, world, &mut piece.state, &choices[next as usize], bounds)?;
+    let choice = &choices[next as usize];
+    let outcome = take(alloc, world, &mut piece.state, choice, bounds)?;
     let piece = decide(piece, choices.len(), next)?;
     Ok(Taken {
         piece,

@@ -81,7 +81,6 @@ fn closed_with(closed: u32, path: &Path) -> Result<u32, NoMemory>
 
 /// Takes the next alternative and adds what follows it. False where none waits. Once as many paths are listed as may be, nobody is
 /// asked, and each alternative that waits is listed as an open path.
-#[tactic(none)]
 pub(crate) fn step<O: Oracle>(
     alloc: Global,
     world: &World,

@@ -1,0 +1,210 @@
+-- What holds of an alternative that was taken, as the calls of a step tell it.
+use Rattle.std.proofs.Common.{◌≡◌, ℕ, suc, ◌≤◌, true, List, [], ◌∷◌, ◌++◌, length, take, drop, Option, Some, None, slice_get, refl, sym, ap, ◌∙◌, subst}
+use Rattle.kb_blast.specs.Query.{Query, query_of}
+use Rattle.kb_class.specs.declared.ids.MethodId.{MethodId}
+use Rattle.kb_heap.specs.declared.bounds.Bounds.{Bounds}
+use Rattle.kb_heap.specs.declared.heap.Input.{Input}
+use Rattle.kb_link.specs.World.{World}
+use Rattle.kb_oracle.specs.declared.answer.Answer.{Answer}
+use Rattle.kb_picture.specs.declared.choice.Choice.{Choice}
+use Rattle.kb_picture.specs.declared.path.Leaf.TheVariants.{Ended as EndedLeaf, Open as OpenLeaf}
+use Rattle.kb_picture.specs.declared.path.Path.{Path}
+use Rattle.kb_picture.specs.WellFormed.{IsClosed}
+use Rattle.kb_terms.specs.Terms.{AreTerms}
+use Rattle.kb_frames.specs.declared.value.Outcome.{Outcome}
+use Rattle.kb_frames.specs.declared.value.Outcome.TheVariants.{Asks, Goes, Ends, Cut}
+use Rattle.kb_frames.specs.Next.{next_is_int}
+use Rattle.kb_frames.specs.Paths.{path_of, path_roots}
+use Rattle.kb_frames.proofs.FormedPaths.{roots_are_terms}
+use Rattle.kb_stepint.specs.IntMethods.{is_int_method}
+use Rattle.kb_stepint.specs.Reached.{IsReached}
+use Rattle.kb_stepint.specs.Ways.{Take}
+use Rattle.kb_stepint.proofs.IntMethodLaws.{ints_next}
+use Rattle.kb_drive.specs.declared.follow.Known.{Known}
+use Rattle.kb_drive.specs.declared.follow.Known.TheVariants.{Open, Kept, Answered}
+use Rattle.kb_drive.specs.declared.waiting.Taken.{Taken}
+use Rattle.kb_drive.specs.declared.waiting.Waiting.{Waiting}
+use Rattle.kb_drive.specs.declared.walk.Walk.{Walk}
+use Rattle.kb_drive.specs.Explorable.{IsExplorable}
+use Rattle.kb_drive.specs.Following.{CanFollow, CanFollowOutcome, IsAskedWithin, IsKnown, IsTakenFrom, IsTakenOf, alternative_next, follows, given_after, path_of_piece, taken_from, waits_on, walk_with}
+use Rattle.kb_drive.specs.Pieces.{IsBehind}
+use Rattle.kb_drive.specs.StatePaths.{ended_in}
+use Rattle.kb_drive.specs.Steps.{LeadsOn}
+use Rattle.kb_drive.specs.Stops.{IsRefused, IsUnserved}
+use Rattle.kb_drive.specs.Taking.{choices_at, taken_at}
+use Rattle.kb_drive.specs.Values.{AreGiven, OfGiven}
+use Rattle.kb_drive.specs.Walks.{EachWaiting, IsFrom, IsRefined, IsWaiting, IsWalk, KeepsSources}
+use Rattle.kb_drive.proofs.EndingLaws.{endings_mean}
+use Rattle.kb_drive.proofs.GivenLaws.{one_places}
+use Rattle.kb_drive.proofs.InputLaws.{inputs_of_states}
+use Rattle.kb_drive.proofs.IntLaws.{bare}
+use Rattle.kb_drive.proofs.LeadLaws.{steps_lead}
+use Rattle.kb_drive.proofs.LeafLaws.{unserved}
+use Rattle.kb_drive.proofs.PathLaws.{path_is}
+use Rattle.kb_drive.proofs.PieceLaws.{behind_piece}
+use Rattle.kb_drive.proofs.SourceLaws.{given_behind, given_more, sources_with}
+use Rattle.kb_drive.proofs.StepLaws.{HasStepped, has_stepped}
+
+-- ---- nothing waits
+
+pub none_waits : (world : World) (bounds : Bounds) (waiting now : List Waiting) → IsTakenFrom world bounds waiting now None → (waiting ≡ []) × (now ≡ [])
+none_waits world bounds [] now from = (refl, from)
+none_waits world bounds (first ∷ others) now from = absurd from
+
+pub same_walk : (world : World) (bounds : Bounds) (walk : Walk) (now : List Waiting) → IsTakenFrom world bounds walk.waiting now None → record walk { waiting = now } ≡ walk
+same_walk world bounds walk now from =
+    let both = none_waits world bounds walk.waiting now from in
+    ap (λ (waiting : List Waiting). record walk { waiting = waiting }) (both.1 ∙ sym both.0)
+
+refined_itself : (world : World) (bounds : Bounds) (walk : Walk) → IsRefined world bounds walk walk
+refined_itself world bounds walk = record {
+  target = refl;
+  paths = refl;
+  inputs = λ input correct. record { one = λ has. has; none = λ has. has };
+  fronts = λ front begin. begin;
+}
+
+pub refined_same : (world : World) (bounds : Bounds) (walk new : Walk) → new ≡ walk → IsRefined world bounds walk new
+refined_same world bounds walk new same = subst (IsRefined world bounds walk) (sym same) (refined_itself world bounds walk)
+
+-- ---- an alternative was taken
+
+-- the choice that it is of, and what is known of it
+pub record WasTaken (world : World) (target : MethodId) (bounds : Bounds) (waiting now : List Waiting) (taken : Taken) : Type 0 where
+  pub first : Waiting
+  pub others : List Waiting
+  pub choice : Choice
+  pub waits : waiting ≡ first ∷ others
+  pub at : slice_get first.choices first.next ≡ Some choice
+  pub is : taken ≡ taken_from world bounds (alternative_next first choice)
+  pub now_is : now ≡ waits_on first others
+  pub waiting_is : IsWaiting world target bounds first
+
+pub was_taken : (world : World) (target : MethodId) (bounds : Bounds) (waiting now : List Waiting) (taken : Taken) → EachWaiting (IsWaiting world target bounds) waiting
+    → IsTakenFrom world bounds waiting now (Some taken) → WasTaken world target bounds waiting now taken
+was_taken world target bounds [] now taken each from = absurd from
+was_taken world target bounds (first ∷ others) now taken each from = go (slice_get first.choices first.next) refl from.0
+  where
+    go : (choice : Option Choice) → slice_get first.choices first.next ≡ choice → IsTakenOf world bounds first choice taken
+        → WasTaken world target bounds (first ∷ others) now taken
+    go None at of = absurd of
+    go (Some choice) at of = record { first = first; others = others; choice = choice; waits = refl; at = at; is = of; now_is = from.1; waiting_is = each.0 }
+
+-- an input without objects and arguments names no object that it has not
+no_input : Input
+no_input = record { heap = record { objects = [] }; args = [] }
+
+no_input_closed : IsClosed no_input
+unfolding no_input
+no_input_closed = record { arguments = λ i value at. absurd cc; objects = λ i j object value at there. absurd cc }
+
+module _ (world : World) (target : MethodId) (bounds : Bounds) (waiting now : List Waiting) (taken : Taken) (was : WasTaken world target bounds waiting now taken)
+    (explorable : IsExplorable world target) (reached : IsReached world taken.piece.state) where
+  abbrev after : Take
+  after = taken_at world bounds was.first.piece.state was.choice
+
+  reached_behind : IsReached world after.state
+  reached_behind = subst (λ (t : Taken). IsReached world t.piece.state) was.is reached
+
+  ints_of : (method : MethodId) → method ≡ target → is_int_method world method ≡ true
+  ints_of method same = subst (λ (m : MethodId). is_int_method world m ≡ true) (sym same) explorable.steps
+
+  leads : LeadsOn world bounds was.first.piece.state after
+  leads =
+      (steps_lead world bounds was.first.piece.state was.waiting_is.piece.reached
+      (ints_next world was.first.piece.state was.waiting_is.piece.reached (ints_of was.first.piece.state.method was.waiting_is.piece.explored.method))).each
+      was.choice (was.first.next, subst (λ (cs : List Choice). slice_get cs was.first.next ≡ Some was.choice) was.waiting_is.choices was.at)
+
+  behind : IsBehind world target bounds (length was.first.piece.state.when) was.first.piece.values after
+  behind = behind_piece world target bounds was.first.piece was.waiting_is.piece after leads reached_behind
+
+  open_terms : AreTerms after.state.nodes (path_roots after.state OpenLeaf)
+  open_terms = roots_are_terms world after.state OpenLeaf reached_behind.sound tt
+
+  -- it can go on, or its path can be made, whatever input that carries
+  outcome_follows : (outcome : Outcome) → after.outcome ≡ outcome → CanFollowOutcome world (taken_from world bounds (alternative_next was.first was.choice)).piece outcome
+  outcome_follows Asks same = (reached_behind, ints_next world after.state reached_behind (ints_of after.state.method behind.explored.method))
+  outcome_follows Goes same = (reached_behind, ints_next world after.state reached_behind (ints_of after.state.method behind.explored.method))
+  outcome_follows (Ends ending) same =
+      let ends = endings_mean world after.state [] ending no_input reached_behind.sound
+          (bare world after.state reached_behind (ints_of after.state.method behind.explored.method)) (rw same at behind.ending) no_input_closed in
+      roots_are_terms world after.state (EndedLeaf (ended_in after.state ending no_input)) reached_behind.sound ends.leaf
+  outcome_follows (Cut bound) same = open_terms
+
+  pub can_follow : CanFollow world taken
+  can_follow = subst (CanFollow world) (sym was.is) (record { terms = open_terms; outcome = outcome_follows after.outcome refl })
+
+  -- The open path of conditions that an oracle could not answer.
+  pub unserved_taken : (Unfit : ℕ → Query → Type 0) (i : ℕ) (path : Path) → IsRefused Unfit taken.piece i path → IsUnserved world target bounds Unfit i path
+  unserved_taken Unfit i path refused = subst (IsUnserved world target bounds Unfit i) (sym path_same) is_unserved
+    where
+      decisions : List ℕ
+      decisions = (alternative_next was.first was.choice).decisions
+
+      path_same : path ≡ path_of after.state (alternative_next was.first was.choice).decisions OpenLeaf
+      path_same = refused.0 ∙ ap (λ (t : Taken). path_of_piece t.piece OpenLeaf) was.is
+
+      is_unserved : IsUnserved world target bounds Unfit i (path_of after.state (alternative_next was.first was.choice).decisions OpenLeaf)
+      is_unserved =
+          unserved endings_mean inputs_of_states one_places world target bounds explorable (length was.first.piece.state.when) was.first.piece.values after
+          (alternative_next was.first was.choice).decisions Unfit i behind
+          (path_is world after.state (alternative_next was.first was.choice).decisions OpenLeaf reached_behind.sound tt)
+          (subst (λ (t : Taken). Unfit i (query_of t.piece.state.nodes t.piece.state.when)) was.is refused.1)
+
+-- ---- a step
+
+module _ (world : World) (bounds : Bounds) (walk : Walk) (now : List Waiting) (taken : Taken) (known : Known)
+    (was : WasTaken world walk.target bounds walk.waiting now taken) (explorable : IsExplorable world walk.target) (reached : IsReached world taken.piece.state) where
+  method_same : taken.piece.state.method ≡ walk.target
+  method_same =
+      subst (λ (t : Taken). t.piece.state.method ≡ walk.target) (sym was.is)
+      (behind world walk.target bounds walk.waiting now taken was explorable reached).explored.method
+
+  -- what the listed paths and the waiting pieces have from the answers so far, they have with what was given in the step
+  from_answers : (answers later : List Answer) → IsFrom world walk answers → Some later ≡ given_after (Some answers) known
+      → IsFrom world (walk_with (record walk { waiting = now }) (follows world bounds taken known)) later
+  from_answers answers later from same =
+      sources_with world bounds walk now taken known answers reached.sound method_same values from.paths pieces later same
+    where
+      all : EachWaiting (λ (one : Waiting). AreGiven answers one.piece.values) (was.first ∷ was.others)
+      all = subst (EachWaiting (λ (one : Waiting). AreGiven answers one.piece.values)) was.waits from.pieces
+
+      values : AreGiven answers taken.piece.values
+      values = subst (λ (t : Taken). AreGiven answers t.piece.values) (sym was.is) all.0
+
+      pieces : EachWaiting (λ (one : Waiting). AreGiven answers one.piece.values) now
+      pieces = subst (EachWaiting (λ (one : Waiting). AreGiven answers one.piece.values)) (sym was.now_is) (given_behind answers was.first was.others all)
+
+  abbrev new : Walk
+  new = walk_with (record walk { waiting = now }) (follows world bounds taken known)
+
+  kept_sources : (before given : Option (List Answer)) → ((answers : List Answer) → IsFrom world walk answers → IsFrom world new answers)
+      → OfGiven (IsFrom world walk) before given → OfGiven (IsFrom world new) before given
+  kept_sources (Some before) (Some given) goes of = (of.0, goes (drop (length before) given) of.1)
+  kept_sources None None goes of = of
+  kept_sources (Some before) None goes of = absurd of
+  kept_sources None (Some given) goes of = absurd of
+
+  more_sources : (before given : Option (List Answer)) (answer : Answer) → ((answers : List Answer) → IsFrom world walk answers → IsFrom world new (answers ++ answer ∷ []))
+      → OfGiven (IsFrom world walk) before given → OfGiven (IsFrom world new) before (given_after given (Answered answer))
+  more_sources (Some before) (Some given) answer goes of = given_more (IsFrom world walk) (IsFrom world new) before given answer goes of
+  more_sources None None answer goes of = of
+  more_sources (Some before) None answer goes of = absurd of
+  more_sources None (Some given) answer goes of = absurd of
+
+  by_known : (it : Known) → known ≡ it → (before given : Option (List Answer)) → OfGiven (IsFrom world walk) before given → OfGiven (IsFrom world new) before (given_after given it)
+  by_known Open same before given of = kept_sources before given (λ answers from. from_answers answers answers from (sym (ap (given_after (Some answers)) same))) of
+  by_known Kept same before given of = kept_sources before given (λ answers from. from_answers answers answers from (sym (ap (given_after (Some answers)) same))) of
+  by_known (Answered answer) same before given of =
+      more_sources before given answer (λ answers from. from_answers answers (answers ++ answer ∷ []) from (sym (ap (given_after (Some answers)) same))) of
+
+  pub step_sources : (given given_now : Option (List Answer)) → given_now ≡ given_after given known → KeepsSources world walk new given given_now
+  step_sources given given_now same before of = subst (OfGiven (IsFrom world new) before) (sym same) (by_known known refl before given of)
+
+-- What holds behind a step.
+pub step_holds : (world : World) (bounds : Bounds) (budget : ℕ) (walk : Walk) (now : List Waiting) (taken : Taken) (known : Known) (new : Walk)
+    → IsWalk world bounds budget walk → IsTakenFrom world bounds walk.waiting now (Some taken) → IsKnown budget taken known → IsAskedWithin walk known
+    → IsReached world taken.piece.state → new ≡ walk_with (record walk { waiting = now }) (follows world bounds taken known)
+    → HasStepped steps_lead endings_mean inputs_of_states one_places world bounds budget walk new
+step_holds world bounds budget walk now taken known new is from knows within reached same =
+    has_stepped steps_lead endings_mean inputs_of_states one_places world bounds budget walk walk.waiting now taken known new is refl from knows within reached same
