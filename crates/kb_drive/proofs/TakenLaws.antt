@@ -30,7 +30,9 @@ use Rattle.kb_drive.specs.Following.{CanFollow, CanFollowOutcome, IsAskedWithin,
 use Rattle.kb_drive.specs.Pieces.{IsBehind}
 use Rattle.kb_drive.specs.StatePaths.{ended_in}
 use Rattle.kb_drive.specs.Steps.{LeadsOn}
-use Rattle.kb_drive.specs.Stops.{IsRefused, IsUnserved}
+use Rattle.kb_drive.specs.declared.stop.DriveStop.{DriveStop}
+use Rattle.kb_drive.specs.declared.stop.DriveStop.TheVariants.{Oracle, NoMemory}
+use Rattle.kb_drive.specs.Stops.{IfOracle, IsRefused, IsUnserved}
 use Rattle.kb_drive.specs.Taking.{choices_at, taken_at}
 use Rattle.kb_drive.specs.Values.{AreGiven, OfGiven}
 use Rattle.kb_drive.specs.Walks.{EachWaiting, IsFrom, IsRefined, IsWaiting, IsWalk, KeepsSources}
@@ -208,3 +210,11 @@ pub step_holds : (world : World) (bounds : Bounds) (budget : ℕ) (walk : Walk) 
     → HasStepped steps_lead endings_mean inputs_of_states one_places world bounds budget walk new
 step_holds world bounds budget walk now taken known new is from knows within reached same =
     has_stepped steps_lead endings_mean inputs_of_states one_places world bounds budget walk walk.waiting now taken known new is refl from knows within reached same
+
+-- what an oracle's stop says of the conditions that were asked, it says of their path
+pub oracle_unserved : (world : World) (target : MethodId) (bounds : Bounds) (waiting now : List Waiting) (taken : Taken) → WasTaken world target bounds waiting now taken
+    → IsExplorable world target → IsReached world taken.piece.state → (Unfit : ℕ → Query → Type 0) (stop : DriveStop) → IfOracle (IsRefused Unfit taken.piece) stop
+    → IfOracle (IsUnserved world target bounds Unfit) stop
+oracle_unserved world target bounds waiting now taken was explorable reached Unfit (Oracle i path) refused =
+    unserved_taken world target bounds waiting now taken was explorable reached Unfit i path refused
+oracle_unserved world target bounds waiting now taken was explorable reached Unfit NoMemory refused = tt

@@ -13,7 +13,8 @@ use crate::waiting::{Taken, Waiting};
 use kb_frames::Outcome;
 use kb_heap::Bounds;
 use kb_oracle::Answer;
-use kb_picture::{Leaf, Path};
+use kb_picture::{Choice, Leaf, Path};
+use kb_rows::Row;
 use kb_world::World;
 use std::alloc::Global;
 
@@ -92,7 +93,8 @@ fn follow_outcome(
     ensures { IfOk result (λ next. next ≡ follows_outcome world.now bounds.now piece outcome) }
 {
     match outcome {
-        Outcome::Asks | Outcome::Goes => wait(alloc, world, bounds, piece),
+        Outcome::Asks => wait(alloc, world, bounds, piece),
+        Outcome::Goes => wait(alloc, world, bounds, piece),
         Outcome::Ends(ending) => Ok(Next::Lists(ended_path(alloc, world, &piece, ending)?)),
         Outcome::Cut(bound) => Ok(Next::Lists(cut_path(alloc, world, &piece, bound)?)),
     }
@@ -105,12 +107,18 @@ pub(crate) fn wait(alloc: Global, world: &World, bounds: &Bounds, piece: Piece) 
     ensures { IfOk result (λ next. next ≡ waits_at piece (choices_at world.now bounds.now piece.state)) }
 {
     let choices = choices(alloc, world, &piece.state, bounds)?;
+    Ok(waits_at(piece, choices))
+}
+
+fn waits_at(piece: Piece, choices: Row<Choice>) -> Next
+    ensures { result ≡ waits_at piece choices }
+{
     if choices.as_slice().is_empty() {
-        return Ok(Next::Leaves);
+        return Next::Leaves;
     }
-    Ok(Next::Waits(Waiting {
+    Next::Waits(Waiting {
         piece,
         choices,
         next: 0,
-    }))
+    })
 }

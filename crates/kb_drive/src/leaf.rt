@@ -36,18 +36,28 @@ pub(crate) fn ended_path(
     requires { AreTerms piece.now.state.nodes (path_roots piece.now.state (EndedLeaf (ended_in piece.now.state ending (input_of_piece world.now piece.now)))) }
     ensures { IfOk result (λ path. path ≡ path_of_piece piece.now (EndedLeaf (ended_in piece.now.state ending (input_of_piece world.now piece.now)))) }
 {
+    let ended = ended_in(alloc, world, piece, ending)?;
+    path_of(piece, Leaf::Ended(ended))
+}
+
+// An ending, with what the state keeps as written and as made, and the input of the piece.
+fn ended_in(
+    alloc: Global,
+    world: &World,
+    piece: &Piece,
+    ending: SymEnding,
+) -> Result<Ended, NoMemory>
+    ensures { IfOk result (λ ended. ended ≡ ended_in piece.now.state ending (input_of_piece world.now piece.now)) }
+{
     let input = input_of_piece(alloc, world, piece)?;
     let writes = piece.state.writes()?;
     let made = piece.state.made()?;
-    path_of(
-        piece,
-        Leaf::Ended(Ended {
-            ending,
-            writes,
-            made,
-            input,
-        }),
-    )
+    Ok(Ended {
+        ending,
+        writes,
+        made,
+        input,
+    })
 }
 
 /// The path of a piece whose inputs, or their runs, go beyond the bound.

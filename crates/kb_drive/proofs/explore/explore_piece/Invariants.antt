@@ -6,15 +6,16 @@ use Rattle.kb_heap.specs.declared.heap.Input.{Input}
 use Rattle.kb_semantics.specs.Inputs.{IsTypeCorrect}
 use Rattle.kb_frames.specs.StandsFor.{IsInstanceOf}
 use Rattle.kb_drive.specs.Counts.{RoseBy, undecided_count}
-use Rattle.kb_drive.specs.Division.{DivideThose, NoneHas}
+use Rattle.kb_picture.specs.Exactly.{NoneHas}
+use Rattle.kb_drive.specs.Division.{DivideThose}
 use Rattle.kb_drive.specs.Parts.{IsInPart, decisions_of_part, parts_of}
 use Rattle.kb_drive.specs.Values.{OfGiven}
 use Rattle.kb_drive.specs.Walks.{BeginWith, IsFrom, IsWalk, size_waiting}
 use Rattle.kb_drive.specs.Whole.{IsOfPiece}
 use Rattle.kb_drive.proofs.explore.explore_piece.Given as goal
 
-abbrev pub invariant-loop : goal.invariant-loop
-invariant-loop g l = record {
+abbrev pub invariant-loop-walk : goal.invariant-loop-walk
+invariant-loop-walk g l = record {
   walk : IsWalk l.world l.bounds (g.O.Oracle.budget l.fn.oracle) l.walk;
   target : l.walk.target ≡ l.fn.piece.state.method;
   paths : l.walk.paths ≡ l.paths;
@@ -30,5 +31,5 @@ invariant-loop g l = record {
   later_unsure : g.O.Oracle.unsure l.fn.oracle ≤ g.O.Oracle.unsure l.oracle;
 }
 
-abbrev pub decreases-loop : goal.decreases-loop
-decreases-loop g l = size_waiting l.world l.bounds l.walk.waiting
+abbrev pub decreases-loop-walk : goal.decreases-loop-walk
+decreases-loop-walk g l = size_waiting l.world l.bounds l.walk.waiting
