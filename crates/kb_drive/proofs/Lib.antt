@@ -4,6 +4,7 @@ pub mod CoveringLaws
 pub mod DivisionLaws
 pub mod EndLaws
 pub mod EndingLaws
+pub mod ExploreLaws
 pub mod FollowLaws
 pub mod FrontLaws
 pub mod GivenLaws

@@ -63,6 +63,8 @@ pub fn explore_from<O: Oracle>(
     ensures later_bad { O.bad oracle.old ≤ O.bad oracle.new }
     ensures later_unsure { O.unsure oracle.old ≤ O.unsure oracle.new }
 {
+    // Every world is linked, and says so of each of its methods.
+    let _ = world.method_of(start.method());
     let piece = Piece::whole(alloc, start);
     explore_piece(alloc, world, piece, bounds, paths, oracle)
 }

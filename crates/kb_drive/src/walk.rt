@@ -104,7 +104,10 @@ pub(crate) fn step<O: Oracle>(
     let Some(taken) = walk.waiting.take_next(alloc, world, bounds)? else {
         return Ok(false);
     };
-    let known = ask_within(alloc, walk, &taken, oracle)?;
+    let known = match ask_within(alloc, walk, &taken, oracle) {
+        Ok(known) => known,
+        Err(stop) => return Err(stop),
+    };
     let next = follow(alloc, world, bounds, taken, known)?;
     walk.add(next)?;
     Ok(true)

@@ -1,8 +1,7 @@
 -- A step: nothing waits, or an alternative was taken.
 use Rattle.std.proofs.Common.{rules, ◌≡◌, Option, Some, None, [], refl, sym, ap, ◌∙◌, subst}
 use Rattle.kb_drive.specs.Following.{IsTakenFrom, follows, walk_with}
-use Rattle.kb_drive.specs.Stops.{IfOracle, IsUnserved}
-use Rattle.kb_drive.specs.Walks.{IsFurther, IsRefined, IsWalk, KeepsCount, KeepsSources}
+use Rattle.kb_drive.specs.Walks.{IsWalk, KeepsCount, KeepsSources}
 use Rattle.kb_drive.specs.declared.walk.Walk.{Walk}
 use Rattle.kb_stepint.specs.Reached.{IsReached}
 use Rattle.kb_frames.proofs.FormedPaths.{roots_are_terms}
@@ -44,14 +43,12 @@ ask_within-requires-clause-conditions g c =
     let reached : IsReached c.args.world.now c.in-Some.taken.piece.state = search rules in
     reached.sound.conditions
 
-pub returns-in_err-known-clause-unserved : goal.returns-in_err-known-clause-unserved
-returns-in_err-known-clause-unserved g c =
+pub returns-in-Err-clause-unserved : goal.returns-in-Err-clause-unserved
+returns-in-Err-clause-unserved g c =
     let from : IsTakenFrom c.args.world.now c.args.bounds.now c.args.walk.now.waiting c.take_next.new.self (Some c.in-Some.taken) = search rules in
     let reached : IsReached c.args.world.now c.in-Some.taken.piece.state = search rules in
-    let told : IfOracle (IsUnserved c.args.world.now c.args.walk.now.target c.args.bounds.now (g.O.Oracle.unfit c.args.oracle.now)) c.in_err-known.field-0.0 =
     oracle_unserved c.args.world.now c.args.walk.now.target c.args.bounds.now c.args.walk.now.waiting c.take_next.new.self c.in-Some.taken (was_taken c.args.world.now c.args.walk.now.target c.args.bounds.now c.args.walk.now.waiting c.take_next.new.self c.in-Some.taken c.requires.waits from)
-    c.requires.explorable reached (g.O.Oracle.unfit c.args.oracle.now) c.in_err-known.field-0.0 c.in_err-known.ensures.unserved in
-    search rules
+    c.requires.explorable reached (g.O.Oracle.unfit c.args.oracle.now) c.in-Err.stop c.in-Err.ensures.unserved
 
 pub follow-requires : goal.follow-requires
 follow-requires g c =
@@ -64,45 +61,45 @@ pub returns-clause-walk : goal.returns-clause-walk
 returns-clause-walk g c =
     let from : IsTakenFrom c.args.world.now c.args.bounds.now c.args.walk.now.waiting c.take_next.new.self (Some c.in-Some.taken) = search rules in
     let reached : IsReached c.args.world.now c.in-Some.taken.piece.state = search rules in
-    let same : c.add.new.self ≡ walk_with (record c.args.walk.now { waiting = c.take_next.new.self }) (follows c.args.world.now c.args.bounds.now c.in-Some.taken c.in_ok-known.known) =
-    c.in_ok-add.ensures tt ∙ ap (walk_with (record c.args.walk.now { waiting = c.take_next.new.self })) c.in_ok-next.ensures in
-    (step_holds c.args.world.now c.args.bounds.now (g.O.Oracle.budget c.args.oracle.now) c.args.walk.now c.take_next.new.self c.in-Some.taken c.in_ok-known.known c.add.new.self c.requires from
-    c.in_ok-known.ensures.known c.in_ok-known.ensures.within reached same).walk
+    let same : c.add.new.self ≡ walk_with (record c.args.walk.now { waiting = c.take_next.new.self }) (follows c.args.world.now c.args.bounds.now c.in-Some.taken c.in-Ok.known) =
+    c.in_ok-add.ensures ∙ ap (walk_with (record c.args.walk.now { waiting = c.take_next.new.self })) c.in_ok-next.ensures in
+    (step_holds c.args.world.now c.args.bounds.now (g.O.Oracle.budget c.args.oracle.now) c.args.walk.now c.take_next.new.self c.in-Some.taken c.in-Ok.known c.add.new.self c.requires from
+    c.in-Ok.ensures.known c.in-Ok.ensures.within reached same).walk
 
 pub returns-clause-refined : goal.returns-clause-refined
 returns-clause-refined g c =
     let from : IsTakenFrom c.args.world.now c.args.bounds.now c.args.walk.now.waiting c.take_next.new.self (Some c.in-Some.taken) = search rules in
     let reached : IsReached c.args.world.now c.in-Some.taken.piece.state = search rules in
-    let same : c.add.new.self ≡ walk_with (record c.args.walk.now { waiting = c.take_next.new.self }) (follows c.args.world.now c.args.bounds.now c.in-Some.taken c.in_ok-known.known) =
-    c.in_ok-add.ensures tt ∙ ap (walk_with (record c.args.walk.now { waiting = c.take_next.new.self })) c.in_ok-next.ensures in
-    (step_holds c.args.world.now c.args.bounds.now (g.O.Oracle.budget c.args.oracle.now) c.args.walk.now c.take_next.new.self c.in-Some.taken c.in_ok-known.known c.add.new.self c.requires from
-    c.in_ok-known.ensures.known c.in_ok-known.ensures.within reached same).refined
+    let same : c.add.new.self ≡ walk_with (record c.args.walk.now { waiting = c.take_next.new.self }) (follows c.args.world.now c.args.bounds.now c.in-Some.taken c.in-Ok.known) =
+    c.in_ok-add.ensures ∙ ap (walk_with (record c.args.walk.now { waiting = c.take_next.new.self })) c.in_ok-next.ensures in
+    (step_holds c.args.world.now c.args.bounds.now (g.O.Oracle.budget c.args.oracle.now) c.args.walk.now c.take_next.new.self c.in-Some.taken c.in-Ok.known c.add.new.self c.requires from
+    c.in-Ok.ensures.known c.in-Ok.ensures.within reached same).refined
 
 pub returns-clause-further : goal.returns-clause-further
 returns-clause-further g c =
     let from : IsTakenFrom c.args.world.now c.args.bounds.now c.args.walk.now.waiting c.take_next.new.self (Some c.in-Some.taken) = search rules in
     let reached : IsReached c.args.world.now c.in-Some.taken.piece.state = search rules in
-    let same : c.add.new.self ≡ walk_with (record c.args.walk.now { waiting = c.take_next.new.self }) (follows c.args.world.now c.args.bounds.now c.in-Some.taken c.in_ok-known.known) =
-    c.in_ok-add.ensures tt ∙ ap (walk_with (record c.args.walk.now { waiting = c.take_next.new.self })) c.in_ok-next.ensures in
-    (step_holds c.args.world.now c.args.bounds.now (g.O.Oracle.budget c.args.oracle.now) c.args.walk.now c.take_next.new.self c.in-Some.taken c.in_ok-known.known c.add.new.self c.requires from
-    c.in_ok-known.ensures.known c.in_ok-known.ensures.within reached same).further
+    let same : c.add.new.self ≡ walk_with (record c.args.walk.now { waiting = c.take_next.new.self }) (follows c.args.world.now c.args.bounds.now c.in-Some.taken c.in-Ok.known) =
+    c.in_ok-add.ensures ∙ ap (walk_with (record c.args.walk.now { waiting = c.take_next.new.self })) c.in_ok-next.ensures in
+    (step_holds c.args.world.now c.args.bounds.now (g.O.Oracle.budget c.args.oracle.now) c.args.walk.now c.take_next.new.self c.in-Some.taken c.in-Ok.known c.add.new.self c.requires from
+    c.in-Ok.ensures.known c.in-Ok.ensures.within reached same).further
 
 pub returns-clause-given : goal.returns-clause-given
 returns-clause-given g c =
     let from : IsTakenFrom c.args.world.now c.args.bounds.now c.args.walk.now.waiting c.take_next.new.self (Some c.in-Some.taken) = search rules in
     let reached : IsReached c.args.world.now c.in-Some.taken.piece.state = search rules in
-    let same : c.add.new.self ≡ walk_with (record c.args.walk.now { waiting = c.take_next.new.self }) (follows c.args.world.now c.args.bounds.now c.in-Some.taken c.in_ok-known.known) =
-    c.in_ok-add.ensures tt ∙ ap (walk_with (record c.args.walk.now { waiting = c.take_next.new.self })) c.in_ok-next.ensures in
+    let same : c.add.new.self ≡ walk_with (record c.args.walk.now { waiting = c.take_next.new.self }) (follows c.args.world.now c.args.bounds.now c.in-Some.taken c.in-Ok.known) =
+    c.in_ok-add.ensures ∙ ap (walk_with (record c.args.walk.now { waiting = c.take_next.new.self })) c.in_ok-next.ensures in
     subst (λ (new : Walk). KeepsSources c.args.world.now c.args.walk.now new (g.O.Oracle.given c.args.oracle.now) (g.O.Oracle.given c.ask_within.new.oracle)) (sym same)
-    (step_sources c.args.world.now c.args.bounds.now c.args.walk.now c.take_next.new.self c.in-Some.taken c.in_ok-known.known (was_taken c.args.world.now c.args.walk.now.target c.args.bounds.now c.args.walk.now.waiting c.take_next.new.self c.in-Some.taken c.requires.waits from) c.requires.explorable reached
-    (g.O.Oracle.given c.args.oracle.now) (g.O.Oracle.given c.ask_within.new.oracle) c.in_ok-known.ensures.given)
+    (step_sources c.args.world.now c.args.bounds.now c.args.walk.now c.take_next.new.self c.in-Some.taken c.in-Ok.known (was_taken c.args.world.now c.args.walk.now.target c.args.bounds.now c.args.walk.now.waiting c.take_next.new.self c.in-Some.taken c.requires.waits from) c.requires.explorable reached
+    (g.O.Oracle.given c.args.oracle.now) (g.O.Oracle.given c.ask_within.new.oracle) c.in-Ok.ensures.given)
 
 pub returns-clause-unsure : goal.returns-clause-unsure
 returns-clause-unsure g c =
     let from : IsTakenFrom c.args.world.now c.args.bounds.now c.args.walk.now.waiting c.take_next.new.self (Some c.in-Some.taken) = search rules in
     let reached : IsReached c.args.world.now c.in-Some.taken.piece.state = search rules in
-    let same : c.add.new.self ≡ walk_with (record c.args.walk.now { waiting = c.take_next.new.self }) (follows c.args.world.now c.args.bounds.now c.in-Some.taken c.in_ok-known.known) =
-    c.in_ok-add.ensures tt ∙ ap (walk_with (record c.args.walk.now { waiting = c.take_next.new.self })) c.in_ok-next.ensures in
+    let same : c.add.new.self ≡ walk_with (record c.args.walk.now { waiting = c.take_next.new.self }) (follows c.args.world.now c.args.bounds.now c.in-Some.taken c.in-Ok.known) =
+    c.in_ok-add.ensures ∙ ap (walk_with (record c.args.walk.now { waiting = c.take_next.new.self })) c.in_ok-next.ensures in
     subst (λ (new : Walk). KeepsCount c.args.walk.now new (g.O.Oracle.unsure c.args.oracle.now) (g.O.Oracle.unsure c.ask_within.new.oracle)) (sym same)
-    (keeps_count c.args.world.now c.args.bounds.now c.args.walk.now c.take_next.new.self c.in-Some.taken c.in_ok-known.known (g.O.Oracle.unsure c.args.oracle.now) (g.O.Oracle.unsure c.ask_within.new.oracle)
-    c.in_ok-known.ensures.undecided c.ask_within.ensures.later_unsure)
+    (keeps_count c.args.world.now c.args.bounds.now c.args.walk.now c.take_next.new.self c.in-Some.taken c.in-Ok.known (g.O.Oracle.unsure c.args.oracle.now) (g.O.Oracle.unsure c.ask_within.new.oracle)
+    c.in-Ok.ensures.undecided c.ask_within.ensures.later_unsure)
