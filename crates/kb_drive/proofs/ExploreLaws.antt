@@ -1,5 +1,5 @@
 -- The exploration of a piece as its calls tell it: how it begins, goes on, and ends.
-use Rattle.std.proofs.Common.{◌≡◌, ℕ, ◌+◌, ◌^◌, ◌<◌, ◌≤◌, true, false, List, [], ◌∷◌, length, map, take, drop, slice_get, Option, Some, None, inl, refl, sym, ap, ◌∙◌, subst, arith, take_all}
+use Rattle.std.proofs.Common.{◌≡◌, ℕ, false, List, [], ◌∷◌, length, map, drop, slice_get, Option, Some, None, inl, refl, sym, ◌∙◌, subst, arith, take_all}
 use Rattle.kb_heap.specs.declared.bounds.Bounds.{Bounds}
 use Rattle.kb_heap.specs.declared.heap.Input.{Input}
 use Rattle.kb_link.specs.World.{World}

@@ -1,5 +1,5 @@
 -- What holds of an alternative that was taken, as the calls of a step tell it.
-use Rattle.std.proofs.Common.{◌≡◌, ℕ, suc, ◌≤◌, true, List, [], ◌∷◌, ◌++◌, length, take, drop, Option, Some, None, slice_get, refl, sym, ap, ◌∙◌, subst}
+use Rattle.std.proofs.Common.{◌≡◌, ℕ, true, List, [], ◌∷◌, ◌++◌, length, drop, Option, Some, None, slice_get, refl, sym, ap, ◌∙◌, subst}
 use Rattle.kb_blast.specs.Query.{Query, query_of}
 use Rattle.kb_class.specs.declared.ids.MethodId.{MethodId}
 use Rattle.kb_heap.specs.declared.bounds.Bounds.{Bounds}
@@ -13,7 +13,6 @@ use Rattle.kb_picture.specs.WellFormed.{IsClosed}
 use Rattle.kb_terms.specs.Terms.{AreTerms}
 use Rattle.kb_frames.specs.declared.value.Outcome.{Outcome}
 use Rattle.kb_frames.specs.declared.value.Outcome.TheVariants.{Asks, Goes, Ends, Cut}
-use Rattle.kb_frames.specs.Next.{next_is_int}
 use Rattle.kb_frames.specs.Paths.{path_of, path_roots}
 use Rattle.kb_frames.proofs.FormedPaths.{roots_are_terms}
 use Rattle.kb_stepint.specs.IntMethods.{is_int_method}
@@ -33,7 +32,7 @@ use Rattle.kb_drive.specs.Steps.{LeadsOn}
 use Rattle.kb_drive.specs.declared.stop.DriveStop.{DriveStop}
 use Rattle.kb_drive.specs.declared.stop.DriveStop.TheVariants.{Oracle, NoMemory}
 use Rattle.kb_drive.specs.Stops.{IfOracle, IsRefused, IsUnserved}
-use Rattle.kb_drive.specs.Taking.{choices_at, taken_at}
+use Rattle.kb_drive.specs.Taking.{taken_at}
 use Rattle.kb_drive.specs.Values.{AreGiven, OfGiven}
 use Rattle.kb_drive.specs.Walks.{EachWaiting, IsFrom, IsRefined, IsWaiting, IsWalk, KeepsSources}
 use Rattle.kb_drive.proofs.EndingLaws.{endings_mean}

@@ -1,9 +1,8 @@
 -- The whole exploration is that of the piece before the arguments are read.
-use Rattle.std.proofs.Common.{◌≡◌, ◌<◌, List, [], length, Result, Ok, Err, IfOk, sym, ap, ◌∙◌, subst}
+use Rattle.std.proofs.Common.{◌≡◌, ◌<◌, [], length, Result, Ok, Err, IfOk, sym, ap, ◌∙◌, subst}
 use Rattle.std.proofs.lemmas.Option.{slice_get_within}
 use Rattle.kb_class.specs.declared.ids.MethodId.{MethodId}
 use Rattle.kb_link.specs.World.{methods_in}
-use Rattle.kb_picture.specs.declared.path.Path.{Path}
 use Rattle.kb_frames.specs.State.{State}
 use Rattle.kb_stepint.proofs.IntMethodLaws.{start_reached}
 use Rattle.kb_drive.specs.declared.piece.Piece.{Piece}

@@ -1,5 +1,5 @@
 -- The exploration of a piece: its loop begins, goes on and ends as ExploreLaws says.
-use Rattle.std.proofs.Common.{◌≡◌, ◌≤◌, false, [], refl, sym, ap, ◌∙◌, subst, arith}
+use Rattle.std.proofs.Common.{◌≡◌, refl, sym, ap, ◌∙◌, subst, arith}
 use Rattle.kb_stepint.proofs.IntMethodLaws.{ints_next}
 use Rattle.kb_drive.specs.declared.walk.Walk.{Walk}
 use Rattle.kb_drive.specs.Counts.{RoseBy, undecided_count}

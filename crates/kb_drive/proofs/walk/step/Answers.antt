@@ -1,5 +1,5 @@
 -- A step: nothing waits, or an alternative was taken.
-use Rattle.std.proofs.Common.{rules, ◌≡◌, Option, Some, None, [], refl, sym, ap, ◌∙◌, subst}
+use Rattle.std.proofs.Common.{rules, ◌≡◌, Some, None, sym, ap, ◌∙◌, subst}
 use Rattle.kb_drive.specs.Following.{IsTakenFrom, follows, walk_with}
 use Rattle.kb_drive.specs.Walks.{IsWalk, KeepsCount, KeepsSources}
 use Rattle.kb_drive.specs.declared.walk.Walk.{Walk}
