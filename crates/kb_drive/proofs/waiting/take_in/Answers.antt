@@ -1,0 +1,31 @@
+use Rattle.std.proofs.Common.{◌≡◌, ℕ, Bool, List, Some, length, slice_get, sym, ap, ◌∙◌, subst}
+use Rattle.std.proofs.lemmas.Option.{slice_get-get_or}
+use Rattle.kb_terms.specs.declared.node.TermId.{TermId}
+use Rattle.kb_stepint.specs.Ways.{Take}
+use Rattle.kb_drive.specs.declared.piece.Piece.{Piece}
+use Rattle.kb_drive.specs.declared.waiting.Taken.{Taken}
+use Rattle.kb_drive.specs.Following.{IsTakenOf, alternative_next, taken_from}
+use Rattle.kb_drive.specs.Parts.{decided}
+use Rattle.kb_drive.proofs.waiting.take_in.Goals as goal
+
+pub returns-clause-taken : goal.returns-clause-taken
+returns-clause-taken c =
+    let there : slice_get c.args.choices.now c.args.next ≡ Some c.index-choices-next.result =
+    slice_get-get_or c.args.choices.now c.args.next c.index-choices-next.result c.requires.left ∙ ap Some (sym c.index-choices-next.is) in
+    let decisions : List ℕ = decided c.args.piece.decisions (length c.args.choices.now) c.args.next in
+    let piece : c.in_ok-piece.piece ≡ record { state = c.take.new.state; decisions = decisions; values = c.args.piece.values } = c.in_ok-piece.ensures in
+    let taken : record { piece = c.in_ok-piece.piece; outcome = c.in_ok-outcome.outcome; stood = length c.conditions-stood.result.now }
+    ≡ taken_from c.args.world.now c.args.bounds.now (alternative_next (record { piece = c.args.piece; choices = c.args.choices.now; next = c.args.next }) c.index-choices-next.result) =
+    ap (λ (p : Piece). record { piece = p; outcome = c.in_ok-outcome.outcome; stood = length c.conditions-stood.result.now }) piece
+    ∙ ap (λ (when : List (TermId × Bool)). record {
+      piece = record { state = c.take.new.state; decisions = decisions; values = c.args.piece.values };
+      outcome = c.in_ok-outcome.outcome;
+      stood = length when;
+    }) c.conditions-stood.ensures
+    ∙ ap (λ (t : Take). record {
+      piece = record { state = t.state; decisions = decisions; values = c.args.piece.values };
+      outcome = t.outcome;
+      stood = length c.args.piece.state.when;
+    }) c.in_ok-outcome.ensures.take in
+    subst (λ choice. IsTakenOf c.args.world.now c.args.bounds.now (record { piece = c.args.piece; choices = c.args.choices.now; next = c.args.next }) choice
+        (record { piece = c.in_ok-piece.piece; outcome = c.in_ok-outcome.outcome; stood = length c.conditions-stood.result.now })) (sym there) taken
