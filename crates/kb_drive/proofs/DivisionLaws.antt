@@ -69,7 +69,7 @@ module _ {A : Type 0} (Has : A → Input → Type 0) (input : Input) where
     where
       later : Replaces (xs ++ old) (xs ++ new) → Replaces (x ∷ xs ++ old) (x ∷ xs ++ new)
       later q = record {
-        one = λ one. elim one [ | inl here ↦ inl (here.0, q.none here.1) | inr behind ↦ inr (behind.0, q.one behind.1) ];
+        one = λ one. elim one [ inl here ↦ inl (here.0, q.none here.1) | inr behind ↦ inr (behind.0, q.one behind.1) ];
         none = λ none. (none.0, q.none none.1);
       }
 
@@ -82,20 +82,20 @@ module _ {A : Type 0} (Has : A → Input → Type 0) (input : Input) where
   -- by a thing with the same inputs
   pub same_thing : (x y : A) → (Has x input → Has y input) → (Has y input → Has x input) → Replaces (x ∷ []) (y ∷ [])
   same_thing x y to from = record {
-    one = λ one. elim one [ | inl here ↦ inl (to here.0, tt) | inr later ↦ absurd later.1 ];
+    one = λ one. elim one [ inl here ↦ inl (to here.0, tt) | inr later ↦ absurd later.1 ];
     none = λ none. ((λ has. none.0 (from has)), tt);
   }
 
   -- by nothing, where it has none
   pub no_thing : (x : A) → (Has x input → ⊥) → Replaces (x ∷ []) []
   no_thing x not = record {
-    one = λ one. elim one [ | inl here ↦ absurd (not here.0) | inr later ↦ absurd later.1 ];
+    one = λ one. elim one [ inl here ↦ absurd (not here.0) | inr later ↦ absurd later.1 ];
     none = λ none. tt;
   }
 
   -- by things that divide its inputs
   pub split_thing : (x : A) (ys : List A) → (Has x input → ExactlyOneHas Has ys input) → ((Has x input → ⊥) → NoneHas Has ys input) → Replaces (x ∷ []) ys
   split_thing x ys divided none = record {
-    one = λ one. elim one [ | inl here ↦ divided here.0 | inr later ↦ absurd later.1 ];
+    one = λ one. elim one [ inl here ↦ divided here.0 | inr later ↦ absurd later.1 ];
     none = λ not. none not.0;
   }

@@ -247,7 +247,7 @@ module _ (world : World) (state : State) (formed : IsState world state) (bare : 
           let here = each_left OutNumbered (map (stated state.picture.locs) object.values) _ has in
           let later = each_right OutNumbered (map (stated state.picture.locs) object.values) _ has in
           ap (λ (values : List Value). record { kind = object.kind; values = values }
-              ∷ map (made_object (own instance_of.shape.places)) (map (numbered_made state.nodes numbered) (map (stated_object state.picture.locs) others)))
+          ∷ map (made_object (own instance_of.shape.places)) (map (numbered_made state.nodes numbered) (map (stated_object state.picture.locs) others)))
           (values_same object.values (is 0 object refl) here)
           ∙ ap (λ (l : List Object). made_at r object ∷ l) (made_same others (λ i it at. is (suc i) it at) later)
 

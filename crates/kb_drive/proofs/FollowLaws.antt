@@ -163,8 +163,8 @@ module _ (steps : StepsLeadOn) (endings_mean : EndingsMean) (emits : InputsAreOf
       settled Goes same = waits (choices_at world bounds after.state) refl (rw same tt) (rw same refl)
       settled (Ends ending) same =
           let ends = endings_mean world after.state alternative.decisions ending (input_for world after.state values) behind.explored.formed
-              (bare world after.state behind.reached (subst (λ (m : MethodId). is_int_method world m ≡ true) (sym behind.explored.method) explorable.steps))
-              (rw same at behind.ending) carried.closed in
+          (bare world after.state behind.reached (subst (λ (m : MethodId). is_int_method world m ≡ true) (sym behind.explored.method) explorable.steps))
+          (rw same at behind.ending) carried.closed in
           let means = path_is world after.state alternative.decisions (EndedLeaf (ended_in after.state ending (input_for world after.state values))) behind.explored.formed ends.leaf in
           listed (length after.state.when) values (EndedLeaf (ended_in after.state ending (input_for world after.state values))) whole means
           (ended_right endings_mean emits one_places world target bounds explorable budget values after alternative.decisions ending same whole ends means)

@@ -51,7 +51,7 @@ none_past (x ∷ xs) (suc i) le = none_past xs i (omega (arith, le))
 pub within_or_not : (i n : ℕ) → (i < n) ⊎ (n ≤ i)
 within_or_not i zero = inr (omega arith)
 within_or_not zero (suc n) = inl (omega arith)
-within_or_not (suc i) (suc n) = elim (within_or_not i n) [ | inl less ↦ inl (omega (arith, less)) | inr more ↦ inr (omega (arith, more)) ]
+within_or_not (suc i) (suc n) = elim (within_or_not i n) [ inl less ↦ inl (omega (arith, less)) | inr more ↦ inr (omega (arith, more)) ]
 
 pub take_append : {A : Type 0} (xs ys : List A) → take (length xs) (xs ++ ys) ≡ xs
 take_append [] ys = refl

@@ -151,10 +151,9 @@ module _ (endings_mean : EndingsMean) (emits : InputsAreOfStates) (one_places : 
           conditions = subst (AreMetInPool after.state.nodes (variable_values after.state.picture (input_for world after.state values) some.instance_of.shape.places.objects))
               (take_all (length after.state.when) after.state.when (omega arith)) some.instance_of.conditions;
         } in
-        subst (λ (i : Input). IsTypeCorrect world target i × IsInstance (path_of after.state decisions leaf) i) same
-        (
+        subst (λ (i : Input). IsTypeCorrect world target i × IsInstance (path_of after.state decisions leaf) i) same (
           subst (λ (m : MethodId). IsTypeCorrect world m (input_for world after.state values)) behind.explored.method some.correct,
-          (means.means.instances (input_for world after.state values)).1 all
+          (means.means.instances (input_for world after.state values)).1 all,
         )
 
     -- A cut path: each instance's outcome is the cut, which is licensed; the input that it carries is an instance, since the values meet all

@@ -32,7 +32,7 @@ count_more test (y ∷ ys) x =
 pub within : (i n : ℕ) → (i < n) ⊎ (n ≤ i)
 within i zero = inr (omega arith)
 within zero (suc n) = inl (omega arith)
-within (suc i) (suc n) = elim (within i n) [ | inl less ↦ inl (omega (arith, less)) | inr more ↦ inr (omega (arith, more)) ]
+within (suc i) (suc n) = elim (within i n) [ inl less ↦ inl (omega (arith, less)) | inr more ↦ inr (omega (arith, more)) ]
 
 -- what holds of each path and of one more
 pub each_more : (P : Path → Type 0) (listed : List Path) (path : Path) → EachPath P listed → P path → EachPath P (listed ++ path ∷ [])

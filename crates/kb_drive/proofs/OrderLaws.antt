@@ -10,12 +10,12 @@ use Rattle.kb_drive.specs.Walks.{IsBelow, IsBelowEach, AreRising, BeginWith}
 pub below_longer : (one other more : List ℕ) → IsBelow one other → IsBelow one (other ++ more)
 below_longer [] other more h = absurd h
 below_longer (n ∷ ns) [] more h = absurd h
-below_longer (n ∷ ns) (m ∷ ms) more h = elim h [ | inl less ↦ inl less | inr same ↦ inr (same.0, below_longer ns ms more same.1) ]
+below_longer (n ∷ ns) (m ∷ ms) more h = elim h [ inl less ↦ inl less | inr same ↦ inr (same.0, below_longer ns ms more same.1) ]
 
 pub longer_below : (one more other : List ℕ) → IsBelow one other → IsBelow (one ++ more) other
 longer_below [] more other h = absurd h
 longer_below (n ∷ ns) more [] h = absurd h
-longer_below (n ∷ ns) more (m ∷ ms) h = elim h [ | inl less ↦ inl less | inr same ↦ inr (same.0, longer_below ns more ms same.1) ]
+longer_below (n ∷ ns) more (m ∷ ms) h = elim h [ inl less ↦ inl less | inr same ↦ inr (same.0, longer_below ns more ms same.1) ]
 
 -- two that go on from one list by other numbers
 pub next_below : (one : List ℕ) (n m : ℕ) → n < m → IsBelow (one ++ n ∷ []) (one ++ m ∷ [])
@@ -26,7 +26,7 @@ next_below (k ∷ ks) n m less = inr (refl, next_below ks n m less)
 pub below_before : (one other : List ℕ) → IsBelow one other → ComesBefore one other
 below_before [] other h = absurd h
 below_before (n ∷ ns) [] h = absurd h
-below_before (n ∷ ns) (m ∷ ms) h = elim h [ | inl less ↦ inl less | inr same ↦ inr (same.0, below_before ns ms same.1) ]
+below_before (n ∷ ns) (m ∷ ms) h = elim h [ inl less ↦ inl less | inr same ↦ inr (same.0, below_before ns ms same.1) ]
 
 heads_same : {n m : ℕ} {ns ms : List ℕ} → n ∷ ns ≡ m ∷ ms → n ≡ m
 heads_same e = cc
@@ -86,12 +86,11 @@ rising_append (e ∷ ds) ys d begin rising below more =
 -- Where one of them is replaced by lists that go on from it and rise, they all rise.
 pub rising_replaced : (xs : List (List ℕ)) (d : List ℕ) (ds ys : List (List ℕ)) → BeginWith d ds → AreRising ds → AreRising (xs ++ d ∷ ys) → AreRising (xs ++ (ds ++ ys))
 rising_replaced [] d ds ys begin rising all = rising_append ds ys d begin rising all.0 all.1
-rising_replaced (x ∷ xs) d ds ys begin rising all =
-    (
-      below_each_append x xs (ds ++ ys) (below_each_front x xs (d ∷ ys) all.0)
+rising_replaced (x ∷ xs) d ds ys begin rising all = (
+  below_each_append x xs (ds ++ ys) (below_each_front x xs (d ∷ ys) all.0)
       (below_each_append x ds ys (below_begun x d ds (below_each_behind x xs (d ∷ ys) all.0).0 begin) (below_each_behind x xs (d ∷ ys) all.0).1),
-      rising_replaced xs d ds ys begin rising all.1
-    )
+  rising_replaced xs d ds ys begin rising all.1,
+)
 
 -- ---- lists that begin with a front
 
@@ -130,7 +129,7 @@ three_ways zero (suc j) = inl (omega arith)
 three_ways (suc i) zero = inr (inr (omega arith))
 three_ways (suc i) (suc j) = elim (three_ways i j) [
   | inl less ↦ inl (omega (arith, less))
-  | inr rest ↦ elim rest [ | inl same ↦ inr (inl (ap suc same)) | inr more ↦ inr (inr (omega (arith, more))) ]
+  | inr rest ↦ elim rest [ inl same ↦ inr (inl (ap suc same)) | inr more ↦ inr (inr (omega (arith, more))) ]
 ]
 
 module _ {A : Type 0} (decisions : A → List ℕ) (listed : List A) where

@@ -165,11 +165,13 @@ module _ (world : World) (bounds : Bounds) (walk : Walk) (waiting : List Waiting
   is_emitted : (piece : Piece) (input : Input) → IsState world piece.state → piece.state.method ≡ walk.target → AreGiven answers piece.values → input_of_piece world piece ≡ input
       → (values : List ℤ) × AreGiven answers values
       × (input ≡ emitted_input world walk.target piece.state.picture (followed_by_zeros (length (variables_seen piece.state.picture)) values))
-  is_emitted piece input formed method given same =
-      (piece.values, given,
-        sym same
+  is_emitted piece input formed method given same = (
+    piece.values,
+    given,
+    sym same
         ∙ ap (λ (m : MethodId). emitted_input world m piece.state.picture (followed_by_zeros (variables_of piece.state.nodes) piece.values)) method
-        ∙ ap (λ (count : ℕ). emitted_input world walk.target piece.state.picture (followed_by_zeros count piece.values)) (variables_of_state world piece.state formed))
+        ∙ ap (λ (count : ℕ). emitted_input world walk.target piece.state.picture (followed_by_zeros count piece.values)) (variables_of_state world piece.state formed),
+  )
 
   -- whatever the outcome of a piece whose values were given
   outcome_from : (piece : Piece) (outcome : Outcome) → IsState world piece.state → piece.state.method ≡ walk.target → AreGiven answers piece.values

@@ -25,13 +25,15 @@ use Rattle.kb_drive.proofs.WalkLaws.{step_further, step_refined, step_walk}
 pub can_be_taken : (world : World) (target : MethodId) (bounds : Bounds) (waiting : List Waiting) → IsExplorable world target
     → EachWaiting (IsWaiting world target bounds) waiting → EachWaiting (CanBeTaken world bounds) waiting
 can_be_taken world target bounds [] explorable each = tt
-can_be_taken world target bounds (first ∷ others) explorable each =
-    (record {
-      reached = each.0.piece.reached;
-      kind = ints_next world first.piece.state each.0.piece.reached (subst (λ (m : MethodId). is_int_method world m ≡ true) (sym each.0.piece.explored.method) explorable.steps);
-      choices = each.0.choices;
-      left = each.0.left;
-    }, can_be_taken world target bounds others explorable each.1)
+can_be_taken world target bounds (first ∷ others) explorable each = (
+  record {
+    reached = each.0.piece.reached;
+    kind = ints_next world first.piece.state each.0.piece.reached (subst (λ (m : MethodId). is_int_method world m ≡ true) (sym each.0.piece.explored.method) explorable.steps);
+    choices = each.0.choices;
+    left = each.0.left;
+  },
+  can_be_taken world target bounds others explorable each.1,
+)
 
 module _ (steps : StepsLeadOn) (endings_mean : EndingsMean) (emits : InputsAreOfStates) (one_places : OnePlaces) where
   -- what holds behind a step

@@ -128,7 +128,7 @@ module _ (world : World) (target : MethodId) (bounds : Bounds) (waiting now : Li
   outcome_follows Goes same = (reached_behind, ints_next world after.state reached_behind (ints_of after.state.method behind.explored.method))
   outcome_follows (Ends ending) same =
       let ends = endings_mean world after.state [] ending no_input reached_behind.sound
-          (bare world after.state reached_behind (ints_of after.state.method behind.explored.method)) (rw same at behind.ending) no_input_closed in
+      (bare world after.state reached_behind (ints_of after.state.method behind.explored.method)) (rw same at behind.ending) no_input_closed in
       roots_are_terms world after.state (EndedLeaf (ended_in after.state ending no_input)) reached_behind.sound ends.leaf
   outcome_follows (Cut bound) same = open_terms
 
@@ -139,9 +139,6 @@ module _ (world : World) (target : MethodId) (bounds : Bounds) (waiting now : Li
   pub unserved_taken : (Unfit : ℕ → Query → Type 0) (i : ℕ) (path : Path) → IsRefused Unfit taken.piece i path → IsUnserved world target bounds Unfit i path
   unserved_taken Unfit i path refused = subst (IsUnserved world target bounds Unfit i) (sym path_same) is_unserved
     where
-      decisions : List ℕ
-      decisions = (alternative_next was.first was.choice).decisions
-
       path_same : path ≡ path_of after.state (alternative_next was.first was.choice).decisions OpenLeaf
       path_same = refused.0 ∙ ap (λ (t : Taken). path_of_piece t.piece OpenLeaf) was.is
 

@@ -68,4 +68,3 @@ module _ (world : World) (target : MethodId) (bounds : Bounds) (alternative : Al
           split_thing (IsInPart world bounds) input (Waits alternative) (map Waits (alternatives_from here (length (choice ∷ others)) 0 (choice ∷ others)))
           (λ has. one_of world bounds here input (length (choice ∷ others)) 0 (choice ∷ others) (one has))
           (λ not. none_of world bounds here input (length (choice ∷ others)) 0 (choice ∷ others) (none not))
-

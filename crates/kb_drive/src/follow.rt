@@ -101,7 +101,12 @@ fn follow_outcome(
 }
 
 /// The piece waits at its next choice; where there is no alternative it has no inputs.
-pub(crate) fn wait(alloc: Global, world: &World, bounds: &Bounds, piece: Piece) -> Result<Next, NoMemory>
+pub(crate) fn wait(
+    alloc: Global,
+    world: &World,
+    bounds: &Bounds,
+    piece: Piece,
+) -> Result<Next, NoMemory>
     requires reached { IsReached world.now piece.state }
     requires kind { next_is_int world.now piece.state ≡ true }
     ensures { IfOk result (λ next. next ≡ waits_at piece (choices_at world.now bounds.now piece.state)) }

@@ -81,7 +81,13 @@ fn input_of_piece(alloc: Global, world: &World, piece: &Piece) -> Result<Input, 
     let state = &piece.state;
     let count = state.pool().variables() as usize;
     let values = all_values(alloc, piece.values.as_slice(), count)?;
-    let input = input_of(alloc, world, state.method(), state.picture(), values.as_slice())?;
+    let input = input_of(
+        alloc,
+        world,
+        state.method(),
+        state.picture(),
+        values.as_slice(),
+    )?;
     Ok(input)
 }
 

@@ -61,9 +61,10 @@ loop-walk-preserved g c =
       unsure = c.in_ok-step.ensures.unsure (g.O.Oracle.unsure c.args.oracle.now) c.loop-walk.invariant.unsure;
       given = λ none. c.in_ok-step.ensures.given (g.O.Oracle.given c.args.oracle.now) (c.loop-walk.invariant.given none);
       same_budget = c.step.ensures.same_budget ∙ c.loop-walk.invariant.same_budget;
-      same_unfit = λ i q.
-          (λ unfit. (c.loop-walk.invariant.same_unfit i q).0 ((c.step.ensures.same_unfit i q).0 unfit),
-          λ unfit. (c.step.ensures.same_unfit i q).1 ((c.loop-walk.invariant.same_unfit i q).1 unfit));
+      same_unfit = λ i q. (
+        λ unfit. (c.loop-walk.invariant.same_unfit i q).0 ((c.step.ensures.same_unfit i q).0 unfit),
+        λ unfit. (c.step.ensures.same_unfit i q).1 ((c.loop-walk.invariant.same_unfit i q).1 unfit),
+      );
       later_bad = omega (arith, c.step.ensures.later_bad, c.loop-walk.invariant.later_bad);
       later_unsure = omega (arith, c.step.ensures.later_unsure, c.loop-walk.invariant.later_unsure);
     }

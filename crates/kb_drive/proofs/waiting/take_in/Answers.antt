@@ -28,4 +28,4 @@ returns-clause-taken c =
       stood = length c.args.piece.state.when;
     }) c.in_ok-outcome.ensures.take in
     subst (λ choice. IsTakenOf c.args.world.now c.args.bounds.now (record { piece = c.args.piece; choices = c.args.choices.now; next = c.args.next }) choice
-        (record { piece = c.in_ok-piece.piece; outcome = c.in_ok-outcome.outcome; stood = length c.conditions-stood.result.now })) (sym there) taken
+    (record { piece = c.in_ok-piece.piece; outcome = c.in_ok-outcome.outcome; stood = length c.conditions-stood.result.now })) (sym there) taken
