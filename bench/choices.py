@@ -1,22 +1,22 @@
 #!/usr/bin/env python3
-"""Times kb_lazy's `read_choices` and kb_input's `input_of`, and the copy of an input beside it, on chains of 10 to 1,000 objects in
-worlds of 4 and 64 classes.
+"""Times kb_lazy's `read_choices` and kb_input's `input_of`, and the copy of an input beside it, on chains of 10 to 1,000
+objects in worlds of 4 and 64 classes.
 
-The classes extend one that is abstract, which has an int, the next object and another one, each declared of the abstract class;
-each class has one more object, declared of itself. A picture is a chain of so many objects, of which the receiver is the first,
-and whose classes take turns: of each the int and the next object were read, but not what is next to the last. That is what
-`read_choices` is asked about, under lazy initialisation and with a bound that is deeper than the chain: the answers are null, each
-object of the picture, and a new object of each class. `input_of` is asked for the input of the chain alone, of one in which each
-object's other object was read as an open location, and of one in which that of its own class was, so that as many types are asked
-for as there are classes.
+All classes but one extend that one, which is abstract and has an int, the next object and another one, each declared of
+itself; each of the others has one more object, declared of its own class. A picture is a chain of so many objects, of which
+the receiver is the first, and whose classes take turns: of each the int and the next object were read, but not what is next
+to the last. That is what `read_choices` is asked about, under lazy initialisation and with a bound that is deeper than the
+chain: the answers are null, each object of the picture, and a new object of each class that is not abstract. `input_of` is
+asked for the input of the chain alone, of one in which each object's other object was read as an open location, and of one in
+which that of its own class was, so that as many types are asked for as there are such classes.
 
-How often a call answers with as many choices or objects as it should is compared with how often it is made. The time of a call is
-the mean of many, less that of a run which only makes the picture and one input. The goals: ten times as many objects take at most
-twelve times as long, and `input_of` takes at most three times as long as a copy of the input that it gives.
+How often a call answers with as many choices or objects as it should is compared with how often it is made. The time of a
+call is the mean of many, less that of a run which only makes the picture and one input. The goals: ten times as many objects
+take at most twelve times as long, and `input_of` takes at most three times as long as a copy of the input that it gives.
 
 Usage: bench/choices.py [--runs N]
-The first run takes as long as the proofs of kb_input, kb_lazy and the crates below them take, unless a checkout on this machine has
-kept them.
+The first run takes as long as the proofs of kb_input, kb_lazy and the crates below them take, unless a checkout on this
+machine has kept them.
 """
 
 import argparse
@@ -379,8 +379,11 @@ def class_file(name, above, access, fields, methods=()):
     pool = Pool()
     this, parent = pool.named_class(name), pool.named_class(above)
     members = [struct.pack(">HHHH", 1, pool.add(utf8(field)), pool.add(utf8(kind)), 0) for field, kind in fields]
-    code = struct.pack(">HHI", 1, 1, 2) + b"\x03\xac" + struct.pack(">HH", 0, 0)
-    given = [struct.pack(">HHHH", 1, pool.add(utf8(method)), pool.add(utf8("()I")), 1) + attribute(pool.add(utf8("Code")), code) for method in methods]
+    content = struct.pack(">HHI", 1, 1, 2) + b"\x03\xac" + struct.pack(">HH", 0, 0)
+    given = []
+    for method in methods:
+        head = struct.pack(">HHHH", 1, pool.add(utf8(method)), pool.add(utf8("()I")), 1)
+        given.append(head + attribute(pool.add(utf8("Code")), content))
     return (
         struct.pack(">IHHH", 0xCAFEBABE, 0, 52, len(pool.entries) + 1)
         + b"".join(pool.entries)
@@ -394,10 +397,10 @@ def class_file(name, above, access, fields, methods=()):
 
 
 def world_of(classes):
-    """The files of so many classes, and of the abstract one that they extend, in digits to base 16."""
+    """The files of so many classes, of which the first is abstract and the others extend it, in digits to base 16."""
     fields = [("elem", "I"), ("next", "LNode;"), ("other", "LNode;")]
     files = [class_file("Node", "java/lang/Object", PUBLIC | ABSTRACT, fields, ["f"])]
-    for number in range(classes):
+    for number in range(classes - 1):
         files.append(class_file(f"C{number}", "Node", PUBLIC, [("own", f"LC{number};")]))
     return [file.hex() for file in files]
 
@@ -412,19 +415,19 @@ PROGRAM = Program(
     name=NAME,
     crates=CRATES,
     source=SOURCE,
-    trial=["types", "10", "4", "input", "20", "1", *WORLDS[4]],
+    trial=["types", "10", "3", "input", "20", "1", *WORLDS[4]],
 )
 
 
 def wanted(shape, size, classes, call):
-    """How many choices there are, or objects: an open location is one more."""
+    """How many choices there are, or objects: an open location is one more. The abstract class has no objects."""
     if call == "choices":
-        return 1 + size + classes
+        return size + classes
     return size if shape == "chain" else 2 * size
 
 
 def timed(shape, size, classes, call, times):
-    words = [shape, size, classes, call, wanted(shape, size, classes, call), times]
+    words = [shape, size, classes - 1, call, wanted(shape, size, classes, call), times]
     return PROGRAM.timed_run([*map(str, words), *WORLDS[classes]], f"{times}\n".encode())
 
 
@@ -447,7 +450,8 @@ def print_choices(runs):
         for size in SIZES:
             took = measured("chain", size, classes, "choices", runs)
             each = took * 1e9 / wanted("chain", size, classes, "choices")
-            print(f"{'':<12} {classes:>8} {size:>8} {took * 1e6:>10.2f} {ratio(took, before)} {each:>12.1f}", flush=True)
+            cells = f"{took * 1e6:>10.2f} {ratio(took, before)} {each:>12.1f}"
+            print(f"{'':<12} {classes:>8} {size:>8} {cells}", flush=True)
             before = took
 
 
@@ -458,10 +462,8 @@ def print_inputs(runs):
             before = None
             for size in SIZES:
                 took, copy = (measured(shape, size, classes, call, runs) for call in ("input", "copy"))
-                print(
-                    f"{shape:<12} {classes:>8} {size:>8} {took * 1e6:>10.2f} {ratio(took, before)} {copy * 1e6:>10.2f} {ratio(took, copy)}",
-                    flush=True,
-                )
+                cells = f"{took * 1e6:>10.2f} {ratio(took, before)} {copy * 1e6:>10.2f} {ratio(took, copy)}"
+                print(f"{shape:<12} {classes:>8} {size:>8} {cells}", flush=True)
                 before = took
 
 
