@@ -8,17 +8,17 @@ use Rattle.kiasan.specs.declared.answer.Contents.{Contents}
 use Rattle.kiasan.specs.declared.refusals.Answer.{Answer}
 use Rattle.kiasan.specs.declared.refusals.Stop.{Stop}
 use Rattle.kiasan.specs.declared.refusals.Stop.TheVariants.{Refused, ReadFault, NoMemory}
-use Rattle.kiasan.specs.declared.words.Order.{Order}
+use Rattle.kb_words.specs.declared.orders.Order.{Order}
 use Rattle.kiasan.specs.Answers.{AreClasses, Carries, IsReadFault, RefusesClasses, Replies, RepliesIn, RepliesOn, RepliesTo, SomeUnsound, WordsRefuse, WorldRefuses}
-use Rattle.kiasan.specs.Orders.{Orders, files_of}
+use Rattle.kiasan.specs.Orders.{OrdersBuilt, files_of}
 use Rattle.kiasan.specs.Refusals.{Gives}
 use Rattle.kiasan.proofs.StageLaws.{stage_goes}
 
-pub words_go : (words : List (List ℕ)) (holds : List ℕ → Option (List ℕ)) (order : Order) (before now : ℕ) (sound : List ℕ → Type 0) (result : Result Answer Stop) → Orders words (Ok order) →
+pub words_go : (words : List (List ℕ)) (holds : List ℕ → Option (List ℕ)) (order : Order) (before now : ℕ) (sound : List ℕ → Type 0) (result : Result Answer Stop) → OrdersBuilt words order →
     Carries (IsReadFault before now (files_of order) sound) (RepliesTo order holds) result → Carries (Rose before now × SomeUnsound words sound) (Replies words holds) result
 unfolding Replies
 words_go words holds order before now sound result ordered given =
-    stage_goes (IsReadFault before now (files_of order) sound) (Rose before now × SomeUnsound words sound) (WordsRefuse words) (λ order. Orders words (Ok order))
+    stage_goes (IsReadFault before now (files_of order) sound) (Rose before now × SomeUnsound words sound) (WordsRefuse words) (OrdersBuilt words)
     (λ order. RepliesTo order holds) order result (λ fault. (fault.0, (order, ordered, fault.1))) ordered given
 
 -- ---- from the classes' answer to that of an order's contents

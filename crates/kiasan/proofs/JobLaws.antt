@@ -1,69 +1,102 @@
 -- How a job is answered.
-use Rattle.std.proofs.Common.{◌≡◌, List, [], ◌∷◌, ◌++◌, ℕ, true, Err, refl, sym, subst, inl}
-use Rattle.std.specs.List.{AllByRecursion, list_all}
-use Rattle.kb_heap.specs.declared.heap.Input.{Input}
-use Rattle.kb_semantics.specs.Inputs.{IsTypeCorrect}
-use Rattle.kb_test.specs.Tests.{SpellsTests}
-use Rattle.kb_link.specs.World.{World}
+use Rattle.std.proofs.Common.{◌≡◌, List, [], ◌∷◌, ◌++◌, ℕ, true, false, Err, refl, sym, ◌∙◌, ap, subst, inl, inr}
+use Rattle.std.specs.List.{AllByRecursion}
 use Rattle.kb_class.specs.declared.ids.MethodId.{MethodId}
-use Rattle.kb_names.specs.declared.types.Target.{Target}
-use Rattle.kb_world.specs.Reach.{Refuses}
+use Rattle.kb_drive.specs.Compared.{ComparesAsRuns}
+use Rattle.kb_drive.specs.ReadFirst.{SeesWhatIsRead}
+use Rattle.kb_drive.specs.Covers.{CarriesInstance, Covers, EachPath, StatesRuns, input_carried}
+use Rattle.kb_frames.specs.State.{State, start_state}
+use Rattle.kb_heap.specs.declared.bounds.Bounds.{Bounds}
+use Rattle.kb_link.specs.Targets.{IsTargetOf}
 use Rattle.kb_link.specs.declared.linking.LinkRefusal.{LinkRefusal}
 use Rattle.kb_link.specs.declared.linking.LinkRefusal.TheVariants as links
-use Rattle.kiasan.specs.declared.path.Leaf.{Leaf}
-use Rattle.kiasan.specs.declared.path.Leaf.TheVariants.{Ended as EndedLeaf}
-use Rattle.kiasan.specs.declared.path.Path.{Path}
+use Rattle.kb_link.specs.World.{World}
+use Rattle.kb_names.specs.declared.types.Target.{Target}
+use Rattle.kb_picture.specs.declared.choice.Init.{Init}
+use Rattle.kb_picture.specs.declared.path.Leaf.{Leaf}
+use Rattle.kb_picture.specs.declared.path.Leaf.TheVariants.{Ended as EndedLeaf, Cut, Undecided, Open}
+use Rattle.kb_picture.specs.declared.path.Path.{Path}
+use Rattle.kb_report.specs.declared.report.Report.{Report}
+use Rattle.kb_names.specs.Targets.{IsTarget}
+use Rattle.kb_test.specs.Lines.{IsRunBounds}
+use Rattle.kb_test.specs.Tests.{SpellsTests}
+use Rattle.kb_words.specs.Orders.{AreBounds, IsJob}
+use Rattle.kb_words.specs.declared.orders.Job.{Job}
+use Rattle.kb_stepint.specs.IntMethods.{is_int_method}
+use Rattle.kb_world.specs.Reach.{IsAccepted, Refuses}
+use Rattle.kiasan.specs.declared.refusals.Refusal.TheVariants.{Unbuilt}
 use Rattle.kiasan.specs.declared.refusals.Stop.{Stop}
 use Rattle.kiasan.specs.declared.refusals.Stop.TheVariants.{Refused, ReadFault, NoMemory}
-use Rattle.kiasan.specs.declared.report.Report.{Report}
-use Rattle.kiasan.specs.declared.status.Status.TheVariants.{Complete}
-use Rattle.kiasan.specs.declared.words.Job.{Job}
-use Rattle.kiasan.specs.Answers.{ends, Carries, IsTestsTextOf, IsWrittenReport, RepliesJob, TextOf}
-use Rattle.kiasan.specs.Covering.{CarriesInstance, EachPath, HoldsOf, IsReportOf, IsStatusOf, is_told, path_tests, setting_of, tests_of}
-use Rattle.kiasan.specs.Paths.{IsInstance}
+use Rattle.kiasan.specs.declared.status.Status.{Status}
+use Rattle.kiasan.specs.Answers.{ends, Carries, IsTestsTextOf, RepliesJob, TextOf}
+use Rattle.kiasan.specs.Exploring.{AreListed, HasHead, IsBuiltReport, IsCarried, IsReportOf, path_tests, status_of, tests_of}
 use Rattle.kiasan.specs.Reach.{TargetRefuses}
 use Rattle.kiasan.specs.Refusals.{Gives, link_refusal}
 use Rattle.kiasan.specs.Tests.{EndsAsStated, literals_in}
 use Rattle.kiasan.specs.Unbuilt.{IsBuiltFor}
-use Rattle.kiasan.proofs.TestTexts.{tests_on}
-
-all_told : (leaves : List Path) → list_all (λ path. is_told path.leaf) leaves ≡ true
-all_told [] = refl
-all_told (path ∷ leaves) = rw (told path.leaf, all_told leaves) refl
-  where
-    told : (leaf : Leaf) → is_told leaf ≡ true
-    told (EndedLeaf ended) = refl
+use Rattle.kiasan.proofs.TestTexts.{path_head, path_tail, tests_on}
 
 -- what the world says of a target that it does not reach
-pub reach_stops : {A : Type 0} (Built : MethodId → Type 0) (world : World) (target : Target) (found : LinkRefusal) (Passes : A → Type 0) → Refuses world target found →
-    Gives {A = A} ⊥ (TargetRefuses Built world target) Passes (Err (link_refusal found))
-reach_stops Built world target (links.NoMethod of) Passes is = inl (links.NoMethod of, is, refl)
-reach_stops Built world target (links.NoField of at) Passes is = inl (links.NoField of at, is, refl)
-reach_stops Built world target (links.Missing name) Passes is = inl (links.Missing name, is, refl)
-reach_stops Built world target (links.Outside of at what) Passes is = inl (links.Outside of at what, is, refl)
-reach_stops Built world target (links.Initialiser name) Passes is = inl (links.Initialiser name, is, refl)
-reach_stops Built world target links.NoMemory Passes is = tt
-reach_stops Built world target links.TooMany Passes is = absurd is
-reach_stops Built world target (links.BadName file entry) Passes is = absurd is
-reach_stops Built world target (links.BadDescriptor file entry) Passes is = absurd is
-reach_stops Built world target (links.TwoMembers file entry) Passes is = absurd is
-reach_stops Built world target (links.Twice name) Passes is = absurd is
-reach_stops Built world target (links.Circle name) Passes is = absurd is
-reach_stops Built world target (links.BadSuper name) Passes is = absurd is
-reach_stops Built world target (links.SplitPackage name method) Passes is = absurd is
+pub reach_stops : {A : Type 0} (world : World) (target : Target) (found : LinkRefusal) (Passes : A → Type 0) → Refuses world target found →
+    Gives {A = A} ⊥ (TargetRefuses world target) Passes (Err (link_refusal found))
+reach_stops world target (links.NoMethod of) Passes is = inl (links.NoMethod of, is, refl)
+reach_stops world target (links.NoField of at) Passes is = inl (links.NoField of at, is, refl)
+reach_stops world target (links.Missing name) Passes is = inl (links.Missing name, is, refl)
+reach_stops world target (links.Outside of at what) Passes is = inl (links.Outside of at what, is, refl)
+reach_stops world target (links.Initialiser name) Passes is = inl (links.Initialiser name, is, refl)
+reach_stops world target links.NoMemory Passes is = tt
+reach_stops world target links.TooMany Passes is = absurd is
+reach_stops world target (links.BadName file entry) Passes is = absurd is
+reach_stops world target (links.BadDescriptor file entry) Passes is = absurd is
+reach_stops world target (links.TwoMembers file entry) Passes is = absurd is
+reach_stops world target (links.Twice name) Passes is = absurd is
+reach_stops world target (links.Circle name) Passes is = absurd is
+reach_stops world target (links.BadSuper name) Passes is = absurd is
+reach_stops world target (links.SplitPackage name method) Passes is = absurd is
 
 pub job_stops : (IsTextOf : TextOf) (world : World) (job : Job) (stop : Stop) →
-    Gives {A = Report} ⊥ (TargetRefuses (IsBuiltFor world job) world job.target) (IsWrittenReport world job) (Err stop) → Carries ⊥ (RepliesJob IsTextOf world job) (Err stop)
+    Gives {A = Report} ⊥ (TargetRefuses world job.target) (IsBuiltReport world job) (Err stop) → Carries ⊥ (RepliesJob IsTextOf world job) (Err stop)
 unfolding RepliesJob
 job_stops IsTextOf world job (Refused refusal) given = inl given
 job_stops IsTextOf world job ReadFault given = given
 job_stops IsTextOf world job NoMemory given = tt
 
-pub job_ends : (IsTextOf : TextOf) (world : World) (job : Job) (report : Report) (text : List ℕ) (written : IsWrittenReport world job report) →
-    IsTextOf world written.reported.id report text → RepliesJob IsTextOf world job (ends Complete text)
+pub job_ends : (IsTextOf : TextOf) (world : World) (job : Job) (report : Report) (status : Status) (text : List ℕ) (built : IsBuiltReport world job report) →
+    status ≡ status_of report.leaves → IsTextOf world built.reported.id report text → RepliesJob IsTextOf world job (ends status text)
 unfolding RepliesJob
-job_ends IsTextOf world job report text written is =
-    (written.id, (written.built.1.straight.found, written.built), record { report = report; reported = written.reported; has_status = subst (λ told. IsStatusOf told Complete) (sym (all_told report.leaves)) refl; text_is = is })
+job_ends IsTextOf world job report status text built is told = (
+  built.reported.id,
+  record { found = built.reported.found; accepted = built.accepted; built = built.built },
+  record { report = report; reported = built.reported; status_is = is; text_is = told },
+)
+
+-- a method whose exploration is not built
+pub unbuilt_target : (world : World) (target : Target) (id : MethodId) → IsTargetOf world target id → IsAccepted world id → is_int_method world id ≡ false →
+    TargetRefuses world target Unbuilt
+unbuilt_target world target id found accepted not =
+    inr (refl, record { id = id; found = found; accepted = accepted; none = λ built. let both : true ≡ false = sym built ∙ not in cc })
+
+-- a report with the head of the job and the paths of its method
+pub built_report : (world : World) (job : Job) (report : Report) (id : MethodId) (leaves : List Path) → HasHead job report → report.leaves ≡ leaves →
+    IsTargetOf world job.target id → IsAccepted world id → IsBuiltFor world id → AreListed world id job.bounds job.paths job.budget leaves →
+    IsBuiltReport world job report
+built_report world job report id leaves head are found accepted built listed = record {
+  reported = record { head = head; id = id; found = found; listed = rw (head.bounds, head.paths, head.budget, are) listed };
+  accepted = accepted;
+  built = built;
+}
+
+-- the state before the arguments are read is of the method
+pub is_start : (state : State) (init : Init) (id : MethodId) → state ≡ start_state init id → (state ≡ start_state state.init state.method) × (state.method ≡ id)
+is_start state init id e = subst (λ (s : State). (s ≡ start_state s.init s.method) × (s.method ≡ id)) (sym e) (refl, refl)
+
+-- what an exploration from that state lists
+pub listed_of : (world : World) (state : State) (init : Init) (id : MethodId) (bounds : Bounds) (paths budget asked : ℕ) (leaves : List Path) →
+    state ≡ start_state init id → asked ≡ budget → Covers world state.method bounds paths asked leaves → EachPath (ComparesAsRuns world state.method bounds) leaves →
+    EachPath (SeesWhatIsRead world state.method bounds) leaves → AreListed world id bounds paths budget leaves
+listed_of world state init id bounds paths budget asked leaves e f covers compared seen =
+    subst (λ (m : MethodId). AreListed world m bounds paths budget leaves) (is_start state init id e).1
+    (subst (λ (b : ℕ). AreListed world state.method bounds paths b leaves) f (record { covers = covers; compared = compared; seen = seen }))
 
 -- ---- the tests of a report end as they state
 
@@ -71,24 +104,52 @@ both_all : {A : Type 0} (P : A → Type 0) (xs ys : List A) → AllByRecursion P
 both_all P [] ys front back = back
 both_all P (x ∷ xs) ys front back = (front.0, both_all P xs ys front.1 back)
 
--- the input that a path carries is an instance, so that what the path's leaf says holds of its run
-path_ends : (world : World) (id : MethodId) (report : Report) (path : Path) (leaf : Leaf) → CarriesInstance world id path leaf →
-    ((input : Input) → IsTypeCorrect world id input → IsInstance path input → HoldsOf (setting_of world report.bounds.run) id path leaf input) →
-    AllByRecursion (EndsAsStated world id) (path_tests world report path leaf)
-path_ends world id report path (EndedLeaf ended) carries holds = (holds ended.input carries.0 carries.1, tt)
+-- the input that a path carries is one of its instances, so that it states its run
+path_ends : (world : World) (id : MethodId) (report : Report) (path : Path) → StatesRuns world id report.bounds path → CarriesInstance world id path →
+    AllByRecursion (EndsAsStated world id) (path_tests world report path path.leaf)
+path_ends world id report path states carries = go path.leaf refl
+  where
+    go : (leaf : Leaf) → path.leaf ≡ leaf → AllByRecursion (EndsAsStated world id) (path_tests world report path leaf)
+    go (EndedLeaf ended) e =
+        let carried = carries ended.input (ap input_carried e) in
+        (states ended ended.input e carried.0 carried.1, tt)
+    go (Cut bound input) e = tt
+    go (Undecided log) e = tt
+    go Open e = tt
 
-paths_end : (world : World) (id : MethodId) (report : Report) (paths : List Path) → EachPath (λ path. CarriesInstance world id path path.leaf) paths →
-    ((input : Input) → IsTypeCorrect world id input → EachPath (λ path. IsInstance path input → HoldsOf (setting_of world report.bounds.run) id path path.leaf input) paths) →
-    AllByRecursion (EndsAsStated world id) (tests_on world report paths)
-paths_end world id report [] carry hold = tt
-paths_end world id report (path ∷ paths) carry hold =
+paths_end : (world : World) (id : MethodId) (report : Report) (paths : List Path) → EachPath (StatesRuns world id report.bounds) paths →
+    EachPath (CarriesInstance world id) paths → AllByRecursion (EndsAsStated world id) (tests_on world report paths)
+paths_end world id report [] state carry = tt
+paths_end world id report (path ∷ paths) state carry =
     both_all (EndsAsStated world id) (path_tests world report path path.leaf) (tests_on world report paths)
-    (path_ends world id report path path.leaf carry.0 (λ input correct. (hold input correct).0))
-    (paths_end world id report paths carry.1 (λ input correct. (hold input correct).1))
+    (path_ends world id report path (path_head (StatesRuns world id report.bounds) path paths state) (path_head (CarriesInstance world id) path paths carry))
+    (paths_end world id report paths (path_tail (StatesRuns world id report.bounds) path paths state) (path_tail (CarriesInstance world id) path paths carry))
 
 pub tests_written : (world : World) (job : Job) (report : Report) (text : List ℕ) (reported : IsReportOf world job report) →
     SpellsTests (literals_in world) (tests_of world report) text → IsTestsTextOf world reported.id report text
 tests_written world job report text reported spelled = record {
   spelled = spelled;
-  end_as_stated = paths_end world reported.id report report.leaves reported.covers.carries reported.covers.holds;
+  end_as_stated = paths_end world reported.id report report.leaves reported.listed.covers.endings reported.listed.covers.carried;
 }
+
+-- ---- what is written of a job
+
+run_bounds : (bounds : Bounds) → AreBounds bounds → IsRunBounds bounds.run
+run_bounds bounds are = record {
+  alloc = are.alloc;
+  loops = are.loops;
+  some_depth = are.some_depth;
+  depth = are.depth;
+  some_steps = are.some_steps;
+  steps = are.steps;
+}
+
+pub target_written : (job : Job) (report : Report) → IsJob job → HasHead job report → IsTarget report.target
+target_written job report is head = subst IsTarget (sym head.target) is.target
+
+pub bounds_written : (job : Job) (report : Report) → IsJob job → HasHead job report → IsRunBounds report.bounds.run
+bounds_written job report is head = subst (λ (bounds : Bounds). IsRunBounds bounds.run) (sym head.bounds) (run_bounds job.bounds is.bounds)
+
+-- each path of a report carries an instance of its own
+pub paths_carry : (world : World) (job : Job) (report : Report) (reported : IsReportOf world job report) → EachPath (IsCarried world reported.id) report.leaves
+paths_carry world job report reported i path at = (reported.listed.covers.carried i path at, reported.listed.covers.formed.each i path at)

@@ -1,5 +1,5 @@
 -- Words have one reply where the shelf tells each file that is read.
-use Rattle.std.proofs.Common.{◌≡◌, ℕ, ◌+◌, ◌<◌, List, [], ◌∷◌, ◌++◌, length, Option, Some, None, IsSome, Result, Ok, Err, refl, sym, ◌∙◌, ap, subst, arith, inl, inr, append_assoc, append-nil, zero, suc}
+use Rattle.std.proofs.Common.{◌≡◌, ℕ, ◌+◌, ◌<◌, List, [], ◌∷◌, ◌++◌, length, Option, Some, None, IsSome, Result, Ok, refl, sym, ◌∙◌, ap, subst, arith, inl, inr, append_assoc, zero, suc}
 use Rattle.std.specs.List.{AllByRecursion}
 use Rattle.std.proofs.lemmas.Option.{none-some, same_Some}
 use Rattle.kb_class.specs.declared.given.GivenClass.{GivenClass}
@@ -26,7 +26,6 @@ use Rattle.kb_link.specs.World.{World}
 use Rattle.kb_link.proofs.OneUniverse.{one_world_is}
 use Rattle.kb_link.proofs.OneWorld.{one_refusal, refused_or_linked}
 use Rattle.kb_link.proofs.TargetLaws.{one_declared}
-use Rattle.kb_world.specs.Reach.{IsAccepted}
 use Rattle.kb_world.proofs.ReachLaws.{one_refusal as one_reach_refusal, refused_or_accepted}
 use Rattle.kiasan.specs.declared.answer.Contents.{Contents}
 use Rattle.kiasan.specs.declared.refusals.Refusal.{Refusal}
@@ -36,28 +35,25 @@ use Rattle.kiasan.specs.declared.refusals.Stop.TheVariants.{Refused}
 use Rattle.kiasan.specs.declared.refusals.Stop.TheVariants as stops
 use Rattle.kb_replay.specs.declared.checks.BadTest.{BadTest}
 use Rattle.kb_replay.specs.declared.checks.ReplayStop.TheVariants.{NoMemory}
-use Rattle.kb_replay.specs.declared.replays.Replayed.{Replayed}
 use Rattle.kb_replay.specs.Replays.{AreRunnable}
 use Rattle.kb_replay.proofs.OneAnswer.{one_bad_test, stopped_or_runnable, one_ids, one_replay}
-use Rattle.kiasan.specs.declared.report.Report.{Report}
 use Rattle.kiasan.specs.declared.status.Status.{Status}
-use Rattle.kiasan.specs.declared.words.Job.{Job}
-use Rattle.kiasan.specs.declared.words.Order.{Order}
-use Rattle.kiasan.specs.declared.words.Order.TheVariants.{Explore, Tests, Diagrams, Replay, Assemble, Sample}
-use Rattle.kiasan.specs.declared.words.WordFault.{WordFault}
+use Rattle.kb_words.specs.declared.orders.Job.{Job}
+use Rattle.kb_words.specs.declared.orders.Order.{Order}
+use Rattle.kb_words.specs.declared.orders.Order.TheVariants.{Explore, Tests, Diagrams, Replay, Assemble, Sample}
 use Rattle.kiasan.specs.Answers.{Reply, refuses, ends, Last, RefusesNothing, Replies, RepliesTo, RepliesOn, RepliesIn, RepliesJob, RepliesReplay, WordsRefuse, IsRead, AreRead, IsContents, RefusesClasses, ClassRefuses, FileRefuses, AreClasses, IsClassOf, WorldRefuses, TextRefuses, TextOf, AreTestsOf, EndsReplay, EndsJob, AreTold, IsReplay, IsSameReply, class_limit, text_limit}
-use Rattle.kiasan.specs.Orders.{Orders, files_of, texts_of, classes_of}
-use Rattle.kiasan.specs.Reach.{ReachRefuses, TargetRefuses}
+use Rattle.kiasan.specs.Orders.{OrdersBuilt, files_of, texts_of, classes_of}
+use Rattle.kiasan.specs.Reach.{TargetRefuses}
 use Rattle.kiasan.specs.CodeFaults.{MethodsRefuse, methods_fault}
 use Rattle.kiasan.specs.Refusals.{class_refusal, code_refusal, link_refusal, word_refusal}
 use Rattle.kiasan.specs.Tests.{RefusesTests, literals_in, replay_status, test_refusal}
-use Rattle.kiasan.specs.Unbuilt.{IsBuiltFor}
+use Rattle.kiasan.specs.Unbuilt.{IsBuiltFor, IsBuiltTarget}
 use Rattle.kiasan.proofs.ClassLaws.{no_faults}
 use Rattle.kiasan.proofs.OneAssembly.{assembly_one}
 use Rattle.kiasan.proofs.OneListing.{listings_one}
 use Rattle.kiasan.proofs.StageLaws.{HasOne, stage_one}
 use Rattle.kiasan.specs.Verdicts.{replay_text}
-use Rattle.kiasan.proofs.WordsLaws.{orders_one, one_order, fault_or_order}
+use Rattle.kiasan.proofs.WordsLaws.{one_order, one_fault, fault_or_order, built_or_not}
 
 -- ---- the first of a list
 
@@ -216,31 +212,27 @@ world_apart given r world (found, why, e) linked = refused_or_linked given world
 ids_one : (world : World) (target : Target) → IsLinked world → (a b : MethodId) → IsTargetOf world target a → IsTargetOf world target b → a ≡ b
 ids_one world target given a b p q = one_declared world given.names given.loaded.methods target a b p.declared q.declared
 
-target_refusal : (Built : MethodId → Type 0) (world : World) (target : Target) → IsLinked world → (r s : Refusal) → TargetRefuses Built world target r → TargetRefuses Built world target s → r ≡ s
-target_refusal Built world target given r s (inl (f, p, e)) (inl (g, q, h)) =
+target_refusal : (world : World) (target : Target) → IsLinked world → (r s : Refusal) → TargetRefuses world target r → TargetRefuses world target s → r ≡ s
+target_refusal world target given r s (inl (f, p, e)) (inl (g, q, h)) =
     let faults : f ≡ g = one_reach_refusal world given target f g p q (not_memory f r e) (not_memory g s h) in
     let stops : refused_by r ≡ refused_by s = sym e ∙ ap link_refusal faults ∙ h in
     cc
-target_refusal Built world target given r s (inr a) (inr b) = a.0 ∙ sym b.0
-target_refusal Built world target given r s (inl (f, p, e)) (inr b) = absurd (refused_or_accepted world given target f b.1.id p (not_memory f r e) b.1.found b.1.accepted)
-target_refusal Built world target given r s (inr a) (inl (g, q, h)) = absurd (refused_or_accepted world given target g a.1.id q (not_memory g s h) a.1.found a.1.accepted)
+target_refusal world target given r s (inr a) (inr b) = a.0 ∙ sym b.0
+target_refusal world target given r s (inl (f, p, e)) (inr b) = absurd (refused_or_accepted world given target f b.1.id p (not_memory f r e) b.1.found b.1.accepted)
+target_refusal world target given r s (inr a) (inl (g, q, h)) = absurd (refused_or_accepted world given target g a.1.id q (not_memory g s h) a.1.found a.1.accepted)
 
-target_apart : (Built : MethodId → Type 0) (world : World) (target : Target) → IsLinked world → ((id : MethodId) → Built id → IsTargetOf world target id × IsAccepted world id) →
-    (r : Refusal) (id : MethodId) → TargetRefuses Built world target r → Built id → ⊥
-target_apart Built world target given found r id (inl (f, p, e)) built =
-    let is = found id built in
-    refused_or_accepted world given target f id p (not_memory f r e) is.0 is.1
-target_apart Built world target given found r id (inr a) built =
-    a.1.none (subst Built (ids_one world target given id a.1.id (found id built).0 a.1.found) built)
+target_apart : (world : World) (target : Target) → IsLinked world → (r : Refusal) (id : MethodId) → TargetRefuses world target r → IsBuiltTarget world target id → ⊥
+target_apart world target given r id (inl (f, p, e)) built = refused_or_accepted world given target f id p (not_memory f r e) built.found built.accepted
+target_apart world target given r id (inr a) built =
+    a.1.none (subst (IsBuiltFor world) (ids_one world target given id a.1.id built.found a.1.found) built.built)
 
 job_one : (Same : Status → List ℕ → Status → List ℕ → Type 0) (IsTextOf : TextOf) (world : World) (job : Job) → IsLinked world →
     ((s u : Status) (t v : List ℕ) → Same s t u v) → HasOne Same (RepliesJob IsTextOf world job)
 unfolding RepliesJob
 job_one Same IsTextOf world job given any =
-    stage_one Same (TargetRefuses (IsBuiltFor world job) world job.target) (λ id. IsTargetOf world job.target id × IsBuiltFor world job id) (λ id. Last (EndsJob IsTextOf world job))
-    (target_refusal (IsBuiltFor world job) world job.target given)
-    (λ r id refused reached. target_apart (IsBuiltFor world job) world job.target given (λ i built. (built.1.straight.found, built.1.straight.accepted)) r id refused reached.1)
-    (λ a b p q. ids_one world job.target given a b p.0 q.0) (λ id is. last)
+    stage_one Same (TargetRefuses world job.target) (IsBuiltTarget world job.target) (λ id. Last (EndsJob IsTextOf world job))
+    (target_refusal world job.target given) (target_apart world job.target given)
+    (λ a b p q. ids_one world job.target given a b p.found q.found) (λ id is. last)
   where
     last : HasOne Same (Last (EndsJob IsTextOf world job))
     last (refuses r) other p q = absurd p
@@ -331,16 +323,10 @@ replay_one Same bytes world given same =
 abbrev SameEnd : List (List ℕ) → Status → List ℕ → Status → List ℕ → Type 0
 SameEnd words a t b u = IsReplay words → (a ≡ b) × (t ≡ u)
 
-not_both : (words : List (List ℕ)) (order : Order) → Orders words (Ok order) → ((tests : List ℕ) (files : List (List ℕ)) → order ≡ Replay tests files → ⊥) → IsReplay words → ⊥
-not_both words order ordered other (tests, files, replay) =
-    let same : result_of order ≡ result_of (Replay tests files) = orders_one words (Ok order) (Ok (Replay tests files)) ordered replay in
-    let orders : order ≡ Replay tests files = cc in
-    other tests files orders
-  where
-    result_of : Order → Result Order WordFault
-    result_of o = Ok o
+not_both : (words : List (List ℕ)) (order : Order) → OrdersBuilt words order → ((tests : List ℕ) (files : List (List ℕ)) → order ≡ Replay tests files → ⊥) → IsReplay words → ⊥
+not_both words order ordered other (tests, files, replay) = other tests files (one_order words order (Replay tests files) ordered.0 replay.0)
 
-order_one : (words : List (List ℕ)) (order : Order) → Orders words (Ok order) → (texts : List (List ℕ)) (world : World) → IsLinked world → HasOne (SameEnd words) (RepliesIn order texts world)
+order_one : (words : List (List ℕ)) (order : Order) → OrdersBuilt words order → (texts : List (List ℕ)) (world : World) → IsLinked world → HasOne (SameEnd words) (RepliesIn order texts world)
 order_one words (Explore job) ordered texts world given =
     job_one (SameEnd words) _ world job given (λ s u t v replay. absurd (not_both words (Explore job) ordered (λ tests files e. cc) replay))
 order_one words (Tests job) ordered texts world given =
@@ -355,7 +341,7 @@ order_one words (Assemble name) ordered [] world given = λ one other p q. absur
 order_one words (Assemble name) ordered (bytes ∷ more ∷ texts) world given = λ one other p q. absurd p
 order_one words (Sample blocks) ordered texts world given = λ one other p q. absurd p
 
-contents_one : (words : List (List ℕ)) (order : Order) → Orders words (Ok order) → (contents : Contents) → HasOne (SameEnd words) (RepliesOn order contents)
+contents_one : (words : List (List ℕ)) (order : Order) → OrdersBuilt words order → (contents : Contents) → HasOne (SameEnd words) (RepliesOn order contents)
 unfolding RepliesOn
 contents_one words order ordered contents =
     stage_one (SameEnd words) (RefusesClasses contents.classes) (AreClasses contents.classes) _ (classes_refusal contents.classes) (classes_apart contents.classes)
@@ -363,31 +349,30 @@ contents_one words order ordered contents =
     stage_one (SameEnd words) (WorldRefuses given) (Links given) (λ world. RepliesIn order contents.texts world) (world_refusal given) (world_apart given)
     (λ a b p q. one_world_is given a b p q) (λ world links. order_one words order ordered contents.texts world links.linked))
 
-to_one : (words : List (List ℕ)) (holds : List ℕ → Option (List ℕ)) (order : Order) → Orders words (Ok order) → AreTold words holds → HasOne (SameEnd words) (RepliesTo order holds)
+to_one : (words : List (List ℕ)) (holds : List ℕ → Option (List ℕ)) (order : Order) → OrdersBuilt words order → AreTold words holds → HasOne (SameEnd words) (RepliesTo order holds)
 unfolding RepliesTo
 to_one words holds order ordered told =
     stage_one (SameEnd words) RefusesNothing (IsRead holds order) (RepliesOn order) (λ r s wrong more. absurd wrong) (λ r contents wrong is. wrong)
     (one_contents holds order (told order ordered)) (λ contents read. contents_one words order ordered contents)
 
 fault_one : (words : List (List ℕ)) (r s : Refusal) → WordsRefuse words r → WordsRefuse words s → r ≡ s
-fault_one words r s (f, p, e) (g, q, h) =
-    let same : result_of f ≡ result_of g = orders_one words (Err f) (Err g) p q in
-    let faults : f ≡ g = cc in
+fault_one words r s (inl (f, p, e)) (inl (g, q, h)) =
+    let faults : f ≡ g = one_fault words f g p q in
     let stops : refused_by r ≡ refused_by s = sym e ∙ ap word_refusal faults ∙ h in
     cc
-  where
-    result_of : WordFault → Result Order WordFault
-    result_of f = Err f
+fault_one words r s (inl (f, p, e)) (inr (is, (order, ordered, not))) = absurd (fault_or_order words f order p ordered)
+fault_one words r s (inr (is, (order, ordered, not))) (inl (g, q, h)) = absurd (fault_or_order words g order q ordered)
+fault_one words r s (inr a) (inr b) = a.0 ∙ sym b.0
 
-    refused_by : Refusal → Stop
-    refused_by r = Refused r
+words_apart : (words : List (List ℕ)) (r : Refusal) (order : Order) → WordsRefuse words r → OrdersBuilt words order → ⊥
+words_apart words r order (inl (f, p, e)) ordered = fault_or_order words f order p ordered.0
+words_apart words r order (inr (is, unbuilt)) ordered = built_or_not words order unbuilt ordered
 
 words_one : (words : List (List ℕ)) (holds : List ℕ → Option (List ℕ)) → AreTold words holds → HasOne (SameEnd words) (Replies words holds)
 unfolding Replies
 words_one words holds told =
-    stage_one (SameEnd words) (WordsRefuse words) (λ order. Orders words (Ok order)) (λ order. RepliesTo order holds) (fault_one words)
-    (λ r order refused ordered. fault_or_order words refused.0 order refused.1 ordered)
-    (λ a b p q. one_order words a b p q) (λ order ordered. to_one words holds order ordered told)
+    stage_one (SameEnd words) (WordsRefuse words) (OrdersBuilt words) (λ order. RepliesTo order holds) (fault_one words) (words_apart words)
+    (λ a b p q. one_order words a b p.0 q.0) (λ order ordered. to_one words holds order ordered told)
 
 -- two replies to the same words are the same refusal, or neither is one
 pub one_reply : (words : List (List ℕ)) (holds : List ℕ → Option (List ℕ)) → AreTold words holds → (one other : Reply) → Replies words holds one → Replies words holds other → IsSameReply words one other

@@ -10,7 +10,6 @@ use Rattle.kb_replay.specs.declared.replays.Replayed.{Replayed}
 use Rattle.kb_replay.specs.declared.replays.Replayed.TheVariants.{Passes, Differs as DiffersFrom}
 use Rattle.kb_replay.specs.Replays.{AreRunnable, StopsAt}
 use Rattle.kb_test.specs.declared.test_case.Test.{Test}
-use Rattle.kiasan.specs.declared.refusals.Refusal.{Refusal}
 use Rattle.kiasan.specs.declared.refusals.Stop.{Stop}
 use Rattle.kiasan.specs.declared.refusals.Stop.TheVariants.{Refused, ReadFault, NoMemory as NoRoom}
 use Rattle.kiasan.specs.Refusals.{Gives, link_refusal}

@@ -1,31 +1,47 @@
 -- The text of tests, path by path.
-use Rattle.std.proofs.Common.{◌≡◌, ℕ, ◌<◌, ◌≤◌, ◌-◌, List, [], ◌∷◌, ◌++◌, length, take, drop, get_or, sym, ◌∙◌, ap, subst, arith, append_assoc, append-nil}
+use Rattle.std.proofs.Common.{◌≡◌, ℕ, suc, ◌<◌, ◌≤◌, ◌-◌, List, [], ◌∷◌, ◌++◌, length, take, drop, get_or, refl, sym, ◌∙◌, ap, subst, arith, append_assoc, append-nil}
 use Rattle.std.proofs.lemmas.List.{take_all}
-use Rattle.kiasan.specs.declared.path.Path.{Path}
-use Rattle.kiasan.specs.declared.report.Report.{Report}
-use Rattle.kiasan.specs.Covering.{path_tests}
-use Rattle.kb_link.specs.World.{World}
 use Rattle.std.specs.List.{flat_map}
+use Rattle.kb_drive.specs.Covers.{EachPath}
+use Rattle.kb_link.specs.World.{World}
+use Rattle.kb_picture.specs.declared.path.Path.{Path}
+use Rattle.kb_report.specs.declared.report.Report.{Report}
 use Rattle.kb_test.specs.declared.test_case.Test.{Test}
 use Rattle.kb_test.specs.Refusals.{Appends}
-use Rattle.kb_test.specs.Tests.{AreTests, SpellsTests}
+use Rattle.kb_test.specs.Tests.{SpellsTests}
 use Rattle.kb_test.proofs.TextLaws.{joined, no_tests}
-
-split_tests : (literals : ℕ) (xs ys : List Test) → AreTests literals (xs ++ ys) → AreTests literals xs × AreTests literals ys
-split_tests literals [] ys h = (tt, h)
-split_tests literals (x ∷ xs) ys h = let rest = split_tests literals xs ys h.1 in ((h.0, rest.0), rest.1)
+use Rattle.kiasan.specs.Exploring.{path_tests}
 
 -- the tests of some paths of a report
 abbrev pub tests_on : World → Report → List Path → List Test
-tests_on world report paths = flat_map (λ path. path_tests world report path path.leaf) paths
+tests_on world report paths = flat_map (λ (path : Path). path_tests world report path path.leaf) paths
 
--- The text of the tests before `rest` is written: with a text of these behind it, it is one of all. They have texts.
+-- ---- what holds of each path
+
+pub path_head : (P : Path → Type 0) (path : Path) (paths : List Path) → EachPath P (path ∷ paths) → P path
+path_head P path paths each = each 0 path refl
+
+pub path_tail : (P : Path → Type 0) (path : Path) (paths : List Path) → EachPath P (path ∷ paths) → EachPath P paths
+path_tail P path paths each i other at = each (suc i) other at
+
+pub first_holds : (P : Path → Type 0) (rest : List Path) (path : Path) → 1 ≤ length rest → path ≡ get_or rest 0 path → EachPath P rest → P path
+first_holds P [] path some at each = absurd (omega (arith, some))
+first_holds P (x ∷ others) path some at each = subst P (sym at) (path_head P x others each)
+
+pub others_hold : (P : Path → Type 0) (rest : List Path) → 1 ≤ length rest → EachPath P rest → EachPath P (take (length rest - 1) (drop 1 rest))
+others_hold P [] some each = absurd (omega (arith, some))
+others_hold P (x ∷ others) some each =
+    let long : length others ≤ length (x ∷ others) - 1 = omega arith in
+    subst (EachPath P) (sym (take_all (length (x ∷ others) - 1) others long)) (path_tail P x others each)
+
+-- ---- the text of tests
+
+-- The text of the tests before `rest` is written: with a text of these behind it, it is one of all.
 pub record IsBehind (literals : ℕ) (all rest : List Test) (text : List ℕ) : Type 0 where
-  pub are : AreTests literals rest
   pub goes_on : (more : List ℕ) → SpellsTests literals rest more → SpellsTests literals all (text ++ more)
 
-pub none_behind : (literals : ℕ) (all : List Test) (text : List ℕ) → AreTests literals all → text ≡ [] → IsBehind literals all all text
-none_behind literals all text are none = record { are = are; goes_on = λ more spells. subst (λ (t : List ℕ). SpellsTests literals all (t ++ more)) (sym none) spells }
+pub none_behind : (literals : ℕ) (all : List Test) (text : List ℕ) → text ≡ [] → IsBehind literals all all text
+none_behind literals all text none = record { goes_on = λ more spells. subst (λ (t : List ℕ). SpellsTests literals all (t ++ more)) (sym none) spells }
 
 pub all_behind : (literals : ℕ) (world : World) (report : Report) (all : List Test) (rest : List Path) (text : List ℕ) → length rest < 1 → IsBehind literals all (tests_on world report rest) text →
     SpellsTests literals all text
@@ -35,7 +51,6 @@ all_behind literals world report all (path ∷ rest) text end at = absurd (omega
 -- the tests of one path are written
 more_behind : (literals : ℕ) (all xs ys : List Test) (text new : List ℕ) → IsBehind literals all (xs ++ ys) text → Appends literals xs text new → IsBehind literals all ys new
 more_behind literals all xs ys text new at more = record {
-  are = (split_tests literals xs ys at.are).1;
   goes_on = λ rest spells.
       subst (SpellsTests literals all) (sym (append_assoc text more.text rest) ∙ ap (λ (t : List ℕ). t ++ rest) (sym more.is)) (at.goes_on (more.text ++ rest) (joined literals xs ys more.text rest more.spelled spells));
 }
@@ -51,10 +66,3 @@ first_path_more literals world report all (x ∷ others) path text new some at b
     subst (λ (ps : List Path). IsBehind literals all (tests_on world report ps) new) (sym same)
     (more_behind literals all (path_tests world report x x.leaf) (tests_on world report others) text new behind
     (subst (λ (p : Path). Appends literals (path_tests world report p p.leaf) text new) is more))
-
--- the tests of the first path have texts
-pub first_are : (literals : ℕ) (world : World) (report : Report) (rest : List Path) (path : Path) → 1 ≤ length rest → path ≡ get_or rest 0 path →
-    AreTests literals (tests_on world report rest) → AreTests literals (path_tests world report path path.leaf)
-first_are literals world report [] path some at are = absurd (omega (arith, some))
-first_are literals world report (x ∷ others) path some at are =
-    subst (λ (p : Path). AreTests literals (path_tests world report p p.leaf)) (sym at) ((split_tests literals (path_tests world report x x.leaf) (tests_on world report others) are).0)

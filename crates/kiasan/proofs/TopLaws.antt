@@ -1,24 +1,25 @@
 -- What the top call owes.
-use Rattle.std.proofs.Common.{◌≡◌, ℕ, List, [], ◌∷◌, Option, Ok, refl, sym, ◌∙◌, ap, subst, inl, inr, nat_eq, Bool, true, false, cond}
-use Rattle.std.specs.List.{list_all}
+use Rattle.std.proofs.Common.{◌≡◌, ℕ, List, [], ◌∷◌, Option, refl, sym, ◌∙◌, ap, subst, inl, inr, nat_eq, Bool, true, false, cond}
 use Rattle.kb_outside.specs.Outside.{Rose, Grows, GrowsByPart}
 use Rattle.kb_link.specs.World.{World}
 use Rattle.kiasan.specs.declared.refusals.Answer.{Answer}
 use Rattle.kiasan.specs.declared.refusals.Refusal.{Refusal}
 use Rattle.kiasan.specs.declared.refusals.Refusal.TheVariants as refusals
-use Rattle.kiasan.specs.declared.report.Report.{Report}
+use Rattle.kb_drive.specs.Counts.{is_partial}
+use Rattle.kb_picture.specs.declared.path.Path.{Path}
 use Rattle.kb_replay.specs.declared.replays.Replayed.{Replayed}
-use Rattle.kiasan.specs.declared.words.Job.{Job}
-use Rattle.kiasan.specs.declared.words.Order.{Order}
-use Rattle.kiasan.specs.declared.words.Order.TheVariants.{Explore, Tests, Diagrams, Replay, Assemble, Sample}
+use Rattle.kb_words.specs.declared.orders.Job.{Job}
+use Rattle.kb_words.specs.declared.orders.Order.{Order}
+use Rattle.kb_words.specs.declared.orders.Order.TheVariants.{Explore, Tests, Diagrams, Replay, Assemble, Sample}
 use Rattle.kiasan.specs.declared.status.Status.{Status}
-use Rattle.kiasan.specs.declared.status.Status.TheVariants.{Complete, Words, Class, Link, Outside, ReadFault, WriteFault, Memory, Text, Differs}
-use Rattle.kiasan.specs.Answers.{Reply, refuses, ends, Replies, RepliesTo, RepliesOn, RepliesIn, RepliesJob, RepliesReplay, Answers, IsAnswer, IsDone, IsOfVerdicts, IsReplay, IsSameReply, EndsAs, Owes, SomeUnsound, TextOf, WritesNothing, reply_status}
-use Rattle.kiasan.specs.Covering.{IsStatusOf, is_told}
-use Rattle.kiasan.specs.Orders.{Orders}
+use Rattle.kiasan.specs.declared.status.Status.TheVariants.{Complete, Partial, Words, Class, Link, Outside, ReadFault, WriteFault, Memory, Text, Differs}
+use Rattle.kiasan.specs.Answers.{Reply, refuses, ends, Replies, RepliesTo, RepliesOn, RepliesIn, RepliesJob, RepliesReplay, Answers, IsAnswer, IsOfReport, IsOfVerdicts, IsReplay, IsSameReply, EndsAs, EndsOrder, Owes, SomeUnsound, TextOf, WritesNothing, reply_status}
+use Rattle.kiasan.specs.Exploring.{status_of}
+use Rattle.kiasan.specs.Orders.{OrdersBuilt}
 use Rattle.kiasan.specs.Refusals.{refusal_status, refusal_line}
 use Rattle.kiasan.specs.Tests.{count_differs, replay_status}
 use Rattle.kiasan.proofs.OneReply.{one_reply}
+use Rattle.kiasan.proofs.WordsLaws.{one_order}
 
 -- ---- the statuses of answers
 
@@ -58,7 +59,16 @@ refusal_answers (refusals.NoTestMethod number) = tt
 refusal_answers (refusals.IllTypedTest number) = tt
 refusal_answers refusals.LongText = tt
 refusal_answers refusals.NoCommand = tt
+refusal_answers (refusals.UnknownWord word) = tt
+refusal_answers (refusals.NoValue word) = tt
+refusal_answers (refusals.BadNumber word) = tt
+refusal_answers (refusals.OutOfRange word) = tt
+refusal_answers (refusals.RepeatedOption word) = tt
 refusal_answers (refusals.BadTarget word) = tt
+refusal_answers refusals.NoMethodGiven = tt
+refusal_answers refusals.NoTestsGiven = tt
+refusal_answers refusals.NoFiles = tt
+refusal_answers refusals.TooMuch = tt
 
 replay_answers : (verdicts : List Replayed) → IsAnswer (replay_status verdicts)
 replay_answers verdicts = go (nat_eq (count_differs verdicts) 0)
@@ -67,14 +77,16 @@ replay_answers verdicts = go (nat_eq (count_differs verdicts) 0)
     go true = tt
     go false = tt
 
--- by now a report is told to its end
-told_status : (told : Bool) (status : Status) → IsStatusOf told status → status ≡ Complete
-told_status true status is = is
-told_status false status none = absurd none
+report_answers : (leaves : List Path) → IsAnswer (status_of leaves)
+report_answers leaves = go (is_partial leaves)
+  where
+    go : (b : Bool) → IsAnswer (cond b Partial Complete)
+    go true = tt
+    go false = tt
 
 job_answers : (IsTextOf : TextOf) (world : World) (job : Job) (status : Status) (text : List ℕ) → RepliesJob IsTextOf world job (ends status text) → IsAnswer status
 unfolding RepliesJob
-job_answers IsTextOf world job status text (id, built, end) = rw (told_status (list_all (λ path. is_told path.leaf) end.report.leaves) status end.has_status) tt
+job_answers IsTextOf world job status text (id, built, end) = rw end.status_is (report_answers end.report.leaves)
 
 tests_answer : (bytes : List ℕ) (world : World) (status : Status) (text : List ℕ) → RepliesReplay bytes world (ends status text) → IsAnswer status
 unfolding RepliesReplay
@@ -109,14 +121,16 @@ refused words holds refusal status text replied is line =
 
 -- ---- where neither count rises
 
--- a status is one of verdicts where the words are a replay, and otherwise one of what is told
-abbrev IsStatusFor : List (List ℕ) → Status → Type 0
-IsStatusFor words status = (IsReplay words → IsOfVerdicts status) × ((IsReplay words → ⊥) → IsDone status)
+report_status : (leaves : List Path) → IsOfReport (status_of leaves)
+report_status leaves = go (is_partial leaves)
+  where
+    go : (b : Bool) → IsOfReport (cond b Partial Complete)
+    go true = tt
+    go false = tt
 
-job_status : (IsTextOf : TextOf) (words : List (List ℕ)) (world : World) (job : Job) (status : Status) (text : List ℕ) →
-    RepliesJob IsTextOf world job (ends status text) → IsStatusFor words status
+job_status : (IsTextOf : TextOf) (world : World) (job : Job) (status : Status) (text : List ℕ) → RepliesJob IsTextOf world job (ends status text) → IsOfReport status
 unfolding RepliesJob
-job_status IsTextOf words world job status text (id, built, end) = rw (told_status (list_all (λ path. is_told path.leaf) end.report.leaves) status end.has_status) ((λ replay. tt), (λ none. tt))
+job_status IsTextOf world job status text (id, built, end) = rw end.status_is (report_status end.report.leaves)
 
 verdicts_status : (verdicts : List Replayed) → IsOfVerdicts (replay_status verdicts)
 verdicts_status verdicts = go (nat_eq (count_differs verdicts) 0)
@@ -129,23 +143,25 @@ tests_status : (bytes : List ℕ) (world : World) (status : Status) (text : List
 unfolding RepliesReplay
 tests_status bytes world status text (tests, are, (ids, fit, end)) = rw end.status_is (verdicts_status end.verdicts)
 
-order_status : (words : List (List ℕ)) (order : Order) → Orders words (Ok order) → (texts : List (List ℕ)) (world : World) (status : Status) (text : List ℕ) →
-    RepliesIn order texts world (ends status text) → IsStatusFor words status
-order_status words (Explore job) ordered texts world status text h = job_status _ words world job status text h
-order_status words (Tests job) ordered texts world status text h = job_status _ words world job status text h
-order_status words (Replay name files) ordered (bytes ∷ []) world status text h =
-    ((λ replay. tests_status bytes world status text h), (λ none. absurd (none (name, files, ordered))))
-order_status words (Replay name files) ordered [] world status text h = absurd h
-order_status words (Replay name files) ordered (bytes ∷ other ∷ more) world status text h = absurd h
-order_status words (Diagrams job) ordered texts world status text h = absurd h
-order_status words (Assemble name) ordered (bytes ∷ []) world status text h = rw h.status_is ((λ replay. tt), (λ none. tt))
-order_status words (Assemble name) ordered [] world status text h = absurd h
-order_status words (Assemble name) ordered (bytes ∷ other ∷ more) world status text h = absurd h
-order_status words (Sample blocks) ordered texts world status text h = absurd h
+order_status : (words : List (List ℕ)) (order : Order) → OrdersBuilt words order → (texts : List (List ℕ)) (world : World) (status one : Status) (text : List ℕ) →
+    RepliesIn order texts world (ends status text) → (IsReplay words → status ≡ one) → EndsOrder order one status
+order_status words (Explore job) ordered texts world status one text h same = job_status _ world job status text h
+order_status words (Tests job) ordered texts world status one text h same = job_status _ world job status text h
+order_status words (Replay name files) ordered (bytes ∷ []) world status one text h same = (same (name, files, ordered), tests_status bytes world status text h)
+order_status words (Replay name files) ordered [] world status one text h same = absurd h
+order_status words (Replay name files) ordered (bytes ∷ other ∷ more) world status one text h same = absurd h
+order_status words (Diagrams job) ordered texts world status one text h same = absurd h
+order_status words (Assemble name) ordered (bytes ∷ []) world status one text h same = rw h.status_is tt
+order_status words (Assemble name) ordered [] world status one text h same = absurd h
+order_status words (Assemble name) ordered (bytes ∷ other ∷ more) world status one text h same = absurd h
+order_status words (Sample blocks) ordered texts world status one text h same = absurd h
 
-status_of : (words : List (List ℕ)) (holds : List ℕ → Option (List ℕ)) (status : Status) (text : List ℕ) → Replies words holds (ends status text) → IsStatusFor words status
+-- what is answered with a status ends as any order of the words says
+ended : (words : List (List ℕ)) (holds : List ℕ → Option (List ℕ)) (status one : Status) (text : List ℕ) → Replies words holds (ends status text) →
+    (IsReplay words → status ≡ one) → (order : Order) → OrdersBuilt words order → EndsOrder order one status
 unfolding Replies RepliesTo RepliesOn
-status_of words holds status text (order, ordered, (contents, read, (files, spelled, (world, is, h)))) = order_status words order ordered contents.texts world status text h
+ended words holds status one text (order, ordered, (contents, read, (files, spelled, (world, is, h)))) same other also =
+    subst (λ (o : Order). EndsOrder o one status) (one_order words order other ordered.0 also.0) (order_status words order ordered contents.texts world status one text h same)
 
 -- what is answered with a status ends as each reply says that is the same
 ends_as : (words : List (List ℕ)) (holds : List ℕ → Option (List ℕ)) (status : Status) (one reply : Reply) → Replies words holds one → status ≡ reply_status one →
@@ -154,8 +170,7 @@ ends_as words holds status (refuses r) (refuses s) replied is same = is ∙ ap (
 ends_as words holds status (refuses r) (ends u v) replied is same = absurd same
 ends_as words holds status (ends s t) (refuses r) replied is same = absurd same
 ends_as words holds status (ends s t) (ends u v) replied is same =
-    let of = status_of words holds s t replied in
-    ((λ replay. (is ∙ (same replay).0, subst IsOfVerdicts (sym is) (of.0 replay))), (λ none. subst IsDone (sym is) (of.1 none)))
+    subst (λ (x : Status). (order : Order) → OrdersBuilt words order → EndsOrder order u x) (sym is) (ended words holds s u t replied (λ replay. (same replay).0))
 
 -- ---- what a call owes, by how it ends
 
@@ -188,6 +203,7 @@ is_none ReadFault is = absurd is
 is_none WriteFault is = absurd is
 is_none Memory is = absurd is
 is_none Complete is = ((λ e. cc), (λ e. cc), λ n. n)
+is_none Partial is = ((λ e. cc), (λ e. cc), λ n. n)
 is_none Words is = ((λ e. cc), (λ e. cc), λ n. n)
 is_none Class is = ((λ e. cc), (λ e. cc), λ n. n)
 is_none Link is = ((λ e. cc), (λ e. cc), λ n. n)

@@ -1,6 +1,6 @@
 -- What the program answers. It goes by stages: the words, the reading of their files, the classes, their world, the texts, the
 -- methods that are reached, and the exploration or the runs. The first stage that refuses gives the answer.
-use Rattle.std.specs.Prelude.{◌≡◌, ℕ, ◌+◌, ◌<◌, ◌≤◌, ◌⊎◌, List, [], ◌∷◌, ◌++◌, length, take, Option, Some, IfSome, IsSome, Result, Ok, Err}
+use Rattle.std.specs.Prelude.{◌≡◌, ℕ, ◌+◌, ◌<◌, ◌≤◌, ◌⊎◌, List, [], ◌∷◌, ◌++◌, length, take, Option, Some, IfSome, IsSome, Result, Err}
 use Rattle.std.specs.List.{AllByRecursion}
 use Rattle.kb_class.specs.declared.given.GivenClass.{GivenClass}
 use Rattle.kb_class.specs.declared.ids.MethodId.{MethodId}
@@ -14,37 +14,35 @@ use Rattle.kb_asm_check.specs.Faults.{IsFirstUnfit}
 use Rattle.kb_outside.specs.Outside.{Rose, Grows, GrowsByPart}
 use Rattle.kb_test.specs.declared.test_case.Test.{Test}
 use Rattle.kb_grammar.specs.Lines.{IsFirstBadLine}
-use Rattle.kb_names.specs.Targets.{IsTarget}
-use Rattle.kb_test.specs.Lines.{IsRunBounds}
-use Rattle.kb_test.specs.Tests.{SpellsTests, IsTestsText, AreTests}
+use Rattle.kb_test.specs.Tests.{SpellsTests, IsTestsText}
 use Rattle.kb_link.specs.declared.linking.LinkRefusal.{LinkRefusal}
 use Rattle.kb_link.specs.Links.{Links, RefusesLink}
-use Rattle.kb_link.specs.Targets.{IsTargetOf}
 use Rattle.kb_link.specs.World.{World}
 use Rattle.kiasan.specs.declared.answer.Contents.{Contents}
 use Rattle.kiasan.specs.declared.refusals.Answer.{Answer}
 use Rattle.kiasan.specs.declared.refusals.Refusal.{Refusal}
-use Rattle.kiasan.specs.declared.refusals.Refusal.TheVariants.{AssemblyLine, TestLine, LongText}
+use Rattle.kiasan.specs.declared.refusals.Refusal.TheVariants.{AssemblyLine, TestLine, LongText, Unbuilt}
 use Rattle.kiasan.specs.declared.refusals.Stop.{Stop}
 use Rattle.kiasan.specs.declared.refusals.Stop.TheVariants.{Refused}
 use Rattle.kiasan.specs.declared.refusals.Stop.TheVariants as stops
 use Rattle.kb_replay.specs.declared.replays.Replayed.{Replayed}
 use Rattle.kb_replay.specs.Replays.{AreReplayed, AreRunnable}
-use Rattle.kiasan.specs.declared.report.Report.{Report}
-use Rattle.kiasan.specs.declared.words.Job.{Job}
-use Rattle.kiasan.specs.declared.words.Order.{Order}
-use Rattle.kiasan.specs.declared.words.Order.TheVariants.{Explore, Tests, Diagrams, Replay, Assemble, Sample}
-use Rattle.kiasan.specs.declared.words.WordFault.{WordFault}
+use Rattle.kb_report.specs.declared.report.Report.{Report}
+use Rattle.kb_words.specs.declared.orders.Job.{Job}
+use Rattle.kb_words.specs.declared.orders.Order.{Order}
+use Rattle.kb_words.specs.declared.orders.Order.TheVariants.{Explore, Tests, Diagrams, Replay, Assemble, Sample}
+use Rattle.kb_words.specs.declared.orders.WordFault.{WordFault}
 use Rattle.kiasan.specs.declared.status.Status.{Status}
-use Rattle.kiasan.specs.declared.status.Status.TheVariants.{Complete, Words, Class, Link, Outside, ReadFault, WriteFault, Memory, Text, Differs}
+use Rattle.kiasan.specs.declared.status.Status.TheVariants.{Complete, Partial, Words, Class, Link, Outside, ReadFault, WriteFault, Memory, Text, Differs}
 use Rattle.kiasan.specs.CodeFaults.{MethodsRefuse}
-use Rattle.kiasan.specs.Orders.{Orders, texts_of, classes_of, files_of}
+use Rattle.kb_words.specs.Orders.{Orders}
+use Rattle.kiasan.specs.Orders.{OrdersBuilt, OrdersUnbuilt, texts_of, classes_of, files_of}
 use Rattle.kiasan.specs.Refusals.{Gives, class_refusal, link_refusal, refusal_status, refusal_line, word_refusal}
-use Rattle.kiasan.specs.Report.{report_text}
+use Rattle.kb_report.specs.Report.{report_text}
 use Rattle.kiasan.specs.Reach.{TargetRefuses}
-use Rattle.kiasan.specs.Covering.{IsReportOf, HasStatus, tests_of}
+use Rattle.kiasan.specs.Exploring.{IsReportOf, status_of, tests_of}
 use Rattle.kiasan.specs.Tests.{EndsAsStated, RefusesTests, literals_in, replay_status}
-use Rattle.kiasan.specs.Unbuilt.{IsBuiltFor}
+use Rattle.kiasan.specs.Unbuilt.{IsBuiltTarget}
 use Rattle.kiasan.specs.Verdicts.{replay_text}
 
 -- ---- replies and stages
@@ -82,18 +80,6 @@ Carries Fault Replied result = Gives Fault (λ refusal. Replied (refuses refusal
 
 -- ---- exploration, and runs
 
--- the target and the bounds of the job are those of a test
-pub record IsWritable (job : Job) : Type 0 where
-  pub target : IsTarget job.target
-  pub bounds : IsRunBounds job.bounds.run
-
--- a report for the job, whose tests have a text where the job's target and bounds are those of a test
-pub record IsWrittenReport (world : World) (job : Job) (report : Report) : Type 0 where
-  pub reported : IsReportOf world job report
-  pub id : MethodId
-  pub built : IsBuiltFor world job id
-  pub tests : IsWritable job → AreTests (literals_in world) (tests_of world report)
-
 -- what a task's text is of a world, the number of a method and its report
 abbrev pub TextOf : Type 1
 TextOf = World → MethodId → Report → List ℕ → Type 0
@@ -102,12 +88,12 @@ TextOf = World → MethodId → Report → List ℕ → Type 0
 pub record EndsJob (IsTextOf : TextOf) (world : World) (job : Job) (status : Status) (text : List ℕ) : Type 0 where
   pub report : Report
   pub reported : IsReportOf world job report
-  pub has_status : HasStatus report status
+  pub status_is : status ≡ status_of report.leaves
   pub text_is : IsTextOf world reported.id report text
 
 -- the text of the command `explore`
 abbrev pub IsReportText : TextOf
-IsReportText world id report text = text ≡ report_text report
+IsReportText world id report text = text ≡ report_text world report
 
 -- The text of the command `tests`: that of the report's tests. Each ends as it states, where the machine runs the method.
 pub record IsTestsTextOf (world : World) (id : MethodId) (report : Report) (text : List ℕ) : Type 0 where
@@ -124,7 +110,7 @@ pub record EndsReplay (world : World) (tests : List Test) (status : Status) (tex
 -- a job, behind its classes' world: reach, and the exploration; what is reached is built by now
 unfoldable pub RepliesJob : TextOf → World → Job → Reply → Type 0
 RepliesJob IsTextOf world job =
-    Stage (TargetRefuses (IsBuiltFor world job) world job.target) (λ id. IsTargetOf world job.target id × IsBuiltFor world job id) (λ id.
+    Stage (TargetRefuses world job.target) (IsBuiltTarget world job.target) (λ id.
     Last (EndsJob IsTextOf world job))
 
 -- ---- texts
@@ -174,15 +160,6 @@ RepliesIn (Tests job) texts world = RepliesJob IsTestsTextOf world job
 RepliesIn (Replay name files) (bytes ∷ []) world = RepliesReplay bytes world
 RepliesIn (Assemble name) (bytes ∷ []) world = RepliesAssembly bytes
 RepliesIn _ texts world = λ reply. ⊥
-
--- the orders that come by now, jobs with what a test may have
-abbrev pub IsBuiltOrder : Order → Type 0
-IsBuiltOrder (Explore job) = IsWritable job
-IsBuiltOrder (Tests job) = IsWritable job
-IsBuiltOrder (Diagrams job) = ⊥
-IsBuiltOrder (Replay tests files) = Unit {0}
-IsBuiltOrder (Assemble text) = Unit {0}
-IsBuiltOrder (Sample blocks) = ⊥
 
 -- ---- classes, and their world
 
@@ -272,12 +249,16 @@ unfoldable pub RepliesTo : Order → (List ℕ → Option (List ℕ)) → Reply 
 RepliesTo order holds = Stage RefusesNothing (IsRead holds order) (RepliesOn order)
 
 -- the words have a fault
+abbrev pub HaveFault : List (List ℕ) → Refusal → Type 0
+HaveFault words refusal = (fault : WordFault) × Orders words (Err fault) × (word_refusal fault ≡ Refused refusal)
+
+-- the words have a fault, or order what is not built
 abbrev pub WordsRefuse : List (List ℕ) → Refusal → Type 0
-WordsRefuse words refusal = (fault : WordFault) × Orders words (Err fault) × (word_refusal fault ≡ Refused refusal)
+WordsRefuse words refusal = HaveFault words refusal ⊎ ((refusal ≡ Unbuilt) × OrdersUnbuilt words)
 
 -- What the words come to, over what the shelf holds.
 unfoldable pub Replies : List (List ℕ) → (List ℕ → Option (List ℕ)) → Reply → Type 0
-Replies words holds = Stage (WordsRefuse words) (λ order. Orders words (Ok order)) (λ order. RepliesTo order holds)
+Replies words holds = Stage (WordsRefuse words) (OrdersBuilt words) (λ order. RepliesTo order holds)
 
 -- The status and the text that the words have over what the shelf holds.
 pub record Answers (words : List (List ℕ)) (holds : List ℕ → Option (List ℕ)) (status : Status) (text : List ℕ) : Type 0 where
@@ -290,10 +271,10 @@ pub record Answers (words : List (List ℕ)) (holds : List ℕ → Option (List 
 
 -- the shelf tells what it holds of each file that the words order to be read
 abbrev pub AreTold : List (List ℕ) → (List ℕ → Option (List ℕ)) → Type 0
-AreTold words holds = (order : Order) → Orders words (Ok order) → AllByRecursion (λ file. IsSome (holds file)) (files_of order)
+AreTold words holds = (order : Order) → OrdersBuilt words order → AllByRecursion (λ file. IsSome (holds file)) (files_of order)
 
 abbrev pub IsReplay : List (List ℕ) → Type 0
-IsReplay words = (tests : List ℕ) × (files : List (List ℕ)) × Orders words (Ok (Replay tests files))
+IsReplay words = (tests : List ℕ) × (files : List (List ℕ)) × OrdersBuilt words (Replay tests files)
 
 -- the same refusal, or none of both is one; of a replay they are one status and one text
 abbrev pub IsSameReply : List (List ℕ) → Reply → Reply → Type 0
@@ -309,17 +290,32 @@ abbrev pub IsDone : Status → Type 0
 IsDone Complete = Unit {0}
 IsDone _ = ⊥
 
+-- a status of a report
+abbrev pub IsOfReport : Status → Type 0
+IsOfReport Complete = Unit {0}
+IsOfReport Partial = Unit {0}
+IsOfReport _ = ⊥
+
 -- a status of verdicts
 abbrev pub IsOfVerdicts : Status → Type 0
 IsOfVerdicts Complete = Unit {0}
 IsOfVerdicts Differs = Unit {0}
 IsOfVerdicts _ = ⊥
 
--- A call that was answered so ends with this status: that of the refusal; without one that of the replay, or else that of what
--- is told.
+-- A call for an order that is told in whole ends with this status, where a reply has the first one: that of a report, which is free
+-- to be another report of the same head; that of the replay; or that of what is told in whole.
+abbrev pub EndsOrder : Order → Status → Status → Type 0
+EndsOrder (Explore job) one status = IsOfReport status
+EndsOrder (Tests job) one status = IsOfReport status
+EndsOrder (Diagrams job) one status = ⊥
+EndsOrder (Replay tests files) one status = (status ≡ one) × IsOfVerdicts status
+EndsOrder (Assemble text) one status = IsDone status
+EndsOrder (Sample blocks) one status = ⊥
+
+-- A call that was answered so ends with this status: that of the refusal, or one of the order.
 abbrev pub EndsAs : List (List ℕ) → Reply → Status → Type 0
 EndsAs words (refuses refusal) status = status ≡ refusal_status refusal
-EndsAs words (ends one text) status = (IsReplay words → (status ≡ one) × IsOfVerdicts status) × ((IsReplay words → ⊥) → IsDone status)
+EndsAs words (ends one text) status = (order : Order) → OrdersBuilt words order → EndsOrder order one status
 
 -- a status that comes with a text
 abbrev pub IsAnswer : Status → Type 0
@@ -327,6 +323,7 @@ IsAnswer ReadFault = ⊥
 IsAnswer WriteFault = ⊥
 IsAnswer Memory = ⊥
 IsAnswer Complete = Unit {0}
+IsAnswer Partial = Unit {0}
 IsAnswer Words = Unit {0}
 IsAnswer Class = Unit {0}
 IsAnswer Link = Unit {0}
@@ -342,7 +339,7 @@ WritesNothing _ = ⊥
 
 -- a file of the order is not sound
 abbrev pub SomeUnsound : List (List ℕ) → (List ℕ → Type 0) → Type 0
-SomeUnsound words sound = (order : Order) × Orders words (Ok order) × HasUnsound (files_of order) sound
+SomeUnsound words sound = (order : Order) × OrdersBuilt words order × HasUnsound (files_of order) sound
 
 -- What a call for these words owes over a shelf and a sink: what the shelf holds and which names are sound, how its count of
 -- faults went (before, now), how the sink's bytes and its count went, and the status that the call ends with.

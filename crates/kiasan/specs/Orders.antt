@@ -1,50 +1,41 @@
--- What words order, or why they order nothing.
-use Rattle.std.specs.Prelude.{◌≡◌, List, [], ◌∷◌, ◌++◌, ℕ, codes, Result, Ok, Err}
-use Rattle.kb_names.specs.Targets.{SpellsTarget, IsTargetText}
-use Rattle.kiasan.specs.declared.words.Job.{Job}
-use Rattle.kiasan.specs.declared.words.Order.{Order}
-use Rattle.kiasan.specs.declared.words.Order.TheVariants.{Explore, Tests, Diagrams, Replay, Assemble, Sample}
-use Rattle.kiasan.specs.declared.words.WordFault.{WordFault}
-use Rattle.kiasan.specs.declared.words.WordFault.TheVariants.{NoCommand, BadTarget, Unbuilt, NoMemory}
-use Rattle.kiasan.specs.Words.{IsJobCommand, AreJobWords, AreReplayWords, AreAssembleWords, method_place, default_job}
-use Rattle.kiasan.specs.Unbuilt.{AreUnbuiltWords}
+-- Which orders are built by now, and the files that an order reads.
+use Rattle.std.specs.Prelude.{◌≡◌, ℕ, Bool, true, false, List, [], ◌∷◌, ◌++◌, Ok}
+use Rattle.kb_picture.specs.declared.choice.Init.{Init}
+use Rattle.kb_picture.specs.declared.choice.Init.TheVariants.{Lazy, Lazier}
+use Rattle.kb_words.specs.declared.orders.Order.{Order}
+use Rattle.kb_words.specs.declared.orders.Order.TheVariants.{Explore, Tests, Diagrams, Replay, Assemble, Sample}
+use Rattle.kb_words.specs.Orders.{IsJob, Orders}
 
--- the words are those of a command on a method, and all else is as where the words say nothing
-pub record OrdersJob (words : List (List ℕ)) (command : List ℕ) (job : Job) : Type 0 where
-  pub method : List ℕ
-  pub form : AreJobWords words command method job.files
-  pub spelled : SpellsTarget job.target method
-  pub job_is : job ≡ default_job job.target job.files
+-- whether the mode is built by now
+abbrev pub is_lazy : Init → Bool
+is_lazy Lazy = true
+is_lazy Lazier = false
 
--- the words are those of a command on a method, and the word for the method is no target
-pub record HasBadTarget (words : List (List ℕ)) (word : ℕ) : Type 0 where
-  pub command : List ℕ
-  pub takes_method : IsJobCommand command
-  pub method : List ℕ
-  pub files : List (List ℕ)
-  pub form : AreJobWords words command method files
-  pub place : word ≡ method_place
-  pub no_target : IsTargetText method → ⊥
+-- whether what is ordered is built by now
+abbrev pub is_built : Order → Bool
+is_built (Explore job) = is_lazy job.init
+is_built (Tests job) = is_lazy job.init
+is_built (Diagrams job) = false
+is_built (Replay tests files) = true
+is_built (Assemble text) = true
+is_built (Sample blocks) = false
 
--- The order of a list of words, or its one fault.
-abbrev pub Orders : List (List ℕ) → Result Order WordFault → Type 0
-Orders words (Ok (Explore job)) = OrdersJob words (codes "explore") job
-Orders words (Ok (Tests job)) = OrdersJob words (codes "tests") job
-Orders words (Ok (Diagrams job)) = ⊥
-Orders words (Ok (Replay tests files)) = AreReplayWords words tests files
-Orders words (Ok (Assemble text)) = AreAssembleWords words text
-Orders words (Ok (Sample blocks)) = ⊥
-Orders words (Err NoCommand) = words ≡ []
-Orders words (Err (BadTarget word)) = HasBadTarget words word
-Orders words (Err Unbuilt) = AreUnbuiltWords words
-Orders words (Err NoMemory) = ⊥
+-- the words order what is built
+abbrev pub OrdersBuilt : List (List ℕ) → Order → Type 0
+OrdersBuilt words order = Orders words (Ok order) × (is_built order ≡ true)
 
--- the fault is that of the words, unless memory ran out
-abbrev pub IsFaultOf : List (List ℕ) → WordFault → Type 0
-IsFaultOf words NoMemory = Unit {0}
-IsFaultOf words NoCommand = Orders words (Err NoCommand)
-IsFaultOf words (BadTarget word) = Orders words (Err (BadTarget word))
-IsFaultOf words Unbuilt = Orders words (Err Unbuilt)
+-- the words order what is not built
+abbrev pub OrdersUnbuilt : List (List ℕ) → Type 0
+OrdersUnbuilt words = (order : Order) × Orders words (Ok order) × (is_built order ≡ false)
+
+-- an order that is built, whose numbers lie in their ranges
+abbrev pub IsBuiltOrder : Order → Type 0
+IsBuiltOrder (Explore job) = IsJob job
+IsBuiltOrder (Tests job) = IsJob job
+IsBuiltOrder (Diagrams job) = ⊥
+IsBuiltOrder (Replay tests files) = Unit {0}
+IsBuiltOrder (Assemble text) = Unit {0}
+IsBuiltOrder (Sample blocks) = ⊥
 
 -- the text files of an order, and its class files, in the order of the words
 abbrev pub texts_of : Order → List (List ℕ)

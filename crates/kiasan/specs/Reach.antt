@@ -1,6 +1,5 @@
 -- What refuses a method that is to be explored or run.
 use Rattle.std.specs.Prelude.{◌≡◌, ◌⊎◌}
-use Rattle.kb_class.specs.declared.ids.MethodId.{MethodId}
 use Rattle.kb_names.specs.declared.types.Target.{Target}
 use Rattle.kb_link.specs.declared.linking.LinkRefusal.{LinkRefusal}
 use Rattle.kb_link.specs.World.{World}
@@ -16,5 +15,5 @@ abbrev pub ReachRefuses : World → Target → Refusal → Type 0
 ReachRefuses world target refusal = (found : LinkRefusal) × Refuses world target found × (link_refusal found ≡ Refused refusal)
 
 -- reach refuses, and directly behind it what is not built
-abbrev pub TargetRefuses : (MethodId → Type 0) → World → Target → Refusal → Type 0
-TargetRefuses Built world target refusal = ReachRefuses world target refusal ⊎ ((refusal ≡ Unbuilt) × IsUnbuilt Built world target)
+abbrev pub TargetRefuses : World → Target → Refusal → Type 0
+TargetRefuses world target refusal = ReachRefuses world target refusal ⊎ ((refusal ≡ Unbuilt) × IsUnbuilt world target)

@@ -8,7 +8,7 @@ use Rattle.kb_code.specs.declared.refusal.CodeRefusal.TheVariants as codes_of
 use Rattle.kb_names.specs.Escapes.{name_text}
 use Rattle.kb_names.specs.Targets.{target_text}
 use Rattle.kiasan.specs.declared.refusals.Refusal.{Refusal}
-use Rattle.kiasan.specs.declared.refusals.Refusal.TheVariants.{Magic, Version, Short, Tag, PoolIndex, PoolKind, CodeLength, Extra, TwoCodes, LongClass, Opcode, CutInstr, JumpTarget, Switch, HandlerRange, TwoMembers, BadName, BadDescriptor, Twice, Missing, Circle, BadSuper, SplitPackage, NoMethod, NoField, OutsideOf, Initialiser, TooMany, Unbuilt, AssemblyLine, TestLine, NoTestMethod, IllTypedTest, LongText, NoCommand, BadTarget}
+use Rattle.kiasan.specs.declared.refusals.Refusal.TheVariants.{Magic, Version, Short, Tag, PoolIndex, PoolKind, CodeLength, Extra, TwoCodes, LongClass, Opcode, CutInstr, JumpTarget, Switch, HandlerRange, TwoMembers, BadName, BadDescriptor, Twice, Missing, Circle, BadSuper, SplitPackage, NoMethod, NoField, OutsideOf, Initialiser, TooMany, Unbuilt, AssemblyLine, TestLine, NoTestMethod, IllTypedTest, LongText, NoCommand, UnknownWord, NoValue, BadNumber, OutOfRange, RepeatedOption, BadTarget, NoMethodGiven, NoTestsGiven, NoFiles, TooMuch}
 use Rattle.kiasan.specs.declared.refusals.Stop.{Stop}
 use Rattle.kiasan.specs.declared.refusals.Stop.TheVariants.{Refused, ReadFault, NoMemory}
 use Rattle.kb_test.specs.declared.reading.TestRefusal.{TestRefusal}
@@ -18,11 +18,11 @@ use Rattle.kb_link.specs.declared.linking.What.{What}
 use Rattle.kb_link.specs.declared.linking.What.TheVariants as whats
 use Rattle.kb_link.specs.declared.linking.LinkRefusal.{LinkRefusal}
 use Rattle.kb_link.specs.declared.linking.LinkRefusal.TheVariants as links
-use Rattle.kiasan.specs.declared.words.WordFault.{WordFault}
-use Rattle.kiasan.specs.declared.words.WordFault.TheVariants as faults
+use Rattle.kb_words.specs.declared.orders.WordFault.{WordFault}
+use Rattle.kb_words.specs.declared.orders.WordFault.TheVariants as faults
 use Rattle.kiasan.specs.declared.status.Status.{Status}
 use Rattle.kiasan.specs.declared.status.Status.TheVariants.{Words, Class, Link, Text, Outside}
-use Rattle.kiasan.specs.Report.{line}
+use Rattle.kiasan.specs.Texts.{line}
 use Rattle.kiasan.specs.Unbuilt.{unbuilt_status, unbuilt_line}
 
 -- the line of a refusal in the class file of a number, of one at an offset in it, and of one at an entry that is named there
@@ -76,6 +76,10 @@ method_line number name method = class_front number name ++ (codes " method " ++
 unfoldable pub instruction_front : ℕ → Target → ℕ → List ℕ
 instruction_front number target at = codes "refused " ++ (decimal number ++ (codes " " ++ (target_text target ++ (codes " at " ++ decimal at))))
 
+-- the line of a refusal at a word of the command line
+unfoldable pub word_line : ℕ → ℕ → List ℕ
+word_line number word = line (codes "refused " ∷ decimal number ∷ codes " word " ∷ decimal word ∷ [])
+
 -- what is told of an instruction that cannot be carried out
 abbrev pub what_text : What → List ℕ
 what_text (whats.Opcode op) = codes " opcode " ++ hexadecimal op
@@ -121,7 +125,16 @@ refusal_line (NoTestMethod number) = line (codes "refused 61 test " ∷ decimal 
 refusal_line (IllTypedTest number) = line (codes "refused 62 test " ∷ decimal number ∷ [])
 refusal_line LongText = line (codes "refused 63" ∷ [])
 refusal_line NoCommand = line (codes "refused 90" ∷ [])
-refusal_line (BadTarget word) = line (codes "refused 98 word " ∷ decimal word ∷ [])
+refusal_line NoTestsGiven = line (codes "refused 89" ∷ [])
+refusal_line (UnknownWord word) = word_line 91 word
+refusal_line (NoValue word) = word_line 92 word
+refusal_line (BadNumber word) = word_line 93 word
+refusal_line (OutOfRange word) = word_line 94 word
+refusal_line NoMethodGiven = line (codes "refused 95" ∷ [])
+refusal_line NoFiles = line (codes "refused 96" ∷ [])
+refusal_line (RepeatedOption word) = word_line 97 word
+refusal_line (BadTarget word) = word_line 98 word
+refusal_line TooMuch = line (codes "refused 99" ∷ [])
 
 abbrev pub refusal_status : Refusal → Status
 refusal_status (Magic file) = Class
@@ -160,12 +173,29 @@ refusal_status (IllTypedTest number) = Text
 refusal_status LongText = Text
 refusal_status NoCommand = Words
 refusal_status (BadTarget word) = Words
+refusal_status (UnknownWord word) = Words
+refusal_status (NoValue word) = Words
+refusal_status (BadNumber word) = Words
+refusal_status (OutOfRange word) = Words
+refusal_status (RepeatedOption word) = Words
+refusal_status NoMethodGiven = Words
+refusal_status NoTestsGiven = Words
+refusal_status NoFiles = Words
+refusal_status TooMuch = Words
 
 -- the refusal of words that have a fault
 abbrev pub word_refusal : WordFault → Stop
 word_refusal faults.NoCommand = Refused NoCommand
 word_refusal (faults.BadTarget word) = Refused (BadTarget word)
-word_refusal faults.Unbuilt = Refused Unbuilt
+word_refusal (faults.Unknown word) = Refused (UnknownWord word)
+word_refusal (faults.NoValue word) = Refused (NoValue word)
+word_refusal (faults.BadNumber word) = Refused (BadNumber word)
+word_refusal (faults.OutOfRange word) = Refused (OutOfRange word)
+word_refusal (faults.Repeated word) = Refused (RepeatedOption word)
+word_refusal faults.NoMethod = Refused NoMethodGiven
+word_refusal faults.NoTests = Refused NoTestsGiven
+word_refusal faults.NoFiles = Refused NoFiles
+word_refusal faults.TooMuch = Refused TooMuch
 word_refusal faults.NoMemory = NoMemory
 
 -- the refusal of the class file of that number

@@ -1,10 +1,11 @@
 -- The number with which the program ends.
 use Rattle.std.specs.Prelude.{ℕ}
 use Rattle.kiasan.specs.declared.status.Status.{Status}
-use Rattle.kiasan.specs.declared.status.Status.TheVariants.{Complete, Words, Class, Link, Outside, ReadFault, WriteFault, Memory, Text, Differs}
+use Rattle.kiasan.specs.declared.status.Status.TheVariants.{Complete, Partial, Words, Class, Link, Outside, ReadFault, WriteFault, Memory, Text, Differs}
 
 abbrev pub status_number : Status → ℕ
 status_number Complete = 0
+status_number Partial = 1
 status_number Words = 2
 status_number Class = 3
 status_number Link = 4

@@ -2,17 +2,18 @@
 
 ghost use Rattle.std.specs.Prelude.{◌≡◌, ℕ, ◌<◌, ◌≤◌, ◌^◌, ◌↔◌, List, length, map, string_bytes, IfOk, IfErr, IsErrOf};
 ghost use Rattle.kb_outside.specs.Outside.{Rose};
-ghost use Rattle.kiasan.specs.Answers.{Answers, AreRead, Carries, IsAnswer, IsBuiltOrder, IsContents, IsOf, IsRead, IsReadFault, IsReadFaultOrNoMemory, Replies, RepliesIn, RepliesOn, RepliesTo, SomeUnsound, class_limit, text_limit};
-ghost use Rattle.kiasan.specs.Orders.{classes_of, files_of, texts_of};
+ghost use Rattle.kiasan.specs.Answers.{Answers, AreRead, Carries, IsAnswer, IsContents, IsOf, IsRead, IsReadFault, IsReadFaultOrNoMemory, Replies, RepliesIn, RepliesOn, RepliesTo, SomeUnsound, class_limit, text_limit};
+ghost use Rattle.kiasan.specs.Orders.{IsBuiltOrder, classes_of, files_of, texts_of};
 
 use crate::assembly::answer_assembly;
 use crate::classes::{link_classes, read_classes};
 use crate::methods::{answer_report, answer_tests};
+use crate::orders::{classes_of, read_order, texts_of};
 use crate::refusals::{Answer, Stop, answer_refusal};
 use crate::replay::replay;
-use crate::words::{FileName, Order, read_words};
 use kb_outside::{Shelf, ShelfStop};
 use kb_rows::Row;
+use kb_words::{Order, Word};
 use kb_world::World;
 use std::alloc::Global;
 
@@ -53,7 +54,7 @@ pub fn answer_words<S: Shelf>(
 fn carry_out<S: Shelf>(alloc: Global, words: &[String], shelf: &mut S) -> Result<Answer, Stop>
     ensures { Carries (Rose (S.faults shelf.old) (S.faults shelf.new) × SomeUnsound (map string_bytes words.now) (S.sound shelf.old)) (Replies (map string_bytes words.now) (S.holds shelf.old)) result }
 {
-    let order = read_words(alloc, words)?;
+    let order = read_order(alloc, words)?;
     carry_out_order(alloc, &order, shelf)
 }
 
@@ -71,15 +72,15 @@ fn carry_out_order<S: Shelf>(alloc: Global, order: &Order, shelf: &mut S) -> Res
 fn read_contents<S: Shelf>(alloc: Global, order: &Order, shelf: &mut S) -> Result<Contents, Stop>
     ensures { IsOf (IsReadFault (S.faults shelf.old) (S.faults shelf.new) (files_of order.now) (S.sound shelf.old)) (IsRead (S.holds shelf.old) order.now) result }
 {
-    let texts = read_files(alloc, order.texts(), TEXT_LIMIT, shelf)?;
-    let classes = read_files(alloc, order.classes(), CLASS_LIMIT, shelf)?;
+    let texts = read_files(alloc, texts_of(order), TEXT_LIMIT, shelf)?;
+    let classes = read_files(alloc, classes_of(order), CLASS_LIMIT, shelf)?;
     Ok(Contents { texts, classes })
 }
 
 /// The bytes of files, each up to one more than the limit.
 fn read_files<S: Shelf>(
     alloc: Global,
-    names: &[FileName],
+    names: &[Word],
     limit: usize,
     shelf: &mut S,
 ) -> Result<Row<Row<u8>>, Stop>

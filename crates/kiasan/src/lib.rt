@@ -1,28 +1,24 @@
 //! Kiasan tells what a Java method does on every input, path by path.
+//!
+//! `specs/` has the definitions: what the program answers, stage by stage (`Answers`); which orders and methods are built
+//! (`Orders`, `Unbuilt`); what a report says of a method (`Exploring`); and the refusals with their lines (`Refusals`).
 #![tactic(auto)]
 
 mod answer;
 mod assembly;
-mod built;
 mod classes;
-mod explore;
 mod memory;
 mod methods;
-mod operations;
-mod path;
+mod orders;
 mod refusals;
 mod replay;
-mod report;
 mod reports;
-mod state;
+mod spelled;
 mod status;
-mod straight;
-mod target;
-mod term_stack;
+mod tests_text;
 mod top;
 mod unbuilt;
 mod verdicts;
-mod words;
 
 pub use status::Status;
 pub use top::kiasan;

@@ -18,8 +18,8 @@ impl<T: Drop> From<AllocFailed<T>> for NoMemory {
     }
 }
 
-impl From<kb_terms::NoMemory> for NoMemory {
-    fn from(_refusal: kb_terms::NoMemory) -> NoMemory {
+impl From<kb_frames::NoMemory> for NoMemory {
+    fn from(_refusal: kb_frames::NoMemory) -> NoMemory {
         NoMemory
     }
 }
@@ -38,6 +38,12 @@ impl From<kb_names::NoMemory> for NoMemory {
 
 impl From<kb_test::NoMemory> for NoMemory {
     fn from(_refusal: kb_test::NoMemory) -> NoMemory {
+        NoMemory
+    }
+}
+
+impl From<kb_picture::NoMemory> for NoMemory {
+    fn from(_refusal: kb_picture::NoMemory) -> NoMemory {
         NoMemory
     }
 }

@@ -3,16 +3,16 @@
 ghost use Rattle.std.specs.Prelude.{◌≡◌, ◌≢◌, ◌<◌, false, ◌++◌, [], ◌∷◌, codes, IfOk, OnOk};
 ghost use Rattle.std.specs.Fmt.{digit_glyph};
 ghost use Rattle.kb_names.specs.Targets.{target_text};
-ghost use Rattle.kiasan.specs.Refusals.{class_refusal, refusal_line, code_refusal, refusal_status, file_line, offset_line, entry_line, code_line, opcode_front, opcode_line, target_line, handler_line, pool_line, class_front, class_line, method_line, instruction_front, what_text, hexadecimal};
+ghost use Rattle.kiasan.specs.Refusals.{class_refusal, refusal_line, code_refusal, refusal_status, file_line, offset_line, entry_line, code_line, opcode_front, opcode_line, target_line, handler_line, pool_line, class_front, class_line, method_line, instruction_front, what_text, word_line, hexadecimal};
 
 use crate::memory::NoMemory;
 use crate::status::Status;
 use crate::unbuilt::{UNBUILT_LINE, UNBUILT_STATUS};
-use crate::words::WordFault;
 use kb_classfile::ClassRefusal;
 use kb_code::CodeRefusal;
 use kb_names::{Name, Target, write_name, write_target};
 use kb_test::TestRefusal;
+use kb_words::WordFault;
 use kb_world::{LinkRefusal, What};
 use std::alloc::{AllocError, AllocFailed, Global};
 
@@ -90,8 +90,26 @@ pub enum Refusal {
     LongText,
     /// There are no words.
     NoCommand,
+    /// That word is no command, no option of the command or no mode, or one too many.
+    UnknownWord(usize),
+    /// Behind that word there is none, which it needs.
+    NoValue(usize),
+    /// That word is no number.
+    BadNumber(usize),
+    /// The number of that word is too low or too high.
+    OutOfRange(usize),
+    /// The option of that word stands before.
+    RepeatedOption(usize),
     /// That word names no method.
     BadTarget(usize),
+    /// The words name no method.
+    NoMethodGiven,
+    /// The words name no file of tests.
+    NoTestsGiven,
+    /// The words name no class file.
+    NoFiles,
+    /// The paths times the budget are too many conflicts.
+    TooMuch,
 }
 
 /// Why there is no text to write, or why it is that of a refusal.
@@ -119,6 +137,16 @@ impl From<NoMemory> for Stop {
     ghost from_gives = { λ _ e. e ≡ NoMemory };
 
     fn from(_refusal: NoMemory) -> Stop {
+        Stop::NoMemory
+    }
+}
+
+impl From<kb_report::NoMemory> for Stop {
+    ghost use Rattle.kiasan.specs.declared.refusals.Stop.TheVariants.{NoMemory};
+
+    ghost from_gives = { λ _ e. e ≡ NoMemory };
+
+    fn from(_refusal: kb_report::NoMemory) -> Stop {
         Stop::NoMemory
     }
 }
@@ -151,8 +179,16 @@ impl From<WordFault> for Stop {
     fn from(fault: WordFault) -> Stop {
         match fault {
             WordFault::NoCommand => Stop::Refused(Refusal::NoCommand),
+            WordFault::Unknown(word) => Stop::Refused(Refusal::UnknownWord(word)),
+            WordFault::NoValue(word) => Stop::Refused(Refusal::NoValue(word)),
+            WordFault::BadNumber(word) => Stop::Refused(Refusal::BadNumber(word)),
+            WordFault::OutOfRange(word) => Stop::Refused(Refusal::OutOfRange(word)),
+            WordFault::Repeated(word) => Stop::Refused(Refusal::RepeatedOption(word)),
             WordFault::BadTarget(word) => Stop::Refused(Refusal::BadTarget(word)),
-            WordFault::Unbuilt => Stop::Refused(Refusal::Unbuilt),
+            WordFault::NoMethod => Stop::Refused(Refusal::NoMethodGiven),
+            WordFault::NoTests => Stop::Refused(Refusal::NoTestsGiven),
+            WordFault::NoFiles => Stop::Refused(Refusal::NoFiles),
+            WordFault::TooMuch => Stop::Refused(Refusal::TooMuch),
             WordFault::NoMemory => Stop::NoMemory,
         }
     }
@@ -291,7 +327,17 @@ fn refusal_status(refusal: &Refusal) -> Status
         | Refusal::NoTestMethod(_)
         | Refusal::IllTypedTest(_)
         | Refusal::LongText => Status::Text,
-        Refusal::NoCommand | Refusal::BadTarget(_) => Status::Words,
+        Refusal::NoCommand
+        | Refusal::UnknownWord(_)
+        | Refusal::NoValue(_)
+        | Refusal::BadNumber(_)
+        | Refusal::OutOfRange(_)
+        | Refusal::RepeatedOption(_)
+        | Refusal::BadTarget(_)
+        | Refusal::NoMethodGiven
+        | Refusal::NoTestsGiven
+        | Refusal::NoFiles
+        | Refusal::TooMuch => Status::Words,
     }
 }
 
@@ -301,6 +347,7 @@ fn refusal_line(alloc: Global, refusal: &Refusal) -> Result<Vec<u8>, NoMemory>
     match refusal_status(refusal) {
         Status::Class => class_refusal_line(alloc, refusal),
         Status::Link => link_refusal_line(alloc, refusal),
+        Status::Words => words_refusal_line(alloc, refusal),
         _ => other_refusal_line(alloc, refusal),
     }
 }
@@ -361,11 +408,12 @@ fn link_refusal_line(alloc: Global, refusal: &Refusal) -> Result<Vec<u8>, NoMemo
     }
 }
 
-/// The line of a refusal of an instruction that is reached, of what is not built, of texts or of words.
+/// The line of a refusal of an instruction that is reached, of what is not built or of texts.
 #[tactic(auto, unfolding(crate::specs::Refusals::refusal_line, crate::specs::Unbuilt::unbuilt_line))]
 fn other_refusal_line(alloc: Global, refusal: &Refusal) -> Result<Vec<u8>, NoMemory>
     requires class { refusal_status refusal.now ≢ Status.Class }
     requires link { refusal_status refusal.now ≢ Status.Link }
+    requires words { refusal_status refusal.now ≢ Status.Words }
     ensures { IfOk result (λ text. text.items ≡ refusal_line refusal.now) }
 {
     match refusal {
@@ -385,12 +433,38 @@ fn other_refusal_line(alloc: Global, refusal: &Refusal) -> Result<Vec<u8>, NoMem
             Ok(format!(in alloc; "refused 62 test {test}\n")?.into_bytes())
         }
         Refusal::LongText => Ok(String::from_str(alloc, "refused 63\n")?.into_bytes()),
-        Refusal::NoCommand => Ok(String::from_str(alloc, "refused 90\n")?.into_bytes()),
-        Refusal::BadTarget(word) => {
-            Ok(format!(in alloc; "refused 98 word {word}\n")?.into_bytes())
-        }
         _ => unreachable!(),
     }
+}
+
+/// The line of a refusal of words.
+#[tactic(auto, unfolding(crate::specs::Refusals::refusal_line))]
+fn words_refusal_line(alloc: Global, refusal: &Refusal) -> Result<Vec<u8>, NoMemory>
+    requires { refusal_status refusal.now ≡ Status.Words }
+    ensures { IfOk result (λ text. text.items ≡ refusal_line refusal.now) }
+{
+    match refusal {
+        Refusal::NoTestsGiven => Ok(String::from_str(alloc, "refused 89\n")?.into_bytes()),
+        Refusal::NoCommand => Ok(String::from_str(alloc, "refused 90\n")?.into_bytes()),
+        Refusal::UnknownWord(word) => word_line(alloc, 91, *word),
+        Refusal::NoValue(word) => word_line(alloc, 92, *word),
+        Refusal::BadNumber(word) => word_line(alloc, 93, *word),
+        Refusal::OutOfRange(word) => word_line(alloc, 94, *word),
+        Refusal::NoMethodGiven => Ok(String::from_str(alloc, "refused 95\n")?.into_bytes()),
+        Refusal::NoFiles => Ok(String::from_str(alloc, "refused 96\n")?.into_bytes()),
+        Refusal::RepeatedOption(word) => word_line(alloc, 97, *word),
+        Refusal::BadTarget(word) => word_line(alloc, 98, *word),
+        Refusal::TooMuch => Ok(String::from_str(alloc, "refused 99\n")?.into_bytes()),
+        _ => unreachable!(),
+    }
+}
+
+/// The line of a refusal at a word of the command line.
+#[tactic(auto, unfolding(crate::specs::Refusals::word_line))]
+fn word_line(alloc: Global, number: u32, word: usize) -> Result<Vec<u8>, NoMemory>
+    ensures { IfOk result (λ text. text.items ≡ word_line number word) }
+{
+    Ok(format!(in alloc; "refused {number} word {word}\n")?.into_bytes())
 }
 
 /// The line of a refusal in a class file.

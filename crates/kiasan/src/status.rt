@@ -8,6 +8,8 @@ ghost use Rattle.kiasan.specs.StatusNumber.{status_number};
 pub enum Status {
     /// What was asked for was written whole; of a replay, each test passes.
     Complete,
+    /// It was written, and some path is undecided or open.
+    Partial,
     /// The words have a fault.
     Words,
     /// A class file was refused.
@@ -35,6 +37,7 @@ impl Status {
     {
         match self {
             Status::Complete => 0,
+            Status::Partial => 1,
             Status::Words => 2,
             Status::Class => 3,
             Status::Link => 4,

@@ -1,9 +1,5 @@
 use Rattle.kiasan.proofs.AnswerLaws.{words_go}
-use Rattle.kiasan.proofs.WordsLaws.{built_order}
 use Rattle.kiasan.proofs.answer.carry_out.Goals as goal
-
-pub carry_out_order-requires : goal.carry_out_order-requires
-carry_out_order-requires g c = built_order _ c.in_ok-order.order c.in_ok-order.ensures.order
 
 pub returns : goal.returns
 returns g c =

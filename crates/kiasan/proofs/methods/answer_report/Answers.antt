@@ -1,5 +1,7 @@
+use Rattle.std.proofs.Common.{◌∙◌, ap}
 use Rattle.std.proofs.lemmas.Result.{err_from_is_err_and}
 use Rattle.kiasan.specs.Answers.{IsReportText}
+use Rattle.kiasan.specs.Exploring.{status_of}
 use Rattle.kiasan.proofs.JobLaws.{job_stops, job_ends}
 use Rattle.kiasan.proofs.methods.answer_report.Goals as goal
 
@@ -9,4 +11,5 @@ returns-in_err-report c =
     rw (p.1, p.2) (job_stops IsReportText c.args.world.now c.args.job.now c.in_err-report.field-0.0 c.in_err-report.ensures)
 
 pub returns : goal.returns
-returns c = job_ends IsReportText c.args.world.now c.args.job.now c.in_ok-report.report c.in_ok-text.text.items c.in_ok-report.ensures c.in_ok-text.ensures
+returns c =
+    job_ends IsReportText c.args.world.now c.args.job.now c.in_ok-report.report _ c.in_ok-text.text.items c.in_ok-report.ensures (c.status_of.ensures ∙ ap status_of c.as_slice.ensures) c.in_ok-text.ensures.text

@@ -1,4 +1,4 @@
-use Rattle.std.proofs.Common.{◌≡◌, [], ◌∷◌, append_assoc}
+use Rattle.std.proofs.Common.{[], ◌∷◌, append_assoc}
 use Rattle.kiasan.specs.Refusals.{hexadecimal, opcode_front, opcode_line}
 use Rattle.kiasan.proofs.refusals.opcode_line.Goals as goal
 

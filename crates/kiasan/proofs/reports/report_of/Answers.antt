@@ -1,4 +1,7 @@
+use Rattle.kiasan.proofs.JobLaws.{built_report}
 use Rattle.kiasan.proofs.reports.report_of.Goals as goal
 
-pub returns-in_default-clause-none : goal.returns-in_default-clause-none
-returns-in_default-clause-none c = λ method s. (rw c.in_default.is at c.in_ok-explored.ensures.none) method s.straight
+pub returns : goal.returns
+returns c =
+    built_report c.args.world.now c.args.job.now c.in_ok-report.report c.args.id c.in_ok-leaves.leaves c.in_ok-report.ensures.head c.in_ok-report.ensures.leaves
+    c.requires.found c.requires.accepted c.requires.built c.in_ok-leaves.ensures

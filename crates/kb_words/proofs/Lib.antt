@@ -1,0 +1,3 @@
+pub mod OneOrder
+pub mod OrderLaws
+pub mod SettingLaws

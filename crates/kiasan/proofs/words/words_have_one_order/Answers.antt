@@ -1,5 +1,0 @@
-use Rattle.kiasan.proofs.WordsLaws.{orders_one}
-use Rattle.kiasan.proofs.words.words_have_one_order.Goals as goal
-
-pub returns : goal.returns
-returns c = orders_one

@@ -1,0 +1,62 @@
+//! The orders that are built, and the files that an order reads.
+ghost use Rattle.std.specs.Prelude.{◌≡◌, IfOk, map, string_bytes};
+ghost use Rattle.kiasan.specs.Answers.{WordsRefuse};
+ghost use Rattle.kiasan.specs.Orders.{IsBuiltOrder, OrdersBuilt, classes_of, is_built, is_lazy, texts_of};
+ghost use Rattle.kiasan.specs.Refusals.{Gives};
+
+use crate::refusals::{Refusal, Stop};
+use kb_picture::Init;
+use kb_words::{Order, Word, read_words};
+use std::alloc::Global;
+use std::slice;
+
+/// What the words order, where it is built.
+#[tactic(auto, using(crate::proofs::WordsLaws::words_stop, crate::proofs::WordsLaws::not_built, crate::proofs::WordsLaws::built_order))]
+pub fn read_order(alloc: Global, words: &[String]) -> Result<Order, Stop>
+    ensures order { Gives ⊥ (WordsRefuse (map string_bytes words.now)) (OrdersBuilt (map string_bytes words.now)) result }
+    ensures built { IfOk result IsBuiltOrder }
+{
+    let order = read_words(alloc, words)?;
+    if !is_built(&order) {
+        return Err(Stop::Refused(Refusal::Unbuilt));
+    }
+    Ok(order)
+}
+
+fn is_built(order: &Order) -> bool
+    ensures { result ≡ is_built order.now }
+{
+    match order {
+        Order::Explore(job) | Order::Tests(job) => is_lazy(job.init),
+        Order::Replay(..) | Order::Assemble(_) => true,
+        Order::Diagrams(_) | Order::Sample(_) => false,
+    }
+}
+
+fn is_lazy(init: Init) -> bool
+    ensures { result ≡ is_lazy init }
+{
+    matches!(init, Init::Lazy)
+}
+
+/// The text files that are read for an order.
+pub fn texts_of(order: &Order) -> &[Word]
+    ensures { result.now ≡ texts_of order.now }
+{
+    match order {
+        Order::Replay(tests, _) => slice::from_ref(tests),
+        Order::Assemble(text) => slice::from_ref(text),
+        Order::Explore(_) | Order::Tests(_) | Order::Diagrams(_) | Order::Sample(_) => &[],
+    }
+}
+
+/// The class files that are read for an order.
+pub fn classes_of(order: &Order) -> &[Word]
+    ensures { result.now ≡ classes_of order.now }
+{
+    match order {
+        Order::Explore(job) | Order::Tests(job) | Order::Diagrams(job) => job.files.as_slice(),
+        Order::Replay(_, files) => files.as_slice(),
+        Order::Assemble(_) | Order::Sample(_) => &[],
+    }
+}

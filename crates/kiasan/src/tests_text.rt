@@ -1,0 +1,119 @@
+//! The tests of a report's paths.
+
+ghost use Rattle.std.specs.Prelude.{◌≡◌, ◌+◌, ◌++◌, ◌≤◌, IfOk, OnOk, drop, length, take};
+ghost use Rattle.kb_class.specs.declared.ids.MethodId.{MethodId};
+ghost use Rattle.kb_drive.specs.Covers.{EachPath};
+ghost use Rattle.kb_names.specs.Targets.{IsTarget};
+ghost use Rattle.kb_picture.specs.declared.path.Leaf.TheVariants.{Ended as EndedLeaf};
+ghost use Rattle.kb_test.specs.Lines.{IsRunBounds};
+ghost use Rattle.kb_test.specs.Refusals.{Appends};
+ghost use Rattle.kb_test.specs.Tests.{IsTest, SpellsTests, literal_objects};
+ghost use Rattle.kiasan.specs.Exploring.{IsCarried, path_tests, test_of, tests_of};
+ghost use Rattle.kiasan.specs.Tests.{literals_in};
+
+use crate::memory::NoMemory;
+use crate::spelled::have_texts;
+use kb_heap::{Heap, Object};
+use kb_picture::{Ended, Leaf, Path, ending_at, final_heaps_are_whole, places};
+use kb_report::Report;
+use kb_rows::Row;
+use kb_test::{FinalHeap, Test, write_test};
+use kb_world::World;
+use std::alloc::Global;
+
+/// The text of the tests of a report in its world: that of each ended path, in order. Refused for want of memory alone.
+pub fn tests_text(alloc: Global, world: &World, report: &Report) -> Result<Vec<u8>, NoMemory>
+    requires target { IsTarget report.now.target }
+    requires bounds { IsRunBounds report.now.bounds.run }
+    requires carried { (id : MethodId) × EachPath (IsCarried world.now id) report.now.leaves }
+    ensures { IfOk result (λ text. SpellsTests (literals_in world.now) (tests_of world.now report.now) text.items) }
+{
+    let mut text = Vec::new(alloc);
+    let mut rest = report.leaves.as_slice();
+    while let [path, others @ ..] = rest {
+        write_path_tests(alloc, world, report, path, &mut text)?;
+        rest = others;
+    }
+    Ok(text)
+}
+
+/// Appends the test of a path, where it has ended.
+fn write_path_tests(
+    alloc: Global,
+    world: &World,
+    report: &Report,
+    path: &Path,
+    text: &mut Vec<u8>,
+) -> Result<(), NoMemory>
+    requires target { IsTarget report.now.target }
+    requires bounds { IsRunBounds report.now.bounds.run }
+    requires carried { (id : MethodId) × IsCarried world.now id path.now }
+    ensures { OnOk result (Appends (literals_in world.now) (path_tests world.now report.now path.now path.now.leaf) text.old.items text.new.items) }
+{
+    let Leaf::Ended(ended) = &path.leaf else {
+        return Ok(());
+    };
+    let test = test_of(alloc, world, report, path, ended)?;
+    write_test(alloc, &test, world.literals(), text)?;
+    Ok(())
+}
+
+/// The test of an ended path.
+fn test_of(
+    alloc: Global,
+    world: &World,
+    report: &Report,
+    path: &Path,
+    ended: &Ended,
+) -> Result<Test, NoMemory>
+    requires target { IsTarget report.now.target }
+    requires bounds { IsRunBounds report.now.bounds.run }
+    requires leaf { path.now.leaf ≡ EndedLeaf ended.now }
+    requires carried { (id : MethodId) × IsCarried world.now id path.now }
+    ensures test { IfOk result (λ test. test ≡ test_of world.now report.now path.now ended.now) }
+    ensures is { IfOk result (IsTest (literals_in world.now)) }
+{
+    final_heaps_are_whole();
+    let Some(places) = places(alloc, path, &ended.input)? else {
+        unreachable!()
+    };
+    let (ending, heap) = ending_at(alloc, world, path, &ended.input, &places)?;
+    if !have_texts(alloc, &ended.input, &ending, &heap)? {
+        return Err(NoMemory);
+    }
+    let inputs = ended.input.heap.objects.as_slice().len();
+    Ok(Test {
+        target: report.target.copied(alloc)?,
+        bounds: report.bounds.run,
+        input: ended.input.copied(alloc)?,
+        ending,
+        heap: final_heap(alloc, &heap, inputs, world.literals())?,
+    })
+}
+
+/// The heap of a test, whose first objects are so many of the input, and the next so many literals.
+fn final_heap(
+    alloc: Global,
+    heap: &Heap,
+    inputs: usize,
+    literals: u32,
+) -> Result<FinalHeap, NoMemory>
+    requires room { inputs + literals ≤ length heap.now.objects }
+    requires parts { heap.now.objects ≡ take inputs heap.now.objects ++ (literal_objects literals ++ drop (inputs + literals) heap.now.objects) }
+    ensures { IfOk result (λ built. built ≡ heap.now) }
+{
+    let objects = heap.objects.as_slice();
+    let first = copied_objects(alloc, &objects[..inputs])?;
+    let made = copied_objects(alloc, &objects[inputs + literals as usize..])?;
+    Ok(FinalHeap::new(alloc, first, literals, made)?)
+}
+
+fn copied_objects(alloc: Global, objects: &[Object]) -> Result<Row<Object>, NoMemory>
+    ensures { IfOk result (λ copied. copied ≡ objects.now) }
+{
+    let mut copied = Row::new(alloc);
+    for object in objects {
+        copied.push(object.copied(alloc)?)?;
+    }
+    Ok(copied)
+}
