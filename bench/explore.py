@@ -1,0 +1,162 @@
+#!/usr/bin/env python3
+"""Times the exploration of methods with 2 to 12 comparisons of ints, by the built program.
+
+The method takes one int more than it has comparisons. Each comparison is of two neighbours, adds 1 to a count where the first
+is not below the second, and is a branch of its own, so that n comparisons make 2^n paths of n conditions each. Each report is
+compared with how many paths there must be.
+
+Each method is explored twice. With as many paths as there are, the solver is asked about each alternative. With `--paths 1` all
+but one are open: the same alternatives are taken and the same paths are written, and nobody is asked. So the difference of the
+two times is that of asking, which is making formulas and solving them. The time of a method without comparisons is taken off
+both, since it is that of starting the program. Where the work is in proportion to the paths times their length, the time for
+a path and a condition is about the same in each line.
+
+With --shares the exploration of 8 comparisons runs under `valgrind --tool=callgrind`, where that is there, and the shares of
+copying states, of making formulas (kb_blast) and of solving (kb_sat) in all instructions are printed.
+
+Usage: bench/explore.py [--runs N] [--program FILE] [--shares]
+Build the program first, by running ./kiasan once.
+"""
+
+import argparse
+import re
+import shutil
+import struct
+import subprocess
+import sys
+import tempfile
+import time
+from pathlib import Path
+
+from straight import ROOT, class_entry, utf8
+
+SIZES = [2, 4, 6, 8, 10, 12]
+SHARED = 8
+
+ILOAD = 0x15
+ISTORE = 0x36
+IINC = 0x84
+ICONST_0 = 0x03
+IF_ICMPLT = 0xA1
+IRETURN = 0xAC
+
+
+def target(comparisons):
+    return f"Bench.f({'I' * (comparisons + 1)})I"
+
+
+def class_file(comparisons):
+    """Class Bench with the static method f, which counts the neighbours among its arguments that do not rise."""
+    count = comparisons + 1
+    code = bytes([ICONST_0, ISTORE, count])
+    for number in range(comparisons):
+        # the branch goes over itself, of three bytes, and the iinc behind it, of three
+        code += bytes([ILOAD, number, ILOAD, number + 1, IF_ICMPLT]) + struct.pack(">h", 6) + bytes([IINC, count, 1])
+    code += bytes([ILOAD, count, IRETURN])
+    pool = [
+        utf8("Bench"),
+        class_entry(1),
+        utf8("java/lang/Object"),
+        class_entry(3),
+        utf8("f"),
+        utf8(f"({'I' * count})I"),
+        utf8("Code"),
+    ]
+    content = struct.pack(">HHI", 2, count + 1, len(code)) + code + struct.pack(">HH", 0, 0)
+    attribute = struct.pack(">HI", 7, len(content)) + content
+    method = struct.pack(">HHHH", 0x0009, 5, 6, 1) + attribute
+    return (
+        struct.pack(">IHHH", 0xCAFEBABE, 0, 52, len(pool) + 1)
+        + b"".join(pool)
+        + struct.pack(">HHHHHH", 0x0021, 2, 4, 0, 0, 1)
+        + method
+        + struct.pack(">H", 0)
+    )
+
+
+def words(program, comparisons, paths, file):
+    bounds = ["--paths", str(paths), "--budget", "400"]
+    return [str(program), "explore", "--method", target(comparisons), *bounds, str(file)]
+
+
+def total(comparisons, paths):
+    """The last line of the report, and the status that comes with it."""
+    listed = 2**comparisons
+    ended = min(paths, listed)
+    line = f"total {listed} ended {ended} cut 0 undecided 0 open {listed - ended}"
+    return line, 0 if ended == listed else 1
+
+
+def timed_run(program, comparisons, paths, file):
+    before = time.perf_counter()
+    run = subprocess.run(words(program, comparisons, paths, file), stdin=subprocess.DEVNULL, capture_output=True)
+    took = time.perf_counter() - before
+    last = run.stdout.decode().rstrip("\n").rpartition("\n")[2]
+    if (last, run.returncode) != total(comparisons, paths):
+        sys.exit(f"{comparisons} comparisons, {paths} paths: status {run.returncode}, and the report ends with {last!r}")
+    return took
+
+
+def print_times(program, folder, runs):
+    files = {size: folder / f"Bench{size}.class" for size in [0] + SIZES}
+    for size, file in files.items():
+        file.write_bytes(class_file(size))
+    asked = {size: [] for size in files}
+    open_alone = {size: [] for size in files}
+    for _ in range(runs):
+        for size, file in files.items():
+            asked[size].append(timed_run(program, size, 2**size, file))
+            open_alone[size].append(timed_run(program, size, 1, file))
+    start = min(asked[0])
+    print(f"{'comparisons':>11} {'paths':>6} {'least ms':>10} {'paths/s':>9} {'us/path/condition':>18} {'nobody asked ms':>16} {'asking':>7}")
+    for size in SIZES:
+        whole = min(asked[size]) - start
+        walk = max(min(open_alone[size]) - start, 0)
+        paths = 2**size
+        print(
+            f"{size:>11} {paths:>6} {whole * 1e3:>10.2f} {paths / whole:>9.0f} {whole / paths / size * 1e6:>18.2f}"
+            f" {walk * 1e3:>16.2f} {1 - walk / whole:>7.0%}"
+        )
+
+
+SHARES = {
+    "copying states": re.compile(r"SymState.*copy|Piece.*copied"),
+    "making formulas": re.compile(r"kb_blast"),
+    "solving": re.compile(r"kb_sat"),
+}
+
+
+def print_shares(program, folder):
+    if not shutil.which("valgrind"):
+        sys.exit("valgrind is not there")
+    file = folder / "Shared.class"
+    file.write_bytes(class_file(SHARED))
+    counts = folder / "counts"
+    run = ["valgrind", "--tool=callgrind", f"--callgrind-out-file={counts}"] + words(program, SHARED, 2**SHARED, file)
+    subprocess.run(run, stdin=subprocess.DEVNULL, capture_output=True, check=True)
+    told = subprocess.run(["callgrind_annotate", "--inclusive=yes", "--threshold=100", str(counts)], capture_output=True, check=True)
+    lines = [line.split(None, 1) for line in told.stdout.decode(errors="replace").splitlines()]
+    rows = [(int(line[0].replace(",", "")), line[1]) for line in lines if len(line) == 2 and line[0].replace(",", "").isdigit()]
+    whole = max(count for count, _ in rows)
+    print(f"of {whole:,} instructions with {SHARED} comparisons:")
+    for name, pattern in SHARES.items():
+        most = max((count for count, text in rows if pattern.search(text)), default=0)
+        print(f"{name:>16} {most / whole:>6.1%}")
+
+
+def main():
+    options = argparse.ArgumentParser(description="Times the exploration of methods with comparisons of ints.")
+    options.add_argument("--runs", type=int, default=5, help="runs of each method (5)")
+    options.add_argument("--program", type=Path, default=ROOT / "build" / "kiasan", help="the built program")
+    options.add_argument("--shares", action="store_true", help="print the shares of copying, making formulas and solving")
+    given = options.parse_args()
+    if not given.program.is_file():
+        sys.exit(f"{given.program} is not there: run ./kiasan once")
+    with tempfile.TemporaryDirectory() as folder:
+        print_times(given.program.resolve(), Path(folder), given.runs)
+        if given.shares:
+            print_shares(given.program.resolve(), Path(folder))
+
+
+if __name__ == "__main__":
+    main()
