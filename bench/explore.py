@@ -5,11 +5,8 @@ The method takes one int more than it has comparisons. Each comparison is of two
 is not below the second, and is a branch of its own, so that n comparisons make 2^n paths of n conditions each. Each report is
 compared with how many paths there must be.
 
-Each method is explored twice. With as many paths as there are, the solver is asked about each alternative. With `--paths 1` all
-but one are open: the same alternatives are taken and the same paths are written, and nobody is asked. So the difference of the
-two times is that of asking, which is making formulas and solving them. The time of a method without comparisons is taken off
-both, since it is that of starting the program. Where the work is in proportion to the paths times their length, the time for
-a path and a condition is about the same in each line.
+Times are of the processor. That of a method without comparisons is taken off, since it is that of starting the program. Where the work is in proportion
+to the paths times their length, the time for a path and a condition grows only as the formulas of the questions do.
 
 With --shares the exploration of 8 comparisons runs under `valgrind --tool=callgrind`, where that is there, and the shares of
 copying states, of making formulas (kb_blast) and of solving (kb_sat) in all instructions are printed.
@@ -20,12 +17,12 @@ Build the program first, by running ./kiasan once.
 
 import argparse
 import re
+import resource
 import shutil
 import struct
 import subprocess
 import sys
 import tempfile
-import time
 from pathlib import Path
 
 from straight import ROOT, class_entry, utf8
@@ -79,21 +76,15 @@ def words(program, comparisons, paths, file):
     return [str(program), "explore", "--method", target(comparisons), *bounds, str(file)]
 
 
-def total(comparisons, paths):
-    """The last line of the report, and the status that comes with it."""
-    listed = 2**comparisons
-    ended = min(paths, listed)
-    line = f"total {listed} ended {ended} cut 0 undecided 0 open {listed - ended}"
-    return line, 0 if ended == listed else 1
-
-
-def timed_run(program, comparisons, paths, file):
-    before = time.perf_counter()
+def timed_run(program, comparisons, file):
+    paths = 2**comparisons
+    before = resource.getrusage(resource.RUSAGE_CHILDREN)
     run = subprocess.run(words(program, comparisons, paths, file), stdin=subprocess.DEVNULL, capture_output=True)
-    took = time.perf_counter() - before
+    after = resource.getrusage(resource.RUSAGE_CHILDREN)
+    took = after.ru_utime + after.ru_stime - before.ru_utime - before.ru_stime
     last = run.stdout.decode().rstrip("\n").rpartition("\n")[2]
-    if (last, run.returncode) != total(comparisons, paths):
-        sys.exit(f"{comparisons} comparisons, {paths} paths: status {run.returncode}, and the report ends with {last!r}")
+    if run.returncode != 0 or last != f"total {paths} ended {paths} cut 0 undecided 0 open 0":
+        sys.exit(f"{comparisons} comparisons: status {run.returncode}, and the report ends with {last!r}")
     return took
 
 
@@ -101,22 +92,16 @@ def print_times(program, folder, runs):
     files = {size: folder / f"Bench{size}.class" for size in [0] + SIZES}
     for size, file in files.items():
         file.write_bytes(class_file(size))
-    asked = {size: [] for size in files}
-    open_alone = {size: [] for size in files}
+    seconds = {size: [] for size in files}
     for _ in range(runs):
         for size, file in files.items():
-            asked[size].append(timed_run(program, size, 2**size, file))
-            open_alone[size].append(timed_run(program, size, 1, file))
-    start = min(asked[0])
-    print(f"{'comparisons':>11} {'paths':>6} {'least ms':>10} {'paths/s':>9} {'us/path/condition':>18} {'nobody asked ms':>16} {'asking':>7}")
+            seconds[size].append(timed_run(program, size, file))
+    start = min(seconds[0])
+    print(f"{'comparisons':>11} {'paths':>6} {'least ms':>10} {'paths/s':>9} {'us/path/condition':>18}")
     for size in SIZES:
-        whole = min(asked[size]) - start
-        walk = max(min(open_alone[size]) - start, 0)
+        whole = min(seconds[size]) - start
         paths = 2**size
-        print(
-            f"{size:>11} {paths:>6} {whole * 1e3:>10.2f} {paths / whole:>9.0f} {whole / paths / size * 1e6:>18.2f}"
-            f" {walk * 1e3:>16.2f} {1 - walk / whole:>7.0%}"
-        )
+        print(f"{size:>11} {paths:>6} {whole * 1e3:>10.2f} {paths / whole:>9.0f} {whole / paths / size * 1e6:>18.2f}")
 
 
 SHARES = {
