@@ -5,10 +5,11 @@ The method takes one int more than it has comparisons. Each comparison is of two
 is not below the second, and is a branch of its own, so that n comparisons make 2^n paths of n conditions each. Each report is
 compared with how many paths there must be.
 
-Times are of the processor. That of a method without comparisons is taken off, since it is that of starting the program. Where the work is in proportion
-to the paths times their length, the time for a path and a condition grows only as the formulas of the questions do.
+Times are of the processor. That of a method without comparisons is taken off, since it is that of starting the program. Where
+the work is in proportion to the paths times their length, the time for a path and a condition grows only as the formulas of
+the questions do.
 
-With --shares the exploration of 8 comparisons runs under `valgrind --tool=callgrind`, where that is there, and the shares of
+With --shares the exploration of 6 comparisons runs under `valgrind --tool=callgrind`, where that is there, and the shares of
 copying states, of making formulas (kb_blast) and of solving (kb_sat) in all instructions are printed.
 
 Usage: bench/explore.py [--runs N] [--program FILE] [--shares]
@@ -28,7 +29,7 @@ from pathlib import Path
 from straight import ROOT, class_entry, utf8
 
 SIZES = [2, 4, 6, 8, 10, 12]
-SHARED = 8
+SHARED = 6
 
 ILOAD = 0x15
 ISTORE = 0x36
@@ -104,10 +105,11 @@ def print_times(program, folder, runs):
         print(f"{size:>11} {paths:>6} {whole * 1e3:>10.2f} {paths / whole:>9.0f} {whole / paths / size * 1e6:>18.2f}")
 
 
+# of the first the parts of a state are copied one by one; the others are calls that contain all below them
 SHARES = {
-    "copying states": re.compile(r"SymState.*copy|Piece.*copied"),
-    "making formulas": re.compile(r"kb_blast"),
-    "solving": re.compile(r"kb_sat"),
+    "copying states": (re.compile(r"kb_(frames|picture)::.*::cop(y|ied)"), sum),
+    "making formulas": (re.compile(r"kb_blast::"), max),
+    "solving": (re.compile(r"kb_sat::"), max),
 }
 
 
@@ -124,9 +126,9 @@ def print_shares(program, folder):
     rows = [(int(line[0].replace(",", "")), line[1]) for line in lines if len(line) == 2 and line[0].replace(",", "").isdigit()]
     whole = max(count for count, _ in rows)
     print(f"of {whole:,} instructions with {SHARED} comparisons:")
-    for name, pattern in SHARES.items():
-        most = max((count for count, text in rows if pattern.search(text)), default=0)
-        print(f"{name:>16} {most / whole:>6.1%}")
+    for name, (pattern, joined) in SHARES.items():
+        counts_of = [count for count, text in rows if pattern.search(text)]
+        print(f"{name:>16} {joined(counts_of or [0]) / whole:>6.2%}")
 
 
 def main():
