@@ -68,11 +68,37 @@ impl<T: Drop> From<AllocFailed<T>> for Stop {
 }
 """
 
+DIGITS = """\
+fn bytes_of(alloc: Global, digits: &[u8]) -> Result<Vec<u8>, Stop> {
+    let mut bytes = Vec::new(alloc);
+    let mut high = None;
+    for digit in digits {
+        match high {
+            None => high = Some(value_of(*digit)),
+            Some(first) => {
+                bytes.push(first << 4 | value_of(*digit))?;
+                high = None;
+            }
+        }
+    }
+    Ok(bytes)
+}
+
+fn value_of(digit: u8) -> u8 {
+    match digit {
+        b'0'..=b'9' => digit - b'0',
+        b'a'..=b'f' => digit - b'a' + 10,
+        _ => 0,
+    }
+}
+"""
+
 
 def with_main(source, arms):
-    """The source with the `main` that prints the Option which its `answer` gives, what `main` uses, and `Stop`, where it asks for
-    them. The arms print the Option."""
-    return source.replace("@USES@\n", USES).replace("@MAIN@\n", MAIN.replace("@ARMS@", arms)).replace("@STOP@\n", STOP)
+    """The source with the `main` that prints the Option which its `answer` gives, what `main` uses, `Stop`, and the bytes that
+    digits spell, where it asks for them. The arms print the Option."""
+    source = source.replace("@USES@\n", USES).replace("@MAIN@\n", MAIN.replace("@ARMS@", arms))
+    return source.replace("@STOP@\n", STOP).replace("@DIGITS@\n", DIGITS)
 
 
 def with_those_below(line):

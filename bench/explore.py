@@ -26,7 +26,7 @@ import sys
 import tempfile
 from pathlib import Path
 
-from straight import ROOT, class_entry, utf8
+from straight import ROOT, class_of
 
 SIZES = [2, 4, 6, 8, 10, 12]
 SHARED = 6
@@ -51,25 +51,7 @@ def class_file(comparisons):
         # the branch goes over itself, of three bytes, and the iinc behind it, of three
         code += bytes([ILOAD, number, ILOAD, number + 1, IF_ICMPLT]) + struct.pack(">h", 6) + bytes([IINC, count, 1])
     code += bytes([ILOAD, count, IRETURN])
-    pool = [
-        utf8("Bench"),
-        class_entry(1),
-        utf8("java/lang/Object"),
-        class_entry(3),
-        utf8("f"),
-        utf8(f"({'I' * count})I"),
-        utf8("Code"),
-    ]
-    content = struct.pack(">HHI", 2, count + 1, len(code)) + code + struct.pack(">HH", 0, 0)
-    attribute = struct.pack(">HI", 7, len(content)) + content
-    method = struct.pack(">HHHH", 0x0009, 5, 6, 1) + attribute
-    return (
-        struct.pack(">IHHH", 0xCAFEBABE, 0, 52, len(pool) + 1)
-        + b"".join(pool)
-        + struct.pack(">HHHHHH", 0x0021, 2, 4, 0, 0, 1)
-        + method
-        + struct.pack(">H", 0)
-    )
+    return class_of(code, f"({'I' * count})I", 2, count + 1)
 
 
 def words(program, comparisons, paths, file):

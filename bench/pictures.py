@@ -207,28 +207,7 @@ fn world_in(alloc: Global, digits: &[u8]) -> Result<World, Stop> {
     }
 }
 
-fn bytes_of(alloc: Global, digits: &[u8]) -> Result<Vec<u8>, Stop> {
-    let mut bytes = Vec::new(alloc);
-    let mut high = None;
-    for digit in digits {
-        match high {
-            None => high = Some(value_of(*digit)),
-            Some(first) => {
-                bytes.push(first << 4 | value_of(*digit))?;
-                high = None;
-            }
-        }
-    }
-    Ok(bytes)
-}
-
-fn value_of(digit: u8) -> u8 {
-    match digit {
-        b'0'..=b'9' => digit - b'0',
-        b'a'..=b'f' => digit - b'a' + 10,
-        _ => 0,
-    }
-}
+@DIGITS@
 
 fn node(alloc: Global) -> Result<ExactType, Stop> {
     Ok(ExactType::Class(Name::from_vec(b"Node".to_vec(alloc)?)))

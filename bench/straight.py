@@ -42,24 +42,23 @@ def string_entry(text):
     return struct.pack(">BH", 8, text)
 
 
-def class_file(sums, literals=0):
-    """The bytes of class Bench with the static method f, which adds its second argument so many times.
+def class_of(code, kind, stack, local, literals=0):
+    """The bytes of class Bench with the static method f of that descriptor, code and most stack and locals.
 
     The class holds so many string literals, which f does not use.
     """
-    code = bytes([ILOAD_0]) + bytes([ILOAD_1, IADD]) * sums + bytes([IRETURN])
     pool = [
         utf8("Bench"),
         class_entry(1),
         utf8("java/lang/Object"),
         class_entry(3),
         utf8("f"),
-        utf8("(II)I"),
+        utf8(kind),
         utf8("Code"),
     ]
     for number in range(literals):
         pool += [utf8(f"literal {number}"), string_entry(len(pool) + 1)]
-    content = struct.pack(">HHI", 2, 2, len(code)) + code + struct.pack(">HH", 0, 0)
+    content = struct.pack(">HHI", stack, local, len(code)) + code + struct.pack(">HH", 0, 0)
     attribute = struct.pack(">HI", 7, len(content)) + content
     method = struct.pack(">HHHH", 0x0009, 5, 6, 1) + attribute
     return (
@@ -69,6 +68,12 @@ def class_file(sums, literals=0):
         + method
         + struct.pack(">H", 0)
     )
+
+
+def class_file(sums, literals=0):
+    """Class Bench with the static method f, which adds its second argument so many times, and with so many literals."""
+    code = bytes([ILOAD_0]) + bytes([ILOAD_1, IADD]) * sums + bytes([IRETURN])
+    return class_of(code, "(II)I", 2, 2, literals)
 
 
 def report(sums):
