@@ -17,15 +17,14 @@ Build the program first, by running ./kiasan once.
 """
 
 import argparse
-import re
 import resource
-import shutil
 import struct
 import subprocess
 import sys
 import tempfile
 from pathlib import Path
 
+from shares import COPYING, FORMULAS, SOLVING, shares_of
 from straight import ROOT, class_of
 
 SIZES = [2, 4, 6, 8, 10, 12]
@@ -87,30 +86,14 @@ def print_times(program, folder, runs):
         print(f"{size:>11} {paths:>6} {whole * 1e3:>10.2f} {paths / whole:>9.0f} {whole / paths / size * 1e6:>18.2f}")
 
 
-# of the first the parts of a state are copied one by one; the others are calls that contain all below them
-SHARES = {
-    "copying states": (re.compile(r"kb_(frames|picture)::.*::cop(y|ied)"), sum),
-    "making formulas": (re.compile(r"kb_blast::"), max),
-    "solving": (re.compile(r"kb_sat::"), max),
-}
-
-
 def print_shares(program, folder):
-    if not shutil.which("valgrind"):
-        sys.exit("valgrind is not there")
     file = folder / "Shared.class"
     file.write_bytes(class_file(SHARED))
-    counts = folder / "counts"
-    run = ["valgrind", "--tool=callgrind", f"--callgrind-out-file={counts}"] + words(program, SHARED, 2**SHARED, file)
-    subprocess.run(run, stdin=subprocess.DEVNULL, capture_output=True, check=True)
-    told = subprocess.run(["callgrind_annotate", "--inclusive=yes", "--threshold=100", str(counts)], capture_output=True, check=True)
-    lines = [line.split(None, 1) for line in told.stdout.decode(errors="replace").splitlines()]
-    rows = [(int(line[0].replace(",", "")), line[1]) for line in lines if len(line) == 2 and line[0].replace(",", "").isdigit()]
-    whole = max(count for count, _ in rows)
+    patterns = {"copying states": COPYING, "making formulas": FORMULAS, "solving": SOLVING}
+    whole, shares = shares_of(words(program, SHARED, 2**SHARED, file), patterns)
     print(f"of {whole:,} instructions with {SHARED} comparisons:")
-    for name, (pattern, joined) in SHARES.items():
-        counts_of = [count for count, text in rows if pattern.search(text)]
-        print(f"{name:>16} {joined(counts_of or [0]) / whole:>6.2%}")
+    for name, share in shares.items():
+        print(f"{name:>16} {share:>6.2%}")
 
 
 def main():

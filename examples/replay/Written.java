@@ -1,5 +1,4 @@
 import java.lang.reflect.Array;
-import java.lang.reflect.Constructor;
 import java.lang.reflect.Field;
 import java.lang.reflect.InvocationTargetException;
 import java.lang.reflect.Method;
@@ -12,6 +11,8 @@ import java.nio.file.Path;
 import java.util.ArrayList;
 import java.util.Arrays;
 import java.util.List;
+import java.util.regex.Pattern;
+import sun.misc.Unsafe;
 
 /**
  * Writes tests whose ends are those of the Java virtual machine that runs this.
@@ -30,9 +31,13 @@ class Written {
         this.classes = classes;
     }
 
-    /** The words are the file of tests and the folder of the class files. */
+    /** The words are the file of tests and the folders of the class files. */
     public static void main(String[] words) throws Exception {
-        ClassLoader classes = new URLClassLoader(new URL[] {Path.of(words[1]).toUri().toURL()}, null);
+        URL[] folders = new URL[words.length - 1];
+        for (int i = 0; i < folders.length; i++) {
+            folders[i] = Path.of(words[i + 1]).toUri().toURL();
+        }
+        ClassLoader classes = new URLClassLoader(folders, null);
         List<String> test = new ArrayList<>();
         for (String line : Files.readAllLines(Path.of(words[0]))) {
             if (line.equals("end")) {
@@ -48,16 +53,20 @@ class Written {
         test.forEach(System.out::println);
         List<String[]> objects = test.stream().filter(line -> line.startsWith("in ")).map(line -> line.split(" ")).toList();
         for (String[] words : objects) {
-            inputs.add(empty(words[2], words.length - 3));
+            inputs.add(empty(plain(words[2]), words.length - 3));
         }
         for (int i = 0; i < objects.size(); i++) {
             fill(inputs.get(i), Arrays.copyOfRange(objects.get(i), 3, objects.get(i).length));
         }
-        Method method = method(test.get(0).substring("test ".length()));
+        Method method = method(plain(test.get(0).substring("test ".length())));
+        List<Class<?>> types = new ArrayList<>(Arrays.asList(method.getParameterTypes()));
+        if (!Modifier.isStatic(method.getModifiers())) {
+            types.add(0, method.getDeclaringClass());
+        }
         List<Object> args = new ArrayList<>();
         for (String line : test) {
             if (line.startsWith("arg ")) {
-                args.add(value(line.substring("arg ".length())));
+                args.add(value(line.substring("arg ".length()), types.get(args.size())));
             }
         }
         System.out.println(ending(method, args));
@@ -85,27 +94,31 @@ class Written {
         if (type.startsWith("[")) {
             return Array.newInstance(MethodType.fromMethodDescriptorString("()" + type.substring(1), classes).returnType(), length);
         }
-        Constructor<?> constructor = classes.loadClass(type.replace('/', '.')).getDeclaredConstructor();
-        constructor.setAccessible(true);
-        return constructor.newInstance();
+        // no constructor is run, and a class may have none
+        Field unsafe = Unsafe.class.getDeclaredField("theUnsafe");
+        unsafe.setAccessible(true);
+        return ((Unsafe) unsafe.get(null)).allocateInstance(classes.loadClass(type.replace('/', '.')));
     }
 
     private void fill(Object object, String[] words) throws Exception {
         if (object.getClass().isArray()) {
             for (int i = 0; i < words.length; i++) {
-                Array.set(object, i, value(words[i]));
+                Array.set(object, i, value(words[i], object.getClass().getComponentType()));
             }
             return;
         }
         List<Field> slots = slots(object.getClass());
         for (int i = 0; i < words.length; i++) {
-            slots.get(i).set(object, value(words[i]));
+            slots.get(i).set(object, value(words[i], slots.get(i).getType()));
         }
     }
 
-    private Object value(String word) {
+    private Object value(String word, Class<?> type) {
         if (word.equals("null")) {
             return null;
+        }
+        if (type == boolean.class) {
+            return word.equals("1");
         }
         return word.startsWith("i") ? inputs.get(Integer.parseInt(word.substring(1))) : (Object) Integer.valueOf(word);
     }
@@ -164,6 +177,11 @@ class Written {
             }
         }
         return -1;
+    }
+
+    /** A text whose bytes are no longer spelled as % with two digits in base 16. */
+    private static String plain(String text) {
+        return Pattern.compile("%(..)").matcher(text).replaceAll(m -> Character.toString(Integer.parseInt(m.group(1), 16)));
     }
 
     private static String type(Class<?> of) {

@@ -12,10 +12,13 @@ use kb_oracle::ToldOracle;
 use kb_picture::{Init, Path};
 use kb_report::Report;
 use kb_rows::Row;
-use kb_stepint::is_int_method;
+use kb_stepref::is_heap_method;
 use kb_world::World;
 use std::alloc::Global;
 use std::io;
+
+/// The most that a row's bound on arrays may be.
+const LONGEST_ARRAY: u32 = 16;
 
 /// Appends a line with the row, and those of its exploration.
 pub fn append_row(alloc: Global, world: &World, line: &str, into: &mut Vec<u8>) -> io::Result<()> {
@@ -42,7 +45,7 @@ fn append_exploration(
     append_counts(alloc, oracle, into)
 }
 
-/// The paths of a method over ints, or why there is no list of them.
+/// The paths of a method over ints and heaps, or why there is no list of them.
 fn explored(
     alloc: Global,
     world: &World,
@@ -52,10 +55,10 @@ fn explored(
 ) -> io::Result<Result<Row<Path>, DriveStop>>
     requires { IsAccepted world.now method }
 {
-    if row.paths == 0 {
+    if row.paths == 0 || row.bounds.array > LONGEST_ARRAY {
         return Err(malformed());
     }
-    if !is_int_method(world, method) {
+    if !is_heap_method(world, method) {
         return Err(malformed());
     }
     let Ok(state) = start(alloc, world, method, Init::Lazy) else {

@@ -34,7 +34,7 @@ no_path : {A : Type 0} (i : ℕ) (x : A) → slice_get [] i ≡ Some x → ⊥
 no_path i x e = absurd cc
 
 module _ (world : World) (bounds : Bounds) (paths budget : ℕ) (piece : Piece) (is : IsPiece world piece.state.method bounds piece)
-    (explorable : IsExplorable world piece.state.method) (leads : StepsLead world bounds piece.state) where
+    (explorable : IsExplorable world piece.state.method bounds) (leads : StepsLead world bounds piece.state) where
   abbrev first_walk : List Choice → Walk
   first_walk choices = walk_with (no_walk piece.state.method paths) (waits_at piece choices)
 

@@ -11,7 +11,6 @@ use Rattle.kb_names.specs.declared.types.JType.TheVariants as types
 use Rattle.kb_semantics.specs.Comparisons.{table_keys}
 use Rattle.kb_semantics.specs.Config.{class_number, has_room, instruction_at, max_locals_of, result_of}
 use Rattle.kb_semantics.specs.Ways.{counted}
-use Rattle.kb_terms.specs.declared.listing.Operand.TheVariants.{Term as TermOperand}
 use Rattle.kb_terms.specs.declared.node.Node.{Node}
 use Rattle.kb_terms.specs.declared.node.Node.TheVariants.{Const}
 use Rattle.kb_terms.specs.declared.node.TermId.{TermId}
@@ -29,6 +28,7 @@ use Rattle.kb_frames.specs.declared.value.SymValue.TheVariants.{Int, Null, Obj, 
 use Rattle.kb_frames.specs.Lent.{begun, begun_stage, stack_of, transfers_of, with_nodes}
 use Rattle.kb_frames.specs.Making.{new_sym_object, with_made}
 use Rattle.kb_frames.specs.Next.{argument_next, method_now, offset_now}
+use Rattle.kb_frames.specs.StandsFor.{out_of}
 use Rattle.kb_frames.specs.State.{State}
 use Rattle.kb_frames.specs.States.{Each, IsOutIn, IsStage, IsSymValue}
 use Rattle.kb_stepint.specs.Asked.{all_asked}
@@ -64,28 +64,27 @@ begun_top world state (Runs frame callers) t is e = top_in world state frame.sta
 
 -- ---- ways out of the method
 
--- what is returned is an int of the pool
-abbrev ReturnsIn : List Node → Option SymValue → Type 0
-ReturnsIn nodes None = Unit {0}
-ReturnsIn nodes (Some (Int t)) = IsTerm nodes t
-ReturnsIn nodes (Some _) = ⊥
+-- what is returned is there in the state
+abbrev ReturnsIn : World → State → Option SymValue → Type 0
+ReturnsIn world state None = Unit {0}
+ReturnsIn world state (Some value) = IsOutIn world state (length state.made) (out_of value)
 
-abbrev LeavesIn : List Node → Way → Type 0
-LeavesIn nodes (WayGoes locals stack) = Unit {0}
-LeavesIn nodes (Jumps target stack) = Unit {0}
-LeavesIn nodes (Leaves value) = ReturnsIn nodes value
-LeavesIn nodes (Throws class) = Unit {0}
-LeavesIn nodes Fails = Unit {0}
-
-abbrev PlanLeaves : Planned → Type 0
-PlanLeaves plan = LeavesIn plan.nodes plan.way
+abbrev pub LeavesIn : World → State → Way → Type 0
+LeavesIn world state (WayGoes locals stack) = Unit {0}
+LeavesIn world state (Jumps target stack) = Unit {0}
+LeavesIn world state (Leaves value) = ReturnsIn world state value
+LeavesIn world state (Throws class) = Unit {0}
+LeavesIn world state Fails = Unit {0}
 
 module _ (world : World) (state : State) (top : (t : TermId) → one_int (stack_of state.stage) ≡ Some t → IsTerm state.nodes t) where
+  abbrev PlanLeaves : Planned → Type 0
+  PlanLeaves plan = LeavesIn world (with_nodes state plan.nodes) plan.way
+
   planned_leaves : {A : Type 0} (it : Option A) (f : A → Planned) → ((x : A) → PlanLeaves (f x)) → PlanLeaves (planned state it f)
   planned_leaves it f h = option_has PlanLeaves it f (plain state Fails) h tt
 
-  local_leaves : (nodes : List Node) (k : ℕ) (t : TermId) (stack : List SymValue) → LeavesIn nodes (in_local world state k t stack)
-  local_leaves nodes k t stack = if_has (LeavesIn nodes) (nat_lt k (max_locals_of world (method_now state.method state.stage))) _ _ tt tt
+  local_leaves : (nodes : List Node) (k : ℕ) (t : TermId) (stack : List SymValue) → LeavesIn world (with_nodes state nodes) (in_local world state k t stack)
+  local_leaves nodes k t stack = if_has (LeavesIn world (with_nodes state nodes)) (nat_lt k (max_locals_of world (method_now state.method state.stage))) _ _ tt tt
 
   rearranges_leaves : (depth : ℕ) (picks : List ℕ) → PlanLeaves (rearranges state depth picks)
   rearranges_leaves depth picks = planned_leaves (picked depth picks (stack_of state.stage)) _ (λ stack. tt)
@@ -94,13 +93,13 @@ module _ (world : World) (state : State) (top : (t : TermId) → one_int (stack_
   computes_by_leaves op t choices.Zero = tt
   computes_by_leaves op t _ = tt
 
-  branch_leaves : (target : ℕ) (rest : List SymValue) (choice : Choice) → LeavesIn state.nodes (branch_way state target rest choice)
+  branch_leaves : (target : ℕ) (rest : List SymValue) (choice : Choice) → LeavesIn world state (branch_way state target rest choice)
   branch_leaves target rest (choices.Branch true) = tt
   branch_leaves target rest (choices.Branch false) = tt
   branch_leaves target rest _ = tt
 
-  switch_leaves : (keys : List (ℤ × ℕ)) (default : ℕ) (rest : List SymValue) (choice : Choice) → LeavesIn state.nodes (switch_way keys default rest choice)
-  switch_leaves keys default rest (choices.Key place) = option_has (LeavesIn state.nodes) (slice_get keys place) (λ (key : ℤ × ℕ). Jumps key.1 rest) Fails (λ key. tt) tt
+  switch_leaves : (keys : List (ℤ × ℕ)) (default : ℕ) (rest : List SymValue) (choice : Choice) → LeavesIn world state (switch_way keys default rest choice)
+  switch_leaves keys default rest (choices.Key place) = option_has (LeavesIn world state) (slice_get keys place) (λ (key : ℤ × ℕ). Jumps key.1 rest) Fails (λ key. tt) tt
   switch_leaves keys default rest choices.Default = tt
   switch_leaves keys default rest _ = tt
 
@@ -136,15 +135,15 @@ module _ (world : World) (state : State) (top : (t : TermId) → one_int (stack_
   plan_leaves choice instrs.Neg = planned_leaves (one_int (stack_of state.stage)) _ (λ t. tt)
   plan_leaves choice (instrs.Narrow cut) = planned_leaves (one_int (stack_of state.stage)) _ (λ t. tt)
   plan_leaves choice (instrs.IfInt cond target) =
-      if_has (LeavesIn state.nodes) (is_some (one_int (stack_of state.stage))) _ _ (branch_leaves target _ choice) tt
+      if_has (LeavesIn world state) (is_some (one_int (stack_of state.stage))) _ _ (branch_leaves target _ choice) tt
   plan_leaves choice (instrs.IfPair cond target) =
-      if_has (LeavesIn state.nodes) (is_some (two_ints (stack_of state.stage))) _ _ (branch_leaves target _ choice) tt
+      if_has (LeavesIn world state) (is_some (two_ints (stack_of state.stage))) _ _ (branch_leaves target _ choice) tt
   plan_leaves choice (instrs.Table low default targets) =
-      if_has (LeavesIn state.nodes) (is_some (one_int (stack_of state.stage))) _ _ (switch_leaves (table_keys low targets) default _ choice) tt
+      if_has (LeavesIn world state) (is_some (one_int (stack_of state.stage))) _ _ (switch_leaves (table_keys low targets) default _ choice) tt
   plan_leaves choice (instrs.Lookup default keys) =
-      if_has (LeavesIn state.nodes) (is_some (one_int (stack_of state.stage))) _ _ (switch_leaves keys default _ choice) tt
+      if_has (LeavesIn world state) (is_some (one_int (stack_of state.stage))) _ _ (switch_leaves keys default _ choice) tt
   plan_leaves choice instrs.ReturnInt = returns_leaves (one_int (stack_of state.stage)) refl
-  plan_leaves choice instrs.Return = if_has (LeavesIn state.nodes) (is_some (result_of world (method_now state.method state.stage))) _ _ tt tt
+  plan_leaves choice instrs.Return = if_has (LeavesIn world state) (is_some (result_of world (method_now state.method state.stage))) _ _ tt tt
   plan_leaves choice _ = tt
 
 -- ---- endings
@@ -155,20 +154,15 @@ one_out world state made value there zero out e = let same : value ≡ out = cc 
 one_out world state made value there (suc i) out e = absurd cc
 
 module _ (world : World) (bounds : Bounds) where
-  abbrev Ending : Take → Type 0
+  abbrev pub Ending : Take → Type 0
   Ending take = EndsIn world take.state take.outcome
 
-  ill_ends : (state : State) → Ending (ill_typed world state)
+  pub ill_ends : (state : State) → Ending (ill_typed world state)
   ill_ends state = record { outs = λ i out at. absurd cc; thrown = tt }
 
-  returned_ends : (state : State) (value : Option SymValue) → ReturnsIn state.nodes value → Ending (went world bounds 0 state (Leaves value))
+  returned_ends : (state : State) (value : Option SymValue) → ReturnsIn world state value → Ending (went world bounds 0 state (Leaves value))
   returned_ends state None there = record { outs = λ i out at. absurd cc; thrown = tt }
-  returned_ends state (Some (Int t)) there = record { outs = one_out world state (length state.made) (outs.Int (TermOperand t.0)) there; thrown = tt }
-  returned_ends state (Some Null) there = absurd there
-  returned_ends state (Some (Obj number)) there = absurd there
-  returned_ends state (Some (Literal number)) there = absurd there
-  returned_ends state (Some (New number)) there = absurd there
-  returned_ends state (Some (Loc number)) there = absurd there
+  returned_ends state (Some value) there = record { outs = one_out world state (length state.made) (out_of value) there; thrown = tt }
 
   thrown_ends : (state : State) (class : List ℕ) → Ending (went world bounds 0 state (Throws class))
   thrown_ends state class =
@@ -180,7 +174,7 @@ module _ (world : World) (bounds : Bounds) where
         thrown = tt;
       }
 
-  went_ends : (next : ℕ) (state : State) (way : Way) → LeavesIn state.nodes way → Ending (went world bounds next state way)
+  pub went_ends : (next : ℕ) (state : State) (way : Way) → LeavesIn world state way → Ending (went world bounds next state way)
   went_ends next state (WayGoes locals stack) there =
       if_has Ending (has_room world (method_now state.method state.stage) (length stack)) _ _ tt (ill_ends state)
   went_ends next state (Jumps target stack) there =

@@ -8,7 +8,6 @@ use Rattle.kb_semantics.specs.Inputs.{IsTypeCorrect}
 use Rattle.kb_picture.specs.Exactly.{NoneHas}
 use Rattle.kb_picture.specs.declared.choice.Choice.{Choice}
 use Rattle.kb_frames.specs.StandsFor.{IsInstanceOf}
-use Rattle.kb_stepint.proofs.IntMethodLaws.{ints_next}
 use Rattle.kb_drive.specs.declared.piece.Piece.{Piece}
 use Rattle.kb_drive.specs.declared.walk.Walk.{Walk}
 use Rattle.kb_drive.specs.Counts.{RoseBy, undecided_count}
@@ -23,7 +22,7 @@ use Rattle.kb_drive.specs.Values.{OfGiven}
 use Rattle.kb_drive.specs.Walks.{BeginWith, IsFrom, IsFurther, IsRefined, IsWalk}
 use Rattle.kb_drive.specs.Whole.{CoversPiece, IsOfPiece}
 use Rattle.kb_drive.proofs.BeginLaws.{first_fronts, first_inputs, first_others, no_walk, walk_begins, walk_covers}
-use Rattle.kb_drive.proofs.LeadLaws.{steps_lead}
+use Rattle.kb_drive.proofs.EachLeads.{steps_lead}
 
 -- What holds of a walk that explores a piece.
 pub record Explores (world : World) (bounds : Bounds) (paths budget : ℕ) (piece : Piece) (walk : Walk) : Type 0 where
@@ -52,7 +51,7 @@ module _ (world : World) (bounds : Bounds) (paths budget : ℕ) (piece : Piece) 
   same_paths [] = refl
   same_paths (choice ∷ others) = refl
 
-  pub begins : IsPiece world piece.state.method bounds piece → IsExplorable world piece.state.method → Explores world bounds paths budget piece begun
+  pub begins : IsPiece world piece.state.method bounds piece → IsExplorable world piece.state.method bounds → Explores world bounds paths budget piece begun
   begins is explorable = record {
     walk_is = walk_begins world bounds paths budget piece is explorable leads;
     target = same_target (choices_at world bounds piece.state);
@@ -63,7 +62,7 @@ module _ (world : World) (bounds : Bounds) (paths budget : ℕ) (piece : Piece) 
   }
     where
       leads : StepsLead world bounds piece.state
-      leads = steps_lead world bounds piece.state is.reached (ints_next world piece.state is.reached explorable.steps)
+      leads = steps_lead world bounds piece.state explorable.range is.reached
 
   none_undecided : (choices : List Choice) (unsure : ℕ) → RoseBy (undecided_count (begun_with choices).listed) unsure unsure
   none_undecided [] unsure small = omega arith

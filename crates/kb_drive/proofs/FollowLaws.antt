@@ -1,5 +1,5 @@
 -- What follows an alternative: its paths are right, its pieces wait rightly, and its inputs are divided among them.
-use Rattle.std.proofs.Common.{◌≡◌, ℕ, suc, ◌<◌, ◌≤◌, ℤ, true, List, [], ◌∷◌, length, map, take, refl, sym, subst, arith, append-nil}
+use Rattle.std.proofs.Common.{◌≡◌, ℕ, suc, ◌<◌, ◌≤◌, ℤ, List, [], ◌∷◌, length, map, take, refl, sym, subst, arith, append-nil}
 use Rattle.kb_blast.specs.Conditions.{formula_of}
 use Rattle.kb_blast.specs.Query.{query_of}
 use Rattle.kb_chain.specs.Chains.{IsRefutation}
@@ -17,7 +17,6 @@ use Rattle.kb_picture.specs.Instances.{variable_values}
 use Rattle.kb_picture.specs.Laws.{OnePlaces}
 use Rattle.kb_frames.specs.declared.value.Outcome.{Outcome}
 use Rattle.kb_frames.specs.declared.value.Outcome.TheVariants.{Asks, Goes, Ends, Cut}
-use Rattle.kb_frames.specs.Next.{next_is_int}
 use Rattle.kb_frames.specs.Paths.{path_of}
 use Rattle.kb_frames.specs.StandsFor.{IsInstanceOf}
 use Rattle.kb_frames.specs.State.{State}
@@ -29,22 +28,24 @@ use Rattle.kb_drive.specs.declared.follow.Next.{Next}
 use Rattle.kb_drive.specs.declared.follow.Next.TheVariants.{Lists, Waits as WaitsNext, Leaves}
 use Rattle.kb_drive.specs.EmittedLaws.{InputsAreOfStates, IsOfState, input_for}
 use Rattle.kb_drive.specs.Following.{IsKnown, follows, follows_outcome, taken_from, waits_at}
-use Rattle.kb_stepint.specs.IntMethods.{is_int_method}
-use Rattle.kb_stepint.proofs.IntMethodLaws.{ints_next}
 use Rattle.kb_drive.specs.Explorable.{IsExplorable}
 use Rattle.kb_drive.specs.Parts.{Alternative, IsInPart, Waits, decisions_of_part, taken_of}
 use Rattle.kb_drive.specs.Pieces.{AreValuesFor, IsBehind, IsPiece}
-use Rattle.kb_drive.specs.StatePaths.{EndingsMean, IsPathOf, ended_in}
+use Rattle.kb_drive.specs.StatePaths.{IsPathOf}
+use Rattle.kb_frames.specs.Endings.{EndingsMean, HasNoLocBeyond, ended_in}
+use Rattle.kb_frames.proofs.EndingLaws.{none_beyond}
+use Rattle.kb_picture.specs.declared.path.SymEnding.{SymEnding}
+use Rattle.kb_stepref.specs.Reached.{IsHeapReached}
 use Rattle.kb_drive.specs.Steps.{GoesOn, StepsLead, StepsLeadOn}
 use Rattle.kb_drive.specs.Taking.{choices_at}
 use Rattle.kb_drive.specs.Walks.{AreRising, BeginWith, IsRightPath, IsWaiting, size_behind, size_left, size_of, size_of_choices}
 use Rattle.kb_drive.proofs.DivisionLaws.{Replaces}
-use Rattle.kb_drive.proofs.IntLaws.{bare, kinds_fit}
+use Rattle.kb_drive.proofs.KindLaws.{kinds_fit}
 use Rattle.kb_drive.proofs.LeafLaws.{cut_right, ended_right, open_right, some_short, undecided_right}
 use Rattle.kb_drive.proofs.PathLaws.{path_is}
 use Rattle.kb_drive.proofs.PartLaws.{alternatives_begin, alternatives_rise, parts_behind}
 use Rattle.kb_oracle.proofs.AnswerLaws.{never-met}
-use Rattle.kb_drive.proofs.SettledLaws.{explored_with, piece_behind, values_kept, values_of_model}
+use Rattle.kb_drive.proofs.SettledLaws.{explored_with, leads_on, piece_behind, values_kept, values_of_model}
 use Rattle.kb_drive.proofs.SizeLaws.{size_split}
 use Rattle.kb_drive.proofs.WaitLaws.{listed_replaces, refuted_replaces, waiting_replaces}
 
@@ -74,7 +75,7 @@ some_behind world bounds state (Ends ending) = omega arith
 some_behind world bounds state (Cut bound) = omega arith
 
 module _ (steps : StepsLeadOn) (endings_mean : EndingsMean) (emits : InputsAreOfStates) (one_places : OnePlaces) where
-  module _ (world : World) (target : MethodId) (bounds : Bounds) (budget : ℕ) (explorable : IsExplorable world target) (alternative : Alternative) where
+  module _ (world : World) (target : MethodId) (bounds : Bounds) (budget : ℕ) (explorable : IsExplorable world target bounds) (alternative : Alternative) where
     abbrev after : Take
     after = taken_of world bounds alternative
 
@@ -111,6 +112,7 @@ module _ (steps : StepsLeadOn) (endings_mean : EndingsMean) (emits : InputsAreOf
       whole = record {
         explored = explored_with world target bounds after.state count before values behind.explored met;
         reached = behind.reached;
+        leads = behind.leads;
         picture = behind.picture;
         ending = behind.ending;
         outcomes = behind.outcomes;
@@ -130,11 +132,8 @@ module _ (steps : StepsLeadOn) (endings_mean : EndingsMean) (emits : InputsAreOf
           is_piece : IsPiece world target bounds piece
           is_piece = piece_behind world target bounds count before values alternative.decisions after behind goes met
 
-          kind : next_is_int world after.state ≡ true
-          kind = ints_next world after.state behind.reached (subst (λ (m : MethodId). is_int_method world m ≡ true) (sym behind.explored.method) explorable.steps)
-
           leads : StepsLead world bounds after.state
-          leads = steps world bounds after.state behind.reached kind
+          leads = steps world bounds after.state explorable.range (leads_on world after.state after.outcome goes behind.leads)
 
           divided : (input : Input) → IsTypeCorrect world target input → Replaces (IsInPart world bounds) input (Waits alternative ∷ []) (parts_behind (waits_at piece (choices_at world bounds after.state)))
           divided input correct = waiting_replaces world target bounds alternative input correct values is_piece leads
@@ -158,13 +157,15 @@ module _ (steps : StepsLeadOn) (endings_mean : EndingsMean) (emits : InputsAreOf
             fewer = (let all : size_of_choices world bounds (size_of world bounds) after.state (c ∷ cs) ≤ size_of world bounds after.state = subst (λ (l : List Choice). size_of_choices world bounds (size_of world bounds) after.state l ≤ size_of world bounds after.state) (sym e) less in omega (arith, all, size));
           }
 
+      ended_known : (ending : SymEnding) → after.outcome ≡ Ends ending → HasNoLocBeyond after.state.picture
+      ended_known ending same = (let goes_on : IsHeapReached world after.state = rw same at behind.leads in none_beyond after.state.picture goes_on.known)
+
       settled : (outcome : Outcome) → after.outcome ≡ outcome → IsSucceeded (follows_outcome world bounds piece outcome)
       settled Asks same = waits (choices_at world bounds after.state) refl (rw same tt) (rw same refl)
       settled Goes same = waits (choices_at world bounds after.state) refl (rw same tt) (rw same refl)
       settled (Ends ending) same =
           let ends = endings_mean world after.state alternative.decisions ending (input_for world after.state values) behind.explored.formed
-          (bare world after.state behind.reached (subst (λ (m : MethodId). is_int_method world m ≡ true) (sym behind.explored.method) explorable.steps))
-          (rw same at behind.ending) carried.closed in
+          (ended_known ending same) (rw same at behind.ending) carried.closed in
           let means = path_is world after.state alternative.decisions (EndedLeaf (ended_in after.state ending (input_for world after.state values))) behind.explored.formed ends.leaf in
           listed (length after.state.when) values (EndedLeaf (ended_in after.state ending (input_for world after.state values))) whole means
           (ended_right endings_mean emits one_places world target bounds explorable budget values after alternative.decisions ending same whole ends means)

@@ -1,5 +1,5 @@
--- The emitted input of a state is an instance of it, by what emitted inputs are to pictures: it has the values that the last model gave, and
--- 0 for each further variable.
+-- The emitted input of a state is an instance of it, by what emitted inputs are to pictures: it has the values that the last
+-- model gave, and 0 for each further variable.
 use Rattle.std.proofs.Common.{◌≡◌, ℕ, zero, suc, ◌-◌, ◌<◌, ◌≤◌, ℤ, pos, Bool, List, [], ◌∷◌, ◌++◌, length, length-append, map, Option, Some, None, slice_get, refl, sym, ap, ◌∙◌, subst, arith}
 use Rattle.std.specs.Prelude.{replicate}
 use Rattle.std.proofs.lemmas.List.{length-replicate}
@@ -33,7 +33,7 @@ use Rattle.kb_input.specs.Laws.{IsOfPicture, AreValuesFor as PictureValues, HasI
 use Rattle.kb_input.proofs.InputLaws.{emitted_of_picture}
 use Rattle.kb_drive.specs.EmittedLaws.{InputsAreOfStates, input_for}
 use Rattle.kb_drive.proofs.GrowLaws.{value_agrees}
-use Rattle.kb_drive.proofs.IntLaws.{each_at, typed_at}
+use Rattle.kb_drive.proofs.KindLaws.{each_at, typed_at}
 
 -- ---- a type-correct input names objects that it has
 
@@ -111,7 +111,7 @@ met_alike nodes xs ys (condition ∷ when) pool same met =
 
 -- The emitted input of a state, by the law of emitted inputs.
 pub inputs_of_states : InputsAreOfStates
-inputs_of_states world state when values explorable formed has are =
+inputs_of_states world bounds state when values explorable formed has are =
     let many : length (kinds_of state.nodes) ≡ variables_of state.nodes = length-kinds state.nodes in
     let kinds : length (kinds_of state.nodes) ≡ length (kinds_seen world state.method state.picture) = ap length formed.kinds in
     let filled : List ℤ = followed_by_zeros (variables_of state.nodes) values in

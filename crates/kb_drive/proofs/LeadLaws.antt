@@ -36,7 +36,7 @@ use Rattle.kb_frames.specs.declared.value.Outcome.{Outcome}
 use Rattle.kb_frames.specs.declared.value.Outcome.TheVariants.{Asks, Goes, Ends, Cut}
 use Rattle.kb_frames.specs.Lent.{begun, begun_stage, read_count, read_int, stack_of, transfers_of, with_frame, with_nodes}
 use Rattle.kb_frames.specs.Measure.{choices_left, left_of, questions_of, unread_at}
-use Rattle.kb_frames.specs.Next.{argument_next, instruction_next, method_now, offset_now}
+use Rattle.kb_frames.specs.Next.{argument_next, instruction_next, method_now, next_is_int, offset_now}
 use Rattle.kb_frames.specs.State.{State}
 use Rattle.kb_stepint.specs.Asked.{all_asked}
 use Rattle.kb_stepint.specs.Choices.{choices_of, conditions_of}
@@ -49,10 +49,12 @@ use Rattle.kb_stepint.proofs.GrowLaws.{Grows, all_asked_grows, front_itself, if_
 use Rattle.kb_stepint.proofs.AddedLaws.{adds}
 use Rattle.kb_stepint.proofs.KeepLaws.{kept, reads, takes_next_stays}
 use Rattle.kb_stepint.proofs.MeasureLaws.{few_next, gets_on}
-use Rattle.kb_stepint.proofs.OneLaws.{one}
 use Rattle.kb_stepint.proofs.OutcomeLaws.{follows}
 use Rattle.kb_stepint.proofs.ReachedLaws.{has_input}
-use Rattle.kb_drive.specs.Steps.{GoesOn, LeadsOn, StaysAtInputs, StepsLeadOn, rank_of}
+use Rattle.kb_stepref.specs.Laws.{GoesOnReached}
+use Rattle.kb_stepref.specs.Reached.{IsHeapReached}
+use Rattle.kb_stepref.proofs.ReachedLaws.{ints_keep}
+use Rattle.kb_drive.specs.Steps.{GoesOn, LeadsOn, StaysAtInputs, rank_of}
 use Rattle.kb_drive.proofs.EndLaws.{endings_there}
 use Rattle.kb_drive.proofs.FrontLaws.{take_append}
 
@@ -105,7 +107,7 @@ stays_behind world bounds old choice =
 -- ---- how many takes can follow
 
 -- an instruction that was carried out was one within the bound, and few choices come before the next
-abbrev GoesFew : World → Bounds → State → State → Outcome → Type 0
+abbrev pub GoesFew : World → Bounds → State → State → Outcome → Type 0
 GoesFew world bounds old new Asks = Unit {0}
 GoesFew world bounds old new Goes = (old.carried < bounds.run.steps) × (choices_left world new ≤ 5)
 GoesFew world bounds old new (Ends ending) = Unit {0}
@@ -129,14 +131,14 @@ begun_runs world state (Begins read) = tt
 begun_runs world state (Runs frame callers) = tt
 
 module _ (world : World) (bounds : Bounds) (old : State) where
-  abbrev Few : Take → Type 0
+  abbrev pub Few : Take → Type 0
   Few take = GoesFew world bounds old take.state take.outcome
 
   module _ (within : old.carried < bounds.run.steps) where
     carries_few : (state : State) (f : SymFrame → SymFrame) → IsRunning state.stage → Few (carries_out state f)
     carries_few state f running = (within, few_at world state.method (with_frame f state.stage) (framed_runs f state.stage running))
 
-    went_few : (next : ℕ) (state : State) (way : Way) → IsRunning state.stage → Few (went world bounds next state way)
+    pub went_few : (next : ℕ) (state : State) (way : Way) → IsRunning state.stage → Few (went world bounds next state way)
     went_few next state (WayGoes locals stack) running =
         if_has Few (has_room world (method_now state.method state.stage) (length stack)) _ _
         (carries_few state (λ (frame : SymFrame). record frame { at = next; locals = locals; stack = stack }) running) tt
@@ -178,7 +180,7 @@ asks_less steps was now before after same less = omega (arith, same, less)
 goes_less : (steps was now before after : ℕ) → now ≡ was + 1 → was < steps → after ≤ 5 → 6 * (steps - now) + after < 6 * (steps - was) + before
 goes_less steps was now before after one within few = omega (arith, one, within, few)
 
-less_rank : (world : World) (bounds : Bounds) (old new : State) (outcome : Outcome) → GetsOn world old new outcome → GoesFew world bounds old new outcome
+pub less_rank : (world : World) (bounds : Bounds) (old new : State) (outcome : Outcome) → GetsOn world old new outcome → GoesFew world bounds old new outcome
     → GoesOn outcome → rank_of world bounds new < rank_of world bounds old
 less_rank world bounds old new Asks on few goes =
     asks_less bounds.run.steps old.carried new.carried (choices_left world old) (choices_left world new) on.0 on.1
@@ -189,21 +191,25 @@ less_rank world bounds old new (Cut bound) on few goes = absurd goes
 
 -- ---- all of it
 
-leads : (world : World) (bounds : Bounds) (state : State) (choice : Choice) → IsAtInts world state → Has (choices_of world state bounds) choice
-    → LeadsOn world bounds state (taken world bounds state choice)
-leads world bounds state choice at has = record {
-  outcome = follows world bounds state choice at has;
-  kept = kept world bounds state choice;
-  compared = adds world bounds state choice at.reached;
-  read = reads world bounds state choice;
-  picture = has_input world bounds choice state at;
-  stays = stays_behind world bounds state choice;
-  ending = endings_there world bounds state choice at has;
-  fewer = less_rank world bounds state (taken world bounds state choice).state (taken world bounds state choice).outcome
-      (gets_on world bounds state choice) (taken_few world bounds state choice);
-}
+goes_reached : (world : World) (state : State) (outcome : Outcome) → IsHeapReached world state → GoesOnReached world state outcome
+goes_reached world state Asks is = is
+goes_reached world state Goes is = is
+goes_reached world state (Ends ending) is = is
+goes_reached world state (Cut bound) is = tt
 
-pub steps_lead : StepsLeadOn
-steps_lead world bounds state is next =
-    let at : IsAtInts world state = record { reached = is; next = next } in
-    record { one = one world bounds state at; each = λ choice has. leads world bounds state choice at has }
+pub ints_lead : (world : World) (bounds : Bounds) (state : State) (choice : Choice) → IsHeapReached world state → next_is_int world state ≡ true → Has (choices_of world state bounds) choice
+    → LeadsOn world bounds state (taken world bounds state choice)
+ints_lead world bounds state choice is ints has =
+    let at : IsAtInts world state = record { reached = is.reached; next = ints } in
+    let after : Take = taken world bounds state choice in
+    record {
+      outcome = follows world bounds state choice at has;
+      kept = kept world bounds state choice;
+      compared = adds world bounds state choice at.reached;
+      read = reads world bounds state choice;
+      picture = has_input world bounds choice state at;
+      stays = stays_behind world bounds state choice;
+      ending = endings_there world bounds state choice at has;
+      leads = λ reached. goes_reached world after.state after.outcome (ints_keep world bounds state choice is ints reached.sound.pool);
+      fewer = less_rank world bounds state after.state after.outcome (gets_on world bounds state choice) (taken_few world bounds state choice);
+    }

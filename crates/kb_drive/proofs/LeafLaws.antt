@@ -1,5 +1,5 @@
--- What a listed path says is so: that of a piece behind an alternative, with each leaf that it can have. The laws of the paths of states and
--- of emitted inputs are premises here.
+-- What a listed path says is so: that of a piece behind an alternative, with each leaf that it can have. The laws of the paths
+-- of states and of emitted inputs are premises here.
 use Rattle.std.proofs.Common.{◌≡◌, ℕ, ℤ, Bool, List, length, take, Some, slice_get, refl, sym, ◌∙◌, subst, arith, take_all}
 use Rattle.kb_blast.specs.Meaning.{AreMetInPool}
 use Rattle.kb_blast.specs.Query.{Query, query_of}
@@ -34,18 +34,19 @@ use Rattle.kb_drive.specs.Explorable.{IsExplorable}
 use Rattle.kb_drive.specs.Pieces.{IsBehind}
 use Rattle.kb_drive.specs.ReadFirst.{AreReadFirst, SeesWhatIsRead}
 use Rattle.kb_drive.specs.Runs.{starts_of}
-use Rattle.kb_drive.specs.StatePaths.{EndingMeans, EndingsMean, IsPathOf, ended_in}
+use Rattle.kb_drive.specs.StatePaths.{IsPathOf}
+use Rattle.kb_frames.specs.Endings.{EndingMeans, EndingsMean, ended_in}
 use Rattle.kb_drive.specs.Stops.{IsUnserved}
 use Rattle.kb_drive.specs.Walks.{IsRightPath}
 use Rattle.kb_drive.proofs.RunLaws.{run_ends}
 
 module _ (endings_mean : EndingsMean) (emits : InputsAreOfStates) (one_places : OnePlaces) where
-  module _ (world : World) (target : MethodId) (bounds : Bounds) (explorable : IsExplorable world target) where
+  module _ (world : World) (target : MethodId) (bounds : Bounds) (explorable : IsExplorable world target bounds) where
     -- some input has the shape behind the alternative and meets the conditions from before it
     pub some_short : (count : ℕ) (values : List ℤ) (after : Take) → IsBehind world target bounds count values after
         → IsOfState world after.state (take count after.state.when) (input_for world after.state values)
     some_short count values after behind =
-        emits world after.state (take count after.state.when) values (subst (IsExplorable world) (sym behind.explored.method) explorable)
+        emits world bounds after.state (take count after.state.when) values (subst (λ (m : MethodId). IsExplorable world m bounds) (sym behind.explored.method) explorable)
         behind.explored.formed behind.picture behind.explored.met
 
     -- a condition of the path is one of the state, whose runs make the comparison
@@ -156,8 +157,8 @@ module _ (endings_mean : EndingsMean) (emits : InputsAreOfStates) (one_places : 
           (means.means.instances (input_for world after.state values)).1 all,
         )
 
-    -- A cut path: each instance's outcome is the cut, which is licensed; the input that it carries is an instance, since the values meet all
-    -- conditions.
+    -- A cut path: each instance's outcome is the cut, which is licensed; the input that it carries is an instance, since the
+    -- values meet all conditions.
     pub cut_right : (budget : ℕ) (values : List ℤ) (after : Take) (decisions : List ℕ) (bound : Bound) → after.outcome ≡ Cut bound
         → IsBehind world target bounds (length after.state.when) values after
         → IsPathOf world after.state decisions (CutLeaf bound (input_for world after.state values))
@@ -181,7 +182,8 @@ module _ (endings_mean : EndingsMean) (emits : InputsAreOfStates) (one_places : 
             let h = behind.outcomes input correct ((means.means.instances input).0 instance_of) in
             subst (λ (m : MethodId). IsLicensed world m bounds after.state.picture bound input) behind.explored.method (rw is at h.outcome)
 
-    -- An ended path: the step behind so many ends the run with the ending and the heap that the state stands for, which the path states.
+    -- An ended path: the step behind so many ends the run with the ending and the heap that the state stands for, which the
+    -- path states.
     pub ended_right : (budget : ℕ) (values : List ℤ) (after : Take) (decisions : List ℕ) (ending : SymEnding) → after.outcome ≡ Ends ending
         → IsBehind world target bounds (length after.state.when) values after
         → EndingMeans world after.state decisions ending (input_for world after.state values)

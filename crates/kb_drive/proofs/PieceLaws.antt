@@ -1,4 +1,5 @@
--- What holds of a piece holds behind each of its alternatives; and where the values of an answer meet what was added, of a piece again.
+-- What holds of a piece holds behind each of its alternatives; and where the values of an answer meet what was added, of a
+-- piece again.
 use Rattle.std.proofs.Common.{◌≡◌, ◌⊎◌, ℕ, zero, suc, ◌<◌, ◌≤◌, Bool, List, [], ◌∷◌, length, take, Option, Some, None, slice_get, inl, inr, refl, sym, ◌∙◌, subst, arith, take_all}
 use Rattle.kb_blast.specs.Meaning.{AreMetInPool}
 use Rattle.kb_class.specs.Naming.{Has}
@@ -53,7 +54,7 @@ module _ (world : World) (target : MethodId) (bounds : Bounds) (piece : Piece) (
       → AreMetInPool new.nodes (variable_values new.picture input shape.places.objects) old.when → IsInstanceOf old input
   before input shape met = record {
     shape = leads.kept.shapes input shape;
-    conditions = met_before world old new input is.reached.sound leads.kept.terms leads.stays (leads.kept.shapes input shape) shape met;
+    conditions = met_before world old new input is.reached.reached.sound leads.kept.terms leads.stays (leads.kept.shapes input shape) shape met;
   }
 
   short_before : (input : Input) → (short : IsInstanceOf (with_first new (length old.when)) input) → IsInstanceOf old input
@@ -102,8 +103,8 @@ module _ (world : World) (target : MethodId) (bounds : Bounds) (piece : Piece) (
       go (inl less) =
           let there = at_front new.when old.when i condition leads.kept.conditions less at in
           subst (IsSuchComparison (IsMade world target bounds input))
-          (comparison_stays world old new input is.reached.sound leads.kept.terms leads.stays whole.shape short.shape condition.0
-          (condition_term old.nodes old.when i condition is.reached.sound.conditions there))
+          (comparison_stays world old new input is.reached.reached.sound leads.kept.terms leads.stays whole.shape short.shape condition.0
+          (condition_term old.nodes old.when i condition is.reached.reached.sound.conditions there))
           (is.explored.compared input correct whole i condition there exempt)
       go (inr more) =
           let stands = is.stands input correct was in
@@ -182,12 +183,13 @@ module _ (world : World) (target : MethodId) (bounds : Bounds) (piece : Piece) (
       formed = reached.sound;
       within = front_length new.when old.when leads.kept.conditions;
       met = subst (λ (when : List (TermId × Bool)). AreValuesFor new.nodes when piece.values) (sym leads.kept.conditions)
-          (values_stay old.nodes new.nodes old.when piece.values leads.kept.terms is.reached.sound.conditions
+          (values_stay old.nodes new.nodes old.when piece.values leads.kept.terms is.reached.reached.sound.conditions
           (subst (λ (when : List (TermId × Bool)). AreValuesFor old.nodes when piece.values) (take_all (length old.when) old.when (omega arith)) is.explored.met));
       compared = compared_behind;
       read = read_behind;
     };
     reached = reached;
+    leads = leads.leads reached;
     picture = leads.picture;
     ending = leads.ending;
     outcomes = outcome_behind;

@@ -18,8 +18,9 @@ use Rattle.kb_frames.specs.Cuts.{setting_of}
 use Rattle.kb_frames.specs.StandsFor.{IsInstanceOf}
 use Rattle.kb_frames.specs.State.{State, start_state}
 use Rattle.kb_frames.proofs.StartLaws.{start_stands}
-use Rattle.kb_stepint.specs.Reached.{IsReached}
 use Rattle.kb_stepint.specs.Ways.{Take}
+use Rattle.kb_stepref.specs.Laws.{GoesOnReached}
+use Rattle.kb_stepref.specs.Reached.{IsHeapReached}
 use Rattle.kb_drive.specs.declared.piece.Piece.{Piece}
 use Rattle.kb_drive.specs.Pieces.{AreValuesFor, HasOutcome, IsBehind, IsExplored, IsPiece, StandsForEach}
 use Rattle.kb_frames.specs.Meant.{with_first}
@@ -32,12 +33,12 @@ abbrev pub whole_piece : Init → MethodId → Piece
 whole_piece init target = record { state = start_state init target; decisions = []; values = [] }
 
 -- the state before the arguments are read is a piece: nothing was asked and nothing read
-pub whole_is_piece : (world : World) (bounds : Bounds) (init : Init) (target : MethodId) → IsReached world (start_state init target) → IsPiece world target bounds (whole_piece init target)
+pub whole_is_piece : (world : World) (bounds : Bounds) (init : Init) (target : MethodId) → IsHeapReached world (start_state init target) → IsPiece world target bounds (whole_piece init target)
 whole_is_piece world bounds init target reached = record {
   reached = reached;
   explored = record {
     method = refl;
-    formed = reached.sound;
+    formed = reached.reached.sound;
     within = omega arith;
     met = record { few = omega arith; fits = λ number kind e. absurd (nothing number kind e); met = tt };
     compared = λ input correct short i condition e exempt. absurd (nothing i condition e);
@@ -45,6 +46,13 @@ whole_is_piece world bounds init target reached = record {
   };
   stands = λ input correct instance_of. (start_of world target input, start_stands (setting_of world bounds) init target input);
 }
+
+-- where a state goes on, steps lead on from it
+pub leads_on : (world : World) (state : State) (outcome : Outcome) → GoesOn outcome → GoesOnReached world state outcome → IsHeapReached world state
+leads_on world state Asks goes h = h
+leads_on world state Goes goes h = h
+leads_on world state (Ends ending) goes h = absurd goes
+leads_on world state (Cut bound) goes h = absurd goes
 
 -- each input is one of it
 pub whole_has : (world : World) (bounds : Bounds) (init : Init) (target : MethodId) (input : Input) → IsInstanceOf (start_state init target) input
@@ -95,7 +103,7 @@ module _ (world : World) (target : MethodId) (bounds : Bounds) where
       → AreValuesFor after.state.nodes after.state.when values
       → IsPiece world target bounds (record { state = after.state; decisions = decisions; values = values })
   piece_behind count before values decisions after behind goes met = record {
-    reached = behind.reached;
+    reached = leads_on world after.state after.outcome goes behind.leads;
     explored = explored_with after.state count before values behind.explored met;
     stands = stands_on after after.outcome refl goes behind.outcomes;
   }

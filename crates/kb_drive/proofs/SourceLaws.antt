@@ -31,7 +31,7 @@ use Rattle.kb_drive.specs.Covers.{input_carried}
 use Rattle.kb_input.specs.Emitted.{emitted_input}
 use Rattle.kb_drive.specs.Values.{followed_by_zeros}
 use Rattle.kb_drive.specs.Following.{follows, follows_outcome, given_after, has_more, input_of_piece, path_of_piece, waits_at, waits_on, walk_with}
-use Rattle.kb_drive.specs.StatePaths.{ended_in}
+use Rattle.kb_frames.specs.Endings.{ended_in}
 use Rattle.kb_drive.specs.Taking.{choices_at}
 use Rattle.kb_drive.specs.Values.{AreGiven, CarriesGiven, HaveValuesFrom, OfGiven, log_of, logs_given, logs_of}
 use Rattle.kb_drive.specs.Walks.{EachWaiting, IsFrom}
@@ -194,8 +194,9 @@ module _ (world : World) (bounds : Bounds) (walk : Walk) (waiting : List Waiting
   unfolding path_of
   open_from piece = record { paths = listed_more world walk.target walk.listed answers (path_of_piece piece OpenLeaf) paths refl (λ input e. absurd cc); pieces = pieces }
 
--- What the listed paths and the waiting pieces have from the answers they still have, with what was given in a step: an open path and one
--- without new conditions take nothing new, a model is the values of what follows it, an undecided answer is the log of its path.
+-- What the listed paths and the waiting pieces have from the answers they still have, with what was given in a step: an open
+-- path and one without new conditions take nothing new, a model is the values of what follows it, an undecided answer is the
+-- log of its path.
 pub sources_with : (world : World) (bounds : Bounds) (walk : Walk) (waiting : List Waiting) (taken : Taken) (known : Known) (answers : List Answer)
     → IsState world taken.piece.state → taken.piece.state.method ≡ walk.target → AreGiven answers taken.piece.values
     → HaveValuesFrom world walk.target walk.listed answers → EachWaiting (λ (one : Waiting). AreGiven answers one.piece.values) waiting

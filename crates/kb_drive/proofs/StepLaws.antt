@@ -12,23 +12,21 @@ use Rattle.kb_drive.specs.declared.walk.Walk.{Walk}
 use Rattle.kb_drive.specs.EmittedLaws.{InputsAreOfStates}
 use Rattle.kb_drive.specs.Following.{IsAskedWithin, IsKnown, IsTakenFrom, IsTakenOf, alternative_next, follows, taken_from, waits_on, walk_with}
 use Rattle.kb_drive.specs.Taking.{taken_at}
-use Rattle.kb_stepint.specs.IntMethods.{is_int_method}
 use Rattle.kb_stepint.specs.Reached.{IsReached}
 use Rattle.kb_drive.specs.Explorable.{IsExplorable}
-use Rattle.kb_drive.specs.StatePaths.{EndingsMean}
+use Rattle.kb_frames.specs.Endings.{EndingsMean}
 use Rattle.kb_drive.specs.Steps.{StepsLeadOn}
 use Rattle.kb_drive.specs.Walks.{CanBeTaken, EachWaiting, IsFurther, IsRefined, IsWaiting, IsWalk}
-use Rattle.kb_stepint.proofs.IntMethodLaws.{ints_next}
 use Rattle.kb_drive.proofs.WalkLaws.{step_further, step_refined, step_walk}
 
 -- each choice that waits can be taken
-pub can_be_taken : (world : World) (target : MethodId) (bounds : Bounds) (waiting : List Waiting) → IsExplorable world target
+pub can_be_taken : (world : World) (target : MethodId) (bounds : Bounds) (waiting : List Waiting) → IsExplorable world target bounds
     → EachWaiting (IsWaiting world target bounds) waiting → EachWaiting (CanBeTaken world bounds) waiting
 can_be_taken world target bounds [] explorable each = tt
 can_be_taken world target bounds (first ∷ others) explorable each = (
   record {
     reached = each.0.piece.reached;
-    kind = ints_next world first.piece.state each.0.piece.reached (subst (λ (m : MethodId). is_int_method world m ≡ true) (sym each.0.piece.explored.method) explorable.steps);
+    range = explorable.range;
     choices = each.0.choices;
     left = each.0.left;
   },

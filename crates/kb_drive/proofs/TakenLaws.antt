@@ -1,5 +1,5 @@
 -- What holds of an alternative that was taken, as the calls of a step tell it.
-use Rattle.std.proofs.Common.{◌≡◌, ℕ, true, List, [], ◌∷◌, ◌++◌, length, drop, Option, Some, None, slice_get, refl, sym, ap, ◌∙◌, subst}
+use Rattle.std.proofs.Common.{◌≡◌, ℕ, List, [], ◌∷◌, ◌++◌, length, drop, Option, Some, None, slice_get, refl, sym, ap, ◌∙◌, subst}
 use Rattle.kb_blast.specs.Query.{Query, query_of}
 use Rattle.kb_class.specs.declared.ids.MethodId.{MethodId}
 use Rattle.kb_heap.specs.declared.bounds.Bounds.{Bounds}
@@ -15,10 +15,9 @@ use Rattle.kb_frames.specs.declared.value.Outcome.{Outcome}
 use Rattle.kb_frames.specs.declared.value.Outcome.TheVariants.{Asks, Goes, Ends, Cut}
 use Rattle.kb_frames.specs.Paths.{path_of, path_roots}
 use Rattle.kb_frames.proofs.FormedPaths.{roots_are_terms}
-use Rattle.kb_stepint.specs.IntMethods.{is_int_method}
 use Rattle.kb_stepint.specs.Reached.{IsReached}
 use Rattle.kb_stepint.specs.Ways.{Take}
-use Rattle.kb_stepint.proofs.IntMethodLaws.{ints_next}
+use Rattle.kb_stepref.specs.Reached.{IsHeapReached}
 use Rattle.kb_drive.specs.declared.follow.Known.{Known}
 use Rattle.kb_drive.specs.declared.follow.Known.TheVariants.{Open, Kept, Answered}
 use Rattle.kb_drive.specs.declared.waiting.Taken.{Taken}
@@ -27,7 +26,7 @@ use Rattle.kb_drive.specs.declared.walk.Walk.{Walk}
 use Rattle.kb_drive.specs.Explorable.{IsExplorable}
 use Rattle.kb_drive.specs.Following.{CanFollow, CanFollowOutcome, IsAskedWithin, IsKnown, IsTakenFrom, IsTakenOf, alternative_next, follows, given_after, path_of_piece, taken_from, waits_on, walk_with}
 use Rattle.kb_drive.specs.Pieces.{IsBehind}
-use Rattle.kb_drive.specs.StatePaths.{ended_in}
+use Rattle.kb_frames.specs.Endings.{ended_in}
 use Rattle.kb_drive.specs.Steps.{LeadsOn}
 use Rattle.kb_drive.specs.declared.stop.DriveStop.{DriveStop}
 use Rattle.kb_drive.specs.declared.stop.DriveStop.TheVariants.{Oracle, NoMemory}
@@ -35,11 +34,10 @@ use Rattle.kb_drive.specs.Stops.{IfOracle, IsRefused, IsUnserved}
 use Rattle.kb_drive.specs.Taking.{taken_at}
 use Rattle.kb_drive.specs.Values.{AreGiven, OfGiven}
 use Rattle.kb_drive.specs.Walks.{EachWaiting, IsFrom, IsRefined, IsWaiting, IsWalk, KeepsSources}
-use Rattle.kb_drive.proofs.EndingLaws.{endings_mean}
+use Rattle.kb_frames.proofs.EndingLaws.{endings_mean, none_beyond}
 use Rattle.kb_drive.proofs.GivenLaws.{one_places}
 use Rattle.kb_drive.proofs.InputLaws.{inputs_of_states}
-use Rattle.kb_drive.proofs.IntLaws.{bare}
-use Rattle.kb_drive.proofs.LeadLaws.{steps_lead}
+use Rattle.kb_drive.proofs.EachLeads.{steps_lead}
 use Rattle.kb_drive.proofs.LeafLaws.{unserved}
 use Rattle.kb_drive.proofs.PathLaws.{path_is}
 use Rattle.kb_drive.proofs.PieceLaws.{behind_piece}
@@ -100,20 +98,16 @@ unfolding no_input
 no_input_closed = record { arguments = λ i value at. absurd cc; objects = λ i j object value at there. absurd cc }
 
 module _ (world : World) (target : MethodId) (bounds : Bounds) (waiting now : List Waiting) (taken : Taken) (was : WasTaken world target bounds waiting now taken)
-    (explorable : IsExplorable world target) (reached : IsReached world taken.piece.state) where
+    (explorable : IsExplorable world target bounds) (reached : IsReached world taken.piece.state) where
   abbrev after : Take
   after = taken_at world bounds was.first.piece.state was.choice
 
   reached_behind : IsReached world after.state
   reached_behind = subst (λ (t : Taken). IsReached world t.piece.state) was.is reached
 
-  ints_of : (method : MethodId) → method ≡ target → is_int_method world method ≡ true
-  ints_of method same = subst (λ (m : MethodId). is_int_method world m ≡ true) (sym same) explorable.steps
-
   leads : LeadsOn world bounds was.first.piece.state after
   leads =
-      (steps_lead world bounds was.first.piece.state was.waiting_is.piece.reached
-      (ints_next world was.first.piece.state was.waiting_is.piece.reached (ints_of was.first.piece.state.method was.waiting_is.piece.explored.method))).each
+      (steps_lead world bounds was.first.piece.state explorable.range was.waiting_is.piece.reached).each
       was.choice (was.first.next, subst (λ (cs : List Choice). slice_get cs was.first.next ≡ Some was.choice) was.waiting_is.choices was.at)
 
   behind : IsBehind world target bounds (length was.first.piece.state.when) was.first.piece.values after
@@ -124,11 +118,11 @@ module _ (world : World) (target : MethodId) (bounds : Bounds) (waiting now : Li
 
   -- it can go on, or its path can be made, whatever input that carries
   outcome_follows : (outcome : Outcome) → after.outcome ≡ outcome → CanFollowOutcome world (taken_from world bounds (alternative_next was.first was.choice)).piece outcome
-  outcome_follows Asks same = (reached_behind, ints_next world after.state reached_behind (ints_of after.state.method behind.explored.method))
-  outcome_follows Goes same = (reached_behind, ints_next world after.state reached_behind (ints_of after.state.method behind.explored.method))
+  outcome_follows Asks same = rw same at behind.leads
+  outcome_follows Goes same = rw same at behind.leads
   outcome_follows (Ends ending) same =
-      let ends = endings_mean world after.state [] ending no_input reached_behind.sound
-      (bare world after.state reached_behind (ints_of after.state.method behind.explored.method)) (rw same at behind.ending) no_input_closed in
+      let goes_on : IsHeapReached world after.state = rw same at behind.leads in
+      let ends = endings_mean world after.state [] ending no_input reached_behind.sound (none_beyond after.state.picture goes_on.known) (rw same at behind.ending) no_input_closed in
       roots_are_terms world after.state (EndedLeaf (ended_in after.state ending no_input)) reached_behind.sound ends.leaf
   outcome_follows (Cut bound) same = open_terms
 
@@ -152,7 +146,7 @@ module _ (world : World) (target : MethodId) (bounds : Bounds) (waiting now : Li
 -- ---- a step
 
 module _ (world : World) (bounds : Bounds) (walk : Walk) (now : List Waiting) (taken : Taken) (known : Known)
-    (was : WasTaken world walk.target bounds walk.waiting now taken) (explorable : IsExplorable world walk.target) (reached : IsReached world taken.piece.state) where
+    (was : WasTaken world walk.target bounds walk.waiting now taken) (explorable : IsExplorable world walk.target bounds) (reached : IsReached world taken.piece.state) where
   method_same : taken.piece.state.method ≡ walk.target
   method_same =
       subst (λ (t : Taken). t.piece.state.method ≡ walk.target) (sym was.is)
@@ -209,7 +203,7 @@ step_holds world bounds budget walk now taken known new is from knows within rea
 
 -- what an oracle's stop says of the conditions that were asked, it says of their path
 pub oracle_unserved : (world : World) (target : MethodId) (bounds : Bounds) (waiting now : List Waiting) (taken : Taken) → WasTaken world target bounds waiting now taken
-    → IsExplorable world target → IsReached world taken.piece.state → (Unfit : ℕ → Query → Type 0) (stop : DriveStop) → IfOracle (IsRefused Unfit taken.piece) stop
+    → IsExplorable world target bounds → IsReached world taken.piece.state → (Unfit : ℕ → Query → Type 0) (stop : DriveStop) → IfOracle (IsRefused Unfit taken.piece) stop
     → IfOracle (IsUnserved world target bounds Unfit) stop
 oracle_unserved world target bounds waiting now taken was explorable reached Unfit (Oracle i path) refused =
     unserved_taken world target bounds waiting now taken was explorable reached Unfit i path refused

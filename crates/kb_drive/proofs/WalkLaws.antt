@@ -25,16 +25,14 @@ use Rattle.kb_drive.specs.Covers.{AreOpenLast, EachPath, closed_count, is_open}
 use Rattle.kb_picture.specs.Exactly.{ExactlyOneHas, NoneHas}
 use Rattle.kb_drive.specs.EmittedLaws.{InputsAreOfStates}
 use Rattle.kb_drive.specs.Following.{IsAskedWithin, IsKnown, alternative_next, closed_with, follows, follows_outcome, has_more, input_of_piece, listed_with, path_of_piece, taken_from, waiting_with, waits_at, waits_on, walk_with}
-use Rattle.kb_stepint.specs.IntMethods.{is_int_method}
 use Rattle.kb_stepint.specs.Reached.{IsReached}
 use Rattle.kb_drive.specs.Parts.{Alternative, IsInPart, Listed, Waits, alternatives_left, decisions_of_part, parts_of}
-use Rattle.kb_drive.specs.StatePaths.{EndingsMean, ended_in}
+use Rattle.kb_frames.specs.Endings.{EndingsMean, ended_in}
 use Rattle.kb_drive.specs.Steps.{LeadsOn, StepsLeadOn}
 use Rattle.kb_drive.specs.Taking.{choices_at, taken_at}
 use Rattle.kb_drive.specs.Walks.{AreRising, BeginWith, EachWaiting, IsFurther, IsRefined, IsRightPath, IsWaiting, IsWalk, StaysIn, size_behind, size_left, size_of, size_of_choices, size_waiting}
 use Rattle.kb_drive.proofs.DivisionLaws.{Replaces, replaces_within}
 use Rattle.kb_drive.proofs.FollowLaws.{IsRightNext, Succeeds, follows_rightly, size_next}
-use Rattle.kb_stepint.proofs.IntMethodLaws.{ints_next}
 use Rattle.kb_drive.proofs.OpenLaws.{count_more, each_more, open_last_closed, open_last_open}
 use Rattle.kb_drive.proofs.OrderLaws.{begin_replaced, rising_replaced}
 use Rattle.kb_drive.proofs.SumLaws.{sum_more}
@@ -189,8 +187,7 @@ module _ (steps : StepsLeadOn) (endings_mean : EndingsMean) (emits : InputsAreOf
 
     leads : LeadsOn world bounds first.piece.state (taken_at world bounds first.piece.state choice)
     leads =
-        (steps world bounds first.piece.state one.piece.reached
-        (ints_next world first.piece.state one.piece.reached (subst (λ (m : MethodId). is_int_method world m ≡ true) (sym one.piece.explored.method) is.explorable.steps))).each
+        (steps world bounds first.piece.state is.explorable.range one.piece.reached).each
         choice (first.next, subst (λ (cs : List Choice). slice_get cs first.next ≡ Some choice) one.choices at)
 
     succeeds : Succeeds world walk.target bounds budget (alternative_next first choice) next

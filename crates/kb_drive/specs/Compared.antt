@@ -1,6 +1,6 @@
--- That a path's conditions are comparisons which a run makes: an exploration splits the inputs by nothing of its own (path conditions
--- are the branches that the program takes: King, 1976). It is said of the inputs that meet a front of the conditions, so that it speaks
--- of the paths too of which nobody knows whether they have an instance.
+-- That a path's conditions are comparisons which a run makes: an exploration splits the inputs by nothing of its own (path
+-- conditions are the branches that the program takes: King, 1976). It is said of the inputs that meet a front of the
+-- conditions, so that it speaks of the paths too of which nobody knows whether they have an instance.
 use Rattle.std.specs.Prelude.{◌≡◌, ℕ, ◌≤◌, Bool, false, List, length, Option, Some, None, slice_get}
 use Rattle.kb_class.specs.declared.ids.MethodId.{MethodId}
 use Rattle.kb_heap.specs.declared.bounds.Bounds.{Bounds}
@@ -34,8 +34,8 @@ AreSuchConditions Such world target path input places =
     (i : ℕ) (condition : ℕ × Bool) → slice_get path.when i ≡ Some condition → is_exempt world target path i ≡ false
     → IsSuchComparison Such (comparison_at path input places condition.0)
 
--- For some number of conditions, the path has a short instance, and at each of its short instances all its conditions are comparisons
--- that are such for the input.
+-- For some number of conditions, the path has a short instance, and at each of its short instances all its conditions are
+-- comparisons that are such for the input.
 pub record AreComparisons (Such : Input → Comparison → Type 0) (world : World) (target : MethodId) (path : Path) : Type 0 where
   pub count : ℕ
   pub within : count ≤ length path.when

@@ -1,6 +1,6 @@
--- When the paths of an exploration cover a method: each type-correct input is an instance of exactly one of them, and each path is
--- true of its instances (the claim of generalised symbolic execution: Khurshid, Păsăreanu and Visser, TACAS 2003). The run is that of
--- the machine; the bounds, the most paths and the budget are those of the exploration.
+-- When the paths of an exploration cover a method: each type-correct input is an instance of exactly one of them, and each path
+-- is true of its instances (the claim of generalised symbolic execution: Khurshid, Păsăreanu and Visser, TACAS 2003). The run
+-- is that of the machine; the bounds, the most paths and the budget are those of the exploration.
 use Rattle.std.specs.Prelude.{◌≡◌, ℕ, ◌<◌, ◌≤◌, Bool, true, false, not, List, Option, Some, None, slice_get, count_by}
 use Rattle.kb_chain.specs.declared.log.Log.{Log}
 use Rattle.kb_class.specs.declared.ids.MethodId.{MethodId}

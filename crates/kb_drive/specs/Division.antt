@@ -1,5 +1,5 @@
--- A division of a method's inputs among listed things: each is reached by its list of decisions, and has a set of inputs. Paths are
--- such things, their instances the inputs; so are pieces of an exploration that was not finished.
+-- A division of a method's inputs among listed things: each is reached by its list of decisions, and has a set of inputs. Paths
+-- are such things, their instances the inputs; so are pieces of an exploration that was not finished.
 use Rattle.std.specs.Prelude.{◌≡◌, ◌≢◌, ◌⊎◌, ℕ, ◌<◌, List, [], ◌∷◌, ◌++◌, Some, slice_get}
 use Rattle.kb_class.specs.declared.ids.MethodId.{MethodId}
 use Rattle.kb_heap.specs.declared.heap.Input.{Input}

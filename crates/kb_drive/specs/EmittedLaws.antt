@@ -1,5 +1,6 @@
 -- What the emitted input of a state is: one of the method's, of the state's shape, which meets what the values meet.
 use Rattle.std.specs.Prelude.{ℤ, Bool, List}
+use Rattle.kb_heap.specs.declared.bounds.Bounds.{Bounds}
 use Rattle.kb_heap.specs.declared.heap.Input.{Input}
 use Rattle.kb_link.specs.World.{World}
 use Rattle.kb_semantics.specs.Inputs.{IsTypeCorrect}
@@ -27,5 +28,5 @@ pub record IsOfState (world : World) (state : State) (when : List (TermId × Boo
 -- It is so where an input can be made of the picture, and the values meet the conditions.
 abbrev pub InputsAreOfStates : Type 0
 InputsAreOfStates =
-    (world : World) (state : State) (when : List (TermId × Bool)) (values : List ℤ) → IsExplorable world state.method → IsState world state
+    (world : World) (bounds : Bounds) (state : State) (when : List (TermId × Bool)) (values : List ℤ) → IsExplorable world state.method bounds → IsState world state
     → HasInput world state → AreValuesFor state.nodes when values → IsOfState world state when (input_for world state values)

@@ -1,5 +1,5 @@
 -- What follows an alternative that was taken, by what is known of its conditions.
-use Rattle.std.specs.Prelude.{◌≡◌, ◌≢◌, ◌<◌, ◌≤◌, ℕ, suc, Bool, true, List, [], ◌∷◌, ◌++◌, length, nat_lt, Option, Some, None, option_map, slice_get, if◌then◌else◌}
+use Rattle.std.specs.Prelude.{◌≡◌, ◌≢◌, ◌<◌, ◌≤◌, ℕ, suc, Bool, List, [], ◌∷◌, ◌++◌, length, nat_lt, Option, Some, None, option_map, slice_get, if◌then◌else◌}
 use Rattle.kb_blast.specs.Meaning.{AreMetInPool}
 use Rattle.kb_blast.specs.Query.{query_of}
 use Rattle.kb_heap.specs.declared.bounds.Bounds.{Bounds}
@@ -16,9 +16,8 @@ use Rattle.kb_picture.specs.declared.path.Path.{Path}
 use Rattle.kb_terms.specs.Terms.{AreTerms, variables_of}
 use Rattle.kb_frames.specs.declared.value.Outcome.{Outcome}
 use Rattle.kb_frames.specs.declared.value.Outcome.TheVariants.{Asks, Goes, Ends, Cut}
-use Rattle.kb_frames.specs.Next.{next_is_int}
 use Rattle.kb_frames.specs.Paths.{path_of, path_roots}
-use Rattle.kb_stepint.specs.Reached.{IsReached}
+use Rattle.kb_stepref.specs.Reached.{IsHeapReached}
 use Rattle.kb_drive.specs.declared.piece.Piece.{Piece}
 use Rattle.kb_drive.specs.declared.waiting.Waiting.{Waiting}
 use Rattle.kb_drive.specs.declared.waiting.Taken.{Taken}
@@ -31,7 +30,7 @@ use Rattle.kb_drive.specs.Covers.{is_open}
 use Rattle.kb_input.specs.Emitted.{emitted_input}
 use Rattle.kb_drive.specs.Values.{followed_by_zeros}
 use Rattle.kb_drive.specs.Parts.{Alternative, decided, taken_of}
-use Rattle.kb_drive.specs.StatePaths.{ended_in}
+use Rattle.kb_frames.specs.Endings.{ended_in}
 use Rattle.kb_drive.specs.Taking.{choices_at}
 
 -- ---- an alternative that is taken
@@ -50,8 +49,8 @@ taken_from world bounds alternative = record {
 
 -- ---- what is known of its conditions
 
--- Nobody was asked, and nobody will be; or it has the conditions that stood before, which the values meet; or an oracle with that
--- budget has answered.
+-- Nobody was asked, and nobody will be; or it has the conditions that stood before, which the values meet; or an oracle with
+-- that budget has answered.
 abbrev pub IsKnown : ℕ → Taken → Known → Type 0
 IsKnown budget taken Open = Unit {0}
 IsKnown budget taken Kept = length taken.piece.state.when ≡ taken.stood
@@ -120,8 +119,8 @@ follows world bounds taken (Answered answer) = follows_answer world bounds taken
 -- ---- when it can follow
 
 abbrev pub CanFollowOutcome : World → Piece → Outcome → Type 0
-CanFollowOutcome world piece Asks = IsReached world piece.state × (next_is_int world piece.state ≡ true)
-CanFollowOutcome world piece Goes = IsReached world piece.state × (next_is_int world piece.state ≡ true)
+CanFollowOutcome world piece Asks = IsHeapReached world piece.state
+CanFollowOutcome world piece Goes = IsHeapReached world piece.state
 CanFollowOutcome world piece (Ends ending) =
     AreTerms piece.state.nodes (path_roots piece.state (EndedLeaf (ended_in piece.state ending (input_of_piece world piece))))
 CanFollowOutcome world piece (Cut bound) = AreTerms piece.state.nodes (path_roots piece.state OpenLeaf)

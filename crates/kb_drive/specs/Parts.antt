@@ -1,5 +1,5 @@
--- What an exploration has come to: the paths that are listed, and the alternatives that wait to be taken. Both have decisions and a set
--- of inputs, and together they divide the inputs.
+-- What an exploration has come to: the paths that are listed, and the alternatives that wait to be taken. Both have decisions
+-- and a set of inputs, and together they divide the inputs.
 use Rattle.std.specs.Prelude.{ℕ, suc, List, [], ◌∷◌, ◌++◌, length, map, drop, nat_lt, if◌then◌else◌, flat_map}
 use Rattle.kb_heap.specs.declared.bounds.Bounds.{Bounds}
 use Rattle.kb_heap.specs.declared.heap.Input.{Input}

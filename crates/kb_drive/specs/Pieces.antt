@@ -1,4 +1,5 @@
--- What holds of the states to which an exploration leads: what they say of each of their inputs, and values that show that they have one.
+-- What holds of the states to which an exploration leads: what they say of each of their inputs, and values that show that they
+-- have one.
 use Rattle.std.specs.Prelude.{◌≡◌, ℕ, ◌≤◌, ℤ, Bool, false, List, length, take, Some, slice_get}
 use Rattle.kb_blast.specs.Meaning.{AreMetInPool, KindFits}
 use Rattle.kb_blast.specs.Query.{kinds_of}
@@ -23,6 +24,8 @@ use Rattle.kb_frames.specs.Meant.{with_first}
 use Rattle.kb_stepint.specs.Reached.{IsReached}
 use Rattle.kb_stepint.specs.Simulation.{HasInput, IsOutcome}
 use Rattle.kb_stepint.specs.Ways.{Take}
+use Rattle.kb_stepref.specs.Laws.{GoesOnReached}
+use Rattle.kb_stepref.specs.Reached.{IsHeapReached}
 use Rattle.kb_drive.specs.declared.piece.Piece.{Piece}
 use Rattle.kb_drive.specs.Compared.{IsMade, IsSuchComparison}
 use Rattle.kb_drive.specs.ReadFirst.{AreReadFirst}
@@ -31,7 +34,8 @@ use Rattle.kb_drive.specs.Steps.{EndsIn}
 
 -- ---- values
 
--- Each variable of the terms has a value that it can be, where one behind the end of the list is 0, and these meet the conditions.
+-- Each variable of the terms has a value that it can be, where one behind the end of the list is 0, and these meet the
+-- conditions.
 pub record AreValuesFor (nodes : List Node) (when : List (TermId × Bool)) (values : List ℤ) : Type 0 where
   pub few : length values ≤ length (kinds_of nodes)
   pub fits : (number : ℕ) (kind : VarKind) → slice_get (kinds_of nodes) number ≡ Some kind → KindFits kind (int_at values number)
@@ -71,7 +75,7 @@ StandsForEach world target bounds state =
 
 -- A piece of the exploration of a method: a state from which steps lead on, and values that meet all its conditions.
 pub record IsPiece (world : World) (target : MethodId) (bounds : Bounds) (piece : Piece) : Type 0 where
-  pub reached : IsReached world piece.state
+  pub reached : IsHeapReached world piece.state
   pub explored : IsExplored world target bounds (length piece.state.when) piece.values piece.state
   pub stands : StandsForEach world target bounds piece.state
 
@@ -84,10 +88,12 @@ pub record HasOutcome (world : World) (target : MethodId) (bounds : Bounds) (aft
   pub config_is : config_at (setting_of world bounds) steps (start_of world target input) ≡ Some config
   pub outcome : IsOutcome world bounds config after.state input instance_of after.outcome
 
--- A state behind an alternative, of which nobody knows yet whether it has an instance: the values meet the conditions that stood before.
+-- A state behind an alternative, of which nobody knows yet whether it has an instance: the values meet the conditions that
+-- stood before.
 pub record IsBehind (world : World) (target : MethodId) (bounds : Bounds) (count : ℕ) (values : List ℤ) (after : Take) : Type 0 where
   pub explored : IsExplored world target bounds count values after.state
   pub reached : IsReached world after.state
+  pub leads : GoesOnReached world after.state after.outcome
   -- an input can be made of its picture, so that some input has its shape and meets those conditions
   pub picture : HasInput world after.state
   pub ending : EndsIn world after.state after.outcome

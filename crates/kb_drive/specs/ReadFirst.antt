@@ -20,8 +20,8 @@ abbrev pub SomeReadsAt : Setting → List Config → ℕ → Option ℕ → Type
 SomeReadsAt s starts slot None = ⊥
 SomeReadsAt s starts slot (Some place) = SomeReads s starts (record { object = place; slot = slot })
 
--- One of the runs reads the slot before it has written it, where `places` are those of the picture's objects: the beginning of a run
--- reads every argument.
+-- One of the runs reads the slot before it has written it, where `places` are those of the picture's objects: the beginning of
+-- a run reads every argument.
 abbrev pub IsReadFirst : Setting → List Config → Input → List ℕ → Origin → Type 0
 IsReadFirst s starts input places (Arg number) = number < length input.args
 IsReadFirst s starts input places (Field object slot) = SomeReadsAt s starts slot (slice_get places object)

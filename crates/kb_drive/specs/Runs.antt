@@ -1,5 +1,5 @@
--- The runs of an input of which an exploration speaks, and what some configuration of one of them makes or reads. By now the one run
--- that counts is that of the method explored.
+-- The runs of an input of which an exploration speaks, and what some configuration of one of them makes or reads. By now the
+-- one run that counts is that of the method explored.
 use Rattle.std.specs.Prelude.{◌≡◌, ℕ, List, [], ◌∷◌, Some}
 use Rattle.kb_class.specs.Naming.{Has}
 use Rattle.kb_class.specs.declared.ids.MethodId.{MethodId}
@@ -15,7 +15,8 @@ use Rattle.kb_frames.specs.StandsFor.{written_by}
 abbrev pub starts_of : World → MethodId → Input → List Config
 starts_of world target input = start_of world target input ∷ []
 
--- Some configuration of one of these runs is such; what it is may speak of the run's beginning, and of the number of steps behind it.
+-- Some configuration of one of these runs is such; what it is may speak of the run's beginning, and of the number of steps
+-- behind it.
 pub record SomeConfig (s : Setting) (starts : List Config) (IsSuch : Config → ℕ → Config → Type 0) : Type 0 where
   pub start : Config
   pub counts : Has starts start

@@ -1,27 +1,24 @@
--- What an exploration takes from the steps of states, whatever kind they are: that they simulate the machine, and that they lead on to
--- states of the same kind, and to an end.
-use Rattle.std.specs.Prelude.{◌≡◌, ℕ, ◌+◌, ◌-◌, ◌*◌, ◌<◌, true, length, take, Some, slice_get}
+-- What an exploration takes from the steps of states, whatever kind they are: that they simulate the machine, and that they
+-- lead on to states of the same kind, and to an end.
+use Rattle.std.specs.Prelude.{◌≡◌, ℕ, ◌+◌, ◌-◌, ◌*◌, ◌<◌, length, take}
 use Rattle.kb_class.specs.Naming.{Has}
 use Rattle.kb_heap.specs.declared.bounds.Bounds.{Bounds}
 use Rattle.kb_heap.specs.declared.heap.Input.{Input}
 use Rattle.kb_link.specs.World.{World}
 use Rattle.kb_picture.specs.declared.choice.Choice.{Choice}
-use Rattle.kb_picture.specs.declared.path.Out.{Out}
-use Rattle.kb_picture.specs.declared.path.SymEnding.{SymEnding}
 use Rattle.kb_picture.specs.declared.picture.Picture.{Picture}
 use Rattle.kb_picture.specs.Instances.{variable_values}
-use Rattle.kb_picture.specs.Numbering.{ending_outs}
 use Rattle.kb_picture.specs.Shapes.{HasShape}
-use Rattle.kb_picture.specs.WellFormed.{IsThrown}
 use Rattle.kb_frames.specs.declared.value.Outcome.{Outcome}
 use Rattle.kb_frames.specs.declared.value.Outcome.TheVariants.{Asks, Goes, Ends, Cut}
+use Rattle.kb_frames.specs.Endings.{IsEndingIn}
 use Rattle.kb_frames.specs.Measure.{choices_left}
-use Rattle.kb_frames.specs.Next.{next_is_int}
 use Rattle.kb_frames.specs.State.{State}
-use Rattle.kb_frames.specs.States.{IsOutIn}
 use Rattle.kb_stepint.specs.Reached.{IsReached}
 use Rattle.kb_stepint.specs.Simulation.{AddsComparisons, FollowsStep, HasInput, Keeps, ReadsWhatItSees, TakesOneWay}
 use Rattle.kb_stepint.specs.Ways.{Take}
+use Rattle.kb_stepref.specs.Laws.{AreInRange, GoesOnReached}
+use Rattle.kb_stepref.specs.Reached.{IsHeapReached}
 use Rattle.kb_drive.specs.Taking.{choices_at, taken_at}
 
 -- ---- outcomes
@@ -33,11 +30,6 @@ GoesOn Goes = Unit {0}
 GoesOn (Ends ending) = ⊥
 GoesOn (Cut bound) = ⊥
 
--- the ending states what is there in the state; what is thrown is an object
-pub record IsEndingIn (world : World) (state : State) (ending : SymEnding) : Type 0 where
-  pub outs : (i : ℕ) (out : Out) → slice_get (ending_outs ending) i ≡ Some out → IsOutIn world state (length state.made) out
-  pub thrown : IsThrown ending
-
 abbrev pub EndsIn : World → State → Outcome → Type 0
 EndsIn world state Asks = Unit {0}
 EndsIn world state Goes = Unit {0}
@@ -46,8 +38,8 @@ EndsIn world state (Cut bound) = Unit {0}
 
 -- ---- what stays
 
--- the first slots that were seen stay the first ones, and at each input that has both shapes the places and the values that there were
--- stay the first ones
+-- the first slots that were seen stay the first ones, and at each input that has both shapes the places and the values that
+-- there were stay the first ones
 pub record StaysAtInputs (old new : Picture) : Type 0 where
   pub seen : take (length old.seen) new.seen ≡ old.seen
   pub places : (input : Input) (before : HasShape old input) (now : HasShape new input)
@@ -58,8 +50,8 @@ pub record StaysAtInputs (old new : Picture) : Type 0 where
 
 -- ---- the end
 
--- How many takes can follow one another at most: six for each instruction that may still be carried out, and the choices that come
--- before the next one.
+-- How many takes can follow one another at most: six for each instruction that may still be carried out, and the choices that
+-- come before the next one.
 abbrev pub rank_of : World → Bounds → State → ℕ
 rank_of world bounds state = 6 * (bounds.run.steps - state.carried) + choices_left world state
 
@@ -75,6 +67,8 @@ pub record LeadsOn (world : World) (bounds : Bounds) (old : State) (after : Take
   pub picture : HasInput world after.state
   pub stays : StaysAtInputs old.picture after.state.picture
   pub ending : EndsIn world after.state after.outcome
+  -- where its state goes on, steps lead on from there
+  pub leads : IsReached world after.state → GoesOnReached world after.state after.outcome
   pub fewer : GoesOn after.outcome → rank_of world bounds after.state < rank_of world bounds old
 
 -- Each alternative of a state leads on, and each input goes one way.
@@ -82,7 +76,7 @@ pub record StepsLead (world : World) (bounds : Bounds) (state : State) : Type 0 
   pub one : TakesOneWay world bounds state (choices_at world bounds state) (taken_at world bounds state)
   pub each : (choice : Choice) → Has (choices_at world bounds state) choice → LeadsOn world bounds state (taken_at world bounds state choice)
 
--- It is so for every state to which `start` and later calls lead, where its next step is of a kind that is there.
+-- It is so for every state to which `start` and later calls lead, and from which steps lead on.
 abbrev pub StepsLeadOn : Type 0
 StepsLeadOn =
-    (world : World) (bounds : Bounds) (state : State) → IsReached world state → next_is_int world state ≡ true → StepsLead world bounds state
+    (world : World) (bounds : Bounds) (state : State) → AreInRange bounds → IsHeapReached world state → StepsLead world bounds state

@@ -21,8 +21,8 @@ abbrev pub IfOracle : (ℕ → Path → Type 0) → DriveStop → Type 0
 IfOracle P (Oracle i path) = P i path
 IfOracle P NoMemory = Unit {0}
 
--- The answer of that number does not serve the path's query; the path is well-formed, open, and its conditions are comparisons that the
--- runs make.
+-- The answer of that number does not serve the path's query; the path is well-formed, open, and its conditions are comparisons
+-- that the runs make.
 pub record IsUnserved (world : World) (target : MethodId) (bounds : Bounds) (Unfit : ℕ → Query → Type 0) (i : ℕ) (path : Path) : Type 0 where
   pub formed : IsWellFormed world target path
   pub leaf : path.leaf ≡ Open

@@ -52,16 +52,16 @@ CarriesGiven world target answers path =
     → (values : List ℤ) × AreGiven answers values
     × (input ≡ emitted_input world target path.picture (followed_by_zeros (length (variables_seen path.picture)) values))
 
--- The listed paths have their logs and their values from these answers: the logs of the undecided paths are those of the undecided
--- answers, in order.
+-- The listed paths have their logs and their values from these answers: the logs of the undecided paths are those of the
+-- undecided answers, in order.
 pub record HaveValuesFrom (world : World) (target : MethodId) (listed : List Path) (answers : List Answer) : Type 0 where
   pub logs : logs_of listed ≡ logs_given answers
   pub inputs : EachPath (CarriesGiven world target answers) listed
 
 -- ---- an oracle that tells its answers
 
--- Where the answers are told at two moments, those of the first are the first ones at the second, and what was given between them is
--- such.
+-- Where the answers are told at two moments, those of the first are the first ones at the second, and what was given between
+-- them is such.
 abbrev pub OfGiven : (List Answer → Type 0) → Option (List Answer) → Option (List Answer) → Type 0
 OfGiven Such (Some before) (Some now) = (take (length before) now ≡ before) × Such (drop (length before) now)
 OfGiven Such None None = Unit {0}

@@ -11,9 +11,9 @@ use Rattle.kb_picture.specs.declared.path.Path.{Path}
 use Rattle.kb_picture.specs.WellFormed.{IsWellFormed}
 use Rattle.kb_frames.specs.declared.value.Outcome.{Outcome}
 use Rattle.kb_frames.specs.declared.value.Outcome.TheVariants.{Asks, Goes, Ends, Cut}
-use Rattle.kb_frames.specs.Next.{next_is_int}
 use Rattle.kb_frames.specs.State.{State}
-use Rattle.kb_stepint.specs.Reached.{IsReached}
+use Rattle.kb_stepref.specs.Laws.{AreInRange}
+use Rattle.kb_stepref.specs.Reached.{IsHeapReached}
 use Rattle.kb_drive.specs.declared.waiting.Waiting.{Waiting}
 use Rattle.kb_drive.specs.declared.walk.Walk.{Walk}
 use Rattle.kb_drive.specs.Counts.{RoseBy, undecided_count}
@@ -66,10 +66,10 @@ pub record IsWaiting (world : World) (target : MethodId) (bounds : Bounds) (wait
   pub choices : waiting.choices ≡ choices_at world bounds waiting.piece.state
   pub left : waiting.next < length waiting.choices
 
--- its next alternative can be taken: it is there, and of a kind that is built
+-- its next alternative can be taken: it is there, and steps lead on
 pub record CanBeTaken (world : World) (bounds : Bounds) (waiting : Waiting) : Type 0 where
-  pub reached : IsReached world waiting.piece.state
-  pub kind : next_is_int world waiting.piece.state ≡ true
+  pub reached : IsHeapReached world waiting.piece.state
+  pub range : AreInRange bounds
   pub choices : waiting.choices ≡ choices_at world bounds waiting.piece.state
   pub left : waiting.next < length waiting.choices
 
@@ -81,7 +81,7 @@ EachWaiting P (waiting ∷ others) = P waiting × EachWaiting P others
 
 -- What holds of an exploration at each moment, with a solver of that budget.
 pub record IsWalk (world : World) (bounds : Bounds) (budget : ℕ) (walk : Walk) : Type 0 where
-  pub explorable : IsExplorable world walk.target
+  pub explorable : IsExplorable world walk.target bounds
   -- the decisions of the parts rise
   pub rising : AreRising (map decisions_of_part (parts_of walk.listed walk.waiting))
   pub right : EachPath (IsRightPath world walk.target bounds budget) walk.listed
@@ -133,7 +133,8 @@ size_behind size state Goes = suc (size state)
 size_behind size state (Ends ending) = 1
 size_behind size state (Cut bound) = 1
 
--- the takes in the tree below some alternatives of a state, those themselves among them, where `size` counts those below a state
+-- the takes in the tree below some alternatives of a state, those themselves among them, where `size` counts those below a
+-- state
 abbrev pub size_of_choices : World → Bounds → (State → ℕ) → State → List Choice → ℕ
 size_of_choices world bounds size state choices =
     sum_by (λ (choice : Choice). size_behind size (taken_at world bounds state choice).state (taken_at world bounds state choice).outcome) choices

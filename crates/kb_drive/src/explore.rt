@@ -7,7 +7,9 @@ ghost use Rattle.kb_frames.specs.State.{start_state};
 ghost use Rattle.kb_drive.specs.Compared.{ComparesAsRuns};
 ghost use Rattle.kb_drive.specs.Counts.{RoseBy, undecided_count};
 ghost use Rattle.kb_drive.specs.Covers.{Covers, EachPath};
-ghost use Rattle.kb_stepint.specs.IntMethods.{is_int_method};
+ghost use Rattle.kb_stepref.specs.HeapMethods.{is_heap_method};
+ghost use Rattle.kb_stepref.specs.Laws.{AreInRange};
+ghost use Rattle.kb_picture.specs.declared.choice.Init.TheVariants.{Lazy};
 ghost use Rattle.kb_drive.specs.Explorable.{IsExplorable};
 ghost use Rattle.kb_drive.specs.Pieces.{IsPiece};
 ghost use Rattle.kb_drive.specs.ReadFirst.{SeesWhatIsRead};
@@ -28,12 +30,13 @@ use kb_rows::Row;
 use kb_world::World;
 use std::alloc::Global;
 
-/// Explores a method from the state before its arguments are read: paths whose inputs are those of the method, each on exactly one of
-/// them. It goes depth first, by rising numbers of alternatives, and asks the oracle about each alternative that adds conditions. Once
-/// `paths` paths are listed, each alternative that waits is listed as an open one, and nobody is asked about it.
+/// Explores a method from the state before its arguments are read: paths whose inputs are those of the method, each on exactly
+/// one of them. It goes depth first, by rising numbers of alternatives, and asks the oracle about each alternative that adds
+/// conditions. Once `paths` paths are listed, each alternative that waits is listed as an open one, and nobody is asked about
+/// it.
 ///
-/// An undecided path has a log of as many entries as the oracle's budget. It takes time in proportion to the paths times their length,
-/// and keeps one state for each choice that waits.
+/// An undecided path has a log of as many entries as the oracle's budget. It takes time in proportion to the paths times their
+/// length, and keeps one state for each choice that waits.
 ///
 /// Source: King, 1976; Khurshid, Păsăreanu and Visser, TACAS 2003.
 pub fn explore_from<O: Oracle>(
@@ -46,7 +49,9 @@ pub fn explore_from<O: Oracle>(
 ) -> Result<Row<Path>, DriveStop>
     requires start { start ≡ start_state start.init start.method }
     requires accepted { IsAccepted world.now start.method }
-    requires ints { is_int_method world.now start.method ≡ true }
+    requires heap { is_heap_method world.now start.method ≡ true }
+    requires lazy { start.init ≡ Lazy }
+    requires range { AreInRange bounds.now }
     requires some { 1 ≤ paths }
     ensures covers { IfOk result (Covers world.now start.method bounds.now paths (O.budget oracle.old)) }
     ensures unsure { IfOk result (λ listed. RoseBy (undecided_count listed) (O.unsure oracle.old) (O.unsure oracle.new)) }
@@ -79,7 +84,7 @@ pub(crate) fn explore_piece<O: Oracle>(
     oracle: &mut O,
 ) -> Result<Row<Path>, DriveStop>
     requires piece { IsPiece world.now piece.state.method bounds.now piece }
-    requires explorable { IsExplorable world.now piece.state.method }
+    requires explorable { IsExplorable world.now piece.state.method bounds.now }
     requires some { 1 ≤ paths }
     ensures covers { IfOk result (CoversPiece world.now bounds.now paths (O.budget oracle.old) piece) }
     ensures unsure { IfOk result (λ listed. RoseBy (undecided_count listed) (O.unsure oracle.old) (O.unsure oracle.new)) }

@@ -1,7 +1,6 @@
 //! What follows an alternative that was taken.
-ghost use Rattle.std.specs.Prelude.{◌≡◌, true, IfOk};
-ghost use Rattle.kb_frames.specs.Next.{next_is_int};
-ghost use Rattle.kb_stepint.specs.Reached.{IsReached};
+ghost use Rattle.std.specs.Prelude.{◌≡◌, IfOk};
+ghost use Rattle.kb_stepref.specs.Reached.{IsHeapReached};
 ghost use Rattle.kb_drive.specs.Following.{CanFollow, CanFollowOutcome, follows, follows_answer, follows_outcome, waits_at};
 ghost use Rattle.kb_drive.specs.Taking.{choices_at};
 
@@ -107,8 +106,7 @@ pub(crate) fn wait(
     bounds: &Bounds,
     piece: Piece,
 ) -> Result<Next, NoMemory>
-    requires reached { IsReached world.now piece.state }
-    requires kind { next_is_int world.now piece.state ≡ true }
+    requires { IsHeapReached world.now piece.state }
     ensures { IfOk result (λ next. next ≡ waits_at piece (choices_at world.now bounds.now piece.state)) }
 {
     let choices = choices(alloc, world, &piece.state, bounds)?;

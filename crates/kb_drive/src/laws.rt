@@ -12,8 +12,8 @@ ghost use Rattle.kb_frames.specs.Cuts.{setting_of};
 ghost use Rattle.kb_drive.specs.Covers.{Covers};
 ghost use Rattle.kb_drive.specs.Within.{AreDecided, EndsOnPath, IsWithin, NoneThrows};
 
-/// Where no listed path is undecided or open, each type-correct input that passes none of the bounds lies on an ended path, which
-/// states the ending and the heap of its run.
+/// Where no listed path is undecided or open, each type-correct input that passes none of the bounds lies on an ended path,
+/// which states the ending and the heap of its run.
 pub fn inputs_within_the_bounds_end()
     ensures { (world : World) (target : MethodId) (bounds : Bounds) (paths budget : ℕ) (listed : List Path) (input : Input) → Covers world target bounds paths budget listed → AreDecided listed → IsTypeCorrect world target input → IsWithin world target bounds input → EndsOnPath world target bounds listed input }
 {}

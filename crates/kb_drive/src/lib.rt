@@ -1,8 +1,9 @@
 //! Exploration: the paths of a method, found by symbolic runs, and what it means that they cover its inputs.
 //!
 //! `specs/Covers.antt` says when a list of paths covers a method, `specs/Compared.antt`, `ReadFirst.antt`, `Counts.antt` and
-//! `Values.antt` what else a list keeps, `specs/Stops.antt` what a stop says. `specs/Pieces.antt`, `Parts.antt` and `Walks.antt` say what
-//! holds of an exploration on its way, `specs/Steps.antt` and `StatePaths.antt` what it takes from the steps and the paths of states.
+//! `Values.antt` what else a list keeps, `specs/Stops.antt` what a stop says. `specs/Pieces.antt`, `Parts.antt` and
+//! `Walks.antt` say what holds of an exploration on its way, `specs/Steps.antt` and `StatePaths.antt` what it takes from the
+//! steps and the paths of states.
 #![tactic(auto)]
 
 mod ask;

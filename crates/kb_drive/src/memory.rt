@@ -23,6 +23,12 @@ impl From<kb_frames::NoMemory> for NoMemory {
     }
 }
 
+impl From<kb_stepref::NoMemory> for NoMemory {
+    fn from(_error: kb_stepref::NoMemory) -> NoMemory {
+        NoMemory
+    }
+}
+
 impl From<kb_stepint::NoMemory> for NoMemory {
     fn from(_error: kb_stepint::NoMemory) -> NoMemory {
         NoMemory

@@ -1,9 +1,10 @@
 //! What comes next in a state, and how it goes on.
-ghost use Rattle.std.specs.Prelude.{◌≡◌, true, IfOk, OnOk};
+ghost use Rattle.std.specs.Prelude.{◌≡◌, IfOk, OnOk};
 ghost use Rattle.kb_class.specs.Naming.{Has};
-ghost use Rattle.kb_frames.specs.Next.{next_is_int};
 ghost use Rattle.kb_stepint.specs.Reached.{IsReached};
 ghost use Rattle.kb_stepint.specs.Turns.{told};
+ghost use Rattle.kb_stepref.specs.Laws.{AreInRange};
+ghost use Rattle.kb_stepref.specs.Reached.{IsHeapReached};
 ghost use Rattle.kb_drive.specs.Taking.{choices_at, taken_at};
 
 use crate::NoMemory;
@@ -12,6 +13,7 @@ use kb_heap::Bounds;
 use kb_picture::Choice;
 use kb_rows::Row;
 use kb_stepint::{choices_int, take_int};
+use kb_stepref::{choices_ref, take_ref};
 use kb_world::World;
 use std::alloc::Global;
 
@@ -22,11 +24,14 @@ pub(crate) fn choices(
     state: &SymState,
     bounds: &Bounds,
 ) -> Result<Row<Choice>, NoMemory>
-    requires reached { IsReached world.now state.now }
-    requires kind { next_is_int world.now state.now ≡ true }
+    requires { IsHeapReached world.now state.now }
     ensures { IfOk result (λ choices. choices ≡ choices_at world.now bounds.now state.now) }
 {
-    let choices = choices_int(alloc, world, state, bounds)?;
+    if state.next_is_int(world) {
+        let choices = choices_int(alloc, world, state, bounds)?;
+        return Ok(Row::from_vec(choices));
+    }
+    let choices = choices_ref(alloc, world, state, bounds)?;
     Ok(Row::from_vec(choices))
 }
 
@@ -38,12 +43,16 @@ pub(crate) fn take(
     choice: &Choice,
     bounds: &Bounds,
 ) -> Result<Outcome, NoMemory>
-    requires reached { IsReached world.now state.old }
-    requires kind { next_is_int world.now state.old ≡ true }
+    requires reached { IsHeapReached world.now state.old }
+    requires range { AreInRange bounds.now }
     requires offered { Has (choices_at world.now bounds.now state.old) choice.now }
     ensures take { IfOk result (λ outcome. told state.new outcome ≡ taken_at world.now bounds.now state.old choice.now) }
     ensures reached { OnOk result (IsReached world.now state.new) }
 {
-    let outcome = take_int(alloc, world, state, choice, bounds)?;
+    if state.next_is_int(world) {
+        let outcome = take_int(alloc, world, state, choice, bounds)?;
+        return Ok(outcome);
+    }
+    let outcome = take_ref(alloc, world, state, choice, bounds)?;
     Ok(outcome)
 }

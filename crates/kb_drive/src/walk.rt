@@ -23,8 +23,8 @@ use kb_rows::Row;
 use kb_world::World;
 use std::alloc::Global;
 
-/// An exploration on its way: the paths that are listed and how many of them are not open, of which there are to be no more than
-/// `paths`, and the choices that wait.
+/// An exploration on its way: the paths that are listed and how many of them are not open, of which there are to be no more
+/// than `paths`, and the choices that wait.
 #[derive(Drop)]
 pub(crate) struct Walk {
     pub(crate) target: MethodId,
@@ -79,8 +79,8 @@ fn closed_with(closed: u32, path: &Path) -> Result<u32, NoMemory>
     closed.checked_add(1).ok_or(NoMemory)
 }
 
-/// Takes the next alternative and adds what follows it. False where none waits. Once as many paths are listed as may be, nobody is
-/// asked, and each alternative that waits is listed as an open path.
+/// Takes the next alternative and adds what follows it. False where none waits. Once as many paths are listed as may be, nobody
+/// is asked, and each alternative that waits is listed as an open path.
 pub(crate) fn step<O: Oracle>(
     alloc: Global,
     world: &World,

@@ -15,3 +15,8 @@ pub mod OnceLaws
 pub mod FormedPaths
 pub mod QueryLaws
 pub mod MeaningLaws
+pub mod EachLaws
+pub mod HeapWrites
+pub mod WrittenLaws
+pub mod FinalHeaps
+pub mod EndingLaws

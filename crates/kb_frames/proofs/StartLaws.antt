@@ -58,6 +58,7 @@ start_stands s init method input = record {
     made = none_made s.world input;
     like = λ object inside. like_itself (object_at (first_heap s.world input.heap) object);
     cells = λ object slot place p. absurd (nothing_there object place p);
+    kept = λ object slot place value p e. absurd (nothing_there object place p);
     others = λ object inside none. refl;
   };
   written = λ slot inside. (λ has. absurd (nothing_there has.0 slot has.1), λ kept. absurd (nothing_there kept.object slot.object kept.place));

@@ -1,5 +1,5 @@
--- The comparisons that conditions are: of the values of two ints, with or without sign (path conditions are the branches that a program
--- takes: King, 1976). A term of a state makes them over the pool, a term of a path over the path's own list.
+-- The comparisons that conditions are: of the values of two ints, with or without sign (path conditions are the branches that a
+-- program takes: King, 1976). A term of a state makes them over the pool, a term of a path over the path's own list.
 use Rattle.std.specs.Prelude.{ℕ, ℤ, List, Option, Some, None, option_map, slice_get}
 use Rattle.kb_blast.specs.Meaning.{operand_value, second_value}
 use Rattle.kb_heap.specs.declared.heap.Input.{Input}

@@ -1,5 +1,5 @@
--- What licenses a cut: an input that passes the bound, and a picture that shows it where the bound is one on inputs (bounds on the
--- chain of references and on the length of arrays: Deng, Lee and Robby, ASE 2006).
+-- What licenses a cut: an input that passes the bound, and a picture that shows it where the bound is one on inputs (bounds on
+-- the chain of references and on the length of arrays: Deng, Lee and Robby, ASE 2006).
 use Rattle.std.specs.Prelude.{◌≡◌, ℕ}
 use Rattle.kb_class.specs.declared.ids.MethodId.{MethodId}
 use Rattle.kb_class.specs.Naming.{Has}
@@ -31,10 +31,10 @@ pub record HasLonger (picture : Picture) (most : ℕ) : Type 0 where
 abbrev pub RunsPast : World → MethodId → Bounds → Bound → Input → Type 0
 RunsPast world method bounds bound input = (run_of (setting_of world bounds) method input).ending ≡ Past bound
 
--- A cut at a bound is licensed for an input with such a picture: by k where the input has a chain of more than k objects, and the
--- picture a slot or a location that is beyond, where a new object would lie deeper than k; by array where the input has an array
--- longer than the bound at the end of a chain, and the picture one; by each other bound where the runs that count end past it, which
--- `Passes` tells.
+-- A cut at a bound is licensed for an input with such a picture: by k where the input has a chain of more than k objects, and
+-- the picture a slot or a location that is beyond, where a new object would lie deeper than k; by array where the input has an
+-- array longer than the bound at the end of a chain, and the picture one; by each other bound where the runs that count end
+-- past it, which `Passes` tells.
 abbrev pub IsLicensedBy : (Bound → Type 0) → Bounds → Picture → Bound → Input → Type 0
 IsLicensedBy Passes bounds picture K input = IsPastK input bounds.k × IsBeyondK picture bounds.k
 IsLicensedBy Passes bounds picture Array input = IsPastArray input bounds.array × HasLonger picture bounds.array

@@ -6,9 +6,12 @@ pub mod Code
 pub mod Next
 pub mod Stated
 pub mod States
+pub mod Heaps
+pub mod FirstReads
 pub mod Lent
 pub mod Paths
 pub mod Comparing
 pub mod Meant
 pub mod Measure
 pub mod Making
+pub mod Endings

@@ -1,5 +1,5 @@
--- How many choices a state can still need before its next instruction is carried out. A further instruction that chooses is a further
--- case of `questions_of`; none needs more than five, so that each argument counts more than an instruction.
+-- How many choices a state can still need before its next instruction is carried out. A further instruction that chooses is a
+-- further case of `questions_of`; none needs more than five, so that each argument counts more than an instruction.
 use Rattle.std.specs.Prelude.{ℕ, suc, zero, ◌-◌, ◌*◌, length}
 use Rattle.std.specs.Option.{option_map_or}
 use Rattle.kb_class.specs.declared.ids.MethodId.{MethodId}
@@ -22,13 +22,15 @@ questions_of_op ops.Div = 1
 questions_of_op ops.Rem = 1
 questions_of_op _ = 0
 
--- the most choices that an instruction can need: a branch on ints whether it is taken, a switch its key
+-- the most choices that an instruction can need: a branch on ints whether it is taken, a switch its key, a getfield what the
+-- slot holds
 abbrev pub questions_of : Instr → ℕ
 questions_of (instrs.IfInt cond target) = 1
 questions_of (instrs.IfPair cond target) = 1
 questions_of (instrs.Table low default targets) = 1
 questions_of (instrs.Lookup default keys) = 1
 questions_of (instrs.Int2 op) = questions_of_op op
+questions_of (instrs.GetField entry) = 1
 questions_of _ = 0
 
 -- how many arguments are not read

@@ -1,5 +1,6 @@
--- What a state comes to next: an argument that is read, or an instruction; and whether it is one of ints alone (The Java Virtual
--- Machine Specification, Java SE 8 Edition, sections 2.11 and 6.5; that a run begins by reading its arguments is an own rule).
+-- What a state comes to next: an argument that is read, or an instruction; and whether it is one of ints alone (The Java
+-- Virtual Machine Specification, Java SE 8 Edition, sections 2.11 and 6.5; that a run begins by reading its arguments is an own
+-- rule).
 use Rattle.std.specs.Prelude.{ℕ, Bool, true, false, not, length, Option, Some, None, option_map, option_and_then, slice_get, is_some}
 use Rattle.kb_class.specs.declared.ids.MethodId.{MethodId}
 use Rattle.kb_class.specs.declared.members.MethodInfo.{MethodInfo}
@@ -58,8 +59,8 @@ instruction_next world method stage = option_map (λ (found : Instr × ℕ). fou
 abbrev pub is_int_entry : World → MethodId → ℕ → Bool
 is_int_entry world method entry = is_some (option_and_then (λ (info : MethodInfo). int_entry_of world info.class.0 entry) (info_of world method))
 
--- The instructions of ints, of locals that are ints, and of the stack, those that branch on ints, and the returns of an int and of
--- nothing. An ldc is one of them where its constant is an int.
+-- The instructions of ints, of locals that are ints, and of the stack, those that branch on ints, and the returns of an int and
+-- of nothing. An ldc is one of them where its constant is an int.
 abbrev pub is_int_instruction : World → MethodId → Instr → Bool
 is_int_instruction world method instrs.Nop = true
 is_int_instruction world method (instrs.PushInt z) = true

@@ -1,5 +1,5 @@
--- Which configurations a state stands for: those of the runs over its instances that have carried out as many instructions, with
--- each symbolic value in the place of its value at the input (the simulation of a run by a symbolic one: King, 1976).
+-- Which configurations a state stands for: those of the runs over its instances that have carried out as many instructions,
+-- with each symbolic value in the place of its value at the input (the simulation of a run by a symbolic one: King, 1976).
 use Rattle.std.specs.Prelude.{◌≡◌, ◌↔◌, ℕ, zero, suc, ◌+◌, ◌<◌, List, [], ◌∷◌, ◌++◌, length, map, take, drop, Option, Some, None, option_map, slice_get}
 use Rattle.std.specs.Option.{option_map_or}
 use Rattle.kb_blast.specs.Meaning.{AreMetInPool}
@@ -115,6 +115,9 @@ pub record HeapStandsFor (r : Reading) (state : State) (first heap : Heap) : Typ
   -- each slot of an object of the picture holds, at the object's place, the state's present value
   pub cells : (object slot place : ℕ) → slice_get r.places.objects object ≡ Some place
       → value_at heap place slot ≡ present_value r (value_at first place slot) (cell_at state.cells object slot)
+  -- one that was read, and not written, holds what it held at the start
+  pub kept : (object slot place : ℕ) (value : SymValue) → slice_get r.places.objects object ≡ Some place → cell_at state.cells object slot ≡ Read value
+      → value_at heap place slot ≡ value_at first place slot
   -- an object of the input that no object of the picture is, and a literal, are as at the start
   pub others : (object : ℕ) → object < r.inputs + r.literals → IsNoPlace r.places.objects object → object_at heap object ≡ object_at first object
 

@@ -1,5 +1,5 @@
--- Symbolic states (King, 1976; with the unknown heap of Khurshid, Păsăreanu and Visser, TACAS 2003): a configuration of the machine
--- whose ints are terms and whose objects of the input are those of a picture.
+-- Symbolic states (King, 1976; with the unknown heap of Khurshid, Păsăreanu and Visser, TACAS 2003): a configuration of the
+-- machine whose ints are terms and whose objects of the input are those of a picture.
 use Rattle.std.specs.Prelude.{ℕ, List, [], Bool}
 use Rattle.std.specs.List.{slice_index_or}
 use Rattle.kb_class.specs.declared.ids.MethodId.{MethodId}
@@ -14,9 +14,9 @@ use Rattle.kb_frames.specs.declared.state.Stage.{Stage}
 use Rattle.kb_frames.specs.declared.state.Stage.TheVariants.{Begins}
 
 -- A state. Its run begins by reading its arguments, in order; then it has a current frame, and those of its callers from the
--- nearest on. `method` is the one of whose run it is a state. `carried` counts the instructions that were carried out. The cells
--- are those of the picture's objects, in order, `made` the objects of the run in the order of making. The terms are those of a
--- pool, and `when` the conditions in the order in which they were met.
+-- nearest on. `method` is the one of whose run it is a state. `carried` counts the instructions that were carried out. The
+-- cells are those of the picture's objects, in order, `made` the objects of the run in the order of making. The terms are those
+-- of a pool, and `when` the conditions in the order in which they were met.
 pub record State : Type 0 where
   pub init : Init
   pub method : MethodId

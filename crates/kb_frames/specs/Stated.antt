@@ -1,5 +1,5 @@
--- What a state's heap states: the slots that the run wrote, by rising object and slot, and the objects that it has made. Terms have
--- their numbers in the pool, and a location that is known to be an object of the picture is named as that object.
+-- What a state's heap states: the slots that the run wrote, by rising object and slot, and the objects that it has made. Terms
+-- have their numbers in the pool, and a location that is known to be an object of the picture is named as that object.
 use Rattle.std.specs.Prelude.{ℕ, ◌+◌, List, [], ◌∷◌, ◌++◌, map, Option, Some, None, slice_get}
 use Rattle.std.specs.List.{cons_option}
 use Rattle.std.specs.Option.{option_map_or}

@@ -1,5 +1,5 @@
--- The truth of a term in a state: its own, where it is a constant, else the one that it has among the conditions. What is decided so
--- is asked of nobody (path conditions are added only where they are not decided: King, 1976).
+-- The truth of a term in a state: its own, where it is a constant, else the one that it has among the conditions. What is
+-- decided so is asked of nobody (path conditions are added only where they are not decided: King, 1976).
 use Rattle.std.specs.Prelude.{ℤ, pos, Bool, not, List, [], ◌∷◌, ◌++◌, Option, Some, None, is_some, ◌==◌, if◌then◌else◌}
 use Rattle.std.specs.Ordering.{int_eq}
 use Rattle.std.specs.Map.{lookup}

@@ -1,12 +1,13 @@
 //! How a run begins: its arguments are read, and it has its first frame.
-ghost use Rattle.std.specs.Prelude.{◌≡◌, ◌++◌, map, replicate, Some, None, IfOk, OnOk};
+ghost use Rattle.std.specs.Prelude.{◌≡◌, ◌++◌, map, replicate, Some, IfOk, OnOk};
 ghost use Rattle.kb_frames.specs.Lent.{begun, begun_locals, read_count, read_int};
 
 use crate::NoMemory;
+use crate::first_reads::numbered;
 use crate::frame::{SymCallers, SymFrame, SymStack};
 use crate::state::{Stage, SymState};
 use crate::value::SymValue;
-use kb_picture::{Origin, Seen};
+use kb_picture::Origin;
 use kb_rows::Row;
 use kb_terms::VarKind;
 use kb_world::World;
@@ -18,29 +19,15 @@ impl SymState {
         ensures { OnOk result (self.new ≡ read_int self.old kind) }
     {
         let argument = self.read_count()?;
-        let variable = self.pool.variables();
-        let term = self.pool.variable(kind)?;
-        self.picture
-            .seen
-            .push((Origin::Arg(argument), Seen::Int(variable)))?;
-        match &mut self.stage {
-            Stage::Begins(read) => {
-                read.push(SymValue::Int(term))?;
-                Ok(())
-            }
-            Stage::Runs(..) => Ok(()),
-        }
+        self.first_int(Origin::Arg(argument), kind)
     }
 
-    // How many arguments were read, while they are.
-    fn read_count(&self) -> Result<u32, NoMemory>
+    /// How many arguments were read, while they are.
+    pub fn read_count(&self) -> Result<u32, NoMemory>
         ensures { IfOk result (λ count. count ≡ read_count self.now.stage) }
     {
         match &self.stage {
-            Stage::Begins(read) => match u32::try_from(read.as_slice().len()) {
-                Ok(count) => Ok(count),
-                Err(_) => Err(NoMemory),
-            },
+            Stage::Begins(read) => numbered(read.as_slice().len()),
             Stage::Runs(..) => Ok(0),
         }
     }
@@ -78,7 +65,7 @@ fn begun_locals(
     ensures { IfOk result (λ locals. locals ≡ begun_locals read.now limit) }
 {
     let mut locals = written_locals(alloc, read)?;
-    add_missing(limit.saturating_sub(read.len()), &mut locals)?;
+    add_equal(limit.saturating_sub(read.len()), None, &mut locals)?;
     Ok(locals)
 }
 
@@ -92,13 +79,18 @@ fn written_locals(alloc: Global, read: &[SymValue]) -> Result<Row<Option<SymValu
     Ok(locals)
 }
 
+/// Adds so many equal items.
 #[tactic(auto, using(crate::proofs::BeginLaws::one_more))]
-fn add_missing(missing: usize, locals: &mut Row<Option<SymValue>>) -> Result<(), NoMemory>
-    ensures { OnOk result (locals.new ≡ locals.old ++ replicate missing None) }
+pub(crate) fn add_equal<T: Copy + Drop>(
+    count: usize,
+    item: T,
+    items: &mut Row<T>,
+) -> Result<(), NoMemory>
+    ensures { OnOk result (items.new ≡ items.old ++ replicate count item) }
 {
-    for place in 0..missing {
+    for place in 0..count {
         let _ = place;
-        locals.push(None)?;
+        items.push(item)?;
     }
     Ok(())
 }

@@ -1,12 +1,22 @@
 //! The instructions of a method's code, by their offsets.
 ghost use Rattle.std.specs.Prelude.{◌≡◌, drop, option_map};
 ghost use Rattle.kb_code.specs.Listing.{offset_of};
-ghost use Rattle.kb_semantics.specs.Config.{instruction_at};
+ghost use Rattle.kb_semantics.specs.Config.{class_number, instruction_at};
 ghost use Rattle.kb_frames.specs.Code.{plain_found, from_place};
 
-use kb_class::MethodId;
+use kb_class::{ClassId, MethodId};
 use kb_code::Instr;
 use kb_world::World;
+
+/// The class that declares a method; of a number that no method has the first class. It takes no memory.
+pub fn declaring_class(world: &World, method: MethodId) -> ClassId
+    ensures { result.0 ≡ class_number world.now method }
+{
+    match world.find_method(method) {
+        Some(info) => info.class,
+        None => ClassId(0),
+    }
+}
 
 /// An instruction, and the offset behind it.
 #[derive(Clone, Copy)]
@@ -15,7 +25,8 @@ pub struct Found<'w> {
     pub next: u32,
 }
 
-/// The instruction at an offset of a method's code: None where the code has run off its end, or there is none. It takes no memory.
+/// The instruction at an offset of a method's code: None where the code has run off its end, or there is none. It takes no
+/// memory.
 #[tactic(auto, using(crate::proofs::CodeLaws::by_place))]
 pub fn instruction_at(world: &World, method: MethodId, at: u32) -> Option<Found<'_>>
     ensures { option_map plain_found result ≡ instruction_at world.now method at }

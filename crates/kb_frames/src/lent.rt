@@ -8,7 +8,7 @@ use crate::NoMemory;
 use crate::state::{Stage, SymState};
 use crate::value::SymValue;
 use kb_class::MethodId;
-use kb_picture::Picture;
+use kb_picture::{Init, Picture};
 use kb_terms::{Op, Pool, TermId};
 
 impl SymState {
@@ -17,6 +17,13 @@ impl SymState {
         ensures { result ≡ self.now.method }
     {
         self.method
+    }
+
+    /// When it is chosen which object a reference is.
+    pub fn init(&self) -> Init
+        ensures { result ≡ self.now.init }
+    {
+        self.init
     }
 
     /// How many instructions were carried out.

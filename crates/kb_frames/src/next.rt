@@ -1,18 +1,20 @@
 //! What a state comes to next.
-ghost use Rattle.std.specs.Prelude.{◌≡◌, Some, option_map, slice_get};
+ghost use Rattle.std.specs.Prelude.{◌≡◌, Some, IfOk, option_map, slice_get};
 ghost use Rattle.kb_link.specs.Slots.{is_static};
 ghost use Rattle.kb_semantics.specs.Config.{class_number};
 ghost use Rattle.kb_semantics.specs.Inputs.{argument_types};
 ghost use Rattle.kb_picture.specs.Queries.{kind_for};
 ghost use Rattle.kb_frames.specs.Next.{type_of, kind_of, is_reference, argument_next, method_now, offset_now, instruction_next, is_int_entry, is_int_instruction, is_int_next, next_is_int};
 
-use crate::code::instruction_at;
+use crate::NoMemory;
+use crate::code::{declaring_class, instruction_at};
 use crate::state::{Stage, SymState};
 use kb_class::{MethodId, MethodInfo};
 use kb_code::Instr;
-use kb_names::JType;
+use kb_names::{JType, Name};
 use kb_terms::VarKind;
 use kb_world::World;
+use std::alloc::Global;
 
 /// ACC_STATIC (JVMS 8 table 4.6-A).
 const STATIC: u16 = 0x0008;
@@ -45,6 +47,20 @@ impl SymState {
         match self.next_argument(world)? {
             Argument::Receiver => Some(VarKind::Int),
             Argument::Typed(kind) => Some(variable_kind(kind)),
+        }
+    }
+
+    /// The type of the next argument, that of a receiver being its method's class; None where all arguments are read.
+    pub fn next_type(&self, alloc: Global, world: &World) -> Result<Option<JType>, NoMemory>
+        ensures { IfOk result (λ next. next ≡ argument_next world.now self.now.method self.now.stage) }
+    {
+        match self.next_argument(world) {
+            Some(Argument::Receiver) => {
+                let class = world.find_name(declaring_class(world, self.method));
+                Ok(Some(JType::Class(Name::from_slice(alloc, class)?)))
+            }
+            Some(Argument::Typed(kind)) => Ok(Some(kind.copied(alloc)?)),
+            None => Ok(None),
         }
     }
 
@@ -104,19 +120,22 @@ fn argument_at<'w>(_world: &World, info: &'w MethodInfo, number: usize) -> Optio
     }
 }
 
-fn is_static(info: &MethodInfo) -> bool
+/// Whether the method is static (JVMS 8 section 4.6).
+pub fn is_static(info: &MethodInfo) -> bool
     ensures { result ≡ is_static info.now.access }
 {
     info.access & STATIC != 0
 }
 
-fn is_reference(kind: &JType) -> bool
+/// Whether the type is one of references (JVMS 8 section 2.4).
+pub fn is_reference(kind: &JType) -> bool
     ensures { result ≡ is_reference kind.now }
 {
     matches!(kind, JType::Class(_) | JType::Array(_))
 }
 
-fn variable_kind(kind: &JType) -> VarKind
+/// The kind of the variable of a slot of the type: a boolean's is 0 or 1, any other is an int of 32 bits.
+pub fn variable_kind(kind: &JType) -> VarKind
     ensures { result ≡ kind_for (Some kind.now) }
 {
     match kind {
@@ -125,8 +144,8 @@ fn variable_kind(kind: &JType) -> VarKind
     }
 }
 
-/// Whether an instruction of the method is one of those on ints, on locals that are ints and on the stack, a branch on ints, or a
-/// return of an int or of nothing. An ldc is one of them where its constant is an int.
+/// Whether an instruction of the method is one of those on ints, on locals that are ints and on the stack, a branch on ints, or
+/// a return of an int or of nothing. An ldc is one of them where its constant is an int.
 pub fn is_int_instruction(world: &World, method: MethodId, instr: &Instr) -> bool
     ensures { result ≡ is_int_instruction world.now method instr.now }
 {

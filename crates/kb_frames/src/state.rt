@@ -110,7 +110,8 @@ impl Model for SymState {
     ghost view = { λ s. record { init = s.init; method = s.method; stage = s.stage; carried = s.carried; picture = s.picture; cells = s.cells; made = s.made; nodes = s.pool; when = s.when } };
 }
 
-/// The state before the arguments are read: it stands for the beginning of each run of the method. Nothing is read of the world.
+/// The state before the arguments are read: it stands for the beginning of each run of the method. Nothing is read of the
+/// world.
 pub fn start(
     alloc: Global,
     _world: &World,

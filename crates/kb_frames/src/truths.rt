@@ -15,8 +15,8 @@ impl SymState {
         self.when.as_slice()
     }
 
-    /// The truth of a term, if it is decided: that of a constant, or the one that it has among the conditions. It takes constant
-    /// time.
+    /// The truth of a term, if it is decided: that of a constant, or the one that it has among the conditions. It takes
+    /// constant time.
     pub fn truth_of(&self, term: TermId) -> Option<bool>
         requires { IsTerm self.now.nodes term }
         ensures { result ≡ truth_in self.now term }

@@ -34,7 +34,7 @@ pub enum Outcome {
 
 /// What a slot or an element of an object of the picture holds.
 #[derive(Clone, Copy, Debug, PartialEq, Eq)]
-pub(crate) enum Cell {
+pub enum Cell {
     /// As at the start of the run, and not known.
     Untouched,
     /// As at the start, and seen so.

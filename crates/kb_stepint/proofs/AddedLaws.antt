@@ -75,7 +75,7 @@ module _ (world : World) (bounds : Bounds) (old : State) where
   abbrev s : Setting
   s = setting_of world bounds
 
-  same_when : (new : State) → new.when ≡ old.when → AddsComparisons world bounds old new
+  pub same_when : (new : State) → new.when ≡ old.when → AddsComparisons world bounds old new
   same_when new same input c correct stands shape i condition from at =
       absurd (past (length old.when) i from (slice_get_within old.when i condition (ap (λ (l : List (TermId × Bool)). slice_get l i) (sym same) ∙ at)))
 

@@ -78,11 +78,11 @@ int_is_term nodes (Some (Literal n)) x is e = absurd cc
 int_is_term nodes (Some (New n)) x is e = absurd cc
 int_is_term nodes (Some (Loc n)) x is e = absurd cc
 
--- both of two ints are
-pub two_parts : (first second : Option TermId) (p : TermId × TermId) → option_and_then (λ right. option_map (λ left. (left, right)) second) first ≡ Some p → (first ≡ Some p.1) × (second ≡ Some p.0)
+-- both of two operands are
+pub two_parts : {A B : Type 0} (first : Option A) (second : Option B) (p : B × A) → option_and_then (λ right. option_map (λ left. (left, right)) second) first ≡ Some p → (first ≡ Some p.1) × (second ≡ Some p.0)
 two_parts None second p e = absurd cc
 two_parts (Some r) None p e = absurd cc
-two_parts (Some r) (Some l) p e = let same : (l, r) ≡ p = cc in (ap (λ (q : TermId × TermId). Some q.1) same, ap (λ (q : TermId × TermId). Some q.0) same)
+two_parts (Some r) (Some l) p e = let same : (l, r) ≡ p = cc in (ap (λ q. Some q.1) same, ap (λ q. Some q.0) same)
 
 -- ---- what is askable
 

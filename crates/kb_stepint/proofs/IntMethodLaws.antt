@@ -18,6 +18,7 @@ use Rattle.kb_world.specs.Faults.{is_left_out}
 use Rattle.kb_semantics.specs.Config.{code_of, info_of, instruction_at, instruction_in}
 use Rattle.kb_semantics.specs.Inputs.{argument_types}
 use Rattle.kb_picture.specs.declared.choice.Init.{Init}
+use Rattle.kb_picture.specs.WellTyped.{IsWellTyped}
 use Rattle.kb_frames.specs.declared.state.Stage.{Stage}
 use Rattle.kb_frames.specs.declared.state.Stage.TheVariants.{Begins, Runs}
 use Rattle.kb_frames.specs.Next.{argument_next, instruction_next, is_int, is_int_instruction, is_int_next, is_reference, method_now, next_is_int}
@@ -67,8 +68,11 @@ int_info world id e = go (info_of world id) refl e where
   go None at is = absurd cc
   go (Some info) at is = record { info = info; info_is = at; int_info = parts info is }
 
+pub code_found : (world : World) (id : MethodId) (info : MethodInfo) (code : MethodCode) → info_of world id ≡ Some info → info.code ≡ Some code → code_of world id ≡ Some code
+code_found world id info code info_is there = rw info_is there
+
 pub code_is : (world : World) (id : MethodId) (h : HasIntInfo world id) → code_of world id ≡ Some h.int_info.code
-code_is world id h = rw h.info_is h.int_info.code_is
+code_is world id h = code_found world id h.info h.int_info.code h.info_is h.int_info.code_is
 
 -- ---- arguments
 
@@ -110,12 +114,12 @@ all_at test (y ∷ ys) (suc i) x all e = all_at test ys i x (and_both (test y) (
 
 -- ---- instructions
 
-all_passed : {A : Type 0} (test : A → Bool) (xs : List A) → list_all test xs ≡ true → AllByRecursion (λ x. test x ≡ true) xs
+pub all_passed : {A : Type 0} (test : A → Bool) (xs : List A) → list_all test xs ≡ true → AllByRecursion (λ x. test x ≡ true) xs
 all_passed test [] all = tt
 all_passed test (x ∷ xs) all = let both = and_both (test x) (list_all test xs) all in (both.0, all_passed test xs both.1)
 
 -- what holds of each instruction of a listing holds of one that is found there
-found_has : (P : Instr → Type 0) (items : List (ℕ × Instr)) (size at : ℕ) (found : Instr × ℕ) → AllByRecursion (λ (item : ℕ × Instr). P item.1) items
+pub found_has : (P : Instr → Type 0) (items : List (ℕ × Instr)) (size at : ℕ) (found : Instr × ℕ) → AllByRecursion (λ (item : ℕ × Instr). P item.1) items
     → instruction_in items size at ≡ Some found → P found.0
 found_has P [] size at found all e = absurd cc
 found_has P (item ∷ rest) size at found all e = go (nat_eq item.0 at) (λ later. found_has P rest size at found all.1 later) e where
@@ -129,12 +133,12 @@ found_method P [] number info all e = absurd cc
 found_method P (first ∷ others) zero info all e = let same : first ≡ info = cc in subst P same all.0
 found_method P (first ∷ others) (suc number) info all e = found_method P others number info all.1 e
 
-switches_rise : (world : World) (id : MethodId) → IsLinked world → HasIntInfo world id → SwitchesRise world id
-switches_rise world id linked h at found e =
-    let placed : HasPlacedCode h.info = found_method HasPlacedCode (methods_in world.classes) id.0 h.info linked.loaded.methods.placed h.info_is in
-    let places : HasItsPlaces h.int_info.code = subst (λ (code : Option MethodCode). IfSome code HasItsPlaces) h.int_info.code_is placed in
-    found_has HasRisingKeys h.int_info.code.listing.items h.int_info.code.size at found places.keys
-    (ap (option_and_then (λ (code : MethodCode). instruction_in code.listing.items code.size at)) (sym (code_is world id h)) ∙ e)
+pub switches_rise : (world : World) (id : MethodId) (info : MethodInfo) (code : MethodCode) → IsLinked world → info_of world id ≡ Some info → info.code ≡ Some code → SwitchesRise world id
+switches_rise world id info code linked info_is there at found e =
+    let placed : HasPlacedCode info = found_method HasPlacedCode (methods_in world.classes) id.0 info linked.loaded.methods.placed info_is in
+    let places : HasItsPlaces code = subst (λ (c : Option MethodCode). IfSome c HasItsPlaces) there placed in
+    found_has HasRisingKeys code.listing.items code.size at found places.keys
+    (ap (option_and_then (λ (c : MethodCode). instruction_in c.listing.items c.size at)) (sym (code_found world id info code info_is there)) ∙ e)
 
 -- ---- states
 
@@ -173,34 +177,36 @@ ints_next world state reached ints = go state.stage reached.alone where
   go (Runs frame callers) alone = rw alone.0 (at_offset frame.at)
 
 -- Before the arguments are read nothing is seen.
+pub start_typed : (world : World) (init : Init) (method : MethodId) → IsState world (start_state init method) → IsWellTyped world method (start_state init method).picture
+start_typed world init method sound = record {
+  method = sound.info;
+  method_is = sound.info_is;
+  formed = sound.picture;
+  seen = λ i slot e. absurd (no_at i slot e);
+  receiver = λ own has. no_at has.0 _ has.1;
+  universe = λ number object e. absurd (no_at number object e);
+  objects = λ number object slot type e leads declared. absurd (no_at number object e);
+  lengths = λ number object e. absurd (no_at number object e);
+} where
+  no_at : {A : Type 0} (i : ℕ) (x : A) → slice_get [] i ≡ Some x → ⊥
+  no_at i x e = absurd cc
+
+pub handlers_none : (handlers : List Handler) → has_none handlers ≡ true → handlers ≡ []
+handlers_none [] e = refl
+handlers_none (handler ∷ others) e = absurd cc
+
 pub start_reached : (world : World) (init : Init) (method : MethodId) → IsLinked world → is_int_method world method ≡ true → IsReached world (start_state init method)
 start_reached world init method linked ints = record {
   sound = sound;
-  typed = record {
-    method = sound.info;
-    method_is = sound.info_is;
-    formed = sound.picture;
-    seen = λ i slot e. absurd (no_at i slot e);
-    receiver = λ own has. no_at has.0 _ has.1;
-    universe = λ number object e. absurd (no_at number object e);
-    objects = λ number object slot type e leads declared. absurd (no_at number object e);
-    lengths = λ number object e. absurd (no_at number object e);
-  };
+  typed = start_typed world init method sound;
   receiver = tt;
   alone = tt;
   unhandled = rw (code_is world method h) (handlers_none h.int_info.code.handlers h.int_info.handlers);
   parameters = rw h.info_is (none_left_out h.info.kind.params h.int_info.params);
-  keys = switches_rise world method linked h;
+  keys = switches_rise world method h.info h.int_info.code linked h.info_is h.int_info.code_is;
 } where
   h : HasIntInfo world method
   h = int_info world method ints
 
   sound : IsState world (start_state init method)
   sound = start_is_state world init method h.info h.info_is
-
-  no_at : {A : Type 0} (i : ℕ) (x : A) → slice_get [] i ≡ Some x → ⊥
-  no_at i x e = absurd cc
-
-  handlers_none : (handlers : List Handler) → has_none handlers ≡ true → handlers ≡ []
-  handlers_none [] e = refl
-  handlers_none (handler ∷ others) e = absurd cc

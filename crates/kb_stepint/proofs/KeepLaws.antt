@@ -81,7 +81,7 @@ stays_framed old new m i p n w = record {
   conditions = subst (λ (when : List (TermId × Bool)). take (length old.when) when ≡ old.when) (sym w) (front_itself old.when);
 }
 
-begun_stays : (world : World) (state : State) → Stays state (begun world state)
+pub begun_stays : (world : World) (state : State) → Stays state (begun world state)
 begun_stays world state = stays_framed state (begun world state) refl refl refl refl refl
 
 -- ---- ways on
@@ -220,7 +220,7 @@ past : (n i : ℕ) → n ≤ i → i < n → ⊥
 past n i le lt = omega (arith, le, lt)
 
 module _ (world : World) (bounds : Bounds) (old new : State) where
-  same_reads : new.picture ≡ old.picture → ReadsWhatItSees world bounds old new
+  pub same_reads : new.picture ≡ old.picture → ReadsWhatItSees world bounds old new
   same_reads same input c correct stands instance_of = record {
     seen = λ i slot from at. absurd (past (length old.picture.seen) i from (slice_get_within old.picture.seen i slot (ap (λ (p : Picture). slice_get p.seen i) (sym same) ∙ at)));
     objects = λ lazier number from below. absurd (past (length old.picture.objects) number from (subst (λ (p : Picture). number < length p.objects) same below));

@@ -18,6 +18,7 @@ pub mod OutcomeLaws
 pub mod OutcomePlans
 pub mod OutcomeReads
 pub mod OutcomeStands
+pub mod AlikeLaws
 pub mod OutcomeValues
 pub mod OutcomeWays
 pub mod PastLaws

@@ -23,7 +23,8 @@ use Rattle.kb_frames.specs.declared.value.SymValue.{SymValue}
 use Rattle.kb_frames.specs.declared.value.SymValue.TheVariants.{Int}
 use Rattle.kb_frames.specs.declared.value.Outcome.TheVariants.{Asks}
 use Rattle.kb_frames.specs.State.{State}
-use Rattle.kb_frames.specs.Lent.{begun, read_int, stack_of, transfers_of, with_nodes, with_read}
+use Rattle.kb_frames.specs.FirstReads.{with_read}
+use Rattle.kb_frames.specs.Lent.{begun, read_int, stack_of, transfers_of, with_nodes}
 use Rattle.kb_frames.specs.Measure.{questions_of, questions_of_op, unread_at, left_of, choices_left}
 use Rattle.kb_frames.specs.Next.{argument_next, instruction_next, method_now, offset_now}
 use Rattle.kb_stepint.specs.Asked.{all_asked}
@@ -56,6 +57,7 @@ few (instrs.IfPair cond target) = omega arith
 few (instrs.Table low default targets) = omega arith
 few (instrs.Lookup default keys) = omega arith
 few (instrs.Int2 op) = few_of_op op
+few (instrs.GetField entry) = omega arith
 few _ = omega arith
 
 pub few_next : (found : Option Instr) → option_map_or questions_of found 0 ≤ 5
@@ -83,7 +85,7 @@ module _ (world : World) (bounds : Bounds) (old : State) where
   abbrev Gets : Take → Type 0
   Gets take = GetsOn world old take.state take.outcome
 
-  reads_on : (stage : Stage) (type : JType) → old.stage ≡ stage → argument_next world old.method old.stage ≡ Some type → choices_left world (read_int old (kind_for (Some type))) < choices_left world old
+  pub reads_on : (stage : Stage) (type : JType) → old.stage ≡ stage → argument_next world old.method old.stage ≡ Some type → choices_left world (read_int old (kind_for (Some type))) < choices_left world old
   reads_on (Begins read) type is e =
       let value = Int (record { 0 = length old.nodes }) in
       let next : argument_next world old.method (Begins read) ≡ Some type = subst (λ (s : Stage). argument_next world old.method s ≡ Some type) is e in
@@ -103,7 +105,7 @@ module _ (world : World) (bounds : Bounds) (old : State) where
   carries : (state : State) (f : SymFrame → SymFrame) → state.carried ≡ old.carried → Gets (carries_out state f)
   carries state f e = ap (λ n. n + 1) e
 
-  went_on : (next : ℕ) (state : State) (way : Way) → state.carried ≡ old.carried → Gets (went world bounds next state way)
+  pub went_on : (next : ℕ) (state : State) (way : Way) → state.carried ≡ old.carried → Gets (went world bounds next state way)
   went_on next state (Goes locals stack) e = if_has Gets (has_room world (method_now state.method state.stage) (length stack)) _ _ (carries state (λ (frame : SymFrame). record frame { at = next; locals = locals; stack = stack }) e) tt
   went_on next state (Jumps target stack) e =
       if_has Gets (has_room world (method_now state.method state.stage) (length stack)) _ _

@@ -92,7 +92,7 @@ pub value_inputs : (nodes : List Node) (t : TermId) (inputs more : List ℤ) →
 unfolding value_of
 value_inputs nodes t inputs more pool enough = ap (λ (vs : List ℤ). int_at vs t.0) (more_inputs nodes inputs more pool enough)
 
-met_inputs : (nodes : List Node) (inputs more : List ℤ) (when : List (TermId × Bool)) → IsPool nodes → variables_of nodes ≤ length inputs → AreMetInPool nodes inputs when
+pub met_inputs : (nodes : List Node) (inputs more : List ℤ) (when : List (TermId × Bool)) → IsPool nodes → variables_of nodes ≤ length inputs → AreMetInPool nodes inputs when
     → AreMetInPool nodes (inputs ++ more) when
 met_inputs nodes inputs more [] pool enough met = tt
 met_inputs nodes inputs more (x ∷ when) pool enough met = (value_inputs nodes x.0 inputs more pool enough ∙ met.0, met_inputs nodes inputs more when pool enough met.1)
@@ -116,7 +116,7 @@ pub many_values : (world : World) (old : State) (input : Input) (places : List �
 unfolding variable_values
 many_values world old input places sound = variables-same world old.method old.nodes old.picture sound.kinds ∙ count_values input places old.picture.seen
 
-enough_values : (world : World) (old : State) (input : Input) (places : List ℕ) → IsState world old → variables_of old.nodes ≤ length (variable_values old.picture input places)
+pub enough_values : (world : World) (old : State) (input : Input) (places : List ℕ) → IsState world old → variables_of old.nodes ≤ length (variable_values old.picture input places)
 enough_values world old input places sound = (let many = many_values world old input places sound in omega (arith, many))
 
 abbrev pub shape_more : (picture : Picture) (input : Input) (argument variable : ℕ) (z : ℤ) → slice_get input.args argument ≡ Some (IntValue z) → HasShape picture input → HasShape (saw_argument picture argument variable) input

@@ -59,6 +59,7 @@ use Rattle.kb_stepint.proofs.OutcomeStands.{Running, running}
 use Rattle.kb_stepint.proofs.OutcomeValues.{frame_later, reading_int, reading_later}
 use Rattle.kb_stepint.proofs.OutcomeWays.{ill_typed_is, went_is}
 use Rattle.kb_stepint.proofs.PastLaws.{cut_by_steps}
+use Rattle.kb_stepint.proofs.SoundLaws.{sound_reached}
 use Rattle.kb_stepint.proofs.ValueLaws.{IsOrdered, pool_ordered}
 
 -- what is left of a list stands in it, and was to be kept
@@ -81,6 +82,21 @@ stores_nothing : (world : World) (method : MethodId) (instr : Instr) (s : Settin
 stores_nothing world method (instrs.PutField entry) s c e = absurd cc
 stores_nothing world method (instrs.StoreElem elem) s c e = absurd cc
 stores_nothing world method _ s c e = refl
+
+-- ---- what a configuration takes up
+
+module _ (s : Setting) (c : Config) (within : nat_le s.bounds.steps c.carried ≡ false) (found : Option (Instr × ℕ)) (at : instruction_at s.world c.frame.method c.frame.at ≡ found) where
+  pub step_taken : step s c ≡ option_map_or (λ (f : Instr × ℕ). effect f.0 s f.1 c) found (ill_typed_step s c)
+  unfolding step
+  step_taken =
+      ap (λ (b : Bool). if b then past c Steps else option_map_or (λ (f : Instr × ℕ). effect f.0 s f.1 c) (instruction_at s.world c.frame.method c.frame.at) (ill_typed_step s c)) within
+      ∙ ap (λ (it : Option (Instr × ℕ)). option_map_or (λ (f : Instr × ℕ). effect f.0 s f.1 c) it (ill_typed_step s c)) at
+
+  pub stores_taken : stores s c ≡ if_some (option_map (λ (f : Instr × ℕ). f.0) found) (λ (instr : Instr). stored_by instr s c)
+  unfolding stores
+  stores_taken =
+      ap (λ (b : Bool). if_some (if b then None else option_map (λ (f : Instr × ℕ). f.0) (instruction_at s.world c.frame.method c.frame.at)) (λ (instr : Instr). stored_by instr s c)) within
+      ∙ ap (λ (it : Option (Instr × ℕ)). if_some (option_map (λ (f : Instr × ℕ). f.0) it) (λ (instr : Instr). stored_by instr s c)) at
 
 -- ---- a run that goes on
 
@@ -115,16 +131,10 @@ module _ (world : World) (bounds : Bounds) (old : State) (at : IsAtInts world ol
   within_now = ap (nat_le bounds.run.steps) (counters_agree s old input c stands) ∙ within
 
   step_at : (found : Option (Instr × ℕ)) → instruction_at world c.frame.method c.frame.at ≡ found → step s c ≡ option_map_or (λ (f : Instr × ℕ). effect f.0 s f.1 c) found (ill_typed_step s c)
-  unfolding step
-  step_at found e =
-      ap (λ (b : Bool). if b then past c Steps else option_map_or (λ (f : Instr × ℕ). effect f.0 s f.1 c) (instruction_at world c.frame.method c.frame.at) (ill_typed_step s c)) within_now
-      ∙ ap (λ (it : Option (Instr × ℕ)). option_map_or (λ (f : Instr × ℕ). effect f.0 s f.1 c) it (ill_typed_step s c)) e
+  step_at found e = step_taken s c within_now found e
 
   stores_at : (found : Option (Instr × ℕ)) → instruction_at world c.frame.method c.frame.at ≡ found → stores s c ≡ if_some (option_map (λ (f : Instr × ℕ). f.0) found) (λ (instr : Instr). stored_by instr s c)
-  unfolding stores
-  stores_at found e =
-      ap (λ (b : Bool). if_some (if b then None else option_map (λ (f : Instr × ℕ). f.0) (instruction_at world c.frame.method c.frame.at)) (λ (instr : Instr). stored_by instr s c)) within_now
-      ∙ ap (λ (it : Option (Instr × ℕ)). if_some (option_map (λ (f : Instr × ℕ). f.0) it) (λ (instr : Instr). stored_by instr s c)) e
+  stores_at found e = stores_taken s c within_now found e
 
   abbrev Follows : Take → Type 0
   Follows take = (i : IsInstanceOf take.state input) → IsOutcome world bounds c take.state input i take.outcome
@@ -134,7 +144,7 @@ module _ (world : World) (bounds : Bounds) (old : State) (at : IsAtInts world ol
   runs_off : instruction_at world c.frame.method c.frame.at ≡ None → Follows (ill_typed world (begun world old))
   runs_off e =
       subst (λ (stage : Stage). Follows (ill_typed world (record old { stage = stage }))) (sym run.is)
-      (ill_typed_is world bounds old at.reached input c stands run.frame run.method run.callers (stores_at None e) 0 old.nodes (Extends-refl old.nodes) old.when
+      (ill_typed_is world bounds old (sound_reached world old at.reached) input c stands run.frame run.method run.callers 0 old.nodes (Extends-refl old.nodes) old.when
       (framed old.nodes old.when (Extends-refl old.nodes)) (step_at None e))
 
   -- ---- an instruction is carried out
@@ -167,8 +177,8 @@ module _ (world : World) (bounds : Bounds) (old : State) (at : IsAtInts world ol
       canon_follows =
           let on : Extends old.nodes plan.nodes = Extends-trans old.nodes nodes plan.nodes more (plan_makes world (canon nodes when) choice found.0).terms in
           let effect_is = plan_is s c found.1 (record old { when = when }) run.frame nodes variables R reads ordered (frame_terms nodes more) found.0 choice int has held rising in
-          went_is world bounds old at.reached input c stands run.frame run.method run.callers (stores_at (Some found) there ∙ stores_nothing world run.frame.method found.0 s c int) found.1
-          plan.nodes on when (framed plan.nodes when on) plan.way (step_at (Some found) there ∙ effect_is)
+          went_is world bounds old (sound_reached world old at.reached) input c stands run.frame run.method run.callers found.1
+          plan.nodes on when (framed plan.nodes when on) (stores_at (Some found) there ∙ stores_nothing world run.frame.method found.0 s c int) plan.way (step_at (Some found) there ∙ effect_is)
 
     -- ---- it is taken up
 

@@ -33,7 +33,7 @@ use Rattle.kb_semantics.specs.Step.{effect}
 use Rattle.kb_semantics.specs.Values.{kept}
 use Rattle.kb_semantics.specs.Ways.{ill_typed, goes, goes_on, jumps, branches, throws, arithmetic, hands_over, returns_value, returns_nothing}
 use Rattle.kb_terms.specs.declared.op.Op.{Op}
-use Rattle.kb_terms.specs.declared.op.Op.TheVariants.{Add, And, Neg}
+use Rattle.kb_terms.specs.declared.op.Op.TheVariants.{Add, Neg}
 use Rattle.kb_terms.specs.declared.node.TermId.{TermId}
 use Rattle.kb_terms.specs.declared.node.Node.{Node}
 use Rattle.kb_terms.specs.declared.node.Node.TheVariants.{Const}
@@ -66,7 +66,7 @@ use Rattle.kb_stepint.proofs.AskedLaws.{interned_is_term, side_value}
 use Rattle.kb_stepint.proofs.OneAsked.{AllHold}
 use Rattle.kb_stepint.proofs.OneListed.{AreRising, IsNoKey, branch_so, default_none, equal_so, fits_key, rising_none, rising_rest, table_rising}
 use Rattle.kb_stepint.proofs.OneLaws.{AreStackTerms, one_term, two_terms}
-use Rattle.kb_stepint.proofs.ValueLaws.{IsOrdered, constant_made, interned_ordered, op_made}
+use Rattle.kb_stepint.proofs.ValueLaws.{IsOrdered, constant_made, interned_ordered, low_made, op_made}
 
 -- ---- lists
 
@@ -203,6 +203,48 @@ led_to s c next r (Leaves value) = hands_over s c (option_map (value_of_sym r) v
 led_to s c next r (Throws class) = throws s c class
 led_to s c next r Fails = ill_typed s c
 
+-- ---- what locals hold
+
+module _ (s : Setting) (c : Config) (next : ℕ) (r : Reading) (symbolic : SymFrame) (stands : FrameStandsFor r symbolic c.frame) where
+  -- a local holds the value of the symbolic one
+  pub local_value : (k : ℕ)
+      → local_of s.world c.frame k ≡ option_map (value_of_sym r) (cond (nat_lt k (max_locals_of s.world symbolic.method)) (option_and_then (λ (v : Option SymValue). v) (slice_get symbolic.locals k)) None)
+  local_value k =
+      ap (λ (m : MethodId). cond (nat_lt k (max_locals_of s.world m)) (option_and_then (λ v. v) (slice_get c.frame.locals k)) None) stands.method
+      ∙ ap (λ (l : List (Option Value)). cond (nat_lt k (max_locals_of s.world symbolic.method)) (option_and_then (λ v. v) (slice_get l k)) None) stands.locals
+      ∙ ap (λ (it : Option (Option Value)). cond (nat_lt k (max_locals_of s.world symbolic.method)) (option_and_then (λ v. v) it) None) (slice_get-map (option_map (value_of_sym r)) symbolic.locals k)
+      ∙ go (nat_lt k (max_locals_of s.world symbolic.method)) (slice_get symbolic.locals k)
+    where
+      go : (b : Bool) (it : Option (Option SymValue)) → cond b (option_and_then (λ v. v) (option_map (option_map (value_of_sym r)) it)) None
+          ≡ option_map (value_of_sym r) (cond b (option_and_then (λ (v : Option SymValue). v) it) None)
+      go true None = refl
+      go true (Some None) = refl
+      go true (Some (Some v)) = refl
+      go false it = refl
+
+  -- one is set
+  pub local_set : (k : ℕ) (value : SymValue) (v : Value) → v ≡ value_of_sym r value → (stack : List SymValue) (values : List Value) → values ≡ values_of_sym r stack
+      → sets_local s next c k v values
+      ≡ led_to s c next r (if nat_lt k (max_locals_of s.world symbolic.method) then Goes (slice_set symbolic.locals k (Some value)) stack else Fails)
+  local_set k value v e stack values same =
+      ap (λ (m : MethodId). with s c (only_where (nat_lt k (max_locals_of s.world m)) (slice_set c.frame.locals k (Some v))) (λ locals. goes_on s c next locals values c.heap)) stands.method
+      ∙ go (nat_lt k (max_locals_of s.world symbolic.method))
+    where
+      locals_are : slice_set c.frame.locals k (Some v) ≡ map (option_map (value_of_sym r)) (slice_set symbolic.locals k (Some value))
+      locals_are =
+          ap (λ (l : List (Option Value)). slice_set l k (Some v)) stands.locals
+          ∙ ap (λ (x : Value). slice_set (map (option_map (value_of_sym r)) symbolic.locals) k (Some x)) e
+          ∙ set-map (option_map (value_of_sym r)) symbolic.locals k (Some value)
+
+      go : (b : Bool) → with s c (only_where b (slice_set c.frame.locals k (Some v))) (λ locals. goes_on s c next locals values c.heap)
+          ≡ led_to s c next r (if b then Goes (slice_set symbolic.locals k (Some value)) stack else Fails)
+      go true =
+          ap (λ (l : List (Option Value)). goes_on s c next l values c.heap) locals_are
+          ∙ ap (λ (vs : List Value). goes_on s c next (map (option_map (value_of_sym r)) (slice_set symbolic.locals k (Some value))) vs c.heap) same
+      go false = refl
+
+-- ---- effects
+
 -- what a reading of each pool that goes on has
 pub record Reads (R : List Node → Reading) (nodes : List Node) (variables : List ℤ) (frame : SymFrame) (c : Config) : Type 0 where
   pub stands : (later : List Node) → Extends nodes later → FrameStandsFor (R later) frame c.frame
@@ -332,18 +374,7 @@ module _ (s : Setting) (c : Config) (next : ℕ) (base : State) (frame : SymFram
   local_sym k = cond (nat_lt k (max_locals_of s.world frame.method)) (local_in state.stage k) None
 
   local_is : (k : ℕ) → local_of s.world c.frame k ≡ option_map (value_of_sym (R nodes)) (local_sym k)
-  local_is k =
-      ap (λ (m : MethodId). cond (nat_lt k (max_locals_of s.world m)) (option_and_then (λ v. v) (slice_get c.frame.locals k)) None) (reads.stands nodes itself).method
-      ∙ ap (λ (l : List (Option Value)). cond (nat_lt k (max_locals_of s.world frame.method)) (option_and_then (λ v. v) (slice_get l k)) None) (reads.stands nodes itself).locals
-      ∙ ap (λ (it : Option (Option Value)). cond (nat_lt k (max_locals_of s.world frame.method)) (option_and_then (λ v. v) it) None) (slice_get-map (option_map (value_of_sym (R nodes))) frame.locals k)
-      ∙ go (nat_lt k (max_locals_of s.world frame.method)) (slice_get frame.locals k)
-    where
-      go : (b : Bool) (it : Option (Option SymValue)) → cond b (option_and_then (λ v. v) (option_map (option_map (value_of_sym (R nodes))) it)) None
-          ≡ option_map (value_of_sym (R nodes)) (cond b (option_and_then (λ (v : Option SymValue). v) it) None)
-      go true None = refl
-      go true (Some None) = refl
-      go true (Some (Some v)) = refl
-      go false it = refl
+  local_is k = local_value s c next (R nodes) frame (reads.stands nodes itself) k
 
   int_of_sym : (it : Option SymValue) → int_of (option_map (value_of_sym (R nodes)) it) ≡ option_map V (int_term it)
   int_of_sym None = refl
@@ -386,21 +417,7 @@ module _ (s : Setting) (c : Config) (next : ℕ) (base : State) (frame : SymFram
   sets_is : (later : List Node) → Extends nodes later → (k : ℕ) (t : TermId) (z : ℤ) → z ≡ value_of later t variables → (stack : List SymValue) (values : List Value)
       → values ≡ values_of_sym (R later) stack → IsPlan (sets_local s next c k (IntValue z) values) (record { nodes = later; way = in_local s.world state k t stack })
   sets_is later more k t z e stack values same =
-      ap (λ (m : MethodId). with s c (only_where (nat_lt k (max_locals_of s.world m)) (slice_set c.frame.locals k (Some (IntValue z)))) (λ locals. goes_on s c next locals values c.heap)) (reads.stands later more).method
-      ∙ go (nat_lt k (max_locals_of s.world frame.method))
-    where
-      locals_are : slice_set c.frame.locals k (Some (IntValue z)) ≡ map (option_map (value_of_sym (R later))) (slice_set frame.locals k (Some (Int t)))
-      locals_are =
-          ap (λ (l : List (Option Value)). slice_set l k (Some (IntValue z))) (reads.stands later more).locals
-          ∙ ap (λ (v : Value). slice_set (map (option_map (value_of_sym (R later))) frame.locals) k (Some v)) (ap IntValue e ∙ sym (reads.ints later t))
-          ∙ set-map (option_map (value_of_sym (R later))) frame.locals k (Some (Int t))
-
-      go : (b : Bool) → with s c (only_where b (slice_set c.frame.locals k (Some (IntValue z)))) (λ locals. goes_on s c next locals values c.heap)
-          ≡ led_to s c next (R later) (if b then Goes (slice_set frame.locals k (Some (Int t))) stack else Fails)
-      go true =
-          ap (λ (l : List (Option Value)). goes_on s c next l values c.heap) locals_are
-          ∙ ap (λ (vs : List Value). goes_on s c next (map (option_map (value_of_sym (R later))) (slice_set frame.locals k (Some (Int t)))) vs c.heap) same
-      go false = refl
+      local_set s c next (R later) frame (reads.stands later more) k (Int t) (IntValue z) (ap IntValue e ∙ sym (reads.ints later t)) stack values same
 
   stores_is : (k : ℕ) → IsPlan (with s c (an_int c.frame.stack) (λ z. sets_local s next c k (IntValue z.it) z.rest)) (stores s.world state k)
   stores_is k =
@@ -616,14 +633,8 @@ module _ (s : Setting) (c : Config) (next : ℕ) (base : State) (frame : SymFram
 
       low : hands_over s c (Some (IntValue (word_and (V t) (pos 1)))) ≡ led_to s c next (R (masked state t (interned nodes (Const (pos 1)))).0) (Leaves (Some (Int (masked state t (interned nodes (Const (pos 1)))).1)))
       low =
-          let one = interned nodes (Const (pos 1)) in
-          let made = interned_op one.0 And t (Some one.1) in
-          let first : Extends nodes one.0 = interned_extends nodes (Const (pos 1)) in
-          let operands : AreOperands one.0 And t (Some one.1) = record { first = IsTerm-extends nodes one.0 t first is; second = interned_is_term nodes (Const (pos 1)) } in
-          let value : word_and (V t) (pos 1) ≡ value_of made.0 made.1 variables =
-          sym (op_made one.0 And t (Some one.1) variables (interned_ordered nodes (Const (pos 1)) ordered tt) operands
-          ∙ ap (λ (z : ℤ). word_and z (value_of one.0 one.1 variables)) (value_of-extends nodes one.0 t variables first is) ∙ ap (λ (z : ℤ). word_and (V t) z) (constant_made nodes (pos 1) variables)) in
-          ap (λ (v : Value). hands_over s c (Some v)) (ap IntValue value ∙ sym (reads.ints made.0 made.1))
+          let made = masked state t (interned nodes (Const (pos 1))) in
+          ap (λ (v : Value). hands_over s c (Some v)) (ap IntValue (sym (low_made nodes t variables ordered is)) ∙ sym (reads.ints made.0 made.1))
 
       go : (result : Option JType) → option_map_or (λ v. hands_over s c (Some v)) (option_and_then (λ type. kept type (IntValue (V t))) result) (ill_typed s c)
           ≡ led_to s c next (R (planned state (option_and_then (kept_int state t) result) leaves_with).nodes) (planned state (option_and_then (kept_int state t) result) leaves_with).way

@@ -37,7 +37,7 @@ pub record Running (world : World) (old : State) (stage : Stage) (r : Reading) (
 
 -- ---- a run that goes on
 
-none_standing : (r : Reading) (symbolic : List SymFrame) (frames : List Frame) → symbolic ≡ [] → FramesStandFor r symbolic frames → frames ≡ []
+pub none_standing : (r : Reading) (symbolic : List SymFrame) (frames : List Frame) → symbolic ≡ [] → FramesStandFor r symbolic frames → frames ≡ []
 none_standing r [] [] e stand = refl
 none_standing r [] (frame ∷ frames) e stand = absurd stand
 none_standing r (symbolic ∷ others) frames e stand = absurd cc
@@ -49,7 +49,7 @@ past_end [] i e = omega arith
 past_end (x ∷ xs) zero e = absurd cc
 past_end (x ∷ xs) (suc i) e = (let rest = past_end xs i e in omega (arith, rest))
 
-as_many : (world : World) (heap : Heap) (kinds : List JType) (args : List Value) → AreValuesOf world heap kinds args → length args ≡ length kinds
+pub as_many : (world : World) (heap : Heap) (kinds : List JType) (args : List Value) → AreValuesOf world heap kinds args → length args ≡ length kinds
 as_many world heap [] [] are = refl
 as_many world heap [] (value ∷ args) are = absurd are
 as_many world heap (kind ∷ kinds) [] are = absurd are

@@ -1,12 +1,10 @@
 -- Symbolic values have the same values at an input as a state's terms and variables grow; so it keeps the frames and the heaps that it
 -- stands for.
-use Rattle.std.proofs.Common.{◌≡◌, ℕ, zero, suc, ◌+◌, ◌<◌, List, [], ◌∷◌, length, map, drop, slice_get, Option, Some, None, refl, sym, ap, subst, ◌∙◌, arith}
+use Rattle.std.proofs.Common.{◌≡◌, ℕ, zero, suc, ◌+◌, ◌<◌, List, [], ◌∷◌, length, map, drop, slice_get, Option, Some, refl, sym, ap, subst, ◌∙◌, arith}
 use Rattle.std.specs.List.{slice_index_or}
-use Rattle.std.specs.Option.{option_map}
 use Rattle.std.proofs.lemmas.Option.{slice_get_within}
 use Rattle.kb_heap.specs.declared.heap.Heap.{Heap}
 use Rattle.kb_heap.specs.declared.heap.Input.{Input}
-use Rattle.kb_heap.specs.declared.heap.Object.{Object}
 use Rattle.kb_heap.specs.declared.heap.Value.{Value}
 use Rattle.kb_heap.specs.declared.heap.Value.TheVariants.{Int as IntValue, Ref}
 use Rattle.kb_heap.specs.Heap.{value_at}
@@ -24,12 +22,13 @@ use Rattle.kb_picture.specs.Shapes.{IsNoPlace}
 use Rattle.kb_frames.specs.declared.frame.SymFrame.{SymFrame}
 use Rattle.kb_frames.specs.declared.state.SymObject.{SymObject}
 use Rattle.kb_frames.specs.declared.value.Cell.{Cell}
-use Rattle.kb_frames.specs.declared.value.Cell.TheVariants.{Untouched, Read, Written}
+use Rattle.kb_frames.specs.declared.value.Cell.TheVariants.{Untouched}
 use Rattle.kb_frames.specs.declared.value.SymValue.{SymValue}
 use Rattle.kb_frames.specs.declared.value.SymValue.TheVariants.{Int, Null, Obj, Literal, New, Loc}
 use Rattle.kb_frames.specs.StandsFor.{FrameStandsFor, HeapStandsFor, made_at, present_value, reading_at, value_of_sym, values_of_sym}
 use Rattle.kb_frames.specs.State.{State, cell_at}
-use Rattle.kb_frames.specs.States.{AreCells, Each, IsCell, IsFrame, IsLocal, IsMade, IsSymValue}
+use Rattle.kb_frames.specs.States.{AreCells, Each, IsCell, IsFrame, IsMade, IsSymValue}
+use Rattle.kb_stepint.proofs.AlikeLaws.{cell_alike, frame_alike, objects_alike, values_alike}
 use Rattle.kb_stepint.proofs.ItemLaws.{each_rest}
 
 -- a later reading has the same places, and gives the terms of a pool the same values
@@ -49,43 +48,16 @@ module _ (world : World) (state : State) (r later : Reading) (is : IsLater r lat
   value_later (Loc n) h = ap (λ (p : PlaceLists). Ref (place_at p.locs n)) is.places
 
   pub values_later : (values : List SymValue) → Each (IsSymValue world state) values → values_of_sym later values ≡ values_of_sym r values
-  values_later [] each = refl
-  values_later (v ∷ vs) each =
-      ap (λ (x : Value). x ∷ values_of_sym later vs) (value_later v (each 0 v refl))
-      ∙ ap (λ (l : List Value). value_of_sym r v ∷ l) (values_later vs (each_rest (IsSymValue world state) v vs each))
-
-  local_later : (local : Option SymValue) → IsLocal world state local → option_map (value_of_sym later) local ≡ option_map (value_of_sym r) local
-  local_later None h = refl
-  local_later (Some value) h = ap Some (value_later value h)
-
-  pub locals_later : (locals : List (Option SymValue)) → Each (IsLocal world state) locals → map (option_map (value_of_sym later)) locals ≡ map (option_map (value_of_sym r)) locals
-  locals_later [] each = refl
-  locals_later (l ∷ ls) each =
-      ap (λ (x : Option Value). x ∷ map (option_map (value_of_sym later)) ls) (local_later l (each 0 l refl))
-      ∙ ap (λ (xs : List (Option Value)). option_map (value_of_sym r) l ∷ xs) (locals_later ls (each_rest (IsLocal world state) l ls each))
+  values_later = values_alike world state r later value_later
 
   pub frame_later : (symbolic : SymFrame) (frame : Frame) → IsFrame world state symbolic → FrameStandsFor r symbolic frame → FrameStandsFor later symbolic frame
-  frame_later symbolic frame sound stands = record {
-    method = stands.method;
-    at = stands.at;
-    locals = stands.locals ∙ sym (locals_later symbolic.locals sound.locals);
-    stack = stands.stack ∙ sym (values_later symbolic.stack sound.stack);
-    transfers = stands.transfers;
-  }
-
-  object_later : (made : SymObject) → IsMade world state made → made_at later made ≡ made_at r made
-  object_later made h = ap (λ (vs : List Value). record { kind = made.kind; values = vs }) (values_later made.values h.values)
+  frame_later = frame_alike world state r later value_later
 
   pub objects_later : (made : List SymObject) → Each (IsMade world state) made → map (made_at later) made ≡ map (made_at r) made
-  objects_later [] each = refl
-  objects_later (m ∷ ms) each =
-      ap (λ (x : Object). x ∷ map (made_at later) ms) (object_later m (each 0 m refl))
-      ∙ ap (λ (xs : List Object). made_at r m ∷ xs) (objects_later ms (each_rest (IsMade world state) m ms each))
+  objects_later = objects_alike world state r later value_later
 
   pub cell_later : (first : Option Value) (cell : Cell) → IsCell world state cell → present_value later first cell ≡ present_value r first cell
-  cell_later first Untouched h = refl
-  cell_later first (Read value) h = ap Some (value_later value h)
-  cell_later first (Written value) h = ap Some (value_later value h)
+  cell_later = cell_alike world state r later value_later
 
 -- ---- cells
 
@@ -101,7 +73,7 @@ rows_cell P [] (suc object) slot u each = row_cell P [] slot u (λ i item e. abs
 rows_cell P (row ∷ rows) zero slot u each = row_cell P row slot u (each 0 row refl)
 rows_cell P (row ∷ rows) (suc object) slot u each = rows_cell P rows object slot u (λ n r e. each (suc n) r e)
 
-there : {A : Type 0} (xs : List A) (i : ℕ) → i < length xs → (x : A) × (slice_get xs i ≡ Some x)
+pub there : {A : Type 0} (xs : List A) (i : ℕ) → i < length xs → (x : A) × (slice_get xs i ≡ Some x)
 there [] i h = absurd (omega (arith, h))
 there (x ∷ xs) zero h = (x, refl)
 there (x ∷ xs) (suc i) h = there xs i (omega (arith, h))
@@ -127,6 +99,8 @@ heap_later world old new r later first heap is cells made same_cells same_made s
       stands.cells object slot place (ap (λ (p : PlaceLists). slice_get p.objects object) (sym is.places) ∙ at)
       ∙ sym (cell_later world old r later is (value_at first place slot) (cell_at old.cells object slot) (cells_sound world old object slot cells))
       ∙ ap (λ (cs : List (List Cell)). present_value later (value_at first place slot) (cell_at cs object slot)) (sym same_cells);
+  kept = λ object slot place value at read.
+      stands.kept object slot place value (ap (λ (p : PlaceLists). slice_get p.objects object) (sym is.places) ∙ at) (ap (λ (cs : List (List Cell)). cell_at cs object slot) (sym same_cells) ∙ read);
   others = λ object inside none.
       stands.others object (subst (λ (i : ℕ). object < i + r.literals) is.inputs (subst (λ (l : ℕ). object < later.inputs + l) is.literals inside))
       (subst (λ (p : PlaceLists). IsNoPlace p.objects object) is.places none);

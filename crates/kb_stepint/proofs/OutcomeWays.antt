@@ -1,5 +1,5 @@
 -- A way leads a state where it leads the machine: one lemma for each way.
-use Rattle.std.proofs.Common.{◌≡◌, ℕ, zero, suc, ◌+◌, ◌<◌, ◌≤◌, ℤ, pos, Bool, true, false, List, [], ◌∷◌, ◌++◌, length, length-append, map, drop, nat_lt, replicate, slice_get, Option, Some, None, refl, sym, ap, subst, ◌∙◌, if◌then◌else◌, arith}
+use Rattle.std.proofs.Common.{◌≡◌, ◌↔◌, ℕ, zero, suc, ◌+◌, ◌<◌, ◌≤◌, ℤ, pos, Bool, true, false, List, [], ◌∷◌, ◌++◌, length, length-append, map, drop, nat_lt, replicate, slice_get, Option, Some, None, refl, sym, ap, subst, ◌∙◌, if◌then◌else◌, arith}
 use Rattle.std.specs.Option.{option_map, option_map_or, option_and_then}
 use Rattle.std.proofs.lemmas.List.{append-nil, drop-append-le, length-drop, length-map, length-replicate, map-append}
 use Rattle.std.proofs.lemmas.Bool.{ltb-true, ltb-false}
@@ -50,14 +50,16 @@ use Rattle.kb_picture.proofs.ShapeLaws.{same_places}
 use Rattle.kb_picture.proofs.TableLaws.{AreBelow}
 use Rattle.kb_frames.specs.declared.frame.SymFrame.{SymFrame}
 use Rattle.kb_frames.specs.declared.state.Stage.TheVariants.{Runs}
+use Rattle.kb_frames.specs.declared.state.SymObject.{SymObject}
+use Rattle.kb_frames.specs.declared.value.Cell.{Cell}
 use Rattle.kb_frames.specs.declared.value.Outcome.TheVariants.{Goes as OutcomeGoes, Ends, Cut}
 use Rattle.kb_frames.specs.declared.value.SymValue.{SymValue}
 use Rattle.kb_frames.specs.declared.value.SymValue.TheVariants.{Int}
 use Rattle.kb_frames.specs.Cuts.{setting_of}
 use Rattle.kb_frames.specs.Making.{default_sym, new_sym_object, with_made}
-use Rattle.kb_frames.specs.StandsFor.{FrameStandsFor, FramesStandFor, HeapStandsFor, IsInstanceOf, IsLike, StandsFor, beginning_of, made_at, out_of, reading_at, value_of_sym, values_of_sym, written_by}
+use Rattle.kb_frames.specs.StandsFor.{FrameStandsFor, FramesStandFor, HeapStandsFor, IsInstanceOf, IsKept, IsLike, StandsFor, beginning_of, made_at, out_of, reading_at, value_of_sym, values_of_sym, written_by}
 use Rattle.kb_frames.specs.State.{State, cell_at}
-use Rattle.kb_stepint.specs.Reached.{HasNoHandlers, IsReached}
+use Rattle.kb_stepint.specs.Reached.{HasNoHandlers}
 use Rattle.kb_stepint.specs.Simulation.{IsOutcome}
 use Rattle.kb_stepint.specs.Ways.{Take, Way, Goes, Jumps, Leaves, Throws, Fails, carries_out, ill_typed, went}
 use Rattle.kb_stepint.proofs.GrowLaws.{interned_extends}
@@ -65,6 +67,7 @@ use Rattle.kb_stepint.proofs.OneInstances.{same_variables}
 use Rattle.kb_stepint.proofs.OutcomePlans.{led_to}
 use Rattle.kb_stepint.proofs.OutcomeValues.{IsLater, cell_later, cells_sound, heap_later, objects_later, reading_int, reading_later}
 use Rattle.kb_stepint.proofs.PastLaws.{runs_past}
+use Rattle.kb_stepint.proofs.SoundLaws.{Sound}
 use Rattle.kb_stepint.proofs.ValueLaws.{constant_made}
 
 -- ---- runs
@@ -87,7 +90,7 @@ long_enough : {A : Type 0} (n : ℕ) (xs : List A) → ((i : ℕ) → i < n → 
 long_enough zero xs each = omega arith
 long_enough (suc n) xs each = each n (omega arith)
 
-no_place : (n : ℕ) (places : List ℕ) (object : ℕ) → AreBelow n places → n ≤ object → IsNoPlace places object
+pub no_place : (n : ℕ) (places : List ℕ) (object : ℕ) → AreBelow n places → n ≤ object → IsNoPlace places object
 no_place n [] object below le = tt
 no_place n (first ∷ places) object below le = (apart below.0, no_place n places object below.1 le) where
   apart : first < n → object ≡ first → ⊥
@@ -133,8 +136,57 @@ no_handler world method at kind none = go (code_of world method) none where
 
 -- ---- ways
 
-module _ (world : World) (bounds : Bounds) (old : State) (reached : IsReached world old) (input : Input) (c : Config) (stands : StandsFor (setting_of world bounds) old input c)
-    (frame : SymFrame) (method_is : frame.method ≡ old.method) (callers : c.callers ≡ []) (plain : stores (setting_of world bounds) c ≡ []) (next : ℕ)
+-- the state behind an instruction that was carried out, which may have written cells and objects
+module _ (world : World) (bounds : Bounds) (old : State) (input : Input) (c : Config) (stands : StandsFor (setting_of world bounds) old input c) (callers : c.callers ≡ [])
+    (nodes : List Node) (when : List (TermId × Bool)) (symbolic : SymFrame) (behind : Frame) (cells : List (List Cell)) (made : List SymObject) (heap : Heap) where
+  abbrev s' : Setting
+  s' = setting_of world bounds
+
+  abbrev start : Config
+  start = beginning_of world old input
+
+  abbrev written_state : State
+  written_state = record old { stage = Runs symbolic []; nodes = nodes; when = when; carried = old.carried + 1; cells = cells; made = made }
+
+  abbrev behind_r : Reading
+  behind_r = reading_at world written_state input stands.instance_of.shape.places
+
+  abbrev next_one : Config
+  next_one = record { frame = behind; callers = c.callers; heap = heap; inputs = c.inputs; carried = c.carried + 1 }
+
+  written_more : written_by s' (old.carried + 1) start ≡ written_by s' old.carried start ++ stores s' c
+  written_more =
+      let count : old.carried + 1 ≡ suc old.carried = omega arith in
+      ap (λ (n : ℕ). written_by s' n start) count ∙ ap (λ (at : Option Config). written_by s' old.carried start ++ option_map_or (stores s') at []) stands.run
+
+  run_more : step s' c ≡ StepGoes next_one → config_at s' (old.carried + 1) start ≡ Some next_one
+  run_more e =
+      let count : old.carried + 1 ≡ suc old.carried = omega arith in
+      ap (λ (n : ℕ). config_at s' n start) count ∙ config_more old.carried s' start c next_one stands.run e
+
+  pub writes_stand : FrameStandsFor behind_r symbolic behind → HeapStandsFor behind_r written_state (first_heap world input.heap) heap
+      → ((slot : Slot) → slot.object < length input.heap.objects → Has (written_by s' old.carried start ++ stores s' c) slot ↔ IsKept behind_r written_state slot)
+      → step s' c ≡ StepGoes next_one → (i : IsInstanceOf written_state input) → IsOutcome world bounds c written_state input i OutcomeGoes
+  writes_stand framed stood kept e i = (
+    next_one,
+    e,
+    record {
+      run = run_more e;
+      instance_of = record {
+        shape = stands.instance_of.shape;
+        conditions = subst (λ (vs : List ℤ). AreMetInPool nodes vs when) (sym (same_variables old.picture input stands.instance_of.shape old.picture refl i.shape)) i.conditions;
+      };
+      stage = (framed, subst (FramesStandFor behind_r []) (sym callers) tt);
+      heap = stood;
+      written = λ slot inside. (
+        (λ has. (kept slot inside).0 (subst (λ (l : List Slot). Has l slot) written_more has)),
+        (λ k. subst (λ (l : List Slot). Has l slot) (sym written_more) ((kept slot inside).1 k)),
+      );
+    },
+  )
+
+module _ (world : World) (bounds : Bounds) (old : State) (sound : Sound world old) (input : Input) (c : Config) (stands : StandsFor (setting_of world bounds) old input c)
+    (frame : SymFrame) (method_is : frame.method ≡ old.method) (callers : c.callers ≡ []) (next : ℕ)
     (nodes : List Node) (more : Extends old.nodes nodes) (when : List (TermId × Bool))
     (framed : FrameStandsFor (reading_at world (record old { stage = Runs frame []; nodes = nodes; when = when }) input stands.instance_of.shape.places) frame c.frame) where
   abbrev s : Setting
@@ -155,49 +207,6 @@ module _ (world : World) (bounds : Bounds) (old : State) (reached : IsReached wo
   later : IsLater (reading_at world old input places) r old.nodes
   later = reading_later world old state input places refl more
 
-  -- ---- it goes on
-
-  -- the state behind the instruction
-  abbrev after : SymFrame → State
-  after symbolic = record old { stage = Runs symbolic []; nodes = nodes; when = when; carried = old.carried + 1 }
-
-  written_same : written_by s (old.carried + 1) (beginning_of world old input) ≡ written_by s old.carried (beginning_of world old input)
-  written_same =
-      let count : old.carried + 1 ≡ suc old.carried = omega arith in
-      let start : Config = beginning_of world old input in
-      ap (λ (n : ℕ). written_by s n start) count
-      ∙ ap (λ (at : Option Config). written_by s old.carried start ++ option_map_or (stores s) at []) stands.run
-      ∙ ap (λ (l : List Slot). written_by s old.carried start ++ l) plain ∙ append-nil (written_by s old.carried start)
-
-  run_more : (d : Config) → step s c ≡ StepGoes d → config_at s (old.carried + 1) (beginning_of world old input) ≡ Some d
-  run_more d e =
-      let count : old.carried + 1 ≡ suc old.carried = omega arith in
-      ap (λ (n : ℕ). config_at s n (beginning_of world old input)) count ∙ config_more old.carried s (beginning_of world old input) c d stands.run e
-
-  goes_stands : (symbolic : SymFrame) (behind : Frame) → FrameStandsFor r symbolic behind
-      → step s c ≡ StepGoes (record { frame = behind; callers = c.callers; heap = c.heap; inputs = c.inputs; carried = c.carried + 1 })
-      → (i : IsInstanceOf (after symbolic) input) → IsOutcome world bounds c (after symbolic) input i OutcomeGoes
-  unfolding reading_at
-  goes_stands symbolic behind framed e i =
-      let d : Config = record { frame = behind; callers = c.callers; heap = c.heap; inputs = c.inputs; carried = c.carried + 1 } in (
-        d,
-        e,
-        record {
-          run = run_more d e;
-          instance_of = record {
-            shape = stands.instance_of.shape;
-            conditions = subst (λ (vs : List ℤ). AreMetInPool nodes vs when) (sym (same_variables old.picture input stands.instance_of.shape old.picture refl i.shape)) i.conditions;
-          };
-          stage = (framed, subst (FramesStandFor r []) (sym callers) tt);
-          heap = heap_later world old (after symbolic) (reading_at world old input places) r first c.heap later reached.sound.cells reached.sound.made refl refl stands.heap;
-          written = λ slot inside. (
-            (λ has. (let k = (stands.written slot inside).0 (subst (λ (l : List Slot). Has l slot) written_same has) in
-                record { object = k.object; place = k.place; value = k.value; cell = k.cell })),
-            (λ k. subst (λ (l : List Slot). Has l slot) (sym written_same) ((stands.written slot inside).1 (record { object = k.object; place = k.place; value = k.value; cell = k.cell }))),
-          );
-        },
-      )
-
   -- ---- it ends
 
   -- at the places of the instance that is told
@@ -212,7 +221,7 @@ module _ (world : World) (bounds : Bounds) (old : State) (reached : IsReached wo
   ends_so : (ending : SymEnding) → (i : IsInstanceOf state input) → step s c ≡ StepEnds (record { ending = ending_at r ending; heap = c.heap }) → IsOutcome world bounds c state input i (Ends ending)
   ends_so ending i e =
       ends_stands state ending c.heap refl i e
-      (heap_later world old state (reading_at world old input places) r first c.heap later reached.sound.cells reached.sound.made refl refl stands.heap)
+      (heap_later world old state (reading_at world old input places) r first c.heap later sound.cells sound.made refl refl stands.heap)
 
   abbrev ill_typed_at : MethodId → ℕ → Outcome
   ill_typed_at m at = StepEnds (record { ending = RunIllTyped (place_in_code world m at); heap = c.heap })
@@ -297,14 +306,17 @@ module _ (world : World) (bounds : Bounds) (old : State) (reached : IsReached wo
     made_heap = record {
       made =
           drop-append-le (inputs + literals) c.heap.objects (new_object world class ∷ []) heap_there
-          ∙ ap (λ (l : List Object). l ++ new_object world class ∷ []) (stands.heap.made ∙ sym (objects_later world old (reading_at world old input places) r' made_later old.made reached.sound.made))
+          ∙ ap (λ (l : List Object). l ++ new_object world class ∷ []) (stands.heap.made ∙ sym (objects_later world old (reading_at world old input places) r' made_later old.made sound.made))
           ∙ ap (λ (o : Object). map (made_at r') old.made ++ o ∷ []) object_is
           ∙ sym (map-append (made_at r') old.made (new_sym_object world class nought.1 ∷ []));
       like = λ object inside. subst (λ (o : Option Object). IsLike o (object_at first object)) (sym (same_object object (omega (arith, inside)))) (stands.heap.like object inside);
       cells = λ object slot place at.
           ap (option_and_then (λ (of : Object). slice_get of.values slot)) (same_object place (omega (arith, below_at inputs places.objects object place (all_below old.picture input stands.instance_of.shape) at)))
           ∙ stands.heap.cells object slot place at
-          ∙ sym (cell_later world old (reading_at world old input places) r' made_later (value_at first place slot) (cell_at old.cells object slot) (cells_sound world old object slot reached.sound.cells));
+          ∙ sym (cell_later world old (reading_at world old input places) r' made_later (value_at first place slot) (cell_at old.cells object slot) (cells_sound world old object slot sound.cells));
+      kept = λ object slot place value at read.
+          ap (option_and_then (λ (of : Object). slice_get of.values slot)) (same_object place (omega (arith, below_at inputs places.objects object place (all_below old.picture input stands.instance_of.shape) at)))
+          ∙ stands.heap.kept object slot place value at read;
       others = λ object inside none. same_object object inside ∙ stands.heap.others object inside none;
     }
 
@@ -314,63 +326,88 @@ module _ (world : World) (bounds : Bounds) (old : State) (reached : IsReached wo
         let none : nearest_handler world (exact.Class class) (map standpoint (c.frame ∷ c.callers)) ≡ None =
         ap (λ (fs : List Frame). nearest_handler world (exact.Class class) (map standpoint (c.frame ∷ fs))) callers
         ∙ ap (λ (h : Option ℕ). option_map_or (λ target. Some (0, target)) h (option_map (λ (found : ℕ × ℕ). (suc found.0, found.1)) (nearest_handler world (exact.Class class) [])))
-        (ap (λ (m : MethodId). handler_at world m c.frame.at (exact.Class class)) (framed.method ∙ method_is) ∙ no_handler world old.method c.frame.at (exact.Class class) reached.unhandled) in
+        (ap (λ (m : MethodId). handler_at world m c.frame.at (exact.Class class)) (framed.method ∙ method_is) ∙ no_handler world old.method c.frame.at (exact.Class class) sound.unhandled) in
         ap (λ (h : Option (ℕ × ℕ)). option_map_or (λ (found : ℕ × ℕ). lands s c new_heap (length c.heap.objects) found.1 (drop found.0 (c.frame ∷ c.callers))) h
         (StepEnds (record { ending = RunThrew (length c.heap.objects); heap = new_heap }))) none
         ∙ ap (λ (n : ℕ). StepEnds (record { ending = RunThrew n; heap = new_heap })) heap_length
 
-    throws_is : step s c ≡ throws s c class → (i : IsInstanceOf made input) → IsOutcome world bounds c made input i (Ends (Threw (outs.New (length old.made))))
+    pub throws_is : step s c ≡ throws s c class → (i : IsInstanceOf made input) → IsOutcome world bounds c made input i (Ends (Threw (outs.New (length old.made))))
     throws_is e i = ends_stands made (Threw (outs.New (length old.made))) new_heap refl i (e ∙ throws_step) made_heap
 
-  -- ---- all of them
+  -- ---- it goes on
 
   abbrev Follows : Take → Type 0
   Follows take = (i : IsInstanceOf take.state input) → IsOutcome world bounds c take.state input i take.outcome
 
-  room_same : (stack : List SymValue) → has_room world c.frame.method (length (values_of_sym r stack)) ≡ has_room world frame.method (length stack)
+  pub room_same : (stack : List SymValue) → has_room world c.frame.method (length (values_of_sym r stack)) ≡ has_room world frame.method (length stack)
   room_same stack = ap (λ (m : MethodId). has_room world m (length (values_of_sym r stack))) framed.method ∙ ap (has_room world frame.method) (length-map stack (value_of_sym r))
 
-  goes_is : (locals : List (Option SymValue)) (stack : List SymValue) → step s c ≡ led_to s c next r (Goes locals stack) → Follows (went world bounds next state (Goes locals stack))
-  unfolding goes_on
-  goes_is locals stack e =
-      go (has_room world frame.method (length stack))
-      (e ∙ ap (λ (b : Bool). if b then carries_out_step c (record c.frame { at = next; locals = map (option_map (value_of_sym r)) locals; stack = values_of_sym r stack }) c.callers c.heap else ill_typed_step s c) (room_same stack))
-    where
-      go : (b : Bool) → step s c ≡ (if b then carries_out_step c (record c.frame { at = next; locals = map (option_map (value_of_sym r)) locals; stack = values_of_sym r stack }) c.callers c.heap else ill_typed_step s c)
-          → Follows (if b then carries_out state (λ (f : SymFrame). record f { at = next; locals = locals; stack = stack }) else ill_typed world state)
-      go true e =
-          goes_stands (record frame { at = next; locals = locals; stack = stack }) (record c.frame { at = next; locals = map (option_map (value_of_sym r)) locals; stack = values_of_sym r stack })
-          (record { method = framed.method; at = refl; locals = refl; stack = refl; transfers = framed.transfers }) e
-      go false e = ill_typed_is e
+  -- where nothing is written
+  module _ (plain : stores s c ≡ []) where
+    abbrev after : SymFrame → State
+    after symbolic = record old { stage = Runs symbolic []; nodes = nodes; when = when; carried = old.carried + 1 }
 
-  -- where the transfers are counted
-  counted_is : (target : ℕ) (stack : List SymValue) (n : Option ℕ)
-      → step s c ≡ option_map_or (λ transfers. carries_out_step c (record c.frame { at = target; stack = values_of_sym r stack; transfers = transfers }) c.callers c.heap) n (past c Loops)
-      → Follows (option_map_or (λ transfers. carries_out state (λ (f : SymFrame). record f { at = target; stack = stack; transfers = transfers })) n (record { state = state; outcome = Cut Loops }))
-  counted_is target stack None e = λ i. runs_past s old input c Loops stands e
-  counted_is target stack (Some n) e =
-      goes_stands (record frame { at = target; stack = stack; transfers = n }) (record c.frame { at = target; stack = values_of_sym r stack; transfers = n })
-      (record { method = framed.method; at = refl; locals = framed.locals; stack = refl; transfers = refl }) e
+    goes_stands : (symbolic : SymFrame) (behind : Frame) → FrameStandsFor r symbolic behind
+        → step s c ≡ StepGoes (record { frame = behind; callers = c.callers; heap = c.heap; inputs = c.inputs; carried = c.carried + 1 })
+        → (i : IsInstanceOf (after symbolic) input) → IsOutcome world bounds c (after symbolic) input i OutcomeGoes
+    unfolding reading_at
+    goes_stands symbolic behind framed e i =
+        writes_stand world bounds old input c stands callers nodes when symbolic behind old.cells old.made c.heap framed
+        (heap_later world old (after symbolic) (reading_at world old input places) r first c.heap later sound.cells sound.made refl refl stands.heap)
+        (λ slot inside. (
+          (λ has. (let k = (stands.written slot inside).0 (subst (λ (l : List Slot). Has l slot) same has) in
+              record { object = k.object; place = k.place; value = k.value; cell = k.cell })),
+          (λ k. subst (λ (l : List Slot). Has l slot) (sym same) ((stands.written slot inside).1 (record { object = k.object; place = k.place; value = k.value; cell = k.cell }))),
+        ))
+        e i
+      where
+        before : List Slot
+        before = written_by s old.carried (beginning_of world old input)
 
-  counted_same : (target : ℕ) → counted bounds.run c.frame.at target c.frame.transfers ≡ counted bounds.run frame.at target frame.transfers
-  counted_same target = ap (λ (at : ℕ). counted bounds.run at target c.frame.transfers) framed.at ∙ ap (λ (n : ℕ). counted bounds.run frame.at target n) framed.transfers
+        same : before ++ stores s c ≡ before
+        same = ap (λ (l : List Slot). before ++ l) plain ∙ append-nil before
 
-  jumps_is : (target : ℕ) (stack : List SymValue) → step s c ≡ led_to s c next r (Jumps target stack) → Follows (went world bounds next state (Jumps target stack))
-  unfolding goes_to
-  jumps_is target stack e =
-      go (has_room world frame.method (length stack))
-      (e ∙ ap (λ (b : Bool). if b then option_map_or (λ transfers. carries_out_step c (record c.frame { at = target; stack = values_of_sym r stack; transfers = transfers }) c.callers c.heap) (counted bounds.run c.frame.at target c.frame.transfers) (past c Loops) else ill_typed_step s c) (room_same stack))
-    where
-      go : (b : Bool) → step s c ≡ (if b then option_map_or (λ transfers. carries_out_step c (record c.frame { at = target; stack = values_of_sym r stack; transfers = transfers }) c.callers c.heap) (counted bounds.run c.frame.at target c.frame.transfers) (past c Loops) else ill_typed_step s c)
-          → Follows (if b then option_map_or (λ transfers. carries_out state (λ (f : SymFrame). record f { at = target; stack = stack; transfers = transfers })) (counted bounds.run frame.at target frame.transfers) (record { state = state; outcome = Cut Loops }) else ill_typed world state)
-      go true e =
-          counted_is target stack (counted bounds.run frame.at target frame.transfers)
-          (e ∙ ap (λ (n : Option ℕ). option_map_or (λ transfers. carries_out_step c (record c.frame { at = target; stack = values_of_sym r stack; transfers = transfers }) c.callers c.heap) n (past c Loops)) (counted_same target))
-      go false e = ill_typed_is e
+    goes_is : (locals : List (Option SymValue)) (stack : List SymValue) → step s c ≡ led_to s c next r (Goes locals stack) → Follows (went world bounds next state (Goes locals stack))
+    unfolding goes_on
+    goes_is locals stack e =
+        go (has_room world frame.method (length stack))
+        (e ∙ ap (λ (b : Bool). if b then carries_out_step c (record c.frame { at = next; locals = map (option_map (value_of_sym r)) locals; stack = values_of_sym r stack }) c.callers c.heap else ill_typed_step s c) (room_same stack))
+      where
+        go : (b : Bool) → step s c ≡ (if b then carries_out_step c (record c.frame { at = next; locals = map (option_map (value_of_sym r)) locals; stack = values_of_sym r stack }) c.callers c.heap else ill_typed_step s c)
+            → Follows (if b then carries_out state (λ (f : SymFrame). record f { at = next; locals = locals; stack = stack }) else ill_typed world state)
+        go true e =
+            goes_stands (record frame { at = next; locals = locals; stack = stack }) (record c.frame { at = next; locals = map (option_map (value_of_sym r)) locals; stack = values_of_sym r stack })
+            (record { method = framed.method; at = refl; locals = refl; stack = refl; transfers = framed.transfers }) e
+        go false e = ill_typed_is e
 
-  pub went_is : (way : Way) → step s c ≡ led_to s c next r way → Follows (went world bounds next state way)
-  went_is (Goes locals stack) e = goes_is locals stack e
-  went_is (Jumps target stack) e = jumps_is target stack e
-  went_is (Leaves value) e = leaves_is value e
-  went_is (Throws class) e = throws_is class e
-  went_is Fails e = ill_typed_is e
+    -- where the transfers are counted
+    counted_is : (target : ℕ) (stack : List SymValue) (n : Option ℕ)
+        → step s c ≡ option_map_or (λ transfers. carries_out_step c (record c.frame { at = target; stack = values_of_sym r stack; transfers = transfers }) c.callers c.heap) n (past c Loops)
+        → Follows (option_map_or (λ transfers. carries_out state (λ (f : SymFrame). record f { at = target; stack = stack; transfers = transfers })) n (record { state = state; outcome = Cut Loops }))
+    counted_is target stack None e = λ i. runs_past s old input c Loops stands e
+    counted_is target stack (Some n) e =
+        goes_stands (record frame { at = target; stack = stack; transfers = n }) (record c.frame { at = target; stack = values_of_sym r stack; transfers = n })
+        (record { method = framed.method; at = refl; locals = framed.locals; stack = refl; transfers = refl }) e
+
+    counted_same : (target : ℕ) → counted bounds.run c.frame.at target c.frame.transfers ≡ counted bounds.run frame.at target frame.transfers
+    counted_same target = ap (λ (at : ℕ). counted bounds.run at target c.frame.transfers) framed.at ∙ ap (λ (n : ℕ). counted bounds.run frame.at target n) framed.transfers
+
+    jumps_is : (target : ℕ) (stack : List SymValue) → step s c ≡ led_to s c next r (Jumps target stack) → Follows (went world bounds next state (Jumps target stack))
+    unfolding goes_to
+    jumps_is target stack e =
+        go (has_room world frame.method (length stack))
+        (e ∙ ap (λ (b : Bool). if b then option_map_or (λ transfers. carries_out_step c (record c.frame { at = target; stack = values_of_sym r stack; transfers = transfers }) c.callers c.heap) (counted bounds.run c.frame.at target c.frame.transfers) (past c Loops) else ill_typed_step s c) (room_same stack))
+      where
+        go : (b : Bool) → step s c ≡ (if b then option_map_or (λ transfers. carries_out_step c (record c.frame { at = target; stack = values_of_sym r stack; transfers = transfers }) c.callers c.heap) (counted bounds.run c.frame.at target c.frame.transfers) (past c Loops) else ill_typed_step s c)
+            → Follows (if b then option_map_or (λ transfers. carries_out state (λ (f : SymFrame). record f { at = target; stack = stack; transfers = transfers })) (counted bounds.run frame.at target frame.transfers) (record { state = state; outcome = Cut Loops }) else ill_typed world state)
+        go true e =
+            counted_is target stack (counted bounds.run frame.at target frame.transfers)
+            (e ∙ ap (λ (n : Option ℕ). option_map_or (λ transfers. carries_out_step c (record c.frame { at = target; stack = values_of_sym r stack; transfers = transfers }) c.callers c.heap) n (past c Loops)) (counted_same target))
+        go false e = ill_typed_is e
+
+    pub went_is : (way : Way) → step s c ≡ led_to s c next r way → Follows (went world bounds next state way)
+    went_is (Goes locals stack) e = goes_is locals stack e
+    went_is (Jumps target stack) e = jumps_is target stack e
+    went_is (Leaves value) e = leaves_is value e
+    went_is (Throws class) e = throws_is class e
+    went_is Fails e = ill_typed_is e

@@ -102,7 +102,7 @@ module _ (world : World) (bounds : Bounds) (next : ℕ) (state : State) (frame :
   abbrev SoundTo : Take → Type 0
   SoundTo take = Sound world take.state
 
-  went_sound : (way : Way) → IsGood world state way → SoundTo (went world bounds next state way)
+  pub went_sound : (way : Way) → IsGood world state way → SoundTo (went world bounds next state way)
   went_sound (Goes locals stack) good =
       if_has SoundTo (has_room world (method_now state.method state.stage) (length stack)) _ (ill_typed world state)
       (carried_sound world state frame callers running sound (λ (f : SymFrame). record f { at = next; locals = locals; stack = stack }) refl

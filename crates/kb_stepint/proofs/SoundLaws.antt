@@ -48,7 +48,8 @@ use Rattle.kb_frames.specs.declared.value.Cell.{Cell}
 use Rattle.kb_frames.specs.declared.value.Cell.TheVariants.{Untouched, Read, Written}
 use Rattle.kb_frames.specs.declared.value.SymValue.{SymValue}
 use Rattle.kb_frames.specs.declared.value.SymValue.TheVariants.{Int, Null, Obj, Literal, New, Loc}
-use Rattle.kb_frames.specs.Lent.{begun, begun_locals, begun_stage, read_count, read_int, saw_argument, with_frame, with_nodes, with_read}
+use Rattle.kb_frames.specs.FirstReads.{with_read}
+use Rattle.kb_frames.specs.Lent.{begun, begun_locals, begun_stage, read_count, read_int, saw_argument, with_frame, with_nodes}
 use Rattle.kb_frames.specs.Making.{default_sym, new_sym_object, with_made}
 use Rattle.kb_frames.specs.Next.{argument_next, instruction_next, is_int, is_int_next, is_reference, method_now, next_is_int}
 use Rattle.kb_frames.specs.State.{State}
@@ -174,7 +175,7 @@ comparison_still old new t e h =
     let there : IsTerm old t = slice_get_within old t.0 (Apply shape.0 shape.1 shape.2) shape.3 in
     ap (node_passes is_comparison) (later_node old new t e there) ∙ h
 
-conditions_still : (old new : List Node) (when : List (TermId × Bool)) → Extends old new → AreConditions old when → AreConditions new when
+pub conditions_still : (old new : List Node) (when : List (TermId × Bool)) → Extends old new → AreConditions old when → AreConditions new when
 conditions_still old new [] e h = refl
 conditions_still old new (condition ∷ when) e h =
     let parts = and_parts _ _ h in
@@ -367,7 +368,7 @@ below (suc n) i x at = elim (get_pushed (numbers_below n) n i x at) [
 ]
 
 -- the argument of a number is none of so many first ones
-not_before : (n : ℕ) (slots : List Origin) → slots ≡ map Arg (numbers_below n) → Has slots (Arg n) → ⊥
+pub not_before : (n : ℕ) (slots : List Origin) → slots ≡ map Arg (numbers_below n) → Has slots (Arg n) → ⊥
 not_before n slots are h =
     go (slice_get (numbers_below n) h.0) refl (sym (slice_get-map Arg (numbers_below n) h.0) ∙ ap (λ (l : List Origin). slice_get l h.0) (sym are) ∙ h.1)
   where

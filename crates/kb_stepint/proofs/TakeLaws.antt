@@ -48,7 +48,7 @@ module _ (world : World) (state : State) where
     λ number. local_term world state (slice_get frame.locals number) (λ local at. h.0.locals number local at),
   )
 
-  sound_terms : Sound world state → HasTerms state
+  pub sound_terms : Sound world state → HasTerms state
   sound_terms sound = let terms = stage_terms state.stage sound.stage in record { stack = terms.0; locals = terms.1 }
 
   pub reached_terms : IsReached world state → HasTerms state

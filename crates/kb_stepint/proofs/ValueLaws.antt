@@ -5,17 +5,20 @@ use Rattle.std.proofs.lemmas.List.{take-append-le}
 use Rattle.std.proofs.lemmas.Option.{slice_get_within}
 use Rattle.std.proofs.Math.ListN.{get_or-append}
 use Rattle.std.proofs.Math.Seq.{take-append_seam}
+use Rattle.kb_arith.specs.Word.{word_and}
 use Rattle.kb_terms.specs.declared.op.Op.{Op}
+use Rattle.kb_terms.specs.declared.op.Op.TheVariants.{And}
 use Rattle.kb_terms.specs.declared.node.TermId.{TermId}
 use Rattle.kb_terms.specs.declared.node.VarKind.{VarKind}
 use Rattle.kb_terms.specs.declared.node.Node.{Node}
 use Rattle.kb_terms.specs.declared.node.Node.TheVariants.{Const, Var, Op as Apply}
 use Rattle.kb_terms.specs.Op.{is_binary, op_value}
-use Rattle.kb_terms.specs.Terms.{IsSecond, AreOperands, IsPool, NodeFits, Extends, constant_at, second_constant, folded, made_node, term_with, interned, node_at, second_value, node_value, values, value_of, operand_value, variables_of}
+use Rattle.kb_terms.specs.Terms.{IsSecond, AreOperands, IsPool, IsTerm, NodeFits, Extends, constant_at, second_constant, folded, made_node, term_with, interned, node_at, second_value, node_value, values, value_of, operand_value, variables_of}
 use Rattle.kb_terms.proofs.Computing.{can_compute}
 use Rattle.kb_terms.proofs.Entries.{end-cases}
-use Rattle.kb_terms.proofs.Values.{with_value, length-values, before-value, value_of-node, value_of-constant, value_of-constant_at, value_of-extends}
-use Rattle.kb_stepint.proofs.AskedLaws.{interned_node}
+use Rattle.kb_terms.proofs.Values.{IsTerm-extends, with_value, length-values, before-value, value_of-node, value_of-constant, value_of-constant_at, value_of-extends}
+use Rattle.kb_stepint.specs.Asked.{interned_op}
+use Rattle.kb_stepint.proofs.AskedLaws.{interned_is_term, interned_node}
 use Rattle.kb_stepint.proofs.GrowLaws.{from_found, interned_extends}
 
 -- ---- pools whose operations stand behind their operands
@@ -36,7 +39,7 @@ pool_ordered nodes pool = record { each = λ i node e. go i node (pool.fits i no
   go i (Var v kind) fits = tt
   go i (Apply op left right) fits = fits.0
 
-ordered_more : (nodes : List Node) (node : Node) → IsOrdered nodes → HasOperands nodes node → IsOrdered (nodes ++ node ∷ [])
+pub ordered_more : (nodes : List Node) (node : Node) → IsOrdered nodes → HasOperands nodes node → IsOrdered (nodes ++ node ∷ [])
 ordered_more nodes node ordered has = record {
   each = λ i other e. elim (end-cases nodes node i other e) [
     | inl before ↦ subst (λ (front : List Node). HasOperands front other) (sym (early i before.0)) (ordered.each i other before.1)
@@ -125,6 +128,18 @@ op_made nodes op left right inputs ordered are =
 
 pub constant_made : (nodes : List Node) (z : ℤ) (inputs : List ℤ) → value_of (interned nodes (Const z)).0 (interned nodes (Const z)).1 inputs ≡ z
 constant_made nodes z inputs = value_of-constant (interned nodes (Const z)).0 (interned nodes (Const z)).1 z inputs (interned_node nodes (Const z))
+
+-- of the low bit of an int
+pub low_made : (nodes : List Node) (t : TermId) (inputs : List ℤ) → IsOrdered nodes → IsTerm nodes t
+    → value_of (interned_op (interned nodes (Const (pos 1))).0 And t (Some (interned nodes (Const (pos 1))).1)).0
+    (interned_op (interned nodes (Const (pos 1))).0 And t (Some (interned nodes (Const (pos 1))).1)).1 inputs
+    ≡ word_and (value_of nodes t inputs) (pos 1)
+low_made nodes t inputs ordered is =
+    let one = interned nodes (Const (pos 1)) in
+    let first : Extends nodes one.0 = interned_extends nodes (Const (pos 1)) in
+    let operands : AreOperands one.0 And t (Some one.1) = record { first = IsTerm-extends nodes one.0 t first is; second = interned_is_term nodes (Const (pos 1)) } in
+    op_made one.0 And t (Some one.1) inputs (interned_ordered nodes (Const (pos 1)) ordered tt) operands
+    ∙ ap (λ (z : ℤ). word_and z (value_of one.0 one.1 inputs)) (value_of-extends nodes one.0 t inputs first is) ∙ ap (λ (z : ℤ). word_and (value_of nodes t inputs) z) (constant_made nodes (pos 1) inputs)
 
 -- ---- inputs
 

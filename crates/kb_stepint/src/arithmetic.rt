@@ -3,17 +3,16 @@ ghost use Rattle.std.specs.Prelude.{◌≡◌, false, true, IfOk};
 ghost use Rattle.kb_terms.specs.Op.{is_binary};
 ghost use Rattle.kb_stepint.specs.Effects.{computes, computes_two, op_of, op_of_cut};
 ghost use Rattle.kb_stepint.specs.Needs.{CanStep};
-ghost use Rattle.kb_stepint.specs.Turns.{led, led_by, told};
-ghost use Rattle.kb_stepint.specs.Ways.{Throws};
+ghost use Rattle.kb_stepint.specs.Turns.{led_by, told};
 
 use crate::NoMemory;
 use crate::operands::{one_int, two_ints};
 use crate::terms::make;
 use crate::turn::Turn;
-use crate::ways::{ill_typed, replaces};
+use crate::ways::{ill_typed, replaces, throws};
 use kb_code::{IntCut, IntOp};
 use kb_frames::{Outcome, SymState, SymValue};
-use kb_picture::{Choice, Out, SymEnding};
+use kb_picture::Choice;
 use kb_terms::Op;
 
 const ARITHMETIC: &[u8] = b"java/lang/ArithmeticException";
@@ -76,16 +75,8 @@ pub(crate) fn compute_two(
         return ill_typed(turn, state);
     };
     if let Choice::Zero = choice {
-        return throw(turn, state, ARITHMETIC);
+        return throws(turn, state, ARITHMETIC);
     }
     let value = make(state, op_of(op), left, Some(right))?;
     replaces(turn, state, 2, &[SymValue::Int(value)])
-}
-
-// A new object of the class is thrown, which ends the run.
-fn throw(turn: &Turn<'_>, state: &mut SymState, class: &[u8]) -> Result<Outcome, NoMemory>
-    ensures { IfOk result (λ outcome. told state.new outcome ≡ led turn.now state.old (Throws class.now)) }
-{
-    let number = state.make_object(turn.world, class)?;
-    Ok(Outcome::Ends(SymEnding::Threw(Out::New(number))))
 }

@@ -27,8 +27,13 @@ mod ways;
 pub use choices::choices_int;
 pub use int_methods::is_int_method;
 pub use laws::{int_methods_begin, int_steps_get_on, int_steps_keep, int_steps_simulate};
+pub use locals::is_local;
+pub use place::place_of;
+pub use returns::{mask, result_of};
 use std::alloc::{AllocError, AllocFailed};
 pub use take::take_int;
+pub use turn::Turn;
+pub use ways::{carry_on, has_room, ill_typed, jumps, replaces, throws};
 
 /// Memory ran out.
 #[derive(Clone, Copy, Debug, PartialEq, Eq)]

@@ -55,8 +55,8 @@ pub(crate) fn increase(
     set(turn, state, local, sum, 0)
 }
 
-// Whether a local of that number lies below the limit.
-fn is_local(turn: &Turn<'_>, state: &SymState, local: u16) -> bool
+/// Whether a local of that number lies below the method's limit, max_locals (JVMS 8 section 4.7.3).
+pub fn is_local(turn: &Turn<'_>, state: &SymState, local: u16) -> bool
     ensures { result ≡ nat_lt local (max_locals_of turn.now.world.now (method_now state.now.method state.now.stage)) }
 {
     let (method, _) = state.stands_at();

@@ -12,7 +12,7 @@ use kb_world::World;
 use std::alloc::Global;
 
 /// The method and the offset at which the run of a state stands.
-pub(crate) fn place_of(alloc: Global, world: &World, state: &SymState) -> Result<Place, NoMemory>
+pub fn place_of(alloc: Global, world: &World, state: &SymState) -> Result<Place, NoMemory>
     ensures { IfOk result (λ place. place ≡ place_in_code world.now (method_now state.now.method state.now.stage) (offset_now state.now.stage)) }
 {
     let (method, at) = state.stands_at();

@@ -53,8 +53,8 @@ pub(crate) fn return_nothing(turn: &Turn<'_>, state: &SymState) -> Result<Outcom
     }
 }
 
-// The type of a method's result.
-fn result_of(world: &World, method: MethodId) -> Option<&JType>
+/// The type of a method's result: None of void, and where there is no such method.
+pub fn result_of(world: &World, method: MethodId) -> Option<&JType>
     ensures { option_copied result ≡ result_of world.now method }
 {
     match world.find_method(method) {
@@ -63,8 +63,8 @@ fn result_of(world: &World, method: MethodId) -> Option<&JType>
     }
 }
 
-// The low bit of a term.
-fn mask(state: &mut SymState, term: TermId) -> Result<TermId, NoMemory>
+/// The term of the low bit of a term, which a boolean keeps of an int.
+pub fn mask(state: &mut SymState, term: TermId) -> Result<TermId, NoMemory>
     requires { IsTerm state.old.nodes term }
     ensures state { OnOk result (state.new ≡ with_nodes state.old (masked state.old term (interned state.old.nodes (Const (pos 1)))).0) }
     ensures term { IfOk result (λ t. t ≡ (masked state.old term (interned state.old.nodes (Const (pos 1)))).1) }

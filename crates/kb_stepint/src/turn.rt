@@ -6,10 +6,10 @@ use std::alloc::Global;
 
 /// What stays the same while an instruction is carried out.
 #[derive(Drop)]
-pub(crate) struct Turn<'w> {
-    pub(crate) alloc: Global,
-    pub(crate) world: &'w World,
-    pub(crate) bounds: Bounds,
+pub struct Turn<'w> {
+    pub alloc: Global,
+    pub world: &'w World,
+    pub bounds: Bounds,
     /// The offset behind the instruction.
-    pub(crate) next: u32,
+    pub next: u32,
 }

@@ -5,7 +5,7 @@ ghost use Rattle.kb_frames.specs.Lent.{carried_on, locals_of, on_frame, stack_of
 ghost use Rattle.kb_frames.specs.Next.{method_now};
 ghost use Rattle.kb_frames.specs.declared.frame.SymFrame.{SymFrame};
 ghost use Rattle.kb_stepint.specs.Turns.{led, told};
-ghost use Rattle.kb_stepint.specs.Ways.{Goes, Jumps, Fails};
+ghost use Rattle.kb_stepint.specs.Ways.{Goes, Jumps, Throws, Fails};
 
 use crate::NoMemory;
 use crate::place::place_of;
@@ -13,11 +13,11 @@ use crate::turn::Turn;
 use kb_class::MethodId;
 use kb_frames::{Outcome, SymState, SymValue};
 use kb_heap::Bound;
-use kb_picture::SymEnding;
+use kb_picture::{Out, SymEnding};
 use kb_world::World;
 
 /// The run ends as ill-typed at the instruction that was taken up.
-pub(crate) fn ill_typed(turn: &Turn<'_>, state: &SymState) -> Result<Outcome, NoMemory>
+pub fn ill_typed(turn: &Turn<'_>, state: &SymState) -> Result<Outcome, NoMemory>
     ensures { IfOk result (λ outcome. told state.now outcome ≡ led turn.now state.now Fails) }
 {
     let place = place_of(turn.alloc, turn.world, state)?;
@@ -25,7 +25,7 @@ pub(crate) fn ill_typed(turn: &Turn<'_>, state: &SymState) -> Result<Outcome, No
 }
 
 /// Whether the current frame may have so many values on its stack: those that stay, and those that come.
-pub(crate) fn has_room(turn: &Turn<'_>, state: &SymState, kept: usize, more: usize) -> bool
+pub fn has_room(turn: &Turn<'_>, state: &SymState, kept: usize, more: usize) -> bool
     ensures { result ≡ has_room turn.now.world.now (method_now state.now.method state.now.stage) (kept + more) }
 {
     let (method, _) = state.stands_at();
@@ -47,7 +47,7 @@ fn max_stack(world: &World, method: MethodId) -> usize
 }
 
 /// The instruction was carried out, within a bound, and the next one is at that offset.
-pub(crate) fn carry_on(state: &mut SymState, at: u32, bound: u32)
+pub fn carry_on(state: &mut SymState, at: u32, bound: u32)
     requires { state.old.carried < bound }
     ensures { state.new ≡ carried_on (on_frame (λ (frame : SymFrame). record frame { at = at }) state.old) }
 {
@@ -57,7 +57,7 @@ pub(crate) fn carry_on(state: &mut SymState, at: u32, bound: u32)
 }
 
 /// It goes on at the next offset, with these values, the top last, in the place of so many on the stack.
-pub(crate) fn replaces(
+pub fn replaces(
     turn: &Turn<'_>,
     state: &mut SymState,
     count: usize,
@@ -86,8 +86,16 @@ fn push_all(state: &mut SymState, values: &[SymValue]) -> Result<(), NoMemory>
     Ok(())
 }
 
+/// A new object of the class is thrown, which ends the run. After want of memory the state is only dropped.
+pub fn throws(turn: &Turn<'_>, state: &mut SymState, class: &[u8]) -> Result<Outcome, NoMemory>
+    ensures { IfOk result (λ outcome. told state.new outcome ≡ led turn.now state.old (Throws class.now)) }
+{
+    let number = state.make_object(turn.world, class)?;
+    Ok(Outcome::Ends(SymEnding::Threw(Out::New(number))))
+}
+
 /// It goes on at a target, with so many values fewer on the stack.
-pub(crate) fn jumps(
+pub fn jumps(
     turn: &Turn<'_>,
     state: &mut SymState,
     count: usize,

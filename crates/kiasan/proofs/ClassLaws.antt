@@ -2,6 +2,8 @@
 use Rattle.std.proofs.Common.{◌≡◌, ℕ, ◌+◌, ◌<◌, ◌≤◌, List, [], ◌∷◌, ◌++◌, length, take, drop, get_or, Option, Some, None, Err, refl, sym, ◌∙◌, ap, subst, arith, suc, drop-cons, inl, inr}
 use Rattle.std.proofs.lemmas.List.{take_all, take-append-drop, length-take}
 use Rattle.std.proofs.Math.Seq.{take-suc}
+use Rattle.std.specs.List.{AllByRecursion}
+use Rattle.kb_names.specs.Bytes.{AreBytes}
 use Rattle.kb_classfile.specs.declared.file.ClassFile.{ClassFile}
 use Rattle.kb_classfile.specs.declared.file.Code.{Code}
 use Rattle.kb_classfile.specs.declared.file.Method.{Method as ClassMethod}
@@ -20,6 +22,7 @@ use Rattle.kb_class.proofs.Listings.{listings_pushed}
 use Rattle.kb_link.specs.declared.linking.LinkRefusal.{LinkRefusal}
 use Rattle.kb_link.specs.declared.linking.LinkRefusal.TheVariants as links
 use Rattle.kb_link.specs.Links.{RefusesLink}
+use Rattle.kb_test_laws.specs.Texts.{IsOfBytes}
 use Rattle.kiasan.specs.declared.refusals.Refusal.{Refusal}
 use Rattle.kiasan.specs.declared.refusals.Stop.{Stop}
 use Rattle.kiasan.specs.Answers.{AreClasses, ClassRefuses, FileRefuses, IsClassOf, RefusesClasses, WorldRefuses}
@@ -184,6 +187,13 @@ are_given [] [] are = tt
 are_given (bytes ∷ classes) (class ∷ given) are = (record { bytes = bytes; spelled = are.0.file.spelled; listed = are.0.listed }, are_given classes given are.1)
 are_given [] (class ∷ given) are = absurd are
 are_given (bytes ∷ classes) [] are = absurd are
+
+-- and where the files are of bytes, they are spelled by bytes
+pub are_of_bytes : (classes : List (List ℕ)) (given : List GivenClass) → AreClasses classes given → AllByRecursion AreBytes classes → AllByRecursion IsOfBytes given
+are_of_bytes [] [] are bytes = tt
+are_of_bytes (file ∷ classes) (class ∷ given) are bytes = (record { bytes = file; are_bytes = bytes.0; spelled = are.0.file.spelled }, are_of_bytes classes given are.1 bytes.1)
+are_of_bytes [] (class ∷ given) are bytes = absurd are
+are_of_bytes (file ∷ classes) [] are bytes = absurd are
 
 -- what is said of classes that are not linked
 pub link_stops : {A : Type 0} (given : List GivenClass) (found : LinkRefusal) (Passes : A → Type 0) → RefusesLink given found →

@@ -1,5 +1,5 @@
 -- How a job is answered.
-use Rattle.std.proofs.Common.{◌≡◌, List, [], ◌∷◌, ◌++◌, ℕ, true, false, Err, refl, sym, ◌∙◌, ap, subst, inl, inr}
+use Rattle.std.proofs.Common.{◌≡◌, List, [], ◌∷◌, ◌++◌, ℕ, true, false, Err, refl, sym, ◌∙◌, ap, subst, inl, inr, arith}
 use Rattle.std.specs.List.{AllByRecursion}
 use Rattle.kb_class.specs.declared.ids.MethodId.{MethodId}
 use Rattle.kb_drive.specs.Compared.{ComparesAsRuns}
@@ -7,12 +7,15 @@ use Rattle.kb_drive.specs.ReadFirst.{SeesWhatIsRead}
 use Rattle.kb_drive.specs.Covers.{CarriesInstance, Covers, EachPath, StatesRuns, input_carried}
 use Rattle.kb_frames.specs.State.{State, start_state}
 use Rattle.kb_heap.specs.declared.bounds.Bounds.{Bounds}
+use Rattle.kb_frames.specs.Cuts.{setting_of}
+use Rattle.kb_link.specs.Links.{IsLinked}
 use Rattle.kb_link.specs.Targets.{IsTargetOf}
 use Rattle.kb_link.specs.declared.linking.LinkRefusal.{LinkRefusal}
 use Rattle.kb_link.specs.declared.linking.LinkRefusal.TheVariants as links
 use Rattle.kb_link.specs.World.{World}
 use Rattle.kb_names.specs.declared.types.Target.{Target}
 use Rattle.kb_picture.specs.declared.choice.Init.{Init}
+use Rattle.kb_picture.specs.declared.choice.Init.TheVariants.{Lazy}
 use Rattle.kb_picture.specs.declared.path.Leaf.{Leaf}
 use Rattle.kb_picture.specs.declared.path.Leaf.TheVariants.{Ended as EndedLeaf, Cut, Undecided, Open}
 use Rattle.kb_picture.specs.declared.path.Path.{Path}
@@ -20,16 +23,19 @@ use Rattle.kb_report.specs.declared.report.Report.{Report}
 use Rattle.kb_names.specs.Targets.{IsTarget}
 use Rattle.kb_test.specs.Lines.{IsRunBounds}
 use Rattle.kb_test.specs.Tests.{SpellsTests}
+use Rattle.kb_test_laws.specs.Laws.{RunsHaveNames}
+use Rattle.kb_test_laws.specs.Texts.{EndHasTexts, NamesHaveTexts}
 use Rattle.kb_words.specs.Orders.{AreBounds, IsJob}
 use Rattle.kb_words.specs.declared.orders.Job.{Job}
-use Rattle.kb_stepint.specs.IntMethods.{is_int_method}
+use Rattle.kb_stepref.specs.HeapMethods.{is_heap_method}
+use Rattle.kb_stepref.specs.Laws.{AreInRange}
 use Rattle.kb_world.specs.Reach.{IsAccepted, Refuses}
 use Rattle.kiasan.specs.declared.refusals.Refusal.TheVariants.{Unbuilt}
 use Rattle.kiasan.specs.declared.refusals.Stop.{Stop}
 use Rattle.kiasan.specs.declared.refusals.Stop.TheVariants.{Refused, ReadFault, NoMemory}
 use Rattle.kiasan.specs.declared.status.Status.{Status}
 use Rattle.kiasan.specs.Answers.{ends, Carries, IsTestsTextOf, RepliesJob, TextOf}
-use Rattle.kiasan.specs.Exploring.{AreListed, HasHead, IsBuiltReport, IsCarried, IsReportOf, path_tests, status_of, tests_of}
+use Rattle.kiasan.specs.Exploring.{AreListed, HasHead, IsBuiltReport, IsCarried, IsReportOf, StatesTexts, path_tests, status_of, tests_of}
 use Rattle.kiasan.specs.Reach.{TargetRefuses}
 use Rattle.kiasan.specs.Refusals.{Gives, link_refusal}
 use Rattle.kiasan.specs.Tests.{EndsAsStated, literals_in}
@@ -71,7 +77,7 @@ job_ends IsTextOf world job report status text built is told = (
 )
 
 -- a method whose exploration is not built
-pub unbuilt_target : (world : World) (target : Target) (id : MethodId) → IsTargetOf world target id → IsAccepted world id → is_int_method world id ≡ false →
+pub unbuilt_target : (world : World) (target : Target) (id : MethodId) → IsTargetOf world target id → IsAccepted world id → is_heap_method world id ≡ false →
     TargetRefuses world target Unbuilt
 unbuilt_target world target id found accepted not =
     inr (refl, record { id = id; found = found; accepted = accepted; none = λ built. let both : true ≡ false = sym built ∙ not in cc })
@@ -89,6 +95,14 @@ built_report world job report id leaves head are found accepted built listed = r
 -- the state before the arguments are read is of the method
 pub is_start : (state : State) (init : Init) (id : MethodId) → state ≡ start_state init id → (state ≡ start_state state.init state.method) × (state.method ≡ id)
 is_start state init id e = subst (λ (s : State). (s ≡ start_state s.init s.method) × (s.method ≡ id)) (sym e) (refl, refl)
+
+-- and of the mode that is asked for
+pub starts_lazily : (state : State) (init : Init) (id : MethodId) → state ≡ start_state init id → init ≡ Lazy → state.init ≡ Lazy
+starts_lazily state init id e lazy = ap (λ (s : State). s.init) e ∙ lazy
+
+-- the arrays of a job are ones that an int can count
+pub in_range : (bounds : Bounds) → AreBounds bounds → AreInRange bounds
+in_range bounds are = omega (arith, are.array)
 
 -- what an exploration from that state lists
 pub listed_of : (world : World) (state : State) (init : Init) (id : MethodId) (bounds : Bounds) (paths budget asked : ℕ) (leaves : List Path) →
@@ -150,6 +164,17 @@ target_written job report is head = subst IsTarget (sym head.target) is.target
 pub bounds_written : (job : Job) (report : Report) → IsJob job → HasHead job report → IsRunBounds report.bounds.run
 bounds_written job report is head = subst (λ (bounds : Bounds). IsRunBounds bounds.run) (sym head.bounds) (run_bounds job.bounds is.bounds)
 
--- each path of a report carries an instance of its own
-pub paths_carry : (world : World) (job : Job) (report : Report) (reported : IsReportOf world job report) → EachPath (IsCarried world reported.id) report.leaves
-paths_carry world job report reported i path at = (reported.listed.covers.carried i path at, reported.listed.covers.formed.each i path at)
+-- what an ended path states of the input that it carries is what a run of the method leaves
+states_texts : RunsHaveNames → (world : World) → IsLinked world → NamesHaveTexts world → (id : MethodId) → IsAccepted world id → (bounds : Bounds) (path : Path) →
+    StatesRuns world id bounds path → CarriesInstance world id path → StatesTexts world path
+states_texts runs world linked names id accepted bounds path states carries = λ ended leaf.
+    let carried = carries ended.input (ap input_carried leaf) in
+    subst EndHasTexts (states ended ended.input leaf carried.0 carried.1) (runs (setting_of world bounds) id ended.input linked names accepted carried.0)
+
+-- each path of a report carries an instance of its own, and states of it what has texts
+pub paths_carry : RunsHaveNames → (world : World) → IsLinked world → NamesHaveTexts world → (job : Job) (report : Report) (built : IsBuiltReport world job report) →
+    EachPath (IsCarried world built.reported.id) report.leaves
+paths_carry runs world linked names job report built = λ i path at.
+    let covers = built.reported.listed.covers in
+    let carries = covers.carried i path at in
+    (carries, covers.formed.each i path at, states_texts runs world linked names built.reported.id built.accepted report.bounds path (covers.endings i path at) carries)

@@ -1,5 +1,7 @@
 -- How words are answered.
 use Rattle.std.proofs.Common.{◌≡◌, ℕ, List, true, false, Result, Ok, Err, refl, sym, ◌∙◌, ap, inl, inr}
+use Rattle.kb_picture.specs.declared.choice.Init.{Init}
+use Rattle.kb_picture.specs.declared.choice.Init.TheVariants.{Lazy, Lazier}
 use Rattle.kb_words.specs.declared.orders.Order.{Order}
 use Rattle.kb_words.specs.declared.orders.Order.TheVariants.{Explore, Tests, Diagrams, Replay, Assemble, Sample}
 use Rattle.kb_words.specs.declared.orders.WordFault.{WordFault}
@@ -8,7 +10,7 @@ use Rattle.kb_words.specs.Orders.{IsFaultOf, IsOrder, Orders}
 use Rattle.kb_words.proofs.OneOrder.{orders_one}
 use Rattle.kiasan.specs.declared.refusals.Refusal.TheVariants.{Unbuilt}
 use Rattle.kiasan.specs.Answers.{WordsRefuse}
-use Rattle.kiasan.specs.Orders.{IsBuiltOrder, OrdersBuilt, OrdersUnbuilt, is_built}
+use Rattle.kiasan.specs.Orders.{IsBuiltOrder, OrdersBuilt, OrdersUnbuilt, is_built, is_lazy}
 use Rattle.kiasan.specs.Refusals.{Gives, word_refusal}
 
 -- what the fault of words is refused as
@@ -27,10 +29,15 @@ words_stop words faults.NoFiles Passes is = inl (faults.NoFiles, is, refl)
 words_stop words faults.TooMuch Passes is = inl (faults.TooMuch, is, refl)
 words_stop words faults.NoMemory Passes is = tt
 
+-- the mode that is built by now is one alone
+lazy_is : (init : Init) → is_lazy init ≡ true → init ≡ Lazy
+lazy_is Lazy built = refl
+lazy_is Lazier built = cc
+
 -- an order that is built has what it needs
 pub built_order : (order : Order) → IsOrder order → is_built order ≡ true → IsBuiltOrder order
-built_order (Explore job) is built = is
-built_order (Tests job) is built = is
+built_order (Explore job) is built = record { numbers = is; lazy = lazy_is job.init built }
+built_order (Tests job) is built = record { numbers = is; lazy = lazy_is job.init built }
 built_order (Diagrams job) is built = cc
 built_order (Replay tests files) is built = tt
 built_order (Assemble text) is built = tt

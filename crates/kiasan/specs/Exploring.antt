@@ -14,10 +14,11 @@ use Rattle.kb_picture.specs.declared.path.Ended.{Ended}
 use Rattle.kb_picture.specs.declared.path.Leaf.{Leaf}
 use Rattle.kb_picture.specs.declared.path.Leaf.TheVariants.{Ended as EndedLeaf, Cut, Undecided, Open}
 use Rattle.kb_picture.specs.declared.path.Path.{Path}
-use Rattle.kb_picture.specs.Endings.{ending_of, final_heap_of}
+use Rattle.kb_picture.specs.Endings.{ending_of, final_heap_of, stated_end}
 use Rattle.kb_picture.specs.WellFormed.{IsWellFormed}
 use Rattle.kb_report.specs.declared.report.Report.{Report}
 use Rattle.kb_test.specs.declared.test_case.Test.{Test}
+use Rattle.kb_test_laws.specs.Texts.{EndHasTexts}
 use Rattle.kb_words.specs.declared.orders.Job.{Job}
 use Rattle.kb_world.specs.Reach.{IsAccepted}
 use Rattle.kiasan.specs.declared.status.Status.{Status}
@@ -86,6 +87,10 @@ path_tests world report path Open = []
 abbrev pub tests_of : World → Report → List Test
 tests_of world report = flat_map (λ (path : Path). path_tests world report path path.leaf) report.leaves
 
--- the input that a path carries is one of its instances, and the path is well-formed
+-- what an ended path states of the input that it carries names nothing without a text
+abbrev pub StatesTexts : World → Path → Type 0
+StatesTexts world path = (ended : Ended) → path.leaf ≡ EndedLeaf ended → EndHasTexts (stated_end world path ended ended.input)
+
+-- The input that a path carries is one of its instances, the path is well-formed, and what it states of that input has texts.
 abbrev pub IsCarried : World → MethodId → Path → Type 0
-IsCarried world id path = CarriesInstance world id path × IsWellFormed world id path
+IsCarried world id path = CarriesInstance world id path × IsWellFormed world id path × StatesTexts world path

@@ -2,6 +2,7 @@
 use Rattle.std.specs.Prelude.{◌≡◌, ℕ, Bool, true, false, List, [], ◌∷◌, ◌++◌, Ok}
 use Rattle.kb_picture.specs.declared.choice.Init.{Init}
 use Rattle.kb_picture.specs.declared.choice.Init.TheVariants.{Lazy, Lazier}
+use Rattle.kb_words.specs.declared.orders.Job.{Job}
 use Rattle.kb_words.specs.declared.orders.Order.{Order}
 use Rattle.kb_words.specs.declared.orders.Order.TheVariants.{Explore, Tests, Diagrams, Replay, Assemble, Sample}
 use Rattle.kb_words.specs.Orders.{IsJob, Orders}
@@ -28,10 +29,15 @@ OrdersBuilt words order = Orders words (Ok order) × (is_built order ≡ true)
 abbrev pub OrdersUnbuilt : List (List ℕ) → Type 0
 OrdersUnbuilt words = (order : Order) × Orders words (Ok order) × (is_built order ≡ false)
 
+-- a job whose exploration is built: its numbers lie in their ranges, and its heaps are initialised lazily
+pub record IsBuiltJob (job : Job) : Type 0 where
+  pub numbers : IsJob job
+  pub lazy : job.init ≡ Lazy
+
 -- an order that is built, whose numbers lie in their ranges
 abbrev pub IsBuiltOrder : Order → Type 0
-IsBuiltOrder (Explore job) = IsJob job
-IsBuiltOrder (Tests job) = IsJob job
+IsBuiltOrder (Explore job) = IsBuiltJob job
+IsBuiltOrder (Tests job) = IsBuiltJob job
 IsBuiltOrder (Diagrams job) = ⊥
 IsBuiltOrder (Replay tests files) = Unit {0}
 IsBuiltOrder (Assemble text) = Unit {0}

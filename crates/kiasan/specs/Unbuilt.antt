@@ -4,7 +4,7 @@ use Rattle.kb_class.specs.declared.ids.MethodId.{MethodId}
 use Rattle.kb_names.specs.declared.types.Target.{Target}
 use Rattle.kb_link.specs.Targets.{IsTargetOf}
 use Rattle.kb_link.specs.World.{World}
-use Rattle.kb_stepint.specs.IntMethods.{is_int_method}
+use Rattle.kb_stepref.specs.HeapMethods.{is_heap_method}
 use Rattle.kb_world.specs.Reach.{IsAccepted}
 use Rattle.kiasan.specs.declared.status.Status.{Status}
 use Rattle.kiasan.specs.declared.status.Status.TheVariants.{Outside}
@@ -16,9 +16,10 @@ unbuilt_status = Outside
 unfoldable pub unbuilt_line : List ℕ
 unbuilt_line = line (codes "refused 50" ∷ [])
 
--- the exploration of a method is built where it takes ints and booleans and its steps are of ints alone
+-- The exploration of a method is built where it takes ints, booleans and references, and its steps are of ints and on references alone,
+-- without handlers.
 abbrev pub IsBuiltFor : World → MethodId → Type 0
-IsBuiltFor world id = is_int_method world id ≡ true
+IsBuiltFor world id = is_heap_method world id ≡ true
 
 -- the target names the method, it can be carried out with all that it reaches, and its exploration is built
 pub record IsBuiltTarget (world : World) (target : Target) (id : MethodId) : Type 0 where

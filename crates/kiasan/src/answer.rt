@@ -1,7 +1,9 @@
 //! What the program answers to its words, stage by stage.
 
 ghost use Rattle.std.specs.Prelude.{◌≡◌, ℕ, ◌<◌, ◌≤◌, ◌^◌, ◌↔◌, List, length, map, string_bytes, IfOk, IfErr, IsErrOf};
+ghost use Rattle.kb_link.specs.Links.{IsLinked};
 ghost use Rattle.kb_outside.specs.Outside.{Rose};
+ghost use Rattle.kb_test_laws.specs.Texts.{NamesHaveTexts};
 ghost use Rattle.kiasan.specs.Answers.{Answers, AreRead, Carries, IsAnswer, IsContents, IsOf, IsRead, IsReadFault, IsReadFaultOrNoMemory, Replies, RepliesIn, RepliesOn, RepliesTo, SomeUnsound, class_limit, text_limit};
 ghost use Rattle.kiasan.specs.Orders.{IsBuiltOrder, classes_of, files_of, texts_of};
 
@@ -11,8 +13,10 @@ use crate::methods::{answer_report, answer_tests};
 use crate::orders::{classes_of, read_order, texts_of};
 use crate::refusals::{Answer, Stop, answer_refusal};
 use crate::replay::replay;
+use crate::spelled::look_at_files;
 use kb_outside::{Shelf, ShelfStop};
 use kb_rows::Row;
+use kb_test_laws::worlds_have_names;
 use kb_words::{Order, Word};
 use kb_world::World;
 use std::alloc::Global;
@@ -129,13 +133,18 @@ fn answer_on(alloc: Global, order: &Order, contents: &Contents) -> Result<Answer
     requires texts { length contents.now.texts ≡ length (texts_of order.now) }
     ensures { Carries ⊥ (RepliesOn order.now contents.now) result }
 {
-    let given = read_classes(alloc, contents.classes.as_slice())?;
+    let classes = contents.classes.as_slice();
+    look_at_files(classes);
+    worlds_have_names();
+    let given = read_classes(alloc, classes)?;
     let world = link_classes(alloc, given)?;
     answer_in(alloc, order, contents.texts.as_slice(), &world)
 }
 
 /// What the program answers to an order on these texts and the world of its classes.
 fn answer_in(alloc: Global, order: &Order, texts: &[Row<u8>], world: &World) -> Result<Answer, Stop>
+    requires linked { IsLinked world.now }
+    requires names { NamesHaveTexts world.now }
     requires built { IsBuiltOrder order.now }
     requires texts { length texts.now ≡ length (texts_of order.now) }
     ensures { Carries ⊥ (RepliesIn order.now texts.now world.now) result }

@@ -1,9 +1,11 @@
 //! What the program tells of the paths of a job's method: their report, or their tests.
 
 ghost use Rattle.std.specs.Prelude.{◌≡◌};
-ghost use Rattle.kb_words.specs.Orders.{IsJob};
+ghost use Rattle.kb_link.specs.Links.{IsLinked};
+ghost use Rattle.kb_test_laws.specs.Texts.{NamesHaveTexts};
 ghost use Rattle.kiasan.specs.Answers.{Carries, IsReportText, IsTestsTextOf, RepliesJob};
 ghost use Rattle.kiasan.specs.Exploring.{IsBuiltReport, is_unsettled, status_of};
+ghost use Rattle.kiasan.specs.Orders.{IsBuiltJob};
 ghost use Rattle.kiasan.specs.Reach.{TargetRefuses};
 ghost use Rattle.kiasan.specs.Refusals.{Gives};
 
@@ -13,13 +15,14 @@ use crate::tests_text::tests_text;
 use crate::unbuilt::built_report;
 use kb_picture::{Leaf, Path};
 use kb_report::{Report, report_text};
+use kb_test_laws::runs_have_names;
 use kb_words::Job;
 use kb_world::World;
 use std::alloc::Global;
 
 /// What the program answers where the report of a job is to be written.
 pub fn answer_report(alloc: Global, world: &World, job: &Job) -> Result<Answer, Stop>
-    requires { IsJob job.now }
+    requires { IsBuiltJob job.now }
     ensures { Carries ⊥ (RepliesJob IsReportText world.now job.now) result }
 {
     let report = explore_job(alloc, world, job)?;
@@ -32,9 +35,12 @@ pub fn answer_report(alloc: Global, world: &World, job: &Job) -> Result<Answer, 
 
 /// What the program answers where the tests of a job are to be written.
 pub fn answer_tests(alloc: Global, world: &World, job: &Job) -> Result<Answer, Stop>
-    requires { IsJob job.now }
+    requires linked { IsLinked world.now }
+    requires names { NamesHaveTexts world.now }
+    requires job { IsBuiltJob job.now }
     ensures { Carries ⊥ (RepliesJob IsTestsTextOf world.now job.now) result }
 {
+    runs_have_names();
     let report = explore_job(alloc, world, job)?;
     let text = tests_text(alloc, world, &report)?;
     Ok(Answer {
@@ -46,7 +52,7 @@ pub fn answer_tests(alloc: Global, world: &World, job: &Job) -> Result<Answer, S
 /// The report of a job.
 #[tactic(auto, using(crate::proofs::JobLaws::reach_stops))]
 fn explore_job(alloc: Global, world: &World, job: &Job) -> Result<Report, Stop>
-    requires { IsJob job.now }
+    requires { IsBuiltJob job.now }
     ensures { Gives ⊥ (TargetRefuses world.now job.now.target) (IsBuiltReport world.now job.now) result }
 {
     let id = world.reach(alloc, &job.target)?;

@@ -1,10 +1,10 @@
 //! The report of a method.
 
-ghost use Rattle.std.specs.Prelude.{◌≡◌, ◌≤◌, IfOk};
+ghost use Rattle.std.specs.Prelude.{◌≡◌, IfOk};
 ghost use Rattle.kb_link.specs.Targets.{IsTargetOf};
-ghost use Rattle.kb_words.specs.Orders.{IsJob};
 ghost use Rattle.kb_world.specs.Reach.{IsAccepted};
 ghost use Rattle.kiasan.specs.Exploring.{AreListed, HasHead, IsBuiltReport};
+ghost use Rattle.kiasan.specs.Orders.{IsBuiltJob};
 ghost use Rattle.kiasan.specs.Unbuilt.{IsBuiltFor};
 
 use crate::memory::NoMemory;
@@ -25,7 +25,7 @@ pub fn report_of(alloc: Global, world: &World, job: &Job, id: MethodId) -> Resul
     requires found { IsTargetOf world.now job.now.target id }
     requires accepted { IsAccepted world.now id }
     requires built { IsBuiltFor world.now id }
-    requires job { IsJob job.now }
+    requires job { IsBuiltJob job.now }
     ensures { IfOk result (IsBuiltReport world.now job.now) }
 {
     let leaves = explore(alloc, world, job, id)?;
@@ -49,12 +49,11 @@ fn report_with(alloc: Global, job: &Job, leaves: Row<Path>) -> Result<Report, No
 }
 
 /// The paths of the job's method. Each question to the solver has the budget that the job asks for.
-#[tactic(auto, using(crate::proofs::JobLaws::is_start))]
+#[tactic(auto, using(crate::proofs::JobLaws::is_start, crate::proofs::JobLaws::starts_lazily, crate::proofs::JobLaws::in_range))]
 fn explore(alloc: Global, world: &World, job: &Job, id: MethodId) -> Result<Row<Path>, NoMemory>
     requires accepted { IsAccepted world.now id }
     requires built { IsBuiltFor world.now id }
-    requires paths { 1 ≤ job.now.paths }
-    requires budget { 1 ≤ job.now.budget }
+    requires job { IsBuiltJob job.now }
     ensures { IfOk result (AreListed world.now id job.now.bounds job.now.paths job.now.budget) }
 {
     let state = start(alloc, world, id, job.init)?;

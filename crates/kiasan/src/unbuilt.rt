@@ -1,9 +1,9 @@
 //! What is not built by now, and is refused by 50 until it is.
 
 ghost use Rattle.kb_link.specs.Targets.{IsTargetOf};
-ghost use Rattle.kb_words.specs.Orders.{IsJob};
 ghost use Rattle.kb_world.specs.Reach.{IsAccepted};
 ghost use Rattle.kiasan.specs.Exploring.{IsBuiltReport};
+ghost use Rattle.kiasan.specs.Orders.{IsBuiltJob};
 ghost use Rattle.kiasan.specs.Reach.{TargetRefuses};
 ghost use Rattle.kiasan.specs.Refusals.{Gives};
 
@@ -12,7 +12,7 @@ use crate::reports::report_of;
 use crate::status::Status;
 use kb_class::MethodId;
 use kb_report::Report;
-use kb_stepint::is_int_method;
+use kb_stepref::is_heap_method;
 use kb_words::Job;
 use kb_world::World;
 use std::alloc::Global;
@@ -26,10 +26,10 @@ pub const UNBUILT_LINE: &str = "refused 50\n";
 pub fn built_report(alloc: Global, world: &World, job: &Job, id: MethodId) -> Result<Report, Stop>
     requires found { IsTargetOf world.now job.now.target id }
     requires accepted { IsAccepted world.now id }
-    requires job { IsJob job.now }
+    requires job { IsBuiltJob job.now }
     ensures { Gives ⊥ (TargetRefuses world.now job.now.target) (IsBuiltReport world.now job.now) result }
 {
-    if !is_int_method(world, id) {
+    if !is_heap_method(world, id) {
         return Err(Stop::Refused(Refusal::Unbuilt));
     }
     Ok(report_of(alloc, world, job, id)?)

@@ -56,6 +56,8 @@ fn add_word(row: &mut TableRow, word: &str) -> io::Result<()> {
 fn set(row: &mut TableRow, name: &str, number: &str) -> io::Result<()> {
     let number = number_of(number)?;
     match name.as_bytes() {
+        b"k" => row.bounds.k = number,
+        b"array" => row.bounds.array = number,
         b"loops" => row.bounds.run.loops = number,
         b"steps" => row.bounds.run.steps = number,
         _ => return Err(malformed()),

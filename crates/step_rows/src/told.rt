@@ -3,8 +3,8 @@
 use crate::rows::no_memory;
 use kb_frames::Outcome;
 use kb_heap::{Bound, Place};
-use kb_names::write_target;
-use kb_picture::{Choice, Out, SymEnding};
+use kb_names::{ExactType, Spelling, write_name, write_target, write_type};
+use kb_picture::{Choice, Length, Out, SymEnding};
 use kb_terms::{Node, Operand, Pool, VarKind};
 use std::alloc::Global;
 use std::io;
@@ -29,9 +29,49 @@ fn append_choice(alloc: Global, choice: &Choice, into: &mut Vec<u8>) -> io::Resu
         Choice::Default => into.extend_from_slice(b"default")?,
         Choice::Zero => into.extend_from_slice(b"zero")?,
         Choice::NotZero => into.extend_from_slice(b"not zero")?,
-        _ => into.extend_from_slice(b"one of references")?,
+        Choice::Null => into.extend_from_slice(b"null")?,
+        Choice::Alias(number) => into.extend_from_slice(format!(in alloc;
+            "o{number}"
+        )?.as_bytes())?,
+        Choice::Fresh(kind, length) => append_fresh(alloc, kind, *length, into)?,
+        Choice::Beyond => into.extend_from_slice(b"beyond")?,
+        _ => into.extend_from_slice(b"one of arrays or locations")?,
     }
     Ok(())
+}
+
+/// Appends a new object, with its length where it is an array.
+fn append_fresh(
+    alloc: Global,
+    kind: &ExactType,
+    length: Length,
+    into: &mut Vec<u8>,
+) -> io::Result<()> {
+    into.extend_from_slice(b"new ")?;
+    append_exact(kind, into)?;
+    match length {
+        Length::Plain => (),
+        Length::Is(count) => into.extend_from_slice(format!(in alloc;
+            " length {count}"
+        )?.as_bytes())?,
+        Length::Above(_) => into.extend_from_slice(b" above")?,
+    }
+    Ok(())
+}
+
+/// Appends the name of a class, or the descriptor of an array.
+pub fn append_exact(kind: &ExactType, into: &mut Vec<u8>) -> io::Result<()> {
+    let written = match kind {
+        ExactType::Class(name) => write_name(name, into),
+        ExactType::Array(component) => {
+            into.push(b'[')?;
+            write_type(component, Spelling::Escaped, into)
+        }
+    };
+    match written {
+        Ok(()) => Ok(()),
+        Err(_) => Err(no_memory()),
+    }
 }
 
 /// Appends what came of a take, behind the alternatives.
@@ -91,8 +131,11 @@ fn append_value(alloc: Global, value: Out, into: &mut Vec<u8>) -> io::Result<()>
         Out::Int(Operand::Const(number)) => format!(in alloc; "{number}")?,
         Out::Int(Operand::Var(number)) => format!(in alloc; "v{number}")?,
         Out::Int(Operand::Term(number)) => format!(in alloc; "t{number}")?,
+        Out::Null => format!(in alloc; "null")?,
+        Out::Obj(number) => format!(in alloc; "o{number}")?,
+        Out::Loc(number) => format!(in alloc; "l{number}")?,
+        Out::Literal(number) => format!(in alloc; "s{number}")?,
         Out::New(number) => format!(in alloc; "n{number}")?,
-        _ => format!(in alloc; "no int")?,
     };
     into.extend_from_slice(text.as_bytes())?;
     Ok(())

@@ -1,12 +1,19 @@
 //! The walk of a row from choice to choice.
 
-ghost use Rattle.std.specs.Prelude.{◌≡◌, true, OnOk};
+ghost use Rattle.std.specs.Prelude.{◌≡◌, true, false, IfOk, OnOk, if◌then◌else◌};
 ghost use Rattle.kb_class.specs.Naming.{Has};
+ghost use Rattle.kb_link.specs.World.{World};
 ghost use Rattle.kb_frames.specs.Next.{next_is_int};
-ghost use Rattle.kb_stepint.specs.Choices.{choices_of};
+ghost use Rattle.kb_frames.specs.State.{State};
+ghost use Rattle.kb_stepint.specs.Choices.{choices_of as int_choices};
 ghost use Rattle.kb_stepint.specs.Reached.{IsReached};
+ghost use Rattle.kb_stepref.specs.Choices.{choices_of as reference_choices};
+ghost use Rattle.kb_stepref.specs.HeapMethods.{is_heap_method};
+ghost use Rattle.kb_stepref.specs.Laws.{AreInRange, GoesOnReached};
+ghost use Rattle.kb_stepref.specs.Reached.{IsHeapReached};
 
 use crate::ends::append_met;
+use crate::held::append_held;
 use crate::rows::{TableRow, no_memory};
 use crate::told::{append_choices, append_nodes, append_outcome};
 use kb_class::MethodId;
@@ -14,6 +21,8 @@ use kb_frames::{Outcome, SymState, start};
 use kb_heap::Bounds;
 use kb_picture::{Choice, Init};
 use kb_stepint::{choices_int, is_int_method, take_int};
+use kb_stepref::laws::heap_methods_stay;
+use kb_stepref::{choices_ref, is_heap_method, take_ref};
 use kb_world::World;
 use std::alloc::Global;
 use std::io;
@@ -39,21 +48,58 @@ fn walk(
     row: &TableRow,
     into: &mut Vec<u8>,
 ) -> io::Result<()> {
-    if !is_int_method(world, method) {
-        into.extend_from_slice(b"is no method over ints\n")?;
+    if !is_heap_method(world, method) {
+        into.extend_from_slice(b"is no method over heaps\n")?;
         return Ok(());
     }
-    let Ok(mut state) = start(alloc, world, method, Init::Lazy) else {
-        return Err(no_memory());
-    };
+    if !is_in_range(&row.bounds) {
+        into.extend_from_slice(b"has a bound on arrays that is too great\n")?;
+        return Ok(());
+    }
+    let mut state = begin(alloc, world, method)?;
+    follow(alloc, world, row, &mut state, into)?;
+    append_met(alloc, world, row, &state, into)
+}
+
+/// Whether an int can count the elements of an array within the bound, and one more.
+fn is_in_range(bounds: &Bounds) -> bool
+    ensures { result ≡ true → AreInRange bounds.now }
+{
+    bounds.array < i32::MAX as u32
+}
+
+/// The state before the first step.
+fn begin(alloc: Global, world: &World, method: MethodId) -> io::Result<SymState>
+    requires { is_heap_method world.now method ≡ true }
+    ensures { IfOk result (IsHeapReached world.now) }
+{
+    heap_methods_stay();
+    let _ = world.method_of(method);
+    match start(alloc, world, method, Init::Lazy) {
+        Ok(state) => Ok(state),
+        Err(_) => Err(no_memory()),
+    }
+}
+
+/// Steps on as long as another one comes.
+fn follow(
+    alloc: Global,
+    world: &World,
+    row: &TableRow,
+    state: &mut SymState,
+    into: &mut Vec<u8>,
+) -> io::Result<()>
+    requires reached { IsHeapReached world.now state.old }
+    requires range { AreInRange row.now.bounds }
+    ensures { OnOk result (IsReached world.now state.new) }
+{
     let mut taken = 0;
-    let mut goes_on = true;
     for _ in 0..MOST {
-        if goes_on {
-            goes_on = step(alloc, world, row, &mut taken, &mut state, into)?;
+        if !step(alloc, world, row, &mut taken, state, into)? {
+            return Ok(());
         }
     }
-    append_met(alloc, world, row, &state, into)
+    Ok(())
 }
 
 /// One step. Whether another one comes behind it.
@@ -65,16 +111,12 @@ fn step(
     state: &mut SymState,
     into: &mut Vec<u8>,
 ) -> io::Result<bool>
-    requires { IsReached world.now state.old }
-    ensures { OnOk result (IsReached world.now state.new) }
+    requires reached { IsHeapReached world.now state.old }
+    requires range { AreInRange row.now.bounds }
+    ensures reached { OnOk result (IsReached world.now state.new) }
+    ensures on { IfOk result (λ goes_on. goes_on ≡ true → IsHeapReached world.now state.new) }
 {
-    if !state.next_is_int(world) {
-        into.extend_from_slice(b"comes to a step that is none of ints\n")?;
-        return Ok(false);
-    }
-    let Ok(choices) = choices_int(alloc, world, state, &row.bounds) else {
-        return Err(no_memory());
-    };
+    let choices = choices(alloc, world, state, &row.bounds)?;
     append_choices(alloc, choices.as_slice(), into)?;
     let Some(place) = place_of(choices.as_slice(), row.decisions.as_slice(), taken) else {
         into.extend_from_slice(b"\n")?;
@@ -84,7 +126,32 @@ fn step(
         into.extend_from_slice(b" has no such alternative\n")?;
         return Ok(false);
     };
-    take(alloc, world, &row.bounds, choice, state, into)
+    let before = state.pool().nodes().len();
+    let outcome = take(alloc, world, state, choice, &row.bounds)?;
+    append_outcome(alloc, &outcome, into)?;
+    append_nodes(alloc, state.pool(), before, into)?;
+    if !is_int_method(world, state.method()) {
+        append_held(alloc, world, state, &outcome, into)?;
+    }
+    Ok(goes_on(&outcome))
+}
+
+/// The alternatives of the next step, which is one of ints or one on references.
+fn choices(
+    alloc: Global,
+    world: &World,
+    state: &SymState,
+    bounds: &Bounds,
+) -> io::Result<Vec<Choice>>
+    requires { IsHeapReached world.now state.now }
+    ensures { IfOk result (λ choices. choices.items ≡ (if next_is_int world.now state.now then int_choices world.now state.now bounds.now else reference_choices world.now state.now bounds.now)) }
+{
+    let choices = if state.next_is_int(world) {
+        choices_int(alloc, world, state, bounds).ok()
+    } else {
+        choices_ref(alloc, world, state, bounds).ok()
+    };
+    choices.ok_or(no_memory())
 }
 
 /// Which alternative is taken: the only one, or that of the next decision.
@@ -97,25 +164,70 @@ fn place_of(choices: &[Choice], decisions: &[u32], taken: &mut usize) -> Option<
     Some(*decision as usize)
 }
 
-/// Takes an alternative, and tells what comes of it.
+/// Takes an alternative of the next step.
 fn take(
     alloc: Global,
     world: &World,
-    bounds: &Bounds,
-    choice: &Choice,
     state: &mut SymState,
-    into: &mut Vec<u8>,
-) -> io::Result<bool>
-    requires reached { IsReached world.now state.old }
-    requires int { next_is_int world.now state.old ≡ true }
-    requires listed { Has (choices_of world.now state.old bounds.now) choice.now }
-    ensures { OnOk result (IsReached world.now state.new) }
+    choice: &Choice,
+    bounds: &Bounds,
+) -> io::Result<Outcome>
+    requires reached { IsHeapReached world.now state.old }
+    requires range { AreInRange bounds.now }
+    requires offered { Has (if next_is_int world.now state.old then int_choices world.now state.old bounds.now else reference_choices world.now state.old bounds.now) choice.now }
+    ensures reached { OnOk result (IsReached world.now state.new) }
+    ensures on { IfOk result (GoesOnReached world.now state.new) }
 {
-    let before = state.pool().nodes().len();
-    let Ok(outcome) = take_int(alloc, world, state, choice, bounds) else {
-        return Err(no_memory());
-    };
-    append_outcome(alloc, &outcome, into)?;
-    append_nodes(alloc, state.pool(), before, into)?;
-    Ok(matches!(outcome, Outcome::Asks | Outcome::Goes))
+    if state.next_is_int(world) {
+        return take_on_ints(alloc, world, state, choice, bounds);
+    }
+    take_on_references(alloc, world, state, choice, bounds)
+}
+
+fn take_on_ints(
+    alloc: Global,
+    world: &World,
+    state: &mut SymState,
+    choice: &Choice,
+    bounds: &Bounds,
+) -> io::Result<Outcome>
+    requires reached { IsHeapReached world.now state.old }
+    requires ints { next_is_int world.now state.old ≡ true }
+    requires offered { Has (int_choices world.now state.old bounds.now) choice.now }
+    ensures reached { OnOk result (IsReached world.now state.new) }
+    ensures on { IfOk result (GoesOnReached world.now state.new) }
+{
+    heap_methods_stay();
+    match take_int(alloc, world, state, choice, bounds) {
+        Ok(outcome) => Ok(outcome),
+        Err(_) => Err(no_memory()),
+    }
+}
+
+fn take_on_references(
+    alloc: Global,
+    world: &World,
+    state: &mut SymState,
+    choice: &Choice,
+    bounds: &Bounds,
+) -> io::Result<Outcome>
+    requires reached { IsHeapReached world.now state.old }
+    requires range { AreInRange bounds.now }
+    requires references { next_is_int world.now state.old ≡ false }
+    requires offered { Has (reference_choices world.now state.old bounds.now) choice.now }
+    ensures reached { OnOk result (IsReached world.now state.new) }
+    ensures on { IfOk result (GoesOnReached world.now state.new) }
+{
+    heap_methods_stay();
+    match take_ref(alloc, world, state, choice, bounds) {
+        Ok(outcome) => Ok(outcome),
+        Err(_) => Err(no_memory()),
+    }
+}
+
+/// Whether another step comes behind the outcome. Then the state behind it is one from which steps lead on.
+fn goes_on(outcome: &Outcome) -> bool
+    ensures { (world : World) (state : State) → result ≡ true → GoesOnReached world state outcome.now → IsHeapReached world state }
+{
+    matches!(outcome, Outcome::Asks | Outcome::Goes)
 }

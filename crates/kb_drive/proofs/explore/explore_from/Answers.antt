@@ -3,8 +3,10 @@ use Rattle.std.proofs.Common.{◌≡◌, ◌<◌, [], length, Result, Ok, Err, I
 use Rattle.std.proofs.lemmas.Option.{slice_get_within}
 use Rattle.kb_class.specs.declared.ids.MethodId.{MethodId}
 use Rattle.kb_link.specs.World.{methods_in}
-use Rattle.kb_frames.specs.State.{State}
-use Rattle.kb_stepint.proofs.IntMethodLaws.{start_reached}
+use Rattle.kb_frames.specs.State.{State, start_state}
+use Rattle.kb_picture.specs.declared.choice.Init.{Init}
+use Rattle.kb_stepref.specs.Reached.{IsHeapReached}
+use Rattle.kb_stepref.proofs.MethodLaws.{heap_methods_begin}
 use Rattle.kb_drive.specs.declared.piece.Piece.{Piece}
 use Rattle.kb_drive.specs.Compared.{ComparesAsRuns}
 use Rattle.kb_drive.specs.Covers.{Covers, EachPath}
@@ -31,14 +33,16 @@ explore_piece-requires-clause-piece g c =
     let same : c.whole-piece.result ≡ whole_piece c.args.start.init c.args.start.method =
     c.whole-piece.ensures ∙ ap (λ (state : State). record { state = state; decisions = []; values = [] }) c.requires.start in
     subst (λ (piece : Piece). IsPiece c.args.world.now piece.state.method c.args.bounds.now piece) (sym same)
-    (whole_is_piece c.args.world.now c.args.bounds.now c.args.start.init c.args.start.method (start_reached c.args.world.now c.args.start.init c.args.start.method c.method_of.ensures.linked c.requires.ints))
+    (whole_is_piece c.args.world.now c.args.bounds.now c.args.start.init c.args.start.method
+    (subst (λ (init : Init). IsHeapReached c.args.world.now (start_state init c.args.start.method)) (sym c.requires.lazy)
+    (heap_methods_begin c.args.world.now c.args.start.method c.method_of.ensures.linked c.requires.heap)))
 
 pub explore_piece-requires-clause-explorable : goal.explore_piece-requires-clause-explorable
 explore_piece-requires-clause-explorable g c =
     let same : c.whole-piece.result ≡ whole_piece c.args.start.init c.args.start.method =
     c.whole-piece.ensures ∙ ap (λ (state : State). record { state = state; decisions = []; values = [] }) c.requires.start in
-    subst (λ (piece : Piece). IsExplorable c.args.world.now piece.state.method) (sym same)
-    (record { linked = c.method_of.ensures.linked; accepted = c.requires.accepted; steps = c.requires.ints })
+    subst (λ (piece : Piece). IsExplorable c.args.world.now piece.state.method c.args.bounds.now) (sym same)
+    (record { linked = c.method_of.ensures.linked; accepted = c.requires.accepted; steps = c.requires.heap; range = c.requires.range })
 
 pub returns-clause-covers : goal.returns-clause-covers
 returns-clause-covers g c =

@@ -1,6 +1,5 @@
 -- The exploration of a piece: its loop begins, goes on and ends as ExploreLaws says.
 use Rattle.std.proofs.Common.{◌≡◌, refl, sym, ap, ◌∙◌, subst, arith}
-use Rattle.kb_stepint.proofs.IntMethodLaws.{ints_next}
 use Rattle.kb_drive.specs.declared.walk.Walk.{Walk}
 use Rattle.kb_drive.specs.Counts.{RoseBy, undecided_count}
 use Rattle.kb_drive.specs.Following.{walk_with}
@@ -9,9 +8,6 @@ use Rattle.kb_drive.specs.Walks.{IsFrom, IsFurther, IsWalk}
 use Rattle.kb_drive.proofs.BeginLaws.{no_walk}
 use Rattle.kb_drive.proofs.ExploreLaws.{Explores, begins, begun, begun_given, begun_unsure, ends, goes_on}
 use Rattle.kb_drive.proofs.explore.explore_piece.Goals as goal
-
-pub wait-requires-clause-kind : goal.wait-requires-clause-kind
-wait-requires-clause-kind g c = ints_next c.args.world.now c.args.piece.state c.requires.piece.reached c.requires.explorable.steps
 
 pub loop-walk-init : goal.loop-walk-init
 loop-walk-init g c =

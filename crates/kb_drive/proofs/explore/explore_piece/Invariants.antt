@@ -1,5 +1,5 @@
--- The loop has one variable of each name of the function: `l.walk` and `l.oracle` at the start of a turn. Names of goals are to be taken
--- from the check.
+-- The loop has one variable of each name of the function: `l.walk` and `l.oracle` at the start of a turn. Names of goals are to
+-- be taken from the check.
 use Rattle.std.proofs.Common.{◌≡◌, ◌≤◌, ◌↔◌, ℕ, [], map}
 use Rattle.kb_blast.specs.Query.{Query}
 use Rattle.kb_heap.specs.declared.heap.Input.{Input}

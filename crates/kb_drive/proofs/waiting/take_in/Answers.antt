@@ -1,12 +1,18 @@
 use Rattle.std.proofs.Common.{◌≡◌, ℕ, Bool, List, Some, length, slice_get, sym, ap, ◌∙◌, subst}
 use Rattle.std.proofs.lemmas.Option.{slice_get-get_or}
 use Rattle.kb_terms.specs.declared.node.TermId.{TermId}
+use Rattle.kb_picture.specs.declared.choice.Choice.{Choice}
 use Rattle.kb_stepint.specs.Ways.{Take}
 use Rattle.kb_drive.specs.declared.piece.Piece.{Piece}
-use Rattle.kb_drive.specs.declared.waiting.Taken.{Taken}
 use Rattle.kb_drive.specs.Following.{IsTakenOf, alternative_next, taken_from}
 use Rattle.kb_drive.specs.Parts.{decided}
 use Rattle.kb_drive.proofs.waiting.take_in.Goals as goal
+
+pub take-requires-clause-offered : goal.take-requires-clause-offered
+take-requires-clause-offered c =
+    let there : slice_get c.args.choices.now c.args.next ≡ Some c.index-choices-next.result =
+    slice_get-get_or c.args.choices.now c.args.next c.index-choices-next.result c.requires.left ∙ ap Some (sym c.index-choices-next.is) in
+    (c.args.next, ap (λ (choices : List Choice). slice_get choices c.args.next) (sym c.requires.choices) ∙ there)
 
 pub returns-clause-taken : goal.returns-clause-taken
 returns-clause-taken c =

@@ -5,11 +5,19 @@ use Rattle.kb_link.specs.Links.{Links}
 use Rattle.kiasan.specs.Answers.{AreClasses, Carries, RefusesClasses, RepliesIn}
 use Rattle.kiasan.specs.Refusals.{Gives}
 use Rattle.kiasan.proofs.AnswerLaws.{classes_stop, world_stops, world_goes}
-use Rattle.kiasan.proofs.ClassLaws.{are_given}
+use Rattle.kiasan.proofs.ClassLaws.{are_given, are_of_bytes}
 use Rattle.kiasan.proofs.answer.answer_on.Goals as goal
 
 pub link_classes-requires : goal.link_classes-requires
 link_classes-requires c = are_given _ c.in_ok-given.given.items c.in_ok-given.ensures
+
+pub answer_in-requires-clause-linked : goal.answer_in-requires-clause-linked
+answer_in-requires-clause-linked c = c.in_ok-world.ensures.linked
+
+pub answer_in-requires-clause-names : goal.answer_in-requires-clause-names
+answer_in-requires-clause-names c =
+    let given = c.in_ok-given.given.items in
+    c.worlds_have_names.ensures given c.in_ok-world.world (are_of_bytes _ given c.in_ok-given.ensures c.look_at_files.ensures) c.in_ok-world.ensures
 
 pub returns-in_err-given : goal.returns-in_err-given
 returns-in_err-given c =
@@ -17,20 +25,20 @@ returns-in_err-given c =
     rw (p.1, p.2)
     (classes_stop c.args.order.now c.args.contents.now (λ (given : Vec GivenClass Global). AreClasses c.args.contents.now.classes given.items) c.in_err-given.field-0.0
     (subst (λ (classes : List (List ℕ)). Gives {A = Vec GivenClass Global} ⊥ (RefusesClasses classes) (λ given. AreClasses classes given.items) (Err c.in_err-given.field-0.0))
-    c.as_slice.ensures c.in_err-given.ensures))
+    c.as_slice-classes.ensures c.in_err-given.ensures))
 
 pub returns-in_err-world : goal.returns-in_err-world
 returns-in_err-world c =
     let p = err_from_is_err_and c.from_residual-in_err-world.result c.from_residual-in_err-world.ensures.1 in
     rw (p.1, p.2)
     (world_stops c.args.order.now c.args.contents.now c.in_ok-given.given.items (Links c.in_ok-given.given.items) c.in_err-world.field-0.0
-    (subst (λ (classes : List (List ℕ)). AreClasses classes c.in_ok-given.given.items) c.as_slice.ensures c.in_ok-given.ensures) c.in_err-world.ensures)
+    (subst (λ (classes : List (List ℕ)). AreClasses classes c.in_ok-given.given.items) c.as_slice-classes.ensures c.in_ok-given.ensures) c.in_err-world.ensures)
 
 pub returns : goal.returns
 returns c =
     let given = c.in_ok-given.given.items in
     let world = c.in_ok-world.world in
     world_goes c.args.order.now c.args.contents.now given world c.answer_in.result
-    (subst (λ (classes : List (List ℕ)). AreClasses classes given) c.as_slice.ensures c.in_ok-given.ensures)
+    (subst (λ (classes : List (List ℕ)). AreClasses classes given) c.as_slice-classes.ensures c.in_ok-given.ensures)
     c.in_ok-world.ensures
-    (subst (λ (texts : List (List ℕ)). Carries ⊥ (RepliesIn c.args.order.now texts world) c.answer_in.result) c.as_slice-2.ensures c.answer_in.ensures)
+    (subst (λ (texts : List (List ℕ)). Carries ⊥ (RepliesIn c.args.order.now texts world) c.answer_in.result) c.as_slice.ensures c.answer_in.ensures)

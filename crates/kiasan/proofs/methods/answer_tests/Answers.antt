@@ -11,14 +11,16 @@ returns-in_err-report c =
     rw (p.1, p.2) (job_stops IsTestsTextOf c.args.world.now c.args.job.now c.in_err-report.field-0.0 c.in_err-report.ensures)
 
 pub tests_text-requires-clause-target : goal.tests_text-requires-clause-target
-tests_text-requires-clause-target c = target_written c.args.job.now c.in_ok-report.report c.requires c.in_ok-report.ensures.reported.head
+tests_text-requires-clause-target c = target_written c.args.job.now c.in_ok-report.report c.requires.job.numbers c.in_ok-report.ensures.reported.head
 
 pub tests_text-requires-clause-bounds : goal.tests_text-requires-clause-bounds
-tests_text-requires-clause-bounds c = bounds_written c.args.job.now c.in_ok-report.report c.requires c.in_ok-report.ensures.reported.head
+tests_text-requires-clause-bounds c = bounds_written c.args.job.now c.in_ok-report.report c.requires.job.numbers c.in_ok-report.ensures.reported.head
 
 pub tests_text-requires-clause-carried : goal.tests_text-requires-clause-carried
-tests_text-requires-clause-carried c =
-    (c.in_ok-report.ensures.reported.id, paths_carry c.args.world.now c.args.job.now c.in_ok-report.report c.in_ok-report.ensures.reported)
+tests_text-requires-clause-carried c = (
+  c.in_ok-report.ensures.reported.id,
+  paths_carry c.runs_have_names.ensures c.args.world.now c.requires.linked c.requires.names c.args.job.now c.in_ok-report.report c.in_ok-report.ensures,
+)
 
 pub returns : goal.returns
 returns c =

@@ -1,0 +1,185 @@
+#!/usr/bin/env python3
+"""Times explorations from unknown heaps: methods of lists, trees and queues, with k from 1 to 5, by the built program.
+
+The methods are those of examples/List.java, examples/explore/Search.java and examples/explore/Queue.java. How many paths a
+method has, and how many instructions of it an exploration takes, is what examples/explore/model.py says; each report's last
+line is compared with that. Instructions that several paths share are taken once. Where each path takes time in proportion
+to its own length and heap, and the solver is left out, the time for an instruction does not grow with k.
+
+Beside it stands the replay of the tests of the same paths, each many times, for an instruction that the machine carries
+out. The reading of the tests is in it.
+
+Times are of the processor, the least of several runs, of all methods of a row together. Those of runs that find no method
+and of replays without tests are taken off, since they are those of starting the program.
+
+With --shares each exploration and each replay runs under `valgrind --tool=callgrind`, where that is there. Of all
+instructions of the processor, without those of the program's start, the shares of copying states, of solving (with the
+making of formulas) and of writing the report are printed; then how many are left for one instruction of the method without
+copying and solving, how many a replay takes for one, and how many the machine alone does.
+
+Usage: bench/unknown_heaps.py [--runs N] [--program FILE] [--shares]
+Build the program first, by running ./kiasan once.
+"""
+
+import argparse
+import subprocess
+import sys
+import tempfile
+from dataclasses import dataclass
+from pathlib import Path
+
+from replay import processor_seconds
+from shares import COPYING, FORMULAS, RUNNING, SOLVING, WRITING, shares_of
+from straight import ROOT
+
+sys.path.insert(0, str(ROOT / "examples" / "explore"))
+from model import explored  # noqa: E402
+from texts import report_end  # noqa: E402
+
+DATA = ROOT / "crates" / "kiasan_rows" / "data"
+DEPTHS = [1, 2, 3, 4, 5]
+# how often each test is replayed where times are taken, and where instructions are counted
+TIMES, COUNTED = 200, 20
+LIST = ["contains(I)Z", "insert(LList;LList;)LList;", "remove(LList;I)LList;", "reverse(LList;)LList;", "rotate(LList;)LList;"]
+SEARCH = ["contains(I)Z", "insert(LSearch;)Z", "removeLeast(LSearch;)LSearch;", "rotate()LSearch;"]
+QUEUE = ["contains(I)Z", "insert(LCell;)V", "remove()LCell;", "reverse()V", "rotate()V"]
+FAMILIES = {
+    "lists": ("List", ["List.class"], LIST),
+    "trees": ("Search", ["Search.class"], SEARCH),
+    "queues": ("Queue", ["Queue.class", "Cell.class"], QUEUE),
+}
+TIMED = ["k", "paths", "instructions", "ms", "paths/s", "us/path", "ns/instruction", "of a replay"]
+SHARED = ["", "k", "copying", "solving", "writing", "left", "replay", "machine", "left/replay", "to k 2"]
+
+
+@dataclass
+class Load:
+    """A method with a k: the words that explore it, its files, and what the model says of it."""
+
+    target: str
+    files: list
+    k: int
+
+    def __post_init__(self):
+        explorer, leaves = explored(DATA, self.words("explore"))
+        self.paths, self.end, self.taken = len(leaves), report_end(leaves), explorer.instructions_taken
+        # what the machine carries out in the tests of the paths that have ended
+        self.run = sum(leaf.length for leaf in leaves if leaf.kind == "ended")
+
+    def words(self, command):
+        return [command, "--method", self.target, "--k", str(self.k), *self.files]
+
+    def none(self):
+        """The words for a method that is not there."""
+        return ["explore", "--method", f"{self.target.split('.')[0]}.none()V", *self.files]
+
+    def replayed(self, tests):
+        return ["replay", "--tests", str(tests), *self.files]
+
+
+def loads_of(family, k):
+    owner, files, methods = FAMILIES[family]
+    return [Load(f"{owner}.{method}", [str(DATA / name) for name in files], k) for method in methods]
+
+
+def write_tests(program, load, file, times):
+    """Writes the tests of the load's paths, each so many times."""
+    text = subprocess.run([program, *load.words("tests")], stdin=subprocess.DEVNULL, capture_output=True, check=True).stdout
+    file.write_bytes(text * times)
+
+
+# ---- times
+
+
+def least_seconds(program, words, runs, status, end):
+    """The least processor time of the runs of these words, each of which must end so."""
+    seconds = []
+    for _ in range(runs):
+        took, told, text = processor_seconds([str(program), *words])
+        last = text.decode().rstrip("\n").rpartition("\n")[2]
+        if told != status or not last.endswith(end):
+            sys.exit(f"{' '.join(words)}: status {told}, and the last line is {last!r}")
+        seconds.append(took)
+    return min(seconds)
+
+
+def seconds_of(program, folder, load, runs):
+    """The times of an exploration and of the replay of its tests once, without the start of the program."""
+    tests, none = folder / "some.tests", folder / "no.tests"
+    write_tests(program, load, tests, TIMES)
+    none.write_bytes(b"")
+    exploring = least_seconds(program, load.words("explore"), runs, 0, load.end)
+    exploring -= least_seconds(program, load.none(), runs, 4, load.none()[2])
+    replaying = least_seconds(program, load.replayed(tests), runs, 0, " differed 0")
+    replaying -= least_seconds(program, load.replayed(none), runs, 0, " differed 0")
+    return max(exploring, 0), max(replaying, 0) / TIMES
+
+
+def print_times(program, folder, runs):
+    for family in FAMILIES:
+        print(f"{family}\n" + " ".join(f"{name:>14}" for name in TIMED))
+        for k in DEPTHS:
+            loads = loads_of(family, k)
+            times = [seconds_of(program, folder, load, runs) for load in loads]
+            exploring, replaying = map(sum, zip(*times))
+            paths, taken, run = (sum(getattr(load, name) for load in loads) for name in ("paths", "taken", "run"))
+            rate = paths / exploring if exploring else float("inf")
+            cells = [f"{k}", f"{paths}", f"{taken}", f"{exploring * 1e3:.2f}", f"{rate:.0f}", f"{exploring * 1e6 / paths:.2f}"]
+            cells += [f"{exploring * 1e9 / taken:.1f}", f"{replaying * 1e9 / run:.1f}" if run else ""]
+            print(" ".join(f"{cell:>14}" for cell in cells), flush=True)
+
+
+# ---- shares
+
+
+def counts_of(program, words, start, patterns):
+    """The processor's instructions of a run without the start of the program, and of each pattern."""
+    whole, shares = shares_of([program, *words], patterns)
+    base, _ = shares_of([program, *start], {})
+    return {"all": whole - base} | {name: share * whole for name, share in shares.items()}
+
+
+def sums(counts):
+    return {name: sum(count[name] for count in counts) for name in counts[0]}
+
+
+def print_shares(program, folder):
+    none = folder / "no.tests"
+    none.write_bytes(b"")
+    patterns = {"copying": COPYING, "formulas": FORMULAS, "solving": SOLVING, "writing": WRITING}
+    print(" ".join(f"{name:>11}" for name in SHARED))
+    for family in FAMILIES:
+        second = None
+        for k in DEPTHS:
+            loads, tests, replays = loads_of(family, k), folder / "some.tests", []
+            count = sums([counts_of(program, load.words("explore"), load.none(), patterns) for load in loads])
+            for load in loads:
+                write_tests(program, load, tests, COUNTED)
+                replays.append(counts_of(program, load.replayed(tests), load.replayed(none), {"machine": RUNNING}))
+            solving = count["formulas"] + count["solving"]
+            left = (count["all"] - count["copying"] - solving) / sum(load.taken for load in loads)
+            replay = {name: of / COUNTED / sum(load.run for load in loads) for name, of in sums(replays).items()}
+            second = left if k == 2 else second
+            cells = [family, f"{k}"] + [f"{of / count['all']:.2%}" for of in (count["copying"], solving, count["writing"])]
+            cells += [f"{left:.0f}", f"{replay['all']:.0f}", f"{replay['machine']:.0f}", f"{left / replay['all']:.2f}"]
+            cells.append(f"{left / second:.2f}" if second else "")
+            print(" ".join(f"{cell:>11}" for cell in cells), flush=True)
+
+
+def main():
+    options = argparse.ArgumentParser(description="Times explorations from unknown heaps.")
+    options.add_argument("--runs", type=int, default=5, help="runs of each method (5)")
+    options.add_argument("--program", type=Path, default=ROOT / "build" / "kiasan", help="the built program")
+    options.add_argument("--shares", action="store_true", help="print the shares of copying, solving and writing")
+    given = options.parse_args()
+    if not given.program.is_file():
+        sys.exit(f"{given.program} is not there: run ./kiasan once")
+    program = given.program.resolve()
+    with tempfile.TemporaryDirectory() as folder:
+        print_times(program, Path(folder), given.runs)
+        if given.shares:
+            print_shares(program, Path(folder))
+
+
+if __name__ == "__main__":
+    main()

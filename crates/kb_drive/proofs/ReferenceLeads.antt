@@ -1,0 +1,139 @@
+-- The steps on references lead on, by the laws of kb_stepref: what is seen of an input stays, and fewer takes can follow.
+use Rattle.std.proofs.Common.{◌≡◌, ℕ, ◌<◌, Bool, true, false, List, [], ◌∷◌, ◌++◌, length, take, nat_le, Option, Some, None, refl, sym, ap, subst, ◌∙◌, if◌then◌else◌}
+use Rattle.std.specs.Option.{option_map_or}
+use Rattle.std.proofs.lemmas.Bool.{leb-false}
+use Rattle.std.proofs.lemmas.List.{append-nil}
+use Rattle.kb_class.specs.Naming.{Has}
+use Rattle.kb_heap.specs.declared.bounds.Bound.{Bound}
+use Rattle.kb_heap.specs.declared.bounds.Bound.TheVariants.{Steps}
+use Rattle.kb_heap.specs.declared.bounds.Bounds.{Bounds}
+use Rattle.kb_link.specs.World.{World}
+use Rattle.kb_names.specs.declared.types.JType.{JType}
+use Rattle.kb_semantics.specs.Config.{instruction_at}
+use Rattle.kb_terms.specs.Terms.{variables_of}
+use Rattle.kb_picture.specs.declared.choice.Choice.{Choice}
+use Rattle.kb_picture.specs.declared.choice.Choice.TheVariants as choices
+use Rattle.kb_picture.specs.declared.picture.Origin.{Origin}
+use Rattle.kb_picture.specs.declared.picture.Origin.TheVariants.{Arg, Field, Element}
+use Rattle.kb_picture.specs.declared.picture.Picture.{Picture}
+use Rattle.kb_picture.specs.declared.picture.Seen.{Seen}
+use Rattle.kb_picture.specs.declared.picture.Seen.TheVariants as seens
+use Rattle.kb_picture.specs.Growing.{IsUnread}
+use Rattle.kb_picture.specs.Growth.{after_read}
+use Rattle.kb_picture.specs.Instances.{variable_values}
+use Rattle.kb_picture.specs.Queries.{kind_for}
+use Rattle.kb_picture.proofs.GrownShapes.{as_many, choice_places}
+use Rattle.kb_frames.specs.declared.value.Outcome.TheVariants.{Cut}
+use Rattle.kb_frames.specs.FirstReads.{first_int, first_reference}
+use Rattle.kb_frames.specs.Lent.{begun}
+use Rattle.kb_frames.specs.Next.{is_reference, method_now, offset_now}
+use Rattle.kb_frames.specs.State.{State}
+use Rattle.kb_stepint.specs.Ways.{Take, ill_typed}
+use Rattle.kb_stepint.proofs.GrowLaws.{front_itself, if_has, option_has}
+use Rattle.kb_stepref.specs.Choices.{choices_of}
+use Rattle.kb_stepref.specs.Effects.{plan_of}
+use Rattle.kb_stepref.specs.Laws.{AreInRange, IsAtReferences}
+use Rattle.kb_stepref.specs.Questions.{Question, Reads, question_of}
+use Rattle.kb_stepref.specs.Takes.{answered, answers, carried_out, cut_where, goes_behind, passed_by, taken, takes_next, takes_up}
+use Rattle.kb_stepref.proofs.FirstReadLaws.{IsAskedAt, asked}
+use Rattle.kb_stepref.proofs.FollowLaws.{follows}
+use Rattle.kb_stepref.proofs.KeepLaws.{answers_untold, compared, int_tells, kept, plan_writes, reference_tells, takes_next_untold}
+use Rattle.kb_stepref.proofs.MeasureLaws.{gets_on}
+use Rattle.kb_stepref.proofs.ReachedLaws.{goes_on_reached, has_input}
+use Rattle.kb_stepref.proofs.ReadInstances.{told_values}
+use Rattle.kb_stepref.proofs.SeenLaws.{read}
+use Rattle.kb_stepref.proofs.SoundLaws.{answered_stage}
+use Rattle.kb_drive.specs.Steps.{LeadsOn, StaysAtInputs}
+use Rattle.kb_drive.proofs.FrontLaws.{take_append}
+use Rattle.kb_drive.proofs.LeadLaws.{Few, IsRunning, begun_runs, less_rank, stays_itself, stays_seen, went_few}
+use Rattle.kb_drive.proofs.ReferenceEnds.{references_end}
+
+-- ---- what stays at inputs
+
+-- a reference that is read is the last slot that was seen
+seen_behind : (picture : Picture) (slot : Origin) (choice : Choice) → (more : List (Origin × Seen)) × ((after_read picture slot choice).seen ≡ picture.seen ++ more)
+unfolding after_read
+seen_behind picture slot choices.Null = ((slot, seens.Null) ∷ [], refl)
+seen_behind picture slot choices.Location = ((slot, seens.Loc (length picture.locs)) ∷ [], refl)
+seen_behind picture slot (choices.Alias number) = ((slot, seens.Obj number) ∷ [], refl)
+seen_behind picture slot (choices.Fresh kind len) = ((slot, seens.Obj (length picture.objects)) ∷ [], refl)
+seen_behind picture slot choices.Beyond = ((slot, seens.Beyond) ∷ [], refl)
+seen_behind picture slot _ = ([], sym (append-nil picture.seen))
+
+stays_read : (world : World) (params : ℕ) (picture : Picture) (slot : Origin) (choice : Choice) → IsUnread world params picture slot → StaysAtInputs picture (after_read picture slot choice)
+stays_read world params picture slot choice unread =
+    let more = seen_behind picture slot choice in
+    record {
+      seen = ap (take (length picture.seen)) more.1 ∙ take_append picture.seen more.0;
+      places = λ input before now.
+          ap (λ (n : ℕ). take n now.places.objects) (as_many picture input before.places before.placed)
+          ∙ (choice_places world params picture slot choice input unread before now).objects;
+      variables = λ input before now.
+          ap (take (length (variable_values picture input before.places.objects))) (told_values world params picture slot input unread choice before now)
+          ∙ front_itself (variable_values picture input before.places.objects);
+    }
+
+module _ (world : World) (bounds : Bounds) (old : State) (at : IsAtReferences world old) (choice : Choice) where
+  stays_told : (slot : Origin) (type : JType) → question_of world old bounds ≡ Some (Reads slot type) → StaysAtInputs old.picture (answered world choice old (Reads slot type)).picture
+  stays_told slot type asks =
+      if_has (λ (s : State). StaysAtInputs old.picture s.picture) (is_reference type) (first_reference world slot choice old) (first_int slot (kind_for (Some type)) old)
+      (subst (StaysAtInputs old.picture) (sym (reference_tells world slot choice old).picture) (stays_read world _ old.picture slot choice (asked world bounds old at slot type asks).unread))
+      (subst (StaysAtInputs old.picture) (sym (int_tells slot (kind_for (Some type)) old).picture) (stays_seen old.picture (slot, seens.Int (variables_of old.nodes))))
+
+  stays_behind : StaysAtInputs old.picture (taken world bounds old choice).state.picture
+  stays_behind = go (question_of world old bounds) refl where
+    go : (question : Option Question) → question_of world old bounds ≡ question
+        → StaysAtInputs old.picture (option_map_or (answers world bounds choice old) question (takes_next world bounds old)).state.picture
+    go None asks = subst (StaysAtInputs old.picture) (sym (takes_next_untold world bounds old).stays.picture) (stays_itself old.picture)
+    go (Some (Reads slot type)) asks =
+        subst (StaysAtInputs old.picture) (sym (answers_untold world bounds choice old (Reads slot type)).stays.picture) (stays_told slot type asks)
+
+  -- ---- how many takes can follow
+
+  takes_up_few : old.carried < bounds.run.steps → (state : State) → IsRunning state.stage → Few world bounds old (takes_up world bounds state)
+  takes_up_few within state running =
+      option_has (Few world bounds old) (instruction_at world (method_now state.method state.stage) (offset_now state.stage)) (carried_out world bounds state) (ill_typed world state)
+      (λ found. let plan = plan_of world state found.0 in
+      went_few world bounds old within found.1 plan.state plan.way (subst IsRunning (sym (plan_writes world state found.0).stage) running)) tt
+
+  takes_next_few : Few world bounds old (takes_next world bounds old)
+  takes_next_few = go (nat_le bounds.run.steps old.carried) refl where
+    go : (b : Bool) → nat_le bounds.run.steps old.carried ≡ b → Few world bounds old (if b then record { state = old; outcome = Cut Steps } else takes_up world bounds (begun world old))
+    go true e = tt
+    go false e = takes_up_few (leb-false bounds.run.steps old.carried e) (begun world old) (begun_runs world old old.stage)
+
+  behind_few : (slot : Origin) (type : JType) → IsAskedAt world bounds old slot type → Few world bounds old (goes_behind world bounds slot (answered world choice old (Reads slot type)))
+  behind_few (Arg number) type from = tt
+  behind_few (Field number place) type from =
+      takes_up_few (leb-false bounds.run.steps old.carried from.within) (answered world choice old (Reads (Field number place) type))
+      (subst IsRunning (sym (answered_stage world choice old number place type ∙ from.running)) tt)
+  behind_few (Element array index) type from = absurd from
+
+  cut_few : (bound : Option Bound) (state : State) (take : Take) → Few world bounds old take → Few world bounds old (cut_where bound state take)
+  cut_few None state take few = few
+  cut_few (Some bound) state take few = tt
+
+  taken_few : Few world bounds old (taken world bounds old choice)
+  taken_few = go (question_of world old bounds) refl where
+    go : (question : Option Question) → question_of world old bounds ≡ question → Few world bounds old (option_map_or (answers world bounds choice old) question (takes_next world bounds old))
+    go None asks = takes_next_few
+    go (Some (Reads slot type)) asks =
+        cut_few (passed_by choice) (answered world choice old (Reads slot type)) (goes_behind world bounds slot (answered world choice old (Reads slot type)))
+        (behind_few slot type (asked world bounds old at slot type asks).from)
+
+  -- ---- all of it
+
+  pub references_lead : AreInRange bounds → Has (choices_of world old bounds) choice → LeadsOn world bounds old (taken world bounds old choice)
+  references_lead range has =
+      let after : Take = taken world bounds old choice in
+      record {
+        outcome = follows world bounds old choice range at has;
+        kept = kept world bounds old choice at;
+        compared = compared world bounds old choice;
+        read = read world bounds old choice at;
+        picture = has_input world bounds old choice range at has;
+        stays = stays_behind;
+        ending = references_end world bounds old choice range at has;
+        leads = λ reached. goes_on_reached world bounds old choice range at has reached.sound.pool;
+        fewer = less_rank world bounds old after.state after.outcome (gets_on world bounds old choice at) taken_few;
+      }

@@ -1,0 +1,212 @@
+-- What the outcome of a step on references says of a configuration for which the state stood is so, where the step has been told all that
+-- it must: of an instruction that is carried out, of code that has run off its end, and of a run that is cut by its steps.
+use Rattle.std.proofs.Common.{◌≡◌, ℕ, Bool, true, false, List, [], nat_le, Option, Some, None, refl, sym, ap, subst, ◌∙◌, if◌then◌else◌, true≢false}
+use Rattle.std.specs.Option.{option_map, option_map_or, option_and_then}
+use Rattle.std.proofs.lemmas.Bool.{leb-true}
+use Rattle.kb_class.specs.declared.ids.MethodId.{MethodId}
+use Rattle.kb_code.specs.declared.instruction.Instr.{Instr}
+use Rattle.kb_code.specs.declared.instruction.Instr.TheVariants as instrs
+use Rattle.kb_heap.specs.declared.bounds.Bound.TheVariants.{Steps}
+use Rattle.kb_heap.specs.declared.bounds.Bounds.{Bounds}
+use Rattle.kb_heap.specs.declared.heap.Input.{Input}
+use Rattle.kb_link.specs.World.{World}
+use Rattle.kb_names.specs.declared.types.JType.{JType}
+use Rattle.kb_semantics.specs.Config.{Setting, Config, Outcome, instruction_at}
+use Rattle.kb_semantics.specs.Inputs.{IsTypeCorrect}
+use Rattle.kb_semantics.specs.Instructions.{get_field, if_null, if_same, load_reference, push_null, put_field, return_reference, store_reference}
+use Rattle.kb_semantics.specs.Looks.{stored_by, stores}
+use Rattle.kb_semantics.specs.Step.{effect, first_heap, step}
+use Rattle.kb_terms.proofs.Values.{Extends-refl}
+use Rattle.kb_picture.specs.declared.picture.Origin.TheVariants.{Arg}
+use Rattle.kb_picture.specs.declared.picture.PlaceLists.{PlaceLists}
+use Rattle.kb_picture.specs.Endings.{Reading}
+use Rattle.kb_frames.specs.declared.frame.SymFrame.{SymFrame}
+use Rattle.kb_frames.specs.declared.state.Stage.{Stage}
+use Rattle.kb_frames.specs.declared.state.Stage.TheVariants.{Begins, Runs}
+use Rattle.kb_frames.specs.declared.value.Outcome.TheVariants.{Cut}
+use Rattle.kb_frames.specs.Cuts.{setting_of}
+use Rattle.kb_frames.specs.Lent.{begun, begun_stage, read_count}
+use Rattle.kb_frames.specs.Next.{argument_next, instruction_next, method_now, offset_now}
+use Rattle.kb_frames.specs.StandsFor.{FrameStandsFor, FramesStandFor, IsInstanceOf, StandsFor, reading_at}
+use Rattle.kb_frames.specs.State.{State}
+use Rattle.kb_frames.proofs.RunLaws.{counters_agree}
+use Rattle.kb_stepint.specs.Reached.{IsAlone}
+use Rattle.kb_stepint.specs.Simulation.{IsOutcome}
+use Rattle.kb_stepint.specs.Ways.{Take, ill_typed, went}
+use Rattle.kb_stepint.proofs.OneLaws.{place_same}
+use Rattle.kb_stepint.proofs.OutcomeLaws.{step_taken, stores_taken}
+use Rattle.kb_stepint.proofs.OutcomeStands.{Running, none_standing, running}
+use Rattle.kb_stepint.proofs.OutcomeValues.{heap_later, reading_later}
+use Rattle.kb_stepint.proofs.OutcomeWays.{ill_typed_is, went_is}
+use Rattle.kb_stepint.proofs.PastLaws.{cut_by_steps}
+use Rattle.kb_stepint.proofs.SoundLaws.{Sound, begun_sound, sound_reached}
+use Rattle.kb_stepint.proofs.ValueLaws.{IsOrdered, pool_ordered}
+use Rattle.kb_stepref.specs.Effects.{Planned, branches_null, branches_same, gets, loads, plan_of, pushes_null, returns_reference}
+use Rattle.kb_stepref.specs.Effects.{stores as stores_sym}
+use Rattle.kb_stepref.specs.HeapMethods.{is_reference_instruction}
+use Rattle.kb_stepref.specs.Laws.{IsAtReferences}
+use Rattle.kb_stepref.specs.Questions.{Reads, asked_at, asked_by, question_of}
+use Rattle.kb_stepref.specs.Takes.{carried_out, followed, takes_next, takes_up}
+use Rattle.kb_stepref.proofs.OutcomePlans.{IsPlan, branches_null_is, branches_same_is, gets_is, loads_is, pushes_null_is, returns_reference_is, stores_is}
+use Rattle.kb_stepref.proofs.PutLaws.{puts_follow}
+
+-- ---- in a frame
+
+module _ (world : World) (bounds : Bounds) (base : State) (frame : SymFrame) (sound : Sound world (record base { stage = Runs frame [] })) (known : base.picture.locs ≡ []) (ordered : IsOrdered base.nodes)
+    (input : Input) (correct : IsTypeCorrect world base.method input) (c : Config) (stands : StandsFor (setting_of world bounds) (record base { stage = Runs frame [] }) input c) where
+  abbrev s : Setting
+  s = setting_of world bounds
+
+  abbrev state : State
+  state = record base { stage = Runs frame [] }
+
+  abbrev r : Reading
+  r = reading_at world state input stands.instance_of.shape.places
+
+  framed : FrameStandsFor r frame c.frame
+  framed = stands.stage.0
+
+  callers : c.callers ≡ []
+  callers = none_standing r [] c.callers refl stands.stage.1
+
+  abbrev Follows : Take → Type 0
+  Follows take = (i : IsInstanceOf take.state input) → IsOutcome world bounds c take.state input i take.outcome
+
+  -- a plan that writes nothing
+  plain_follows : (next : ℕ) (outcome : Outcome) (plan : Planned) → IsPlan world bounds base frame sound known input correct c stands next outcome plan → stores s c ≡ [] → step s c ≡ outcome
+      → Follows (followed world bounds next plan)
+  plain_follows next outcome plan is stored e =
+      subst (λ (st : State). Follows (went world bounds next st plan.way)) (sym is.0)
+      (went_is world bounds state sound input c stands frame sound.alone.0 callers next state.nodes (Extends-refl state.nodes) state.when framed stored plan.way (e ∙ is.1))
+
+  -- An instruction is carried out.
+  carried_follows : (next : ℕ) (instr : Instr) → is_reference_instruction instr ≡ true → asked_by world state instr ≡ None → stores s c ≡ stored_by instr s c → step s c ≡ effect instr s next c
+      → Follows (followed world bounds next (plan_of world state instr))
+  unfolding effect push_null load_reference store_reference if_same if_null return_reference get_field put_field
+  carried_follows next instrs.PushNull is told stored e = plain_follows next _ (pushes_null state) (pushes_null_is world bounds base frame sound known input correct c stands next) stored e
+  carried_follows next (instrs.LoadRef k) is told stored e = plain_follows next _ (loads world state k) (loads_is world bounds base frame sound known input correct c stands next k) stored e
+  carried_follows next (instrs.StoreRef k) is told stored e = plain_follows next _ (stores_sym world state k) (stores_is world bounds base frame sound known input correct c stands next k) stored e
+  carried_follows next (instrs.IfSame want target) is told stored e = plain_follows next _ (branches_same state want target) (branches_same_is world bounds base frame sound known input correct c stands next want target) stored e
+  carried_follows next (instrs.IfNull want target) is told stored e = plain_follows next _ (branches_null state want target) (branches_null_is world bounds base frame sound known input correct c stands next want target) stored e
+  carried_follows next instrs.ReturnRef is told stored e = plain_follows next _ (returns_reference world state) (returns_reference_is world bounds base frame sound known input correct c stands next) stored e
+  carried_follows next (instrs.GetField entry) is told stored e = plain_follows next _ (gets world state entry) (gets_is world bounds base frame sound known input correct c stands next entry told) stored e
+  carried_follows next (instrs.PutField entry) is told stored e = puts_follow world bounds base frame sound known ordered input correct c stands next entry stored e
+  carried_follows next _ is told stored e = absurd (true≢false (sym is))
+
+  module _ (within : nat_le bounds.run.steps base.carried ≡ false) where
+    within_now : nat_le s.bounds.steps c.carried ≡ false
+    within_now = ap (nat_le bounds.run.steps) (counters_agree s state input c stands) ∙ within
+
+    place_is : instruction_at world c.frame.method c.frame.at ≡ instruction_at world frame.method frame.at
+    place_is = ap (λ (m : MethodId). instruction_at world m c.frame.at) framed.method ∙ ap (instruction_at world frame.method) framed.at
+
+    -- The next instruction is taken up, or the code has run off its end.
+    frame_follows : ((found : Instr × ℕ) → instruction_at world frame.method frame.at ≡ Some found → (is_reference_instruction found.0 ≡ true) × (asked_by world state found.0 ≡ None))
+        → Follows (takes_up world bounds state)
+    frame_follows told = go (instruction_at world frame.method frame.at) refl told where
+      go : (it : Option (Instr × ℕ)) → instruction_at world frame.method frame.at ≡ it
+          → ((found : Instr × ℕ) → it ≡ Some found → (is_reference_instruction found.0 ≡ true) × (asked_by world state found.0 ≡ None))
+          → Follows (option_map_or (carried_out world bounds state) it (ill_typed world state))
+      go None at told =
+          ill_typed_is world bounds state sound input c stands frame sound.alone.0 callers 0 state.nodes (Extends-refl state.nodes) state.when framed
+          (step_taken s c within_now None (place_is ∙ at))
+      go (Some found) at told =
+          carried_follows found.1 found.0 (told found refl).0 (told found refl).1 (stores_taken s c within_now (Some found) (place_is ∙ at)) (step_taken s c within_now (Some found) (place_is ∙ at))
+
+-- ---- in a stage
+
+-- the instructions of a stage are ones on references that have been told all
+abbrev pub AreTold : World → State → Type 0
+AreTold world state =
+    (found : Instr × ℕ) → instruction_at world (method_now state.method state.stage) (offset_now state.stage) ≡ Some found
+    → (is_reference_instruction found.0 ≡ true) × (asked_by world state found.0 ≡ None)
+
+abbrev pub FollowsAt : World → Bounds → Input → Config → Take → Type 0
+FollowsAt world bounds input c take = (i : IsInstanceOf take.state input) → IsOutcome world bounds c take.state input i take.outcome
+
+module _ (world : World) (bounds : Bounds) (old : State) (known : old.picture.locs ≡ []) (ordered : IsOrdered old.nodes) (input : Input) (correct : IsTypeCorrect world old.method input) (c : Config)
+    (within : nat_le bounds.run.steps old.carried ≡ false) where
+  abbrev at_stage : Stage → State
+  at_stage stage = record old { stage = stage }
+
+  abbrev Taken : Stage → Type 0
+  Taken stage =
+      Sound world (at_stage stage) → StandsFor (setting_of world bounds) (at_stage stage) input c → AreTold world (at_stage stage)
+      → FollowsAt world bounds input c (takes_up world bounds (at_stage stage))
+
+  stage_follows : (stage : Stage) (frame : SymFrame) → stage ≡ Runs frame [] → Taken stage
+  stage_follows stage frame is =
+      subst Taken (sym is) (λ sound stands told. frame_follows world bounds old frame sound known ordered input correct c stands within told)
+
+-- The next instruction of a run whose arguments are read is taken up, where nothing is left to be told.
+pub takes_up_follows : (world : World) (bounds : Bounds) (old : State) (frame : SymFrame) (callers : List SymFrame) → old.stage ≡ Runs frame callers
+    → Sound world old → old.picture.locs ≡ [] → IsOrdered old.nodes → (input : Input) → IsTypeCorrect world old.method input → (c : Config) → StandsFor (setting_of world bounds) old input c
+    → nat_le bounds.run.steps old.carried ≡ false → AreTold world old → FollowsAt world bounds input c (takes_up world bounds old)
+takes_up_follows world bounds old frame callers runs sound known ordered input correct c stands within told =
+    let alone : IsAlone old.method (Runs frame callers) = subst (IsAlone old.method) runs sound.alone in
+    stage_follows world bounds old known ordered input correct c within old.stage frame (runs ∙ ap (Runs frame) alone.1) sound stands told
+
+-- ---- a step without a question
+
+-- what is asked in the first frame is what was asked before it
+asked_begun : (world : World) (old : State) (instr : Instr) (stage : Stage) → asked_by world (record old { stage = begun_stage world old stage }) instr ≡ asked_by world (record old { stage = stage }) instr
+asked_begun world old (instrs.GetField entry) (Begins read) = refl
+asked_begun world old (instrs.GetField entry) (Runs frame others) = refl
+asked_begun world old _ stage = refl
+
+module _ (world : World) (bounds : Bounds) (old : State) (at : IsAtReferences world old)
+    (references : (found : Instr × ℕ) → instruction_at world (method_now old.method old.stage) (offset_now old.stage) ≡ Some found → is_reference_instruction found.0 ≡ true)
+    (input : Input) (correct : IsTypeCorrect world old.method input) (c : Config) (stands : StandsFor (setting_of world bounds) old input c) where
+  abbrev places : PlaceLists
+  places = stands.instance_of.shape.places
+
+  sound : Sound world old
+  sound = sound_reached world old at.reached.reached
+
+  module _ (none : argument_next world old.method old.stage ≡ None) where
+    run : Running world old old.stage (reading_at world old input places) c
+    run = running (setting_of world bounds) old input c (reading_at world old input places) correct stands.run old.stage sound.stage sound.alone stands.stage none
+
+    abbrev first_state : State
+    first_state = record old { stage = Runs run.frame [] }
+
+    -- the frame with which the run goes on stands for the configuration
+    first_stands : StandsFor (setting_of world bounds) first_state input c
+    unfolding reading_at
+    first_stands = record {
+      run = stands.run;
+      instance_of = record { shape = stands.instance_of.shape; conditions = stands.instance_of.conditions };
+      stage = (run.stands, subst (FramesStandFor (reading_at world old input places) []) (sym run.callers) tt);
+      heap = heap_later world old first_state (reading_at world old input places) (reading_at world first_state input places) (first_heap world input.heap) c.heap
+          (reading_later world old first_state input places refl (Extends-refl old.nodes)) sound.cells sound.made refl refl stands.heap;
+      written = λ slot inside. (
+        (λ has. (let k = (stands.written slot inside).0 has in record { object = k.object; place = k.place; value = k.value; cell = k.cell })),
+        (λ k. (stands.written slot inside).1 (record { object = k.object; place = k.place; value = k.value; cell = k.cell })),
+      );
+    }
+
+    begun_stands : StandsFor (setting_of world bounds) (begun world old) input c
+    begun_stands = subst (λ (stage : Stage). StandsFor (setting_of world bounds) (record old { stage = stage }) input c) (sym run.is) first_stands
+
+    begun_told : option_and_then (asked_by world old) (instruction_next world old.method old.stage) ≡ None → AreTold world (begun world old)
+    begun_told quiet found e = (references found there, asked_begun world old found.0 old.stage ∙ ap (option_and_then (asked_by world old)) (sym next) ∙ quiet) where
+      there : instruction_at world (method_now old.method old.stage) (offset_now old.stage) ≡ Some found
+      there = sym (place_same world old old.stage) ∙ e
+
+      next : instruction_next world old.method old.stage ≡ Some found.0
+      next = ap (option_map (λ (f : Instr × ℕ). f.0)) there
+
+    by_steps : (b : Bool) → nat_le bounds.run.steps old.carried ≡ b → (if b then None else option_and_then (asked_by world old) (instruction_next world old.method old.stage)) ≡ None
+        → FollowsAt world bounds input c (if b then record { state = old; outcome = Cut Steps } else takes_up world bounds (begun world old))
+    by_steps true e quiet = λ i. cut_by_steps world bounds old input c stands (leb-true bounds.run.steps old.carried e)
+    by_steps false e quiet =
+        stage_follows world bounds old at.reached.known (pool_ordered old.nodes at.reached.reached.sound.pool) input correct c e (begun_stage world old old.stage) run.frame run.is
+        (begun_sound world old sound none) begun_stands (begun_told quiet)
+
+  -- The next step of a state that asks nothing.
+  pub takes_next_follows : question_of world old bounds ≡ None → FollowsAt world bounds input c (takes_next world bounds old)
+  takes_next_follows quiet = go (argument_next world old.method old.stage) refl quiet where
+    go : (next : Option JType) → argument_next world old.method old.stage ≡ next
+        → option_map_or (λ (type : JType). Some (Reads (Arg (read_count old.stage)) type)) next (asked_at world old bounds) ≡ None → FollowsAt world bounds input c (takes_next world bounds old)
+    go None none quiet = by_steps none (nat_le bounds.run.steps old.carried) refl quiet
+    go (Some type) none quiet = absurd cc

@@ -1,0 +1,264 @@
+-- What an instruction on references does to a state is what it does to the configuration, with each symbolic value in the place of its
+-- value: one lemma for each kind of effect that writes nothing into the heap.
+use Rattle.std.proofs.Common.{◌≡◌, ℕ, Bool, true, false, List, [], ◌∷◌, map, drop, nat_lt, slice_get, Option, Some, None, cond, refl, sym, ap, ◌∙◌}
+use Rattle.std.specs.Option.{option_map, option_map_or, option_and_then}
+use Rattle.kb_class.specs.declared.ids.MethodId.{MethodId}
+use Rattle.kb_heap.specs.declared.bounds.Bounds.{Bounds}
+use Rattle.kb_heap.specs.declared.heap.Input.{Input}
+use Rattle.kb_heap.specs.declared.heap.Object.{Object}
+use Rattle.kb_heap.specs.declared.heap.Value.{Value}
+use Rattle.kb_heap.specs.declared.heap.Value.TheVariants.{Null as NullValue, Ref}
+use Rattle.kb_heap.specs.Heap.{object_at}
+use Rattle.kb_link.specs.World.{World}
+use Rattle.kb_link.specs.declared.slots.FieldSlot.{FieldSlot}
+use Rattle.kb_names.specs.declared.types.JType.{JType}
+use Rattle.kb_world.specs.Lookup.{resolved_field}
+use Rattle.kb_semantics.specs.Config.{Setting, Config, Outcome, class_number, local_of, max_locals_of, result_of}
+use Rattle.kb_semantics.specs.Inputs.{IsTypeCorrect}
+use Rattle.kb_semantics.specs.Instructions.{field_of, is_wanted, on_object, same_reference, sets_local, with}
+use Rattle.kb_semantics.specs.Instructions.{is_null as is_null_reference}
+use Rattle.kb_semantics.specs.Operands.{Reference, Taken, a_reference, reference_of, value_of_reference}
+use Rattle.kb_semantics.specs.Operands.{two_references as two_of}
+use Rattle.kb_semantics.specs.Values.{kept}
+use Rattle.kb_semantics.specs.Ways.{branches, goes, goes_on, hands_over, ill_typed, returns_value}
+use Rattle.kb_picture.specs.Endings.{Reading}
+use Rattle.kb_frames.specs.declared.frame.SymFrame.{SymFrame}
+use Rattle.kb_frames.specs.declared.state.Stage.TheVariants.{Runs}
+use Rattle.kb_frames.specs.declared.value.SymValue.{SymValue}
+use Rattle.kb_frames.specs.declared.value.SymValue.TheVariants.{Int, Null, Obj, Literal, New, Loc}
+use Rattle.kb_frames.specs.Cuts.{setting_of}
+use Rattle.kb_frames.specs.StandsFor.{FrameStandsFor, StandsFor, reading_at, value_of_sym, values_of_sym}
+use Rattle.kb_frames.specs.State.{State}
+use Rattle.kb_frames.specs.States.{IsSymValue}
+use Rattle.kb_stepint.specs.Effects.{with_stack}
+use Rattle.kb_stepint.specs.Ways.{Leaves}
+use Rattle.kb_stepint.proofs.ComparedLaws.{two_parts}
+use Rattle.kb_stepint.proofs.OutcomePlans.{led_to, local_set, local_value}
+use Rattle.kb_stepint.proofs.SoundLaws.{Sound}
+use Rattle.kb_stepref.specs.Effects.{Planned, branch_where, branches_null, branches_same, gets, got, in_local, loads, plain, planned, pushes_null, result_in, returns_reference, stores}
+use Rattle.kb_stepref.specs.Fields.{field_named, held}
+use Rattle.kb_stepref.specs.Operands.{is_null, one_reference, reference, same, two_references}
+use Rattle.kb_stepref.specs.Questions.{asks_field}
+use Rattle.kb_stepref.proofs.ObjectLaws.{field_held, same_is}
+use Rattle.kb_stepref.proofs.ReferenceLaws.{IsReference, null_is, one_reference_is, pair_below, reference_back, reference_kind, reference_value, referred, result_kept, top_reference, two_references_are}
+use Rattle.kb_stepref.proofs.SoundLaws.{reference_is}
+
+-- The state has the frame with which a run goes on whose arguments are read.
+module _ (world : World) (bounds : Bounds) (base : State) (frame : SymFrame) (sound : Sound world (record base { stage = Runs frame [] })) (known : base.picture.locs ≡ [])
+    (input : Input) (correct : IsTypeCorrect world base.method input) (c : Config) (stands : StandsFor (setting_of world bounds) (record base { stage = Runs frame [] }) input c) (next : ℕ) where
+  abbrev s : Setting
+  s = setting_of world bounds
+
+  abbrev state : State
+  state = record base { stage = Runs frame [] }
+
+  abbrev r : Reading
+  r = reading_at world state input stands.instance_of.shape.places
+
+  framed : FrameStandsFor r frame c.frame
+  framed = stands.stage.0
+
+  -- The plan writes nothing, and leads where the machine goes.
+  abbrev pub IsPlan : Outcome → Planned → Type 0
+  IsPlan outcome plan = (plan.state ≡ state) × (outcome ≡ led_to s c next r plan.way)
+
+  so : (one other : Outcome) (plan : Planned) → one ≡ other → IsPlan other plan → IsPlan one plan
+  so one other plan e is = (is.0, e ∙ is.1)
+
+  -- ---- it goes on
+
+  goes_is : (stack : List SymValue) (values : List Value) → values ≡ values_of_sym r stack → IsPlan (goes s c next values) (plain state (with_stack state stack))
+  goes_is stack values e = (
+    refl,
+    ap (λ (l : List (Option Value)). goes_on s c next l values c.heap) framed.locals
+        ∙ ap (λ (vs : List Value). goes_on s c next (map (option_map (value_of_sym r)) frame.locals) vs c.heap) e,
+  )
+
+  -- where there is something in the state, and in the configuration what it is there
+  with_is : {A B : Type 0} (g : A → B) (f : B → Outcome) (plan : A → Planned) (it : Option A) → ((x : A) → it ≡ Some x → IsPlan (f (g x)) (plan x))
+      → IsPlan (with s c (option_map g it) f) (planned state it plan)
+  with_is g f plan None h = (refl, refl)
+  with_is g f plan (Some x) h = h x refl
+
+  -- ---- operands
+
+  abbrev top : SymValue → Taken Reference
+  top = top_reference r frame.stack
+
+  abbrev two : SymValue × SymValue → Taken (Reference × Reference)
+  two = pair_below r (referred r) frame.stack
+
+  value_there : (depth : ℕ) (value : SymValue) → reference (slice_get frame.stack depth) ≡ Some value → IsReference value × IsSymValue world state value
+  value_there depth value e = (reference_kind (slice_get frame.stack depth) value e, sound.stage.0.stack depth value (reference_is (slice_get frame.stack depth) value e))
+
+  with_one : (f : Taken Reference → Outcome) (plan : SymValue → Planned) → ((value : SymValue) → one_reference frame.stack ≡ Some value → IsPlan (f (top value)) (plan value))
+      → IsPlan (with s c (a_reference c.frame.stack) f) (planned state (one_reference frame.stack) plan)
+  with_one f plan h =
+      so (with s c (a_reference c.frame.stack) f) (with s c (option_map top (one_reference frame.stack)) f) (planned state (one_reference frame.stack) plan)
+      (ap (λ (o : Option (Taken Reference)). with s c o f) (ap a_reference framed.stack ∙ one_reference_is r frame.stack)) (with_is top f plan (one_reference frame.stack) h)
+
+  with_two : (f : Taken (Reference × Reference) → Outcome) (plan : SymValue × SymValue → Planned) → ((pair : SymValue × SymValue) → two_references frame.stack ≡ Some pair → IsPlan (f (two pair)) (plan pair))
+      → IsPlan (with s c (two_of c.frame.stack) f) (planned state (two_references frame.stack) plan)
+  with_two f plan h =
+      so (with s c (two_of c.frame.stack) f) (with s c (option_map two (two_references frame.stack)) f) (planned state (two_references frame.stack) plan)
+      (ap (λ (o : Option (Taken (Reference × Reference))). with s c o f) (ap two_of framed.stack ∙ two_references_are r frame.stack)) (with_is two f plan (two_references frame.stack) h)
+
+  -- ---- constants and locals
+
+  pub pushes_null_is : IsPlan (goes s c next (NullValue ∷ c.frame.stack)) (pushes_null state)
+  pushes_null_is = goes_is (Null ∷ frame.stack) (NullValue ∷ c.frame.stack) (ap (λ (l : List Value). NullValue ∷ l) framed.stack)
+
+  abbrev local_sym : ℕ → Option SymValue
+  local_sym k = cond (nat_lt k (max_locals_of world frame.method)) (option_and_then (λ (v : Option SymValue). v) (slice_get frame.locals k)) None
+
+  pub loads_is : (k : ℕ) → IsPlan (with s c (reference_of (local_of s.world c.frame k)) (λ reference. goes s c next (value_of_reference reference ∷ c.frame.stack))) (loads world state k)
+  loads_is k =
+      so (with s c (reference_of (local_of s.world c.frame k)) push) (with s c (option_map (referred r) (reference (local_sym k))) push) (loads world state k)
+      (ap (λ (o : Option Reference). with s c o push) (ap reference_of (local_value s c next r frame framed k) ∙ reference_value r (local_sym k)))
+      (with_is (referred r) push (λ (value : SymValue). plain state (with_stack state (value ∷ frame.stack))) (reference (local_sym k)) (λ value e. pushed value (reference_kind (local_sym k) value e)))
+    where
+      push : Reference → Outcome
+      push reference = goes s c next (value_of_reference reference ∷ c.frame.stack)
+
+      pushed : (value : SymValue) → IsReference value → IsPlan (push (referred r value)) (plain state (with_stack state (value ∷ frame.stack)))
+      pushed value is =
+          goes_is (value ∷ frame.stack) (value_of_reference (referred r value) ∷ c.frame.stack)
+          (ap (λ (v : Value). v ∷ c.frame.stack) (reference_back r value is) ∙ ap (λ (l : List Value). value_of_sym r value ∷ l) framed.stack)
+
+  pub stores_is : (k : ℕ) → IsPlan (with s c (a_reference c.frame.stack) (λ t. sets_local s next c k (value_of_reference t.it) t.rest)) (stores world state k)
+  stores_is k =
+      with_one (λ (t : Taken Reference). sets_local s next c k (value_of_reference t.it) t.rest) (λ (value : SymValue). plain state (in_local world state k value (drop 1 frame.stack)))
+      (λ value e. (
+        refl,
+        local_set s c next r frame framed k value (value_of_reference (referred r value)) (reference_back r value (value_there 0 value e).0)
+            (drop 1 frame.stack) (values_of_sym r (drop 1 frame.stack)) refl,
+      ))
+
+  -- ---- branches
+
+  branch_is : (so : Bool) (target n : ℕ) → IsPlan (branches s c next target so (values_of_sym r (drop n frame.stack))) (plain state (branch_where state so target n))
+  branch_is true target n = (refl, refl)
+  branch_is false target n = goes_is (drop n frame.stack) (values_of_sym r (drop n frame.stack)) refl
+
+  branch_so : (one other : Bool) (want : Bool) (target n : ℕ) → one ≡ other
+      → IsPlan (branches s c next target (is_wanted want one) (values_of_sym r (drop n frame.stack))) (plain state (branch_where state (is_wanted want other) target n))
+  branch_so one other want target n e =
+      so (branches s c next target (is_wanted want one) (values_of_sym r (drop n frame.stack))) (branches s c next target (is_wanted want other) (values_of_sym r (drop n frame.stack)))
+      (plain state (branch_where state (is_wanted want other) target n))
+      (ap (λ (b : Bool). branches s c next target (is_wanted want b) (values_of_sym r (drop n frame.stack))) e) (branch_is (is_wanted want other) target n)
+
+  pub branches_null_is : (want : Bool) (target : ℕ)
+      → IsPlan (with s c (a_reference c.frame.stack) (λ t. branches s c next target (is_wanted want (is_null_reference t.it)) t.rest)) (branches_null state want target)
+  branches_null_is want target =
+      with_one (λ (t : Taken Reference). branches s c next target (is_wanted want (is_null_reference t.it)) t.rest) (λ (value : SymValue). plain state (branch_where state (is_wanted want (is_null value)) target 1))
+      (λ value e. branch_so (is_null_reference (referred r value)) (is_null value) want target 1 (null_is r value (value_there 0 value e).0))
+
+  pub branches_same_is : (want : Bool) (target : ℕ)
+      → IsPlan (with s c (two_of c.frame.stack) (λ t. branches s c next target (is_wanted want (same_reference t.it.0 t.it.1)) t.rest)) (branches_same state want target)
+  branches_same_is want target =
+      with_two (λ (t : Taken (Reference × Reference)). branches s c next target (is_wanted want (same_reference t.it.0 t.it.1)) t.rest)
+      (λ (pair : SymValue × SymValue). plain state (branch_where state (is_wanted want (same pair.0 pair.1)) target 2)) compared
+    where
+      compared : (pair : SymValue × SymValue) → two_references frame.stack ≡ Some pair
+          → IsPlan (branches s c next target (is_wanted want (same_reference (referred r pair.0) (referred r pair.1))) (values_of_sym r (drop 2 frame.stack)))
+          (plain state (branch_where state (is_wanted want (same pair.0 pair.1)) target 2))
+      compared pair e =
+          let parts = two_parts (reference (slice_get frame.stack 0)) (reference (slice_get frame.stack 1)) pair e in
+          let one = value_there 1 pair.0 parts.1 in
+          let other = value_there 0 pair.1 parts.0 in
+          branch_so (same_reference (referred r pair.0) (referred r pair.1)) (same pair.0 pair.1) want target 2
+          (same_is world state sound.cells known input correct stands.instance_of.shape c.heap stands.heap pair.0 pair.1 one.0 other.0 one.1 other.1)
+
+  -- ---- returns
+
+  abbrev handed : Value → Outcome
+  handed value = hands_over s c (Some value)
+
+  returned_is : (value : SymValue) → IsReference value
+      → IsPlan (returns_value s c (value_of_reference (referred r value))) (planned state (option_and_then (result_in value) (result_of world frame.method)) (λ (result : SymValue). plain state (Leaves (Some result))))
+  unfolding returns_value
+  returned_is value is =
+      so (returns_value s c (value_of_reference (referred r value))) (option_map_or handed (option_and_then keeps (result_of world frame.method)) (ill_typed s c))
+      (planned state (option_and_then (result_in value) (result_of world frame.method)) (λ (result : SymValue). plain state (Leaves (Some result))))
+      (ap (λ (v : Value). option_map_or handed (option_and_then (λ (type : JType). kept type v) (result_of world c.frame.method)) (ill_typed s c)) (reference_back r value is)
+      ∙ ap (λ (m : MethodId). option_map_or handed (option_and_then keeps (result_of world m)) (ill_typed s c)) framed.method)
+      (go (result_of world frame.method))
+    where
+      keeps : JType → Option Value
+      keeps type = kept type (value_of_sym r value)
+
+      one : (type : JType) (it : Option SymValue) → keeps type ≡ option_map (value_of_sym r) it
+          → IsPlan (option_map_or handed (keeps type) (ill_typed s c)) (planned state it (λ (result : SymValue). plain state (Leaves (Some result))))
+      one type it e =
+          so (option_map_or handed (keeps type) (ill_typed s c)) (with s c (option_map (value_of_sym r) it) handed) (planned state it (λ (result : SymValue). plain state (Leaves (Some result))))
+          (ap (λ (o : Option Value). option_map_or handed o (ill_typed s c)) e)
+          (with_is (value_of_sym r) handed (λ (result : SymValue). plain state (Leaves (Some result))) it (λ result e. (refl, refl)))
+
+      go : (result : Option JType)
+          → IsPlan (option_map_or handed (option_and_then keeps result) (ill_typed s c)) (planned state (option_and_then (result_in value) result) (λ (result : SymValue). plain state (Leaves (Some result))))
+      go None = (refl, refl)
+      go (Some type) = one type (result_in value type) (result_kept r type value is)
+
+  pub returns_reference_is : IsPlan (with s c (a_reference c.frame.stack) (λ t. returns_value s c (value_of_reference t.it))) (returns_reference world state)
+  returns_reference_is =
+      with_one (λ (t : Taken Reference). returns_value s c (value_of_reference t.it))
+      (λ (value : SymValue). planned state (option_and_then (result_in value) (result_of world frame.method)) (λ (result : SymValue). plain state (Leaves (Some result))))
+      (λ value e. returned_is value (value_there 0 value e).0)
+
+  -- ---- getfield
+
+  module _ (field : FieldSlot) where
+    abbrev rest : List Value
+    rest = values_of_sym r (drop 1 frame.stack)
+
+    abbrev pushes : Value → Outcome
+    pushes value = goes s c next (value ∷ rest)
+
+    abbrev reads : ℕ → Object → Outcome
+    reads o object = with s c (field_of world object field) pushes
+
+    joined : (it : Option Object) → with s c it (λ (object : Object). with s c (field_of world object field) pushes) ≡ with s c (option_and_then (λ (object : Object). field_of world object field) it) pushes
+    joined None = refl
+    joined (Some object) = refl
+
+    -- an object
+    named_is : (value : SymValue) (o : ℕ) → value_of_sym r value ≡ Ref o → IsSymValue world state value → asks_field world state field (Some value) ≡ None
+        → IsPlan (on_object s c (Some o) reads) (planned state (held world state field value) (λ (it : SymValue). plain state (with_stack state (it ∷ drop 1 frame.stack))))
+    named_is value o e is told =
+        so (on_object s c (Some o) reads) (with s c (option_map (value_of_sym r) (held world state field value)) pushes)
+        (planned state (held world state field value) (λ (it : SymValue). plain state (with_stack state (it ∷ drop 1 frame.stack))))
+        (joined (object_at c.heap o)
+        ∙ ap (λ (v : Option Value). with s c v pushes) (field_held world state sound.cells known input correct stands.instance_of.shape c.heap stands.heap field value o is e told))
+        (with_is (value_of_sym r) pushes (λ (it : SymValue). plain state (with_stack state (it ∷ drop 1 frame.stack))) (held world state field value)
+        (λ it at. goes_is (it ∷ drop 1 frame.stack) (value_of_sym r it ∷ rest) refl))
+
+    got_is : (value : SymValue) → IsReference value → IsSymValue world state value → asks_field world state field (Some value) ≡ None → IsPlan (on_object s c (referred r value) reads) (got world state field value)
+    got_is (Int t) reference is told = absurd reference
+    got_is Null reference is told = (refl, refl)
+    got_is (Obj n) reference is told = named_is (Obj n) _ refl is told
+    got_is (Literal n) reference is told = named_is (Literal n) _ refl is told
+    got_is (New n) reference is told = named_is (New n) _ refl is told
+    got_is (Loc n) reference is told = named_is (Loc n) _ refl is told
+
+    field_is : asks_field world state field (slice_get frame.stack 0) ≡ None
+        → IsPlan (with s c (a_reference c.frame.stack) (λ t. on_object s c t.it (λ o object. with s c (field_of world object field) (λ v. goes s c next (v ∷ t.rest))))) (planned state (one_reference frame.stack) (got world state field))
+    field_is told =
+        with_one (λ (t : Taken Reference). on_object s c t.it (λ o object. with s c (field_of world object field) (λ v. goes s c next (v ∷ t.rest)))) (got world state field)
+        (λ value e.
+        (let is = value_there 0 value e in
+        got_is value is.0 is.1 (ap (asks_field world state field) (sym (reference_is (slice_get frame.stack 0) value e)) ∙ told)))
+
+  pub gets_is : (entry : ℕ) → option_and_then (λ (field : FieldSlot). asks_field world state field (slice_get frame.stack 0)) (field_named world state entry) ≡ None
+      → IsPlan (with s c (resolved_field s.world (class_number s.world c.frame.method) entry) (λ field. with s c (a_reference c.frame.stack) (λ t. on_object s c t.it (λ o object. with s c (field_of s.world object field) (λ v. goes s c next (v ∷ t.rest))))))
+      (gets world state entry)
+  gets_is entry told =
+      so (with s c (resolved_field world (class_number world c.frame.method) entry) reads_field) (with s c (field_named world state entry) reads_field) (gets world state entry)
+      (ap (λ (m : MethodId). with s c (resolved_field world (class_number world m) entry) reads_field) framed.method) (go (field_named world state entry) told)
+    where
+      reads_field : FieldSlot → Outcome
+      reads_field field = with s c (a_reference c.frame.stack) (λ t. on_object s c t.it (λ o object. with s c (field_of world object field) (λ v. goes s c next (v ∷ t.rest))))
+
+      go : (it : Option FieldSlot) → option_and_then (λ (field : FieldSlot). asks_field world state field (slice_get frame.stack 0)) it ≡ None
+          → IsPlan (with s c it reads_field) (planned state it (λ (field : FieldSlot). planned state (one_reference frame.stack) (got world state field)))
+      go None told = (refl, refl)
+      go (Some field) told = field_is field told

@@ -1,0 +1,373 @@
+-- What holds of a state that is reached holds of it behind each instruction on references, and behind each take.
+use Rattle.std.proofs.Common.{◌≡◌, ℕ, ◌≤◌, Bool, cond, List, ◌∷◌, length, drop, nat_le, Option, Some, None, slice_get, slice_set, refl, sym, ap, subst, ◌∙◌, arith, if◌then◌else◌}
+use Rattle.std.specs.Option.{option_and_then, option_map, option_map_or}
+use Rattle.std.proofs.lemmas.Option.{none-some, option_and_then_some, same_Some}
+use Rattle.kb_class.proofs.Lists.{set_size}
+use Rattle.kb_class.specs.Naming.{Has}
+use Rattle.kb_code.specs.declared.instruction.Instr.{Instr}
+use Rattle.kb_code.specs.declared.instruction.Instr.TheVariants as instrs
+use Rattle.kb_heap.specs.declared.bounds.Bound.{Bound}
+use Rattle.kb_heap.specs.declared.bounds.Bound.TheVariants.{Steps}
+use Rattle.kb_heap.specs.declared.bounds.Bounds.{Bounds}
+use Rattle.kb_link.specs.World.{World}
+use Rattle.kb_link.specs.declared.slots.FieldSlot.{FieldSlot}
+use Rattle.kb_names.specs.declared.types.JType.{JType}
+use Rattle.kb_names.specs.declared.types.JType.TheVariants as types
+use Rattle.kb_semantics.specs.Config.{has_room, instruction_at, max_locals_of, result_of}
+use Rattle.kb_semantics.specs.Instructions.{is_wanted}
+use Rattle.kb_semantics.specs.Ways.{null_pointer}
+use Rattle.kb_picture.specs.declared.choice.Choice.{Choice}
+use Rattle.kb_picture.specs.declared.choice.Choice.TheVariants.{Only}
+use Rattle.kb_picture.specs.declared.picture.Origin.{Origin}
+use Rattle.kb_picture.specs.declared.picture.Origin.TheVariants.{Arg, Field, Element}
+use Rattle.kb_picture.specs.Queries.{kind_for}
+use Rattle.kb_picture.specs.WellTyped.{IsReceiverSeen}
+use Rattle.kb_frames.specs.declared.frame.SymFrame.{SymFrame}
+use Rattle.kb_frames.specs.declared.state.Stage.{Stage}
+use Rattle.kb_frames.specs.declared.state.Stage.TheVariants.{Runs}
+use Rattle.kb_frames.specs.declared.value.SymValue.{SymValue}
+use Rattle.kb_frames.specs.declared.value.SymValue.TheVariants.{Int, Null, Obj, Literal, New, Loc}
+use Rattle.kb_frames.specs.declared.value.Outcome.TheVariants.{Cut}
+use Rattle.kb_frames.specs.FirstReads.{first_int, first_reference, found_in}
+use Rattle.kb_frames.specs.Lent.{begun, local_in, locals_of, read_count, stack_of}
+use Rattle.kb_frames.specs.Next.{argument_next, is_reference, method_now, offset_now}
+use Rattle.kb_frames.specs.State.{State}
+use Rattle.kb_frames.specs.States.{Each, IsLocal, IsSymValue}
+use Rattle.kb_stepint.specs.Effects.{with_stack}
+use Rattle.kb_stepint.specs.Ways.{Take, Way, Goes, Jumps, Leaves, Throws, Fails, ill_typed}
+use Rattle.kb_stepint.proofs.GrowLaws.{if_has, option_has}
+use Rattle.kb_stepint.proofs.ItemLaws.{each_cons, each_drop, each_set, option_has_at}
+use Rattle.kb_stepint.proofs.KeepLaws.{went_stays}
+use Rattle.kb_stepint.proofs.PlanLaws.{IsGood}
+use Rattle.kb_stepint.proofs.ReachedLaws.{running_now, went_sound}
+use Rattle.kb_stepint.proofs.SoundLaws.{Sound, begun_sound, frame_sound, receiver_seen, sound_reached}
+use Rattle.kb_stepref.specs.Choices.{alternatives, choices_of, only}
+use Rattle.kb_stepref.specs.Effects.{Planned, branch_where, got, in_local, is_local, kept_in, plain, plan_of, planned, put, put_kept, put_where, result_in}
+use Rattle.kb_stepref.specs.Fields.{field_named, has_place, held}
+use Rattle.kb_stepref.specs.Laws.{AreInRange, IsAtReferences}
+use Rattle.kb_stepref.specs.Operands.{is_null, object_and_value, of_type, one_reference, reference, same, two_references}
+use Rattle.kb_stepref.specs.Questions.{Question, Reads, asked_at, question_of}
+use Rattle.kb_stepref.specs.Takes.{answered, answers, carried_out, cut_where, goes_behind, passed_by, taken, takes_next, takes_up}
+use Rattle.kb_stepref.proofs.AnsweredLaws.{answered_receiver, answered_sound}
+use Rattle.kb_stepref.proofs.FirstReadLaws.{IsAskedAt, asked, where_so}
+use Rattle.kb_stepref.proofs.MoreLaws.{locals_more, values_more}
+use Rattle.kb_stepref.proofs.WrittenLaws.{SoundBehind, held_there, kept_behind, put_kept_behind, sound_itself}
+
+-- ---- operands
+
+-- a reference is the value that was there
+pub reference_is : (it : Option SymValue) (value : SymValue) → reference it ≡ Some value → it ≡ Some value
+reference_is None value e = e
+reference_is (Some (Int term)) value e = absurd (none-some value e)
+reference_is (Some Null) value e = e
+reference_is (Some (Obj number)) value e = e
+reference_is (Some (Literal number)) value e = e
+reference_is (Some (New number)) value e = e
+reference_is (Some (Loc number)) value e = e
+
+-- and so is a value of a type
+pub of_type_is : (type : JType) (it : Option SymValue) (value : SymValue) → of_type type it ≡ Some value → it ≡ Some value
+of_type_is (types.Class name) it value e = reference_is it value e
+of_type_is (types.Array component) it value e = reference_is it value e
+of_type_is types.Bool (Some (Int term)) value e = e
+of_type_is types.Int (Some (Int term)) value e = e
+of_type_is _ it value e = absurd (none-some value e)
+
+-- the value of the two that a putfield takes stands on the top
+pub value_on_top : (type : JType) (stack : List SymValue) (t : SymValue × SymValue) → object_and_value type stack ≡ Some t → slice_get stack 0 ≡ Some t.1
+value_on_top type stack t e =
+    option_and_then_some (λ (value : SymValue). option_map (λ (object : SymValue). (object, value)) (reference (slice_get stack 1))) (of_type type (slice_get stack 0)) t e (λ value is pair.
+    of_type_is type (slice_get stack 0) t.1 (is ∙ ap (λ (v : SymValue). Some v) (go value (reference (slice_get stack 1)) pair)))
+  where
+    go : (value : SymValue) (object : Option SymValue) → option_map (λ (o : SymValue). (o, value)) object ≡ Some t → value ≡ t.1
+    go value None pair = absurd (none-some t pair)
+    go value (Some object) pair = ap (λ (p : SymValue × SymValue). p.1) (same_Some {A = SymValue × SymValue} (object, value) t pair)
+
+-- ---- plans
+
+-- A plan leaves a sound state, with the same frames, and leads on with values of it.
+pub record IsGoodPlan (world : World) (state : State) (plan : Planned) : Type 0 where
+  pub behind : SoundBehind world state plan.state
+  pub good : IsGood world plan.state plan.way
+
+module _ (world : World) (state : State) (sound : Sound world state) (frame : SymFrame) (callers : List SymFrame) (running : state.stage ≡ Runs frame callers) where
+  room : max_locals_of world (method_now state.method state.stage) ≤ length (locals_of state.stage)
+  room = subst (λ (stage : Stage). max_locals_of world (method_now state.method stage) ≤ length (locals_of stage)) (sym running) (frame_sound world state frame callers running sound).0.room
+
+  locals : Each (IsLocal world state) (locals_of state.stage)
+  locals = subst (λ (stage : Stage). Each (IsLocal world state) (locals_of stage)) (sym running) (frame_sound world state frame callers running sound).0.locals
+
+  stack : Each (IsSymValue world state) (stack_of state.stage)
+  stack = subst (λ (stage : Stage). Each (IsSymValue world state) (stack_of stage)) (sym running) (frame_sound world state frame callers running sound).0.stack
+
+  abbrev IsRight : Planned → Type 0
+  IsRight plan = IsGoodPlan world state plan
+
+  plain_good : (way : Way) → IsGood world state way → IsRight (plain state way)
+  plain_good way good = record { behind = sound_itself world state sound; good = good }
+
+  fails_good : IsRight (plain state Fails)
+  fails_good = plain_good Fails tt
+
+  planned_good : {A : Type 0} (it : Option A) (f : A → Planned) → ((x : A) → it ≡ Some x → IsRight (f x)) → IsRight (planned state it f)
+  planned_good it f h = option_has_at IsRight it f (plain state Fails) h fails_good
+
+  rest_good : (count : ℕ) → Each (IsSymValue world state) (drop count (stack_of state.stage))
+  rest_good count = each_drop (IsSymValue world state) count (stack_of state.stage) stack
+
+  goes_good : (values : List SymValue) → Each (IsSymValue world state) values → IsRight (plain state (with_stack state values))
+  goes_good values each = plain_good (with_stack state values) (record { room = room; each_local = locals; each_value = each })
+
+  pushes_good : (value : SymValue) (count : ℕ) → IsSymValue world state value → IsRight (plain state (with_stack state (value ∷ drop count (stack_of state.stage))))
+  pushes_good value count is = goes_good (value ∷ drop count (stack_of state.stage)) (each_cons (IsSymValue world state) value (drop count (stack_of state.stage)) is (rest_good count))
+
+  -- a reference that stands on the stack
+  top_there : (value : SymValue) → one_reference (stack_of state.stage) ≡ Some value → IsSymValue world state value
+  top_there value e = stack 0 value (reference_is (slice_get (stack_of state.stage) 0) value e)
+
+  -- one that a local holds
+  local_there : (k : ℕ) (value : SymValue) → reference (cond (is_local world state k) (local_in state.stage k) None) ≡ Some value → IsSymValue world state value
+  local_there k value e =
+      let held_is : local_in state.stage k ≡ Some value =
+      (where_so (is_local world state k) (local_in state.stage k) value (reference_is (cond (is_local world state k) (local_in state.stage k) None) value e)).1 in
+      option_and_then_some (λ (it : Option SymValue). it) (slice_get (locals_of state.stage) k) value held_is (λ local there at. subst (IsLocal world state) at (locals k local there))
+
+  in_local_good : (k : ℕ) (value : SymValue) → IsSymValue world state value → IsRight (plain state (in_local world state k value (drop 1 (stack_of state.stage))))
+  in_local_good k value is =
+      plain_good (in_local world state k value (drop 1 (stack_of state.stage)))
+      (if_has (IsGood world state) (is_local world state k) (Goes (slice_set (locals_of state.stage) k (Some value)) (drop 1 (stack_of state.stage))) Fails
+      (record {
+        room = omega (arith, room, set_size (locals_of state.stage) k (Some value));
+        each_local = each_set (IsLocal world state) (locals_of state.stage) k (Some value) is locals;
+        each_value = rest_good 1;
+      }) tt)
+
+  branch_good : (so : Bool) (target count : ℕ) → IsRight (plain state (branch_where state so target count))
+  branch_good so target count =
+      plain_good (branch_where state so target count)
+      (if_has (IsGood world state) so (Jumps target (drop count (stack_of state.stage))) (with_stack state (drop count (stack_of state.stage))) (rest_good count)
+      (record { room = room; each_local = locals; each_value = rest_good count }))
+
+  -- ---- fields
+
+  held_good : (field : FieldSlot) (object : SymValue) → IsRight (planned state (held world state field object) (λ (it : SymValue). plain state (with_stack state (it ∷ drop 1 (stack_of state.stage)))))
+  held_good field object =
+      planned_good (held world state field object) (λ (it : SymValue). plain state (with_stack state (it ∷ drop 1 (stack_of state.stage))))
+      (λ it e. pushes_good it 1 (held_there world state sound field object it e))
+
+  got_good : (field : FieldSlot) (object : SymValue) → IsRight (got world state field object)
+  got_good field Null = plain_good (Throws null_pointer) tt
+  got_good field (Int term) = held_good field (Int term)
+  got_good field (Obj number) = held_good field (Obj number)
+  got_good field (Literal number) = held_good field (Literal number)
+  got_good field (New number) = held_good field (New number)
+  got_good field (Loc number) = held_good field (Loc number)
+
+  -- the values that are left are those of the state behind
+  goes_behind_good : (new : State) (values : List SymValue) → SoundBehind world state new → Each (IsSymValue world state) values → IsGood world new (with_stack state values)
+  goes_behind_good new values behind each = record {
+    room =
+        subst (λ (stage : Stage). max_locals_of world (method_now new.method stage) ≤ length (locals_of state.stage)) (sym behind.stage)
+        (subst (λ m. max_locals_of world (method_now m state.stage) ≤ length (locals_of state.stage)) (sym behind.method) room);
+    each_local = locals_more world state new behind.more (locals_of state.stage) locals;
+    each_value = values_more world state new behind.more values each;
+  }
+
+  put_where_good : (field : FieldSlot) (object value : SymValue) → IsSymValue world state value → IsRight (put_where world state field object value)
+  put_where_good field object value is =
+      if_has IsRight (has_room world (method_now state.method state.stage) (length (drop 2 (stack_of state.stage))))
+      (record { state = put_kept object field.slot (kept_in field.kind value state); way = with_stack state (drop 2 (stack_of state.stage)) }) (plain state Fails)
+      (record {
+        behind = behind;
+        good = goes_behind_good (put_kept object field.slot (kept_in field.kind value state)) (drop 2 (stack_of state.stage)) behind (rest_good 2);
+      }) fails_good
+    where
+      behind : SoundBehind world state (put_kept object field.slot (kept_in field.kind value state))
+      behind = put_kept_behind world state frame callers object field.slot (kept_in field.kind value state) running (kept_behind world state sound field.kind value is)
+
+  placed_good : (field : FieldSlot) (object value : SymValue) → IsSymValue world state value
+      → IsRight (if has_place world state field object then put_where world state field object value else plain state Fails)
+  placed_good field object value is =
+      if_has IsRight (has_place world state field object) (put_where world state field object value) (plain state Fails) (put_where_good field object value is) fails_good
+
+  put_good : (field : FieldSlot) (object value : SymValue) → IsSymValue world state value → IsRight (put world state field object value)
+  put_good field Null value is = plain_good (Throws null_pointer) tt
+  put_good field (Int term) value is = placed_good field (Int term) value is
+  put_good field (Obj number) value is = placed_good field (Obj number) value is
+  put_good field (Literal number) value is = placed_good field (Literal number) value is
+  put_good field (New number) value is = placed_good field (New number) value is
+  put_good field (Loc number) value is = placed_good field (Loc number) value is
+
+  -- ---- all of them
+
+  pub plan_sound : (instr : Instr) → IsGoodPlan world state (plan_of world state instr)
+  plan_sound instrs.PushNull = pushes_good Null 0 tt
+  plan_sound (instrs.LoadRef k) =
+      planned_good (reference (cond (is_local world state k) (local_in state.stage k) None)) (λ (value : SymValue). plain state (with_stack state (value ∷ stack_of state.stage)))
+      (λ value e. pushes_good value 0 (local_there k value e))
+  plan_sound (instrs.StoreRef k) =
+      planned_good (one_reference (stack_of state.stage)) (λ (value : SymValue). plain state (in_local world state k value (drop 1 (stack_of state.stage))))
+      (λ value e. in_local_good k value (top_there value e))
+  plan_sound (instrs.IfSame want target) =
+      planned_good (two_references (stack_of state.stage)) (λ (t : SymValue × SymValue). plain state (branch_where state (is_wanted want (same t.0 t.1)) target 2))
+      (λ t e. branch_good (is_wanted want (same t.0 t.1)) target 2)
+  plan_sound (instrs.IfNull want target) =
+      planned_good (one_reference (stack_of state.stage)) (λ (value : SymValue). plain state (branch_where state (is_wanted want (is_null value)) target 1))
+      (λ value e. branch_good (is_wanted want (is_null value)) target 1)
+  plan_sound instrs.ReturnRef =
+      planned_good (one_reference (stack_of state.stage))
+      (λ (value : SymValue). planned state (option_and_then (result_in value) (result_of world (method_now state.method state.stage))) (λ (result : SymValue). plain state (Leaves (Some result))))
+      (λ value e. planned_good (option_and_then (result_in value) (result_of world (method_now state.method state.stage))) (λ (result : SymValue). plain state (Leaves (Some result)))
+      (λ result f. plain_good (Leaves (Some result)) tt))
+  plan_sound (instrs.GetField entry) =
+      planned_good (field_named world state entry) (λ (field : FieldSlot). planned state (one_reference (stack_of state.stage)) (got world state field))
+      (λ field e. planned_good (one_reference (stack_of state.stage)) (got world state field) (λ object f. got_good field object))
+  plan_sound (instrs.PutField entry) =
+      planned_good (field_named world state entry)
+      (λ (field : FieldSlot). planned state (object_and_value field.kind (stack_of state.stage)) (λ (t : SymValue × SymValue). put world state field t.0 t.1))
+      (λ field e. planned_good (object_and_value field.kind (stack_of state.stage)) (λ (t : SymValue × SymValue). put world state field t.0 t.1)
+      (λ t f. put_good field t.0 t.1 (stack 0 t.1 (value_on_top field.kind (stack_of state.stage) t f))))
+  plan_sound _ = fails_good
+
+-- ---- takes
+
+-- A take leaves a sound state, of the same runs, with the same picture.
+pub record SoundTo (world : World) (old new : State) : Type 0 where
+  pub sound : Sound world new
+  pub method : new.method ≡ old.method
+  pub init : new.init ≡ old.init
+  pub picture : new.picture ≡ old.picture
+
+to_itself : (world : World) (state : State) → Sound world state → SoundTo world state state
+to_itself world state sound = record { sound = sound; method = refl; init = refl; picture = refl }
+
+module _ (world : World) (bounds : Bounds) where
+  carried_out_sound : (state : State) (frame : SymFrame) (callers : List SymFrame) (found : Instr × ℕ) → state.stage ≡ Runs frame callers → Sound world state
+      → SoundTo world state (carried_out world bounds state found).state
+  carried_out_sound state frame callers found running sound =
+      let plan : Planned = plan_of world state found.0 in
+      let good = plan_sound world state sound frame callers running found.0 in
+      let stays = went_stays world bounds found.1 plan.state plan.way in
+      record {
+        sound = went_sound world bounds found.1 plan.state frame callers (good.behind.stage ∙ running) good.behind.sound plan.way good.good;
+        method = stays.method ∙ good.behind.method;
+        init = stays.init ∙ good.behind.init;
+        picture = stays.picture ∙ good.behind.picture;
+      }
+
+  pub takes_up_sound : (state : State) (frame : SymFrame) (callers : List SymFrame) → state.stage ≡ Runs frame callers → Sound world state → SoundTo world state (takes_up world bounds state).state
+  takes_up_sound state frame callers running sound =
+      option_has (λ (take : Take). SoundTo world state take.state) (instruction_at world (method_now state.method state.stage) (offset_now state.stage)) (carried_out world bounds state) (ill_typed world state)
+      (λ found. carried_out_sound state frame callers found running sound) (to_itself world state sound)
+
+  begun_to : (old new : State) → SoundTo world (begun world old) new → SoundTo world old new
+  begun_to old new to = record { sound = to.sound; method = to.method; init = to.init; picture = to.picture }
+
+  pub takes_next_sound : (old : State) → Sound world old → argument_next world old.method old.stage ≡ None → SoundTo world old (takes_next world bounds old).state
+  takes_next_sound old sound none =
+      let run = running_now world bounds Only old in
+      if_has (λ (take : Take). SoundTo world old take.state) (nat_le bounds.run.steps old.carried) (record { state = old; outcome = Cut Steps }) (takes_up world bounds (begun world old))
+      (to_itself world old sound) (begun_to old _ (takes_up_sound (begun world old) run.0 run.1 run.2 (begun_sound world old sound none)))
+
+-- where nothing is asked, all arguments are read
+pub none_asked : (world : World) (bounds : Bounds) (state : State) → question_of world state bounds ≡ None → argument_next world state.method state.stage ≡ None
+none_asked world bounds state none = go (argument_next world state.method state.stage) none where
+  go : (type : Option JType) → option_map_or (λ (t : JType). Some (Reads (Arg (read_count state.stage)) t)) type (asked_at world state bounds) ≡ None → type ≡ None
+  go None e = refl
+  go (Some type) e = absurd (none-some (Reads (Arg (read_count state.stage)) type) (sym e))
+
+-- an answer leaves the method, and the stage where it is no argument
+module _ (world : World) (choice : Choice) (state : State) where
+  found_method : (slot : Origin) (value : SymValue) (s : State) → (found_in slot value s).method ≡ s.method
+  found_method (Arg number) value s = refl
+  found_method (Field object place) value s = refl
+  found_method (Element array index) value s = refl
+
+  found_init : (slot : Origin) (value : SymValue) (s : State) → (found_in slot value s).init ≡ s.init
+  found_init (Arg number) value s = refl
+  found_init (Field object place) value s = refl
+  found_init (Element array index) value s = refl
+
+  pub answered_method : (slot : Origin) (type : JType) → (answered world choice state (Reads slot type)).method ≡ state.method
+  answered_method slot type =
+      if_has (λ (s : State). s.method ≡ state.method) (is_reference type) (first_reference world slot choice state) (first_int slot (kind_for (Some type)) state)
+      (found_method slot _ _) (found_method slot _ _)
+
+  pub answered_init : (slot : Origin) (type : JType) → (answered world choice state (Reads slot type)).init ≡ state.init
+  answered_init slot type =
+      if_has (λ (s : State). s.init ≡ state.init) (is_reference type) (first_reference world slot choice state) (first_int slot (kind_for (Some type)) state)
+      (found_init slot _ _) (found_init slot _ _)
+
+  pub answered_stage : (object place : ℕ) (type : JType) → (answered world choice state (Reads (Field object place) type)).stage ≡ state.stage
+  answered_stage object place type =
+      if_has (λ (s : State). s.stage ≡ state.stage) (is_reference type) (first_reference world (Field object place) choice state) (first_int (Field object place) (kind_for (Some type)) state) refl refl
+
+  pub answered_carried : (slot : Origin) (type : JType) → (answered world choice state (Reads slot type)).carried ≡ state.carried
+  answered_carried slot type =
+      if_has (λ (s : State). s.carried ≡ state.carried) (is_reference type) (first_reference world slot choice state) (first_int slot (kind_for (Some type)) state)
+      (found_carried slot _ _) (found_carried slot _ _)
+    where
+      found_carried : (of : Origin) (value : SymValue) (s : State) → (found_in of value s).carried ≡ s.carried
+      found_carried (Arg number) value s = refl
+      found_carried (Field object place) value s = refl
+      found_carried (Element array index) value s = refl
+
+-- ---- behind an answer
+
+module _ (world : World) (bounds : Bounds) (state : State) (at : IsAtReferences world state) (slot : Origin) (type : JType) (asks : question_of world state bounds ≡ Some (Reads slot type))
+    (choice : Choice) (range : AreInRange bounds) (has : Has (alternatives world state bounds (Reads slot type)) choice) where
+  abbrev pub told : State
+  told = answered world choice state (Reads slot type)
+
+  pub told_sound : Sound world told
+  told_sound = answered_sound world bounds state at slot type asks choice range has
+
+  pub goes_behind_sound : SoundTo world told (goes_behind world bounds slot told).state
+  goes_behind_sound = go slot refl (asked world bounds state at slot type asks).from where
+    go : (of : Origin) → slot ≡ of → IsAskedAt world bounds state of type → SoundTo world told (goes_behind world bounds of told).state
+    go (Arg number) is from = to_itself world told told_sound
+    go (Field object place) is from =
+        takes_up_sound world bounds told from.frame from.callers
+        (ap (λ (s : Origin). (answered world choice state (Reads s type)).stage) is ∙ (answered_stage world choice state object place type ∙ from.running)) told_sound
+    go (Element array index) is from = absurd from
+
+  pub answers_sound : SoundTo world told (answers world bounds choice state (Reads slot type)).state
+  answers_sound = go (passed_by choice) where
+    go : (bound : Option Bound) → SoundTo world told (cut_where bound told (goes_behind world bounds slot told)).state
+    go None = goes_behind_sound
+    go (Some bound) = to_itself world told told_sound
+
+-- ---- all takes
+
+-- A take leaves a sound state, of the same runs, whose receiver was read.
+pub record IsSoundTake (world : World) (old new : State) : Type 0 where
+  pub sound : Sound world new
+  pub method : new.method ≡ old.method
+  pub init : new.init ≡ old.init
+  pub receiver : IsReceiverSeen world old.method new.picture
+
+pub taken_sound : (world : World) (bounds : Bounds) (old : State) (choice : Choice) → AreInRange bounds → IsAtReferences world old → Has (choices_of world old bounds) choice
+    → IsSoundTake world old (taken world bounds old choice).state
+taken_sound world bounds old choice range at has = go (question_of world old bounds) refl has where
+  sound : Sound world old
+  sound = sound_reached world old at.reached.reached
+
+  go : (question : Option Question) → question_of world old bounds ≡ question → Has (option_map_or (alternatives world old bounds) question only) choice
+      → IsSoundTake world old (option_map_or (answers world bounds choice old) question (takes_next world bounds old)).state
+  go None asks offered =
+      let none = none_asked world bounds old asks in
+      let to = takes_next_sound world bounds old sound none in
+      record {
+        sound = to.sound;
+        method = to.method;
+        init = to.init;
+        receiver = subst (IsReceiverSeen world old.method) (sym to.picture) (receiver_seen world old sound none);
+      }
+  go (Some (Reads slot type)) asks offered =
+      let to = answers_sound world bounds old at slot type asks choice range offered in
+      record {
+        sound = to.sound;
+        method = to.method ∙ answered_method world choice old slot type;
+        init = to.init ∙ answered_init world choice old slot type;
+        receiver = subst (IsReceiverSeen world old.method) (sym to.picture) (answered_receiver world bounds old at slot type asks choice range offered);
+      }

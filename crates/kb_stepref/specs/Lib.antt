@@ -1,0 +1,9 @@
+pub mod Operands
+pub mod Fields
+pub mod Questions
+pub mod Choices
+pub mod Effects
+pub mod Takes
+pub mod HeapMethods
+pub mod Reached
+pub mod Laws

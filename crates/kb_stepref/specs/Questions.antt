@@ -1,0 +1,60 @@
+-- What a step of a state must be told before it can be carried out, one thing at a time: by now what a slot holds that is read
+-- for the first time, an argument or a field (lazy initialisation: Khurshid, Păsăreanu and Visser, TACAS 2003). That a run
+-- begins by reading its arguments is an own rule.
+use Rattle.std.specs.Prelude.{ℕ, nat_le, Option, Some, None, option_and_then, slice_get, if◌then◌else◌}
+use Rattle.std.specs.Option.{option_map_or}
+use Rattle.kb_code.specs.declared.instruction.Instr.{Instr}
+use Rattle.kb_code.specs.declared.instruction.Instr.TheVariants as instrs
+use Rattle.kb_heap.specs.declared.bounds.Bounds.{Bounds}
+use Rattle.kb_link.specs.World.{World}
+use Rattle.kb_link.specs.declared.slots.FieldSlot.{FieldSlot}
+use Rattle.kb_names.specs.declared.types.JType.{JType}
+use Rattle.kb_picture.specs.declared.picture.Origin.{Origin}
+use Rattle.kb_picture.specs.declared.picture.Origin.TheVariants.{Arg, Field}
+use Rattle.kb_frames.specs.declared.value.Cell.{Cell}
+use Rattle.kb_frames.specs.declared.value.Cell.TheVariants.{Untouched, Read, Written}
+use Rattle.kb_frames.specs.declared.value.SymValue.{SymValue}
+use Rattle.kb_frames.specs.declared.value.SymValue.TheVariants.{Int, Null, Obj, Literal, New, Loc}
+use Rattle.kb_frames.specs.Lent.{read_count, stack_of}
+use Rattle.kb_frames.specs.Next.{argument_next, instruction_next}
+use Rattle.kb_frames.specs.State.{State}
+use Rattle.kb_stepref.specs.declared.questions.FirstRead.{FirstRead}
+use Rattle.kb_stepref.specs.Fields.{cell_of, field_named}
+
+-- what is asked: by now what the slot of the declared type holds
+pub data Question : Type 0 where
+  Reads : Origin → JType → Question
+
+abbrev pub question : FirstRead → Question
+question first = Reads first.slot first.kind
+
+-- a field of an object of the picture is read for the first time, where nobody has read or written it
+abbrev pub asks_cell : ℕ → FieldSlot → Option Cell → Option Question
+asks_cell number field (Some Untouched) = Some (Reads (Field number field.slot) field.kind)
+asks_cell number field (Some (Read value)) = None
+asks_cell number field (Some (Written value)) = None
+asks_cell number field None = None
+
+abbrev pub asks_field : World → State → FieldSlot → Option SymValue → Option Question
+asks_field world state field (Some (Obj number)) = asks_cell number field (cell_of world state field number)
+asks_field world state field (Some (Int term)) = None
+asks_field world state field (Some Null) = None
+asks_field world state field (Some (Literal number)) = None
+asks_field world state field (Some (New number)) = None
+asks_field world state field (Some (Loc number)) = None
+asks_field world state field None = None
+
+-- what an instruction asks in a state
+abbrev pub asked_by : World → State → Instr → Option Question
+asked_by world state (instrs.GetField entry) = option_and_then (λ field. asks_field world state field (slice_get (stack_of state.stage) 0)) (field_named world state entry)
+asked_by world state _ = None
+
+-- where as many instructions were carried out as may be, none is taken up
+abbrev pub asked_at : World → State → Bounds → Option Question
+asked_at world state bounds =
+    if nat_le bounds.run.steps state.carried then None else option_and_then (asked_by world state) (instruction_next world state.method state.stage)
+
+-- The question of a state: its next argument, or what its next instruction must be told.
+abbrev pub question_of : World → State → Bounds → Option Question
+question_of world state bounds =
+    option_map_or (λ (type : JType). Some (Reads (Arg (read_count state.stage)) type)) (argument_next world state.method state.stage) (asked_at world state bounds)

@@ -1,0 +1,67 @@
+//! Branches on references (JVMS 8 section 6.5). Under lazy initialisation each reference is null or a known object, so nothing
+//! is chosen.
+ghost use Rattle.std.specs.Prelude.{◌≡◌, ◌<◌, IfOk};
+ghost use Rattle.kb_semantics.specs.Instructions.{is_wanted};
+ghost use Rattle.kb_stepint.specs.Turns.{led, told};
+ghost use Rattle.kb_stepref.specs.Effects.{branch_where, branches_null, branches_same};
+ghost use Rattle.kb_stepref.specs.Takes.{followed};
+
+use crate::NoMemory;
+use crate::operands::{is_null, one_reference, same, two_references};
+use kb_frames::{Outcome, SymState};
+use kb_stepint::{Turn, ill_typed, jumps, replaces};
+
+/// if_acmpeq where they are wanted to be one, if_acmpne where they are not
+pub(crate) fn if_same(
+    turn: &Turn<'_>,
+    state: &mut SymState,
+    want: bool,
+    target: u32,
+) -> Result<Outcome, NoMemory>
+    requires { state.old.carried < turn.now.bounds.run.steps }
+    ensures { IfOk result (λ outcome. told state.new outcome ≡ followed turn.now.world.now turn.now.bounds turn.now.next (branches_same state.old want target)) }
+{
+    match two_references(state) {
+        Some((left, right)) => branch(turn, state, is_wanted(want, same(left, right)), target, 2),
+        None => Ok(ill_typed(turn, state)?),
+    }
+}
+
+/// ifnull where it is wanted to be null, ifnonnull where it is not
+pub(crate) fn if_null(
+    turn: &Turn<'_>,
+    state: &mut SymState,
+    want: bool,
+    target: u32,
+) -> Result<Outcome, NoMemory>
+    requires { state.old.carried < turn.now.bounds.run.steps }
+    ensures { IfOk result (λ outcome. told state.new outcome ≡ followed turn.now.world.now turn.now.bounds turn.now.next (branches_null state.old want target)) }
+{
+    match one_reference(state) {
+        Some(value) => branch(turn, state, is_wanted(want, is_null(value)), target, 1),
+        None => Ok(ill_typed(turn, state)?),
+    }
+}
+
+fn is_wanted(want: bool, so: bool) -> bool
+    ensures { result ≡ is_wanted want so }
+{
+    if want { so } else { !so }
+}
+
+// It goes on at the target where that is so, else at the next offset, with so many values fewer on the stack.
+fn branch(
+    turn: &Turn<'_>,
+    state: &mut SymState,
+    so: bool,
+    target: u32,
+    count: usize,
+) -> Result<Outcome, NoMemory>
+    requires { state.old.carried < turn.now.bounds.run.steps }
+    ensures { IfOk result (λ outcome. told state.new outcome ≡ led turn.now state.old (branch_where state.old so target count)) }
+{
+    if so {
+        return Ok(jumps(turn, state, count, target)?);
+    }
+    Ok(replaces(turn, state, count, &[])?)
+}

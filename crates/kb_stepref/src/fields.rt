@@ -1,0 +1,229 @@
+//! The fields of objects: getfield and putfield (JVMS 8 section 6.5).
+ghost use Rattle.std.specs.Prelude.{◌≡◌, ◌<◌, Some, IfOk, OnOk, if◌then◌else◌};
+ghost use Rattle.std.specs.Option.{option_copied};
+ghost use Rattle.kb_semantics.specs.Instructions.{has_field};
+ghost use Rattle.kb_stepint.specs.Needs.{CanStep, IsTermOf};
+ghost use Rattle.kb_stepint.specs.Turns.{told};
+ghost use Rattle.kb_stepint.specs.Ways.{Fails};
+ghost use Rattle.kb_stepref.specs.Effects.{got, gets, kept_in, plain, put, put_where, puts};
+ghost use Rattle.kb_stepref.specs.Fields.{cell_of, field_named, has_place, has_slot_of, held, made_value_of, put_in};
+ghost use Rattle.kb_stepref.specs.Takes.{followed};
+
+use crate::NoMemory;
+use crate::operands::{object_and_value, one_reference};
+use kb_frames::{Cell, Outcome, SymState, SymValue, declaring_class};
+use kb_names::{ExactType, JType};
+use kb_stepint::{Turn, has_room, ill_typed, mask, replaces, throws};
+use kb_world::{FieldSlot, World};
+
+const NULL_POINTER: &[u8] = b"java/lang/NullPointerException";
+
+// ---- fields
+
+/// The field that an entry of the current method's class names.
+pub(crate) fn field_named<'w>(
+    world: &'w World,
+    state: &SymState,
+    entry: u16,
+) -> Option<&'w FieldSlot>
+    ensures { option_copied result ≡ field_named world.now state.now entry }
+{
+    let (method, _) = state.stands_at();
+    world.find_field(declaring_class(world, method), entry)
+}
+
+// Whether the value is an object that has the field.
+fn has_slot_of(world: &World, state: &SymState, field: &FieldSlot, value: SymValue) -> bool
+    ensures { result ≡ has_slot_of world.now state.now field.now value }
+{
+    match state.exact_type_of(value) {
+        Some(kind) => has_field(world, kind, field),
+        None => false,
+    }
+}
+
+fn has_field(world: &World, kind: &ExactType, field: &FieldSlot) -> bool
+    ensures { result ≡ has_field world.now kind.now field.now }
+{
+    match kind {
+        ExactType::Class(name) => world.is_in_chain(name, field.class),
+        ExactType::Array(_) => false,
+    }
+}
+
+/// The cell of the field in an object of the picture that has it.
+pub(crate) fn cell_of(
+    world: &World,
+    state: &SymState,
+    field: &FieldSlot,
+    number: u32,
+) -> Option<Cell>
+    ensures { result ≡ cell_of world.now state.now field.now number }
+{
+    if !has_slot_of(world, state, field, SymValue::Obj(number)) {
+        return None;
+    }
+    state.cell(number, field.slot)
+}
+
+// The value of the field in an object that the run has made and that has it.
+fn made_value_of(
+    world: &World,
+    state: &SymState,
+    field: &FieldSlot,
+    number: u32,
+) -> Option<SymValue>
+    ensures { result ≡ made_value_of world.now state.now field.now number }
+{
+    if !has_slot_of(world, state, field, SymValue::New(number)) {
+        return None;
+    }
+    state.made_value(number, field.slot)
+}
+
+// ---- getfield
+
+/// getfield
+pub(crate) fn get_field(
+    turn: &Turn<'_>,
+    state: &mut SymState,
+    entry: u16,
+) -> Result<Outcome, NoMemory>
+    requires { state.old.carried < turn.now.bounds.run.steps }
+    ensures { IfOk result (λ outcome. told state.new outcome ≡ followed turn.now.world.now turn.now.bounds turn.now.next (gets turn.now.world.now state.old entry)) }
+{
+    let Some(field) = field_named(turn.world, state, entry) else {
+        return Ok(ill_typed(turn, state)?);
+    };
+    match one_reference(state) {
+        Some(object) => get(turn, state, field, object),
+        None => Ok(ill_typed(turn, state)?),
+    }
+}
+
+fn get(
+    turn: &Turn<'_>,
+    state: &mut SymState,
+    field: &FieldSlot,
+    object: SymValue,
+) -> Result<Outcome, NoMemory>
+    requires { state.old.carried < turn.now.bounds.run.steps }
+    ensures { IfOk result (λ outcome. told state.new outcome ≡ followed turn.now.world.now turn.now.bounds turn.now.next (got turn.now.world.now state.old field.now object)) }
+{
+    if let SymValue::Null = object {
+        return Ok(throws(turn, state, NULL_POINTER)?);
+    }
+    match held(turn.world, state, field, object) {
+        Some(value) => Ok(replaces(turn, state, 1, &[value])?),
+        None => Ok(ill_typed(turn, state)?),
+    }
+}
+
+// What the object has in the field, where that was read or written.
+fn held(world: &World, state: &SymState, field: &FieldSlot, object: SymValue) -> Option<SymValue>
+    ensures { result ≡ held world.now state.now field.now object }
+{
+    match object {
+        SymValue::Obj(number) => match cell_of(world, state, field, number)? {
+            Cell::Read(value) | Cell::Written(value) => Some(value),
+            Cell::Untouched => None,
+        },
+        SymValue::New(number) => made_value_of(world, state, field, number),
+        SymValue::Int(_) | SymValue::Null | SymValue::Literal(_) | SymValue::Loc(_) => None,
+    }
+}
+
+// ---- putfield
+
+/// putfield
+pub(crate) fn put_field(
+    turn: &Turn<'_>,
+    state: &mut SymState,
+    entry: u16,
+) -> Result<Outcome, NoMemory>
+    requires { CanStep turn.now.bounds state.old }
+    ensures { IfOk result (λ outcome. told state.new outcome ≡ followed turn.now.world.now turn.now.bounds turn.now.next (puts turn.now.world.now state.old entry)) }
+{
+    let Some(field) = field_named(turn.world, state, entry) else {
+        return Ok(ill_typed(turn, state)?);
+    };
+    match object_and_value(state, &field.kind) {
+        Some((object, value)) => put(turn, state, field, object, value),
+        None => Ok(ill_typed(turn, state)?),
+    }
+}
+
+fn put(
+    turn: &Turn<'_>,
+    state: &mut SymState,
+    field: &FieldSlot,
+    object: SymValue,
+    value: SymValue,
+) -> Result<Outcome, NoMemory>
+    requires step { CanStep turn.now.bounds state.old }
+    requires term { IsTermOf state.old.nodes (Some value) }
+    ensures { IfOk result (λ outcome. told state.new outcome ≡ followed turn.now.world.now turn.now.bounds turn.now.next (put turn.now.world.now state.old field.now object value)) }
+{
+    if let SymValue::Null = object {
+        return Ok(throws(turn, state, NULL_POINTER)?);
+    }
+    put_on(turn, state, field, object, value)
+}
+
+// The value is put into the object, where that has the field.
+fn put_on(
+    turn: &Turn<'_>,
+    state: &mut SymState,
+    field: &FieldSlot,
+    object: SymValue,
+    value: SymValue,
+) -> Result<Outcome, NoMemory>
+    requires step { CanStep turn.now.bounds state.old }
+    requires term { IsTermOf state.old.nodes (Some value) }
+    ensures { IfOk result (λ outcome. told state.new outcome ≡ followed turn.now.world.now turn.now.bounds turn.now.next (if has_place turn.now.world.now state.old field.now object then put_where turn.now.world.now state.old field.now object value else plain state.old Fails)) }
+{
+    if !has_place(turn.world, state, field, object) {
+        return Ok(ill_typed(turn, state)?);
+    }
+    let kept = state.height().saturating_sub(2);
+    if !has_room(turn, state, kept, 0) {
+        return Ok(ill_typed(turn, state)?);
+    }
+    let value = keep(state, &field.kind, value)?;
+    put_in(state, object, field.slot, value);
+    Ok(replaces(turn, state, 2, &[])?)
+}
+
+// Whether the object has the field, and so a place for a value.
+fn has_place(world: &World, state: &SymState, field: &FieldSlot, object: SymValue) -> bool
+    ensures { result ≡ has_place world.now state.now field.now object }
+{
+    match object {
+        SymValue::Obj(number) => cell_of(world, state, field, number).is_some(),
+        SymValue::New(number) => made_value_of(world, state, field, number).is_some(),
+        SymValue::Int(_) | SymValue::Null | SymValue::Literal(_) | SymValue::Loc(_) => false,
+    }
+}
+
+// What a field of the type keeps of a value.
+fn keep(state: &mut SymState, kind: &JType, value: SymValue) -> Result<SymValue, NoMemory>
+    requires { IsTermOf state.old.nodes (Some value) }
+    ensures state { OnOk result (state.new ≡ (kept_in kind.now value state.old).0) }
+    ensures value { IfOk result (λ kept. kept ≡ (kept_in kind.now value state.old).1) }
+{
+    match (kind, value) {
+        (JType::Bool, SymValue::Int(term)) => Ok(SymValue::Int(mask(state, term)?)),
+        _ => Ok(value),
+    }
+}
+
+// Writes a slot of an object of the picture, or of one that the run has made.
+fn put_in(state: &mut SymState, object: SymValue, slot: u32, value: SymValue)
+    ensures { state.new ≡ put_in object slot value state.old }
+{
+    match object {
+        SymValue::Obj(number) => state.write(number, slot, value),
+        SymValue::New(number) => state.write_made(number, slot, value),
+        SymValue::Int(_) | SymValue::Null | SymValue::Literal(_) | SymValue::Loc(_) => {}
+    }
+}

@@ -1,0 +1,52 @@
+//! What each instruction on references does to a state (JVMS 8 section 6.5).
+ghost use Rattle.std.specs.Prelude.{◌≡◌, IfOk};
+ghost use Rattle.kb_stepint.specs.Needs.{CanStep};
+ghost use Rattle.kb_stepint.specs.Turns.{told};
+ghost use Rattle.kb_stepref.specs.Effects.{plan_of};
+ghost use Rattle.kb_stepref.specs.Takes.{followed};
+
+use crate::NoMemory;
+use crate::comparing::{if_null, if_same};
+use crate::fields::{get_field, put_field};
+use crate::locals::{load, store};
+use crate::returns::return_reference;
+use kb_code::Instr;
+use kb_frames::{Outcome, SymState, SymValue};
+use kb_stepint::{Turn, ill_typed, replaces};
+
+/// Carries out an instruction to which nothing is left to be told.
+pub(crate) fn carry_out(
+    turn: &Turn<'_>,
+    state: &mut SymState,
+    instr: &Instr,
+) -> Result<Outcome, NoMemory>
+    requires { CanStep turn.now.bounds state.old }
+    ensures { IfOk result (λ outcome. told state.new outcome ≡ followed turn.now.world.now turn.now.bounds turn.now.next (plan_of turn.now.world.now state.old instr.now)) }
+{
+    match instr {
+        Instr::PushNull => Ok(replaces(turn, state, 0, &[SymValue::Null])?),
+        Instr::LoadRef(local) => load(turn, state, *local),
+        Instr::StoreRef(local) => store(turn, state, *local),
+        Instr::IfSame(want, target) => if_same(turn, state, *want, *target),
+        Instr::IfNull(want, target) => if_null(turn, state, *want, *target),
+        Instr::ReturnRef => return_reference(turn, state),
+        Instr::GetField(entry) => get_field(turn, state, *entry),
+        Instr::PutField(entry) => put_field(turn, state, *entry),
+        // Those on ints, and on arrays, new objects, calls and throws, are no instructions on references by now.
+        Instr::Nop | Instr::PushInt(_) | Instr::Ldc(_) => Ok(ill_typed(turn, state)?),
+        Instr::LoadInt(_) | Instr::StoreInt(_) | Instr::Inc(..) => Ok(ill_typed(turn, state)?),
+        Instr::Pop | Instr::Pop2 | Instr::Dup | Instr::DupX1 => Ok(ill_typed(turn, state)?),
+        Instr::DupX2 | Instr::Dup2 | Instr::Dup2X1 => Ok(ill_typed(turn, state)?),
+        Instr::Dup2X2 | Instr::Swap => Ok(ill_typed(turn, state)?),
+        Instr::Int2(_) | Instr::Neg | Instr::Narrow(_) => Ok(ill_typed(turn, state)?),
+        Instr::IfInt(..) | Instr::IfPair(..) | Instr::Goto(_) => Ok(ill_typed(turn, state)?),
+        Instr::Table(..) | Instr::Lookup(..) => Ok(ill_typed(turn, state)?),
+        Instr::ReturnInt | Instr::Return => Ok(ill_typed(turn, state)?),
+        Instr::LoadElem(_) | Instr::StoreElem(_) | Instr::Length => Ok(ill_typed(turn, state)?),
+        Instr::NewPrim(_) | Instr::NewRefs(_) | Instr::New(_) => Ok(ill_typed(turn, state)?),
+        Instr::Throw | Instr::Cast(_) | Instr::InstanceOf(_) => Ok(ill_typed(turn, state)?),
+        Instr::Virtual(_) | Instr::Special(_) => Ok(ill_typed(turn, state)?),
+        Instr::Static(_) | Instr::Interface(_) => Ok(ill_typed(turn, state)?),
+        Instr::Other(_) => Ok(ill_typed(turn, state)?),
+    }
+}

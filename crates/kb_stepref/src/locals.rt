@@ -1,0 +1,67 @@
+//! Instructions on locals that are references (JVMS 8 section 6.5).
+ghost use Rattle.std.specs.Prelude.{◌≡◌, ◌<◌, cond, drop, None, IfOk};
+ghost use Rattle.kb_frames.specs.Lent.{local_in, stack_of};
+ghost use Rattle.kb_stepint.specs.Turns.{led, told};
+ghost use Rattle.kb_stepref.specs.Effects.{in_local, is_local, loads, stores};
+ghost use Rattle.kb_stepref.specs.Operands.{reference};
+ghost use Rattle.kb_stepref.specs.Takes.{followed};
+
+use crate::NoMemory;
+use crate::operands::{one_reference, reference};
+use kb_frames::{Outcome, SymState, SymValue};
+use kb_stepint::{Turn, carry_on, has_room, ill_typed, is_local, replaces};
+
+/// aload
+pub(crate) fn load(turn: &Turn<'_>, state: &mut SymState, local: u16) -> Result<Outcome, NoMemory>
+    requires { state.old.carried < turn.now.bounds.run.steps }
+    ensures { IfOk result (λ outcome. told state.new outcome ≡ followed turn.now.world.now turn.now.bounds turn.now.next (loads turn.now.world.now state.old local)) }
+{
+    match local_at(turn, state, local) {
+        Some(value) => Ok(replaces(turn, state, 0, &[value])?),
+        None => Ok(ill_typed(turn, state)?),
+    }
+}
+
+/// astore
+pub(crate) fn store(turn: &Turn<'_>, state: &mut SymState, local: u16) -> Result<Outcome, NoMemory>
+    requires { state.old.carried < turn.now.bounds.run.steps }
+    ensures { IfOk result (λ outcome. told state.new outcome ≡ followed turn.now.world.now turn.now.bounds turn.now.next (stores turn.now.world.now state.old local)) }
+{
+    match one_reference(state) {
+        Some(value) => set(turn, state, local, value),
+        None => Ok(ill_typed(turn, state)?),
+    }
+}
+
+// The reference of a local that lies below the limit.
+fn local_at(turn: &Turn<'_>, state: &SymState, local: u16) -> Option<SymValue>
+    ensures { result ≡ reference (cond (is_local turn.now.world.now state.now local) (local_in state.now.stage local) None) }
+{
+    if !is_local(turn, state, local) {
+        return None;
+    }
+    reference(state.local(local))
+}
+
+// It goes on at the next offset with a value in a local, and with one fewer on the stack.
+fn set(
+    turn: &Turn<'_>,
+    state: &mut SymState,
+    local: u16,
+    value: SymValue,
+) -> Result<Outcome, NoMemory>
+    requires { state.old.carried < turn.now.bounds.run.steps }
+    ensures { IfOk result (λ outcome. told state.new outcome ≡ led turn.now state.old (in_local turn.now.world.now state.old local value (drop 1 (stack_of state.old.stage)))) }
+{
+    if !is_local(turn, state, local) {
+        return Ok(ill_typed(turn, state)?);
+    }
+    let kept = state.height().saturating_sub(1);
+    if !has_room(turn, state, kept, 0) {
+        return Ok(ill_typed(turn, state)?);
+    }
+    state.store(local, value);
+    state.pop(1);
+    carry_on(state, turn.next, turn.bounds.run.steps);
+    Ok(Outcome::Goes)
+}

@@ -1,0 +1,12 @@
+pub mod ByteLaws
+pub mod DescriptorLaws
+pub mod PlatformTable
+pub mod PlatformLaws
+pub mod ClassTexts
+pub mod WorldTexts
+pub mod CallLaws
+pub mod ReachLaws
+pub mod Within
+pub mod WithinEffects
+pub mod BroughtLaws
+pub mod RunTexts

@@ -1,0 +1,170 @@
+#!/usr/bin/env python3
+"""Writes the class files, the tests and the `stdout` of crates/kiasan_rows for explorations from unknown heaps, and judges
+what stands there of each `explore` and each `tests` of the table of rows.
+
+Which report or which tests a row writes is what model.py says, which shares nothing with the crates. It leaves open which
+values of ints a solver finds: those are taken from `stdout`, and must meet the conditions of their path. The ends of all
+paths but the ill-typed ones are those of a Java virtual machine, which runs their inputs (examples/replay/Written.java);
+the files of tests that the table replays are what it wrote.
+
+With --program FILE the whole of `stdout` is what that program writes; but only what is judged may change. Without it, a row
+that `stdout` lacks is written with values of the model's own.
+
+Usage: examples/explore/make.py [--program FILE]
+It needs javac and java of a JDK 17.
+"""
+
+import argparse
+import re
+import subprocess
+import sys
+import tempfile
+from pathlib import Path
+
+from classes import ClassFile
+from methods import NotExplored
+from model import explored
+from rows import first_difference, is_judged, judge, rows_of
+from texts import report_end, report_head
+
+HERE = Path(__file__).resolve().parent
+ROOT = HERE.parent.parent
+CRATE = ROOT / "crates" / "kiasan_rows"
+DATA = CRATE / "data"
+WRITTEN = HERE.parent / "replay" / "Written.java"
+SOURCES = ("Search.java", "Queue.java", "Types.java")
+ASSEMBLED = {"Node.asm": "worked_node.class", "A.asm": "kept.class", "Odd.asm": "Odd.class", "Other.asm": "Other.class"}
+# the tests that are replayed: those of all rows of these class files
+TESTS = {
+    "List.class": "lists.tests",
+    "Search.class": "trees.tests",
+    "Queue.class Cell.class": "queues.tests",
+    "Figure.class Disc.class Box.class Bare.class": "types.tests",
+    "Node.class": "nodes.tests",
+    "Odd.class Other.class": "odd_heaps.tests",
+}
+# what the assembler writes has no stack maps
+UNVERIFIED = ["-XX:+UnlockDiagnosticVMOptions", "-XX:-BytecodeVerificationRemote"]
+
+sys.path.insert(0, str(HERE.parent / "assemble"))
+from assembler import assemble  # noqa: E402
+
+
+def run(*words, **options):
+    return subprocess.run([str(word) for word in words], check=True, **options)
+
+
+def write_class_files():
+    javac = ["javac", "-g:none", "-nowarn", "--release", "8", "-d"]
+    run(*javac, HERE.parent, HERE.parent / "List.java", stderr=subprocess.DEVNULL)
+    run(*javac, DATA, HERE.parent / "List.java", *(HERE / name for name in SOURCES), stderr=subprocess.DEVNULL)
+    for source, name in ASSEMBLED.items():
+        (DATA / name).write_bytes(assemble((HERE / source).read_text()))
+
+
+# ---- what rows write
+
+
+def of_program(program, words):
+    """What the program writes for the words of a row, and the status."""
+    told = subprocess.run([program, *words.split(" ")], cwd=DATA, stdin=subprocess.DEVNULL, capture_output=True)
+    return told.stdout.decode().splitlines(), f"status {told.returncode}"
+
+
+def of_model(words):
+    """The same with the model's own values."""
+    command, *rest = words.split(" ")
+    if command == "replay":
+        count = (DATA / rest[1]).read_text().count("test ")
+        return [f"test {number} passes" for number in range(count)] + [f"tests {count} passed {count} differed 0"], "status 0"
+    try:
+        explorer, leaves = explored(DATA, words.split(" "))
+    except NotExplored:
+        return ["refused 50"], "status 5"
+    status = f"status {int(any(leaf.kind == 'open' for leaf in leaves))}"
+    if command == "tests":
+        return [line for leaf in leaves if leaf.kind == "ended" for line in leaf.test(leaf.state.values)], status
+    lines = report_head(explorer.method.target, explorer.bounds)
+    lines += [line for leaf in leaves for line in leaf.block(leaf.state.values)]
+    return lines + [report_end(leaves)], status
+
+
+# ---- tests on a Java virtual machine
+
+
+def files_of(words):
+    """The class files of a row of `explore` or `tests`."""
+    return re.sub(r"^\w+ (--\S+ \S+ )*", "", words)
+
+
+def run_tests(harness, files, tests):
+    """The tests, each a list of lines, with the ends that a Java virtual machine gives them, as one text."""
+    with tempfile.TemporaryDirectory() as folder:
+        for name in files:
+            content = (DATA / name).read_bytes()
+            (Path(folder) / f"{ClassFile(content).name}.class").write_bytes(content)
+        kept = re.compile("(test|bounds|arg|in) |end$")
+        fronts = [line for test in tests for line in test if kept.match(line)]
+        (Path(folder) / "fronts").write_text("".join(f"{line}\n" for line in fronts))
+        # a class that a row does not give is there for the virtual machine
+        words = ["java", *UNVERIFIED, "-cp", harness, WRITTEN.stem, Path(folder) / "fronts", folder, DATA]
+        return run(*words, stdout=subprocess.PIPE).stdout.decode()
+
+
+def compile_harness(folder):
+    run("javac", "-nowarn", "-d", folder, WRITTEN, stderr=subprocess.DEVNULL)
+
+
+def judge_tests(tests, harness):
+    """Runs the tests of all rows, those of the same class files together, and writes those that are replayed."""
+    for files in sorted({files_of(words) for words in tests}):
+        rows = {words: row for words, row in tests.items() if files_of(words) == files}
+        able = [test for row in rows.values() for test in row if not any(line.startswith("illtyped ") for line in test)]
+        if not able:
+            continue
+        told, stated = run_tests(harness, files.split(" "), able), text_of(able)
+        assert told == stated, f"{files}: {first_difference(told.splitlines(), stated.splitlines())}"
+        print(f"{len(able)} ends of runs are those of a Java virtual machine: {files}")
+        if files in TESTS:
+            written = [row for words, row in rows.items() if words.startswith("tests ")]
+            (DATA / TESTS[files]).write_text(text_of(test for row in written for test in row))
+
+
+def text_of(parts):
+    """The text of lists of lines."""
+    return "".join(f"{line}\n" for part in parts for line in part)
+
+
+# ---- all of it
+
+
+def main():
+    options = argparse.ArgumentParser(description="Writes and judges the rows of explorations from unknown heaps.")
+    options.add_argument("--program", type=Path, help="a built program, whose output the rows are")
+    program = options.parse_args().program
+    write_class_files()
+    table = (DATA / "rows").read_text().splitlines()
+    before = {words: (lines, status) for words, lines, status in rows_of((CRATE / "stdout").read_text())}
+    if program:
+        rows = {words: of_program(program.resolve(), words) for words in table if not words.startswith("replay ")}
+    else:
+        rows = {words: before.get(words) or of_model(words) for words in table if not words.startswith("replay ")}
+    tests = {words: judge(DATA, words, *row) for words, row in rows.items() if is_judged(words, *row)}
+    judged = set(tests)
+    with tempfile.TemporaryDirectory() as harness:
+        compile_harness(harness)
+        judge_tests(tests, harness)
+    for words in table:
+        if words.startswith("replay "):
+            rows[words] = of_program(program.resolve(), words) if program else before.get(words) or of_model(words)
+            if words.removeprefix("replay --tests ").split(" ")[0] in TESTS.values():
+                assert rows[words] == of_model(words), words
+                judged.add(words)
+    for words, row in rows.items():
+        assert words in judged or row == before[words], f"{words}: {row}"
+    (CRATE / "stdout").write_text(text_of([f"> {words}", *rows[words][0], rows[words][1]] for words in table))
+    print(f"{len(judged)} of {len(table)} rows are as the model says")
+
+
+if __name__ == "__main__":
+    main()
