@@ -16,16 +16,13 @@ Usage: bench/explore.py [--runs N] [--program FILE] [--shares]
 Build the program first, by running ./kiasan once.
 """
 
-import argparse
 import resource
 import struct
 import subprocess
 import sys
-import tempfile
-from pathlib import Path
 
-from shares import COPYING, FORMULAS, SOLVING, shares_of
-from straight import ROOT, class_of
+from shares import COPYING, FORMULAS, SOLVING, print_both, shares_of
+from straight import class_of
 
 SIZES = [2, 4, 6, 8, 10, 12]
 SHARED = 6
@@ -96,19 +93,5 @@ def print_shares(program, folder):
         print(f"{name:>16} {share:>6.2%}")
 
 
-def main():
-    options = argparse.ArgumentParser(description="Times the exploration of methods with comparisons of ints.")
-    options.add_argument("--runs", type=int, default=5, help="runs of each method (5)")
-    options.add_argument("--program", type=Path, default=ROOT / "build" / "kiasan", help="the built program")
-    options.add_argument("--shares", action="store_true", help="print the shares of copying, making formulas and solving")
-    given = options.parse_args()
-    if not given.program.is_file():
-        sys.exit(f"{given.program} is not there: run ./kiasan once")
-    with tempfile.TemporaryDirectory() as folder:
-        print_times(given.program.resolve(), Path(folder), given.runs)
-        if given.shares:
-            print_shares(given.program.resolve(), Path(folder))
-
-
 if __name__ == "__main__":
-    main()
+    print_both("Times the exploration of methods with comparisons of ints.", "copying, making formulas and solving", print_times, print_shares)

@@ -21,15 +21,13 @@ Usage: bench/unknown_heaps.py [--runs N] [--program FILE] [--shares]
 Build the program first, by running ./kiasan once.
 """
 
-import argparse
 import subprocess
 import sys
-import tempfile
 from dataclasses import dataclass
 from pathlib import Path
 
 from replay import processor_seconds
-from shares import COPYING, FORMULAS, RUNNING, SOLVING, WRITING, shares_of
+from shares import COPYING, FORMULAS, RUNNING, SOLVING, WRITING, print_both, shares_of
 from straight import ROOT
 
 sys.path.insert(0, str(ROOT / "examples" / "explore"))
@@ -166,20 +164,5 @@ def print_shares(program, folder):
             print(" ".join(f"{cell:>11}" for cell in cells), flush=True)
 
 
-def main():
-    options = argparse.ArgumentParser(description="Times explorations from unknown heaps.")
-    options.add_argument("--runs", type=int, default=5, help="runs of each method (5)")
-    options.add_argument("--program", type=Path, default=ROOT / "build" / "kiasan", help="the built program")
-    options.add_argument("--shares", action="store_true", help="print the shares of copying, solving and writing")
-    given = options.parse_args()
-    if not given.program.is_file():
-        sys.exit(f"{given.program} is not there: run ./kiasan once")
-    program = given.program.resolve()
-    with tempfile.TemporaryDirectory() as folder:
-        print_times(program, Path(folder), given.runs)
-        if given.shares:
-            print_shares(program, Path(folder))
-
-
 if __name__ == "__main__":
-    main()
+    print_both("Times explorations from unknown heaps.", "copying, solving and writing", print_times, print_shares)
