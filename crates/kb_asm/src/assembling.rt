@@ -5,8 +5,8 @@ ghost use Rattle.kb_asm_check.specs.Faults.{Refuses};
 ghost use Rattle.kb_asm.specs.Class.{IsAssembled};
 ghost use Rattle.kb_asm.specs.Working.{AreText, AreBytesOf};
 
+use crate::NoMemory;
 use crate::class::file_of;
-use crate::memory::NoMemory;
 use crate::numbers::code_name_of;
 use crate::pool::pool_of;
 use kb_asm_check::{TextRefusal, read_text};
@@ -22,7 +22,7 @@ fn bytes_of(alloc: Global, lines: &[Line]) -> Result<Vec<u8>, NoMemory>
     let mut pool = pool_of(alloc, lines)?;
     let file = file_of(&mut pool, alloc, lines)?;
     let code_name = code_name_of(&mut pool, alloc)?;
-    Ok(write_class(alloc, &file, code_name)?)
+    write_class(alloc, &file, code_name)
 }
 
 /// The class file of an assembler text.

@@ -10,8 +10,8 @@ ghost use Rattle.kb_asm.specs.Instructions.{SpellsAsked, EncodesLine};
 ghost use Rattle.kb_asm.specs.Class.{IsCodeOf};
 ghost use Rattle.kb_asm.specs.Working.{labels_of, Appends, AreFew, AreCounted, IsFormed, IsFormedLine};
 
+use crate::NoMemory;
 use crate::instr::Body;
-use crate::memory::NoMemory;
 use kb_asm_body::layout_of;
 use kb_asm_pool::Items;
 use kb_asm_text::{BodyLine, Line, Operand, Sizes};

@@ -8,7 +8,7 @@ ghost use Rattle.kb_asm.specs.Needs.{have, IsWhole};
 ghost use Rattle.kb_asm.specs.Instructions.{LeadsTo, IsPair, Names, IsConstant, IsCall, IsBranch, IsAsked};
 ghost use Rattle.kb_asm.specs.Working.{labels_of};
 
-use crate::memory::NoMemory;
+use crate::NoMemory;
 use crate::numbers::{of_call, of_class, of_constant, of_field, of_ref};
 use kb_asm_body::{Layout, argument_words};
 use kb_asm_pool::Items;

@@ -8,7 +8,7 @@ ghost use Rattle.kb_asm_check.specs.Limits.{ldc_says};
 ghost use Rattle.kb_asm.specs.Needs.{IsWhole, says_of};
 ghost use Rattle.kb_asm.specs.Working.{AreText};
 
-use crate::memory::NoMemory;
+use crate::NoMemory;
 use kb_asm_pool::{Items, add_alone, add_needs};
 use kb_asm_text::{BodyLine, Line, Operand};
 use std::alloc::Global;

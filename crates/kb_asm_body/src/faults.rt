@@ -5,8 +5,8 @@ ghost use Rattle.std.specs.List.{list_any};
 ghost use Rattle.kb_asm_body.specs.Layout.{offset_at};
 ghost use Rattle.kb_asm_body.specs.Faults.{is_missing, is_out, is_faulty_instr, is_faulty, fault_of};
 
+use crate::NoMemory;
 use crate::layout::{Layout, behind, layout_of};
-use crate::memory::NoMemory;
 use kb_asm_text::{BodyLine, Case, Catch, Line, Operand};
 use kb_names::Name;
 use kb_writer::Written;

@@ -5,7 +5,8 @@ ghost use Rattle.std.specs.Option.{option_or};
 ghost use Rattle.std.specs.Str.{bytes_eq};
 ghost use Rattle.kb_asm_body.specs.Layout.{instr_size, line_size, offset_behind, label_of, is_label, offset_at, HasLabels};
 
-use crate::memory::{NoMemory, key_of};
+use crate::NoMemory;
+use crate::memory::key_of;
 use kb_asm_text::{BodyLine, Line, Operand};
 use kb_names::Name;
 use kb_writer::padding_behind;

@@ -5,7 +5,6 @@ mod counts;
 mod faults;
 mod laws;
 mod limits;
-mod memory;
 mod reading;
 mod short;
 #[cfg(test)]
@@ -14,3 +13,4 @@ mod tests;
 pub use faults::body_of;
 pub use laws::one_answer;
 pub use reading::{TextRefusal, read_text};
+pub use std::alloc::AllocError as NoMemory;

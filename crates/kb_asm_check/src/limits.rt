@@ -5,8 +5,8 @@ ghost use Rattle.kb_asm_pool.specs.Says.{all_added};
 ghost use Rattle.kb_asm_check.specs.Limits.{nothing, ldc_says, labelled, is_new, has_few_words, is_sound, are_few, has_room, with_line, fits_behind, kept};
 ghost use Rattle.kb_asm_check.specs.Walking.{standing_of, IsTaken};
 
+use crate::NoMemory;
 use crate::counts::Counts;
-use crate::memory::NoMemory;
 use crate::short::is_line_short;
 use kb_asm_body::argument_words;
 use kb_asm_pool::{Items, Texts, add_alone, add_needs};

@@ -8,7 +8,7 @@ ghost use Rattle.kb_asm_pool.specs.Items.{IsPlace, IsWithin, said};
 ghost use Rattle.kb_asm_pool.specs.Needs.{class_needs, member_needs};
 ghost use Rattle.kb_asm_pool.specs.Entries.{number_in, member_entry, entry_of, entries_of};
 
-use crate::memory::NoMemory;
+use crate::NoMemory;
 use crate::texts::Texts;
 use indexmap::IndexSet;
 use kb_classfile::PoolEntry;

@@ -5,7 +5,6 @@
 
 mod items;
 mod laws;
-mod memory;
 mod needs;
 #[cfg(test)]
 mod tests;
@@ -13,8 +12,8 @@ mod texts;
 
 pub use items::{Items, MemberKind};
 pub use laws::no_entry_twice;
-pub use memory::NoMemory;
 pub use needs::{
     add_alone, add_call, add_constant, add_field, add_needs, add_ref, method_bytes, type_bytes,
 };
+pub use std::alloc::AllocError as NoMemory;
 pub use texts::Texts;

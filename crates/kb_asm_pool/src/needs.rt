@@ -6,8 +6,8 @@ ghost use Rattle.kb_names.specs.declared.class_names.Spelling.TheVariants.{Raw};
 ghost use Rattle.kb_asm_pool.specs.Says.{added, all_added, class as says_class};
 ghost use Rattle.kb_asm_pool.specs.Needs.{kind_of_call, field_needs, field_says, call_needs, call_says, constant_says, constant_needs, ref_name, class_needs, operand_needs, code_needs, caught_needs, body_needs, line_needs};
 
+use crate::NoMemory;
 use crate::items::{Items, MemberKind};
-use crate::memory::NoMemory;
 use kb_asm_text::{
     BodyLine, Catch, ClassHead, ClassRef, Constant, FieldHead, FieldName, Line, MethodHead, Operand,
 };

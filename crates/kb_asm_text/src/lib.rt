@@ -6,7 +6,6 @@
 mod heads;
 mod keyword;
 mod line;
-mod memory;
 mod names;
 mod operands;
 mod place;
@@ -23,7 +22,7 @@ pub use line::{
     BodyLine, Case, Catch, ClassHead, ClassRef, Constant, FieldHead, FieldName, Line, MethodHead,
     Operand, Sizes,
 };
-pub use memory::NoMemory;
 pub use place::Place;
 pub use reading::read_line;
+pub use std::alloc::AllocError as NoMemory;
 pub use text::{Front, read_front};

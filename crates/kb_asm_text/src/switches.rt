@@ -6,8 +6,8 @@ ghost use Rattle.kb_asm_text.specs.Words.{EachWord, IsReadAs};
 ghost use Rattle.kb_asm_text.specs.Tokens.{SpellsLabel};
 ghost use Rattle.kb_asm_text.specs.Lines.{is_table, are_rising, SpellsCase, SpellsOperand};
 
+use crate::NoMemory;
 use crate::line::{Case, Operand};
-use crate::memory::NoMemory;
 use crate::names::read_label;
 use crate::shape::Shape;
 use crate::words::first_word;

@@ -5,8 +5,8 @@ ghost use Rattle.kb_asm_text.specs.declared.line.Line.{Line};
 ghost use Rattle.kb_asm_text.specs.Lines.{SpellsLine};
 ghost use Rattle.kb_asm_text.specs.Texts.{next_place as place_next, IsLongestFront};
 
+use crate::NoMemory;
 use crate::line::Line;
-use crate::memory::NoMemory;
 use crate::place::{Place, next_place};
 use crate::reading::read_line;
 use kb_grammar::cut;

@@ -6,8 +6,8 @@ ghost use Rattle.kb_blast.specs.Query.{AreConditions, query_of, numbered_conditi
 ghost use Rattle.kb_blast.specs.Conditions.{formula_of, words_of, condition_literal, with_conditions};
 ghost use Rattle.kb_blast.specs.Meaning.{SaysExactly, Meets, MeetsInPool, AreReadable};
 
+use crate::NoMemory;
 use crate::listing::{listed, number_in};
-use crate::memory::NoMemory;
 use crate::terms::{term_word, term_words};
 use crate::variables::variable_words;
 use kb_chain::{Formula, Lit, Row};

@@ -9,13 +9,13 @@ ghost use Rattle.kb_chain.specs.Propagation.{others, Misses, IsNew};
 ghost use Rattle.kb_chain.specs.Index.{IsFrontOf, IsIndexed, IsRoot, IsRefuted};
 ghost use Rattle.kb_chain.specs.Verdicts.{JudgesFresh};
 
+use crate::NoMemory;
 use crate::clause::Clause;
 use crate::derivation::derive;
 use crate::formula::Formula;
 use crate::index::Index;
 use crate::literal::Lit;
 use crate::log::{Chain, Log, Verdict};
-use crate::memory::NoMemory;
 use crate::propagation::{examine, propagate};
 use crate::signs::has_both_signs;
 use crate::store::Store;

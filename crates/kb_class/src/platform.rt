@@ -143,9 +143,9 @@ impl PlatformKind {
         match self {
             PlatformKind::Text => {
                 let first = none.with(Name::from_slice(alloc, SERIALIZABLE)?)?;
-                Ok(first.with(Name::from_slice(alloc, COMPARABLE)?)?)
+                first.with(Name::from_slice(alloc, COMPARABLE)?)
             }
-            PlatformKind::Throwable => Ok(none.with(Name::from_slice(alloc, SERIALIZABLE)?)?),
+            PlatformKind::Throwable => none.with(Name::from_slice(alloc, SERIALIZABLE)?),
             PlatformKind::Object | PlatformKind::Thrown(_) | PlatformKind::Interface => Ok(none),
         }
     }
@@ -158,11 +158,11 @@ impl PlatformKind {
         match self {
             PlatformKind::Object => {
                 let first = none.with(constructor(alloc, id)?)?;
-                Ok(first.with(equals(alloc, id)?)?)
+                first.with(equals(alloc, id)?)
             }
             PlatformKind::Throwable | PlatformKind::Thrown(_) => {
                 let first = none.with(constructor(alloc, id)?)?;
-                Ok(first.with(constructor_of_text(alloc, id)?)?)
+                first.with(constructor_of_text(alloc, id)?)
             }
             PlatformKind::Text | PlatformKind::Interface => Ok(none),
         }

@@ -5,7 +5,7 @@ ghost use Rattle.kb_chain.specs.Propagation.{IsFresh};
 ghost use Rattle.kb_dimacs.specs.Texts.{unsatisfiable_text, unknown_text};
 ghost use Rattle.kb_dimacs.specs.Answers.{FitBits, HasGoodLog, Tells, check_answer};
 
-use crate::memory::NoMemory;
+use crate::NoMemory;
 use crate::status::Status;
 use crate::texts::{satisfiable_text, unknown_text, unsatisfiable_text};
 use kb_chain::{Formula, Log, Verdict, check_fresh, check_refutation};

@@ -3,7 +3,7 @@ ghost use Rattle.std.specs.Prelude.{◌≡◌, ◌<◌, ◌≤◌, ◌^◌, ◌+
 ghost use Rattle.kb_chain.specs.Clause.{clause_of};
 ghost use Rattle.kb_chain.specs.Cnf.{IsWithin};
 
-use crate::memory::NoMemory;
+use crate::NoMemory;
 use crate::numbers::{literal_within, read_number};
 use crate::refusal::{Cause, ReadingStop};
 use kb_chain::{Clause, Formula, Lit};

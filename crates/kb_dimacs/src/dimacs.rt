@@ -5,8 +5,8 @@ ghost use Rattle.kb_chain.specs.Clause.{Satisfies};
 ghost use Rattle.kb_dimacs.specs.Dimacs.{IsDimacs};
 ghost use Rattle.kb_dimacs.specs.Answers.{AnswersWords, AnswersInput, AnswersFormula};
 
+use crate::NoMemory;
 use crate::answer::{Answer, answer_solved};
-use crate::memory::NoMemory;
 use crate::read::read_dimacs;
 use crate::refusal::Refusal;
 use crate::request::{Request, read_request};

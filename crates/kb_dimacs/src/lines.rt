@@ -4,7 +4,7 @@ ghost use Rattle.std.specs.List.{slice_split};
 ghost use Rattle.kb_dimacs.specs.Lines.{is_white, is_comment, is_some_word, line_words, words};
 ghost use Rattle.kb_dimacs.specs.Pieces.{separates};
 
-use crate::memory::NoMemory;
+use crate::NoMemory;
 use std::alloc::Global;
 
 /// What stands between the pieces of a text.

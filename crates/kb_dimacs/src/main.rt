@@ -6,7 +6,6 @@ mod body;
 mod dimacs;
 mod front;
 mod lines;
-mod memory;
 mod numbers;
 mod read;
 mod refusal;
@@ -19,6 +18,7 @@ mod texts;
 
 use run::run;
 use status::Status;
+use std::alloc::AllocError as NoMemory;
 use std::env::{self, Env};
 use std::io::{self, ErrorKind, Read};
 use std::process::ExitCode;

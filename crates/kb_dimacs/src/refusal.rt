@@ -5,7 +5,7 @@ ghost use Rattle.kb_dimacs.specs.Refusals.{RefusesText};
 ghost use Rattle.kb_dimacs.specs.declared.refusal.Cause.{Cause};
 ghost use Rattle.kb_dimacs.specs.declared.refusal.Refusal.TheVariants.{Line};
 
-use crate::memory::NoMemory;
+use crate::NoMemory;
 
 /// What is wrong with a line.
 #[derive(Clone, Copy, Debug, PartialEq, Eq)]

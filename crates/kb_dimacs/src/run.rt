@@ -3,8 +3,8 @@ ghost use Rattle.std.specs.Prelude.{map, string_bytes};
 ghost use Rattle.std.specs.Option.{option_copied};
 ghost use Rattle.kb_dimacs.specs.Answers.{Runs, Sends};
 
+use crate::NoMemory;
 use crate::dimacs::dimacs;
-use crate::memory::NoMemory;
 use crate::status::Status;
 use std::alloc::Global;
 use std::io::Write;

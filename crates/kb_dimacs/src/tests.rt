@@ -1,8 +1,8 @@
 //! Texts that are read and refused, words, answers, and the program over writers in memory.
 
+use crate::NoMemory;
 use crate::answer::answer_solved;
 use crate::dimacs::dimacs;
-use crate::memory::NoMemory;
 use crate::read::read_dimacs;
 use crate::refusal::{Cause, Refusal};
 use crate::request::{Request, read_request};

@@ -3,7 +3,7 @@ ghost use Rattle.std.specs.Prelude.{◌≡◌, ◌<◌, ◌≤◌, ◌^◌, ◌+
 ghost use Rattle.std.specs.Fmt.{signed_decimal};
 ghost use Rattle.kb_dimacs.specs.Texts.{placed, column_behind, all_placed, value_words, satisfiable_text, one_step_entries, check_text, log_text, unsatisfiable_text, unknown_text, counts_text, count_line, usage_text, refusal_text};
 
-use crate::memory::NoMemory;
+use crate::NoMemory;
 use crate::refusal::Cause;
 use kb_chain::{Chain, Lit, Verdict};
 use kb_sat::Counts;

@@ -5,9 +5,9 @@ ghost use Rattle.kb_eliminate.specs.Base.{Stands, IsReady, KeepsBase, Forgets, I
 ghost use Rattle.kb_eliminate.specs.Trail.{TrailGrows};
 ghost use Rattle.kb_eliminate.specs.Watches.{IsAwake};
 
+use crate::NoMemory;
 use crate::begin::watch_all;
 use crate::clauses::Clauses;
-use crate::memory::NoMemory;
 use crate::propagation::propagate;
 use crate::trail::Trail;
 use crate::watches::Watches;

@@ -6,8 +6,8 @@ ghost use Rattle.kb_chain.specs.Literal.{has, negated};
 ghost use Rattle.kb_eliminate.specs.Base.{Stands, IsReady};
 ghost use Rattle.kb_eliminate.specs.Elimination.{IsUndecided, IsResolventAt, each_with, AreGone};
 
+use crate::NoMemory;
 use crate::base::Base;
-use crate::memory::NoMemory;
 use crate::occurrences::Occurrences;
 use crate::resolvents::{add_resolvent, resolvent};
 use crate::trail::Trail;

@@ -9,8 +9,8 @@ ghost use Rattle.kb_eliminate.specs.Base.{IsConflict};
 ghost use Rattle.kb_eliminate.specs.Watches.{Quiet, IsWatching, IsAwake, Walks, AllListed, StaysQuiet, is_blocked, all_blocked, IsOther};
 ghost use Rattle.kb_eliminate.specs.declared.watch.Watch.{Watch};
 
+use crate::NoMemory;
 use crate::clauses::Clauses;
-use crate::memory::NoMemory;
 use crate::trail::Trail;
 use crate::watch::{Pair, Watch};
 use crate::watches::{WatchList, Watches, put_back, put_watch};

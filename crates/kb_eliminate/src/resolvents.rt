@@ -6,9 +6,9 @@ ghost use Rattle.kb_chain.specs.Clause.{has_only};
 ghost use Rattle.kb_eliminate.specs.Resolvents.{IsResolvent, IsMerged};
 ghost use Rattle.kb_eliminate.specs.Base.{Stands, IsReady};
 
+use crate::NoMemory;
 use crate::base::{Base, second_of};
 use crate::begin::watch_pair;
-use crate::memory::NoMemory;
 use crate::trail::Trail;
 use kb_chain::{Chain, Lit, Row};
 use std::alloc::Global;

@@ -103,7 +103,7 @@ fn with_field(
         return Ok(slots);
     }
     let slot = slot_of(alloc, slots.as_slice().len(), number, field)?;
-    Ok(slots.with(slot)?)
+    slots.with(slot)
 }
 
 // The slot of that number. Numbers beyond 32 bits are want of memory.

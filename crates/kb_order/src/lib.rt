@@ -2,7 +2,6 @@
 #![tactic(auto)]
 
 mod complete;
-mod memory;
 mod order;
 mod table;
 #[cfg(test)]
@@ -11,6 +10,6 @@ mod texts;
 
 pub use complete::is_complete;
 pub use kb_rows::Row;
-pub use memory::NoMemory;
 pub use order::{Order, order_of};
+pub use std::alloc::AllocError as NoMemory;
 pub use texts::{TextSet, ordered_set};

@@ -17,7 +17,4 @@ pub use reading::read_up_to;
 pub use real::{FileShelf, OutSink};
 pub use shelves::{Shelf, ShelfStop};
 pub use sinks::{Sink, SinkFailed, send_all};
-
-/// Memory ran out.
-#[derive(Clone, Copy, Debug, PartialEq, Eq)]
-pub struct NoMemory;
+pub use std::alloc::AllocError as NoMemory;

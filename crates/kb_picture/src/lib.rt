@@ -29,26 +29,4 @@ pub use laws::{
 pub use path::{Ended, Leaf, Made, Out, Path, SymEnding, Write};
 pub use picture::{Length, Origin, PicLoc, PicObject, Picture, PlaceLists, Seen, Standing};
 pub use placing::places;
-use std::alloc::AllocError;
-
-/// Memory ran out.
-#[derive(Clone, Copy, Debug, PartialEq, Eq)]
-pub struct NoMemory;
-
-impl From<AllocError> for NoMemory {
-    fn from(_error: AllocError) -> NoMemory {
-        NoMemory
-    }
-}
-
-impl From<kb_heap::NoMemory> for NoMemory {
-    fn from(_error: kb_heap::NoMemory) -> NoMemory {
-        NoMemory
-    }
-}
-
-impl From<kb_names::NoMemory> for NoMemory {
-    fn from(_error: kb_names::NoMemory) -> NoMemory {
-        NoMemory
-    }
-}
+pub use std::alloc::AllocError as NoMemory;

@@ -11,7 +11,8 @@ pub use listing::{Operand, Term};
 pub use node::{Node, TermId, VarKind};
 pub use numbering::Numbering;
 pub use op::Op;
-pub use pool::{NoMemory, Pool};
+pub use pool::Pool;
+pub use std::alloc::AllocError as NoMemory;
 
 #[cfg(test)]
 mod tests;

@@ -6,7 +6,7 @@ ghost use Rattle.kb_code.specs.declared.instruction.Instr.{Instr};
 ghost use Rattle.kb_code.specs.Listing.{SpellsInstr};
 ghost use Rattle.kb_writer.specs.Instructions.{Writes, HasNumbers, is_sound, is_near, is_far, reaches, near, far, bytes_of, size_of};
 
-use crate::memory::NoMemory;
+use crate::NoMemory;
 use crate::numbers::{push_u1, push_u2};
 use crate::switch_writer::{push_far, push_lookup, push_near, push_table};
 use crate::written::Written;

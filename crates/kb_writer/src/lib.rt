@@ -8,7 +8,6 @@
 mod class_writer;
 mod code_writer;
 mod instr_writer;
-mod memory;
 mod numbers;
 mod pool_writer;
 mod switch_writer;
@@ -19,5 +18,5 @@ mod written;
 pub use class_writer::write_class;
 pub use instr_writer::write_instr;
 pub use kb_rows::Row;
-pub use memory::NoMemory;
+pub use std::alloc::AllocError as NoMemory;
 pub use written::{Written, padding_behind};

@@ -5,7 +5,7 @@ ghost use Rattle.std.specs.List.{flat_map, list_all};
 ghost use Rattle.kb_writer.specs.Numbers.{int};
 ghost use Rattle.kb_writer.specs.Instructions.{HaveInts, is_near, is_far, is_table, near, far, padding, pair_bytes, bounds, switch_head, table_bytes, lookup_bytes};
 
-use crate::memory::NoMemory;
+use crate::NoMemory;
 use crate::numbers::{push_run, push_u1, push_u2, push_u4};
 use crate::written::padding_behind;
 

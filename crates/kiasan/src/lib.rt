@@ -7,7 +7,6 @@
 mod answer;
 mod assembly;
 mod classes;
-mod memory;
 mod methods;
 mod orders;
 mod refusals;
@@ -21,4 +20,5 @@ mod unbuilt;
 mod verdicts;
 
 pub use status::Status;
+pub use std::alloc::AllocError as NoMemory;
 pub use top::kiasan;

@@ -7,7 +7,7 @@ ghost use Rattle.kiasan.specs.Exploring.{AreListed, HasHead, IsBuiltReport};
 ghost use Rattle.kiasan.specs.Orders.{IsBuiltJob};
 ghost use Rattle.kiasan.specs.Unbuilt.{IsBuiltFor};
 
-use crate::memory::NoMemory;
+use crate::NoMemory;
 use kb_class::MethodId;
 use kb_drive::{DriveStop, explore_from};
 use kb_frames::start;

@@ -11,7 +11,7 @@ ghost use Rattle.kb_test.specs.Tests.{IsTest, SpellsTests, literal_objects};
 ghost use Rattle.kiasan.specs.Exploring.{IsCarried, path_tests, test_of, tests_of};
 ghost use Rattle.kiasan.specs.Tests.{literals_in};
 
-use crate::memory::NoMemory;
+use crate::NoMemory;
 use crate::spelled::look_at_numbers;
 use kb_heap::{Heap, Object};
 use kb_picture::{Ended, Leaf, Path, ending_at, final_heaps_are_whole, places};
@@ -103,7 +103,7 @@ fn final_heap(
     let objects = heap.objects.as_slice();
     let first = copied_objects(alloc, &objects[..inputs])?;
     let made = copied_objects(alloc, &objects[inputs + literals as usize..])?;
-    Ok(FinalHeap::new(alloc, first, literals, made)?)
+    FinalHeap::new(alloc, first, literals, made)
 }
 
 fn copied_objects(alloc: Global, objects: &[Object]) -> Result<Row<Object>, NoMemory>
