@@ -19,7 +19,7 @@ use kb_terms::{Node, Numbering, Operand, Term, TermId};
 use std::alloc::Global;
 
 /// There was no memory for a path: its leaf, as it was handed in.
-#[derive(Debug, Drop)]
+#[derive(Drop)]
 pub struct PathStop {
     pub leaf: Leaf,
 }

@@ -11,7 +11,7 @@ use kb_world::World;
 use std::alloc::Global;
 
 /// A type, and the first exact type of the universe that fits it.
-#[derive(Debug, Drop)]
+#[derive(Drop)]
 pub(crate) struct Fitting {
     kind: JType,
     first: Option<ExactType>,
