@@ -1,8 +1,8 @@
 //! What a path of an exploration says of an input: the picture of its first heap, the conditions on its ints, and how its run
 //! ends.
 //!
-//! `specs/` has the definitions: where the objects of a picture lie in an input (`Places`), which inputs are instances of a path
-//! (`Shapes`, `Instances`), the ending and the heap that an ended path states (`Endings`), when a path is well-formed
+//! `specs/` has the definitions: where the objects of a picture lie in an input (`Places`), which inputs are instances of a
+//! path (`Shapes`, `Instances`), the ending and the heap that an ended path states (`Endings`), when a path is well-formed
 //! (`WellFormed`), and how a picture grows (`Growth`) and keeps the types of a method (`WellTyped`).
 #![tactic(auto)]
 

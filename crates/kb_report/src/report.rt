@@ -24,7 +24,7 @@ use std::alloc::Global;
 
 /// The paths of a method, with what it was explored with: when it is chosen which object a reference is, the bounds on inputs and
 /// runs, the most paths that are not open, and the most conflicts of one question to the solver.
-#[derive(Debug, Drop)]
+#[derive(Drop)]
 pub struct Report {
     pub target: Target,
     pub init: Init,

@@ -1,7 +1,7 @@
 //! Symbolic steps of ints: the alternatives of the next step of a state, and what a state becomes when one is taken.
 //!
-//! `specs/Choices.antt` has the alternatives, `specs/Takes.antt` what a take makes of a state, `specs/Simulation.antt` what it means
-//! that this simulates the machine.
+//! `specs/Choices.antt` has the alternatives, `specs/Takes.antt` what a take makes of a state, `specs/Simulation.antt` what it
+//! means that this simulates the machine.
 #![tactic(auto)]
 
 mod arithmetic;

@@ -191,7 +191,8 @@ fn put_on(
     }
     let value = keep(state, &field.kind, value)?;
     put_in(state, object, field.slot, value);
-    replaces(turn, state, 2, &[])
+    let outcome = replaces(turn, state, 2, &[])?;
+    Ok(outcome)
 }
 
 // Whether the object has the field, and so a place for a value.

@@ -32,7 +32,7 @@ pub(crate) fn carry_out(
         Instr::ReturnRef => return_reference(turn, state),
         Instr::GetField(entry) => get_field(turn, state, *entry),
         Instr::PutField(entry) => put_field(turn, state, *entry),
-        // Those on ints, and on arrays, new objects, calls and throws, are no instructions on references by now.
+        // Those on ints, and on arrays, new objects, calls and throws, are not yet instructions on references.
         Instr::Nop | Instr::PushInt(_) | Instr::Ldc(_) => ill_typed(turn, state),
         Instr::LoadInt(_) | Instr::StoreInt(_) | Instr::Inc(..) => ill_typed(turn, state),
         Instr::Pop | Instr::Pop2 | Instr::Dup | Instr::DupX1 => ill_typed(turn, state),

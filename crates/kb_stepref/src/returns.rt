@@ -1,4 +1,4 @@
-//! The return of a reference (JVMS 8 section 6.5). By now no method calls another: the run ends.
+//! The return of a reference (JVMS 8 section 6.5). For now no method calls another: the run ends.
 ghost use Rattle.std.specs.Prelude.{◌≡◌, Some, IfOk};
 ghost use Rattle.kb_picture.specs.declared.path.SymEnding.TheVariants.{Returned};
 ghost use Rattle.kb_frames.specs.StandsFor.{out_of};
