@@ -2,7 +2,7 @@ use Rattle.std.proofs.Common.{◌≡◌, ◌+◌, length}
 use Rattle.std.specs.Prelude.{IsTrue}
 use Rattle.kb_asm_check.specs.Limits.{are_few, kept_behind, kept}
 use Rattle.kb_asm_check.specs.Walking.{standing_of}
-use Rattle.kb_asm_check.proofs.limits.kept.Given as goal
+use Rattle.kb_asm_check.proofs.limits.kept_from.Given as goal
 
 abbrev pub invariant-loop-rest : goal.invariant-loop-rest
 invariant-loop-rest l = record {
