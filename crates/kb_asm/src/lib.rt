@@ -17,5 +17,5 @@ mod pool;
 
 pub use assembling::assemble;
 pub use kb_asm_check::TextRefusal as AsmRefusal;
-pub use laws::one_listing;
+pub use laws::code_has_a_listing;
 pub use std::alloc::AllocError as NoMemory;

@@ -5,8 +5,6 @@
 mod faults;
 mod layout;
 mod memory;
-#[cfg(test)]
-mod tests;
 mod words;
 
 pub use faults::body_fault;

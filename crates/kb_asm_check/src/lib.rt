@@ -7,8 +7,6 @@ mod laws;
 mod limits;
 mod reading;
 mod short;
-#[cfg(test)]
-mod tests;
 
 pub use faults::body_of;
 pub use laws::one_answer;

@@ -147,11 +147,11 @@ impl Limits {
 }
 
 /// How many lines keep the limits, up to the first that does not.
-pub(crate) fn kept(alloc: Global, lines: &[Line]) -> Result<usize, NoMemory>
+fn kept_from(limits: &mut Limits, alloc: Global, lines: &[Line]) -> Result<usize, NoMemory>
+    requires { standing_of limits.old ≡ nothing }
     ensures count { IfOk result (λ count. count ≡ kept lines.now) }
     ensures within { IfOk result (λ count. count ≤ length lines.now) }
 {
-    let mut limits = Limits::new(alloc);
     let mut count = 0;
     let mut rest = lines;
     while let [line, others @ ..] = rest {
@@ -162,4 +162,13 @@ pub(crate) fn kept(alloc: Global, lines: &[Line]) -> Result<usize, NoMemory>
         rest = others;
     }
     Ok(count)
+}
+
+/// How many lines keep the limits, up to the first that does not.
+pub(crate) fn kept(alloc: Global, lines: &[Line]) -> Result<usize, NoMemory>
+    ensures count { IfOk result (λ count. count ≡ kept lines.now) }
+    ensures within { IfOk result (λ count. count ≤ length lines.now) }
+{
+    let mut limits = Limits::new(alloc);
+    kept_from(&mut limits, alloc, lines)
 }

@@ -6,11 +6,9 @@
 mod items;
 mod laws;
 mod needs;
-#[cfg(test)]
-mod tests;
 mod texts;
 
-pub use items::{Items, MemberKind};
+pub use items::{Items, ReferenceKind};
 pub use laws::no_entry_twice;
 pub use needs::{
     add_alone, add_call, add_constant, add_field, add_needs, add_ref, method_bytes, type_bytes,

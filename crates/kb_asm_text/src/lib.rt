@@ -12,8 +12,6 @@ mod place;
 mod reading;
 mod shape;
 mod switches;
-#[cfg(test)]
-mod tests;
 mod text;
 mod tokens;
 mod words;
