@@ -11,12 +11,8 @@ use crate::short::is_line_short;
 use kb_asm_body::argument_words;
 use kb_asm_pool::{Items, Texts, add_alone, add_needs};
 use kb_asm_text::{BodyLine, Line, Operand};
+use kb_code::{INVOKEINTERFACE, LDC};
 use std::alloc::Global;
-
-/// The opcodes of ldc and invokeinterface (JVMS 8 section 6.5).
-const LDC: u8 = 0x12;
-
-const INVOKEINTERFACE: u8 = 0xb9;
 
 /// The most entries of a pool, and the most constants of ldc lines.
 const MOST_ENTRIES: usize = 65_534;

@@ -11,11 +11,9 @@ use crate::items::{Items, ReferenceKind};
 use kb_asm_text::{
     BodyLine, Catch, ClassHead, ClassRef, Constant, FieldHead, FieldName, Line, MethodHead, Operand,
 };
+use kb_code::INVOKEINTERFACE;
 use kb_names::{JType, MethodType, Spelling, Target, write_method_type, write_type};
 use std::alloc::Global;
-
-/// The opcode of invokeinterface (JVMS 8 section 6.5).
-const INVOKEINTERFACE: u8 = 0xb9;
 
 /// The descriptor of a type as it stands in a class file.
 pub fn type_bytes(alloc: Global, of: &JType) -> Result<Vec<u8>, NoMemory>
