@@ -3,7 +3,7 @@ use Rattle.std.specs.Bool.{OnTrue, OnFalse}
 use Rattle.kb_chain.specs.Chains.{derived}
 use Rattle.kb_chain.specs.Propagation.{IsFresh}
 use Rattle.kb_chain.specs.Index.{IsIndexed, IsRoot, IsRefuted}
-use Rattle.kb_chain.proofs.freshness.check_fresh.Given as goal
+use Rattle.kb_chain.proofs.freshness.check_entries.Given as goal
 
 abbrev pub invariant-loop-i : goal.invariant-loop-i
 invariant-loop-i l = record {
@@ -16,6 +16,6 @@ invariant-loop-i l = record {
   indexed : IsIndexed l.store.clauses l.index;
   root : OnTrue l.quiet (IsRoot l.store.clauses l.trail.literals);
   refuted : OnFalse l.quiet (IsRefuted l.store.clauses l.trail.literals);
-  derived : derived l.fn.formula.clauses (take l.i l.entries) ≡ Some l.store.clauses;
-  fresh : IsFresh l.fn.formula.clauses (take l.i l.entries);
+  derived : derived l.fn.formula.clauses (take l.i l.fn.entries) ≡ Some l.store.clauses;
+  fresh : IsFresh l.fn.formula.clauses (take l.i l.fn.entries);
 }
