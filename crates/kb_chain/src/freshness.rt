@@ -35,18 +35,28 @@ pub fn check_fresh(alloc: Global, formula: &Formula, log: &Log) -> Result<Verdic
     }
     let mut store = Store::new(alloc, formula);
     let mut working = Working::new(alloc, formula.vars())?;
+    check_from(alloc, formula, entries, &mut store, &mut working)
+}
+
+/// Whether each entry is new, where the store has the formula's clauses alone.
+fn check_from(
+    alloc: Global,
+    formula: &Formula,
+    entries: &[Chain],
+    store: &mut Store<'_>,
+    working: &mut Working,
+) -> Result<Verdict, NoMemory>
+    requires few { length formula.now.clauses + length entries.now < 2 ^ 32 }
+    requires store { store.old ≡ formula.now }
+    requires working { working.old.places ≡ 2 * formula.now.vars + 2 }
+    requires empty { working.old.clause ≡ [] }
+    ensures { IfOk result (JudgesFresh formula.now.clauses entries.now) }
+{
     let mut trail = Trail::new(alloc, formula.vars())?;
     let mut index = index_of(alloc, formula)?;
-    let quiet = begin(formula, &store, &index, &mut trail)?;
+    let quiet = begin(formula, store, &index, &mut trail)?;
     check_entries(
-        alloc,
-        formula,
-        entries,
-        &mut store,
-        &mut working,
-        &mut trail,
-        &mut index,
-        quiet,
+        alloc, formula, entries, store, working, &mut trail, &mut index, quiet,
     )
 }
 
