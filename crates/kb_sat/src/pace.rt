@@ -68,21 +68,3 @@ impl Crowding {
         true
     }
 }
-
-#[cfg(test)]
-mod tests {
-    use super::*;
-    use std::test::Fail;
-
-    #[test]
-    fn lets_go_at_growing_intervals(rt: HostRuntime) -> Result<(), Fail> {
-        let mut crowding = Crowding::new();
-        for interval in [1000u32, 1200, 1400] {
-            for _ in 1..interval {
-                assert!(rt; !crowding.is_due());
-            }
-            assert!(rt; crowding.is_due());
-        }
-        Ok(())
-    }
-}
