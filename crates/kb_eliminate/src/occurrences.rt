@@ -1,4 +1,5 @@
-//! Occurrence lists: the clauses that have a literal, for variable elimination. Free: what they name is looked at again before use.
+//! Occurrence lists: the clauses that have a literal, for variable elimination. Free: what they name is looked at again before
+//! use.
 use crate::NoMemory;
 use crate::base::Base;
 use crate::trail::Trail;

@@ -1,5 +1,5 @@
-//! Unit propagation by two watched literals (Moskewicz and others, 2001), with a blocking literal beside each watch (as in MiniSat).
-//! Under proof: it ends with a false clause, or when no clause forces anything more.
+//! Unit propagation by two watched literals (Moskewicz and others, 2001), with a blocking literal beside each watch (as in
+//! MiniSat). Under proof: it ends with a false clause, or when no clause forces anything more.
 ghost use Rattle.std.specs.Prelude.{◌≡◌, ℕ, ◌+◌, ◌*◌, ◌<◌, ◌≤◌, Bool, true, false, List, [], ◌∷◌, length, take, slice_get, Some, OnOk, IfOk, IfSome, IfNone};
 ghost use Rattle.std.specs.Bool.{OnTrue, OnFalse};
 ghost use Rattle.kb_chain.specs.Literal.{Literal, has, negated, same, place_of};

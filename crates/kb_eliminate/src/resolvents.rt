@@ -13,8 +13,8 @@ use crate::trail::Trail;
 use kb_chain::{Chain, Lit, Row};
 use std::alloc::Global;
 
-/// The resolvent of two clauses, without what is false at level 0. None where a clause has both literals of the pivot's variable,
-/// and where the resolvent is true at level 0 or has both literals of a variable.
+/// The resolvent of two clauses, without what is false at level 0. None where a clause has both literals of the pivot's
+/// variable, and where the resolvent is true at level 0 or has both literals of a variable.
 pub fn resolvent(
     alloc: Global,
     trail: &Trail,

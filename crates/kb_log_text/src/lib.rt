@@ -3,8 +3,6 @@
 #![tactic(auto)]
 
 mod law;
-#[cfg(test)]
-mod tests;
 mod writing;
 
 pub use law::one_log_of_a_text;

@@ -18,7 +18,7 @@ pub enum Answer {
 }
 
 /// Why there is no answer.
-#[derive(Clone, Copy, Debug, PartialEq, Eq)]
+#[derive(Clone, Copy, PartialEq, Eq)]
 pub enum OracleStop {
     /// The answer of that number, among those that the oracle goes by, does not serve the query. The oracle has counted it.
     Bad(u32),

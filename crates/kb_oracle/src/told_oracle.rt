@@ -19,7 +19,7 @@ use std::alloc::Global;
 use std::marker::Model;
 
 /// What a call of a [`ToldOracle`] is told to do.
-#[derive(Clone, Debug, Drop)]
+#[derive(Clone, Drop)]
 pub enum Told {
     /// Stop with `Bad` of this number.
     Bad(u32),

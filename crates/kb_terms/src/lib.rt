@@ -13,6 +13,3 @@ pub use numbering::Numbering;
 pub use op::Op;
 pub use pool::Pool;
 pub use std::alloc::AllocError as NoMemory;
-
-#[cfg(test)]
-mod tests;
