@@ -16,7 +16,7 @@ pub struct RunBounds {
 /// The bounds of an exploration: those of its runs and those of its inputs.
 #[derive(Clone, Copy, Debug, PartialEq, Eq)]
 pub struct Bounds {
-    /// The greatest number of references from an argument to an input object.
+    /// The greatest depth of an input object; one in an argument has depth 1, one in its slot depth 2.
     pub k: u32,
     /// The greatest length of an input array.
     pub array: u32,
