@@ -4,8 +4,6 @@
 mod bounds;
 mod ending;
 mod heap;
-#[cfg(test)]
-mod tests;
 
 pub use bounds::{Bound, Bounds, RunBounds};
 pub use ending::{Ending, Place};

@@ -4,8 +4,6 @@
 mod complete;
 mod order;
 mod table;
-#[cfg(test)]
-mod tests;
 mod texts;
 
 pub use complete::is_complete;

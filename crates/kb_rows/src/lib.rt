@@ -6,8 +6,6 @@
 
 mod held;
 mod row;
-#[cfg(test)]
-mod tests;
 
 pub use held::Held;
 pub use row::Row;
