@@ -14,7 +14,7 @@ use crate::state::{Callers, State};
 use crate::turn::{Step, Turn};
 use kb_class::MethodId;
 use kb_heap::{Bound, Ending, Heap, Input, Object, Place, Row, RunBounds};
-use kb_names::{ExactType, MethodType, Name, Target};
+use kb_names::{ExactType, MethodType, Name, SharedRow, Target};
 use kb_world::World;
 use std::alloc::Global;
 
@@ -117,7 +117,7 @@ fn no_target(alloc: Global) -> Target
         class: Name::new(alloc),
         name: Name::new(alloc),
         kind: MethodType {
-            params: Row::new(alloc),
+            params: SharedRow::new(),
             result: None,
         },
     }

@@ -7,10 +7,9 @@ mod descriptors;
 mod name;
 mod name_texts;
 mod same;
+mod shared;
 mod stages;
 mod targets;
-#[cfg(test)]
-mod tests;
 mod types;
 mod writing;
 
@@ -22,6 +21,7 @@ pub use kb_rows::Row;
 pub use name::Name;
 pub use name_texts::{NameTextRefusal, read_name, write_name};
 pub use same::{Same, are_same};
+pub use shared::SharedRow;
 pub use std::alloc::AllocError as NoMemory;
 pub use targets::{TargetRefusal, read_target, write_target};
 pub use types::{Component, ExactType, JType, MethodType, Target};

@@ -36,7 +36,7 @@ fn array_seen(alloc: Global) -> io::Result<Picture> {
         (Origin::Arg(1), Seen::Null),
     ]?;
     let array = PicObject {
-        kind: ExactType::Array(JType::Class(Name::from_vec(b"a b".to_vec(alloc)?))),
+        kind: ExactType::Array(JType::Class(Name::from_vec(b"a b".to_vec(alloc)?)?)),
         length: Length::Is(3),
         origin: field,
     };
@@ -104,7 +104,7 @@ fn thrown(alloc: Global) -> io::Result<Leaf> {
             values: Row::new(alloc)
         },
         Made {
-            kind: ExactType::Array(JType::Class(Name::from_vec(b"a;b".to_vec(alloc)?))),
+            kind: ExactType::Array(JType::Class(Name::from_vec(b"a;b".to_vec(alloc)?)?)),
             values: Row::from_vec(vec![in alloc; Out::Literal(0), Out::New(0)]?)
         },
     ]?;

@@ -42,7 +42,7 @@ pub fn target(alloc: Global, text: &[u8]) -> io::Result<Target> {
 }
 
 pub fn class(alloc: Global, name: &[u8]) -> io::Result<ExactType> {
-    Ok(ExactType::Class(Name::from_vec(name.to_vec(alloc)?)))
+    Ok(ExactType::Class(Name::from_vec(name.to_vec(alloc)?)?))
 }
 
 /// The type of arrays with that component.
