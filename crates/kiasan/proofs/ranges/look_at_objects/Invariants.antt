@@ -1,7 +1,7 @@
 use Rattle.std.proofs.Common.{length}
 use Rattle.std.specs.List.{AllByRecursion}
-use Rattle.kiasan.specs.Spelled.{HasRanges}
-use Rattle.kiasan.proofs.spelled.look_at_objects.Given as goal
+use Rattle.kiasan.specs.Ranges.{HasRanges}
+use Rattle.kiasan.proofs.ranges.look_at_objects.Given as goal
 
 abbrev pub invariant-loop-rest : goal.invariant-loop-rest
 invariant-loop-rest l = AllByRecursion HasRanges l.rest → AllByRecursion HasRanges l.objects
