@@ -16,7 +16,7 @@ use kb_picture::Init;
 use kb_rows::Row;
 use std::alloc::{AllocError, Global};
 
-/// The most conflicts of a whole exploration.
+/// The most that the paths times the budget may be.
 const MOST_CONFLICTS: u64 = 2_000_000;
 
 /// The numbers of branches that a sample may have.
@@ -86,7 +86,7 @@ pub enum WordFault {
     NoTests,
     /// No class file is named.
     NoFiles,
-    /// The paths times the budget are too many conflicts.
+    /// The paths times the budget are too many.
     TooMuch,
     NoMemory,
 }
