@@ -16,14 +16,14 @@ use kb_picture::Init;
 use kb_rows::Row;
 use std::alloc::{AllocError, Global};
 
-/// The most conflicts of a whole exploration.
+/// The most that the paths times the budget may be.
 const MOST_CONFLICTS: u64 = 2_000_000;
 
 /// The numbers of branches that a sample may have.
 const SAMPLE_RANGE: Range = Range { low: 0, high: 64 };
 
 /// A command.
-#[derive(Clone, Copy, Debug, PartialEq, Eq)]
+#[derive(Clone, Copy, PartialEq, Eq)]
 pub enum Command {
     Explore,
     Tests,
@@ -34,20 +34,20 @@ pub enum Command {
 }
 
 /// A method that is to be explored, in the world of which class files, and how far.
-#[derive(Debug, Drop)]
+#[derive(Drop)]
 pub struct Job {
     pub target: Target,
     pub init: Init,
     pub bounds: Bounds,
     /// The most paths that are listed and not open.
     pub paths: u32,
-    /// The most conflicts of a call of the solver.
+    /// The most clauses that the solver derives for one question, resolvents of eliminations among them.
     pub budget: u32,
     pub files: Row<Word>,
 }
 
 /// What the words order.
-#[derive(Debug, Drop)]
+#[derive(Drop)]
 pub enum Order {
     /// To write the report of the paths.
     Explore(Job),
@@ -64,7 +64,7 @@ pub enum Order {
 }
 
 /// Why words order nothing. Words are numbered from 0, the command.
-#[derive(Clone, Copy, Debug, PartialEq, Eq)]
+#[derive(Clone, Copy, PartialEq, Eq)]
 pub enum WordFault {
     /// There are no words.
     NoCommand,
@@ -86,7 +86,7 @@ pub enum WordFault {
     NoTests,
     /// No class file is named.
     NoFiles,
-    /// The paths times the budget are too many conflicts.
+    /// The paths times the budget are too many.
     TooMuch,
     NoMemory,
 }

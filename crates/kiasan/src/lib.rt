@@ -9,10 +9,10 @@ mod assembly;
 mod classes;
 mod methods;
 mod orders;
+mod ranges;
 mod refusals;
 mod replay;
 mod reports;
-mod spelled;
 mod status;
 mod tests_text;
 mod top;
@@ -21,4 +21,4 @@ mod verdicts;
 
 pub use status::Status;
 pub use std::alloc::AllocError as NoMemory;
-pub use top::kiasan;
+pub use top::{kiasan, words_have_one_reply};

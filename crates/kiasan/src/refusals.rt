@@ -18,7 +18,7 @@ use std::alloc::{AllocFailed, Global};
 
 /// Why what the words order is not done. Files, methods, handlers, tests and words are numbered from 0, lines from 1. Offsets
 /// count the bytes of a class file from its front, those of instructions and targets the bytes of a method's code.
-#[derive(Debug, Drop)]
+#[derive(Drop)]
 pub enum Refusal {
     /// The class file of that number does not begin as one.
     Magic(usize),
@@ -58,7 +58,7 @@ pub enum Refusal {
     BadDescriptor(u32, u16),
     /// Two classes have the name, or one has that of a platform class.
     Twice(Name),
-    /// No class has the name of a superclass or interface.
+    /// No class has the name of a superclass or interface, or the one that a new, anewarray, checkcast or instanceof names.
     Missing(Name),
     /// The class is one of its own superclasses and interfaces.
     Circle(Name),
@@ -113,7 +113,7 @@ pub enum Refusal {
 }
 
 /// Why there is no text to write, or why it is that of a refusal.
-#[derive(Debug, Drop)]
+#[derive(Drop)]
 pub enum Stop {
     Refused(Refusal),
     /// A file could not be read.

@@ -17,7 +17,7 @@ use std::process::ExitCode;
 const NOT_UTF8: u8 = 71;
 
 /// Does what the words ask for, and ends with the number of the status. Where there are no words to go by, nothing is
-/// read or written.
+/// written.
 pub fn run<S: Shelf, K: Sink>(
     alloc: Global,
     words: Result<Vec<String>, WordsStop>,

@@ -1,11 +1,12 @@
-//! What types tell of numbers: the ints of a test, the offset at which it ends, the bytes of files. The functions do nothing.
+//! What types tell of numbers: the ints of a test, the offset at which it ends, the bytes of files. The functions do nothing but
+//! tell the prover.
 
 ghost use Rattle.std.specs.Prelude.{◌<◌, ◌^◌};
 ghost use Rattle.std.specs.Int.{w32};
 ghost use Rattle.std.specs.Int.RustNames.{FitsSigned};
 ghost use Rattle.std.specs.List.{AllByRecursion};
 ghost use Rattle.kb_names.specs.Bytes.{AreBytes};
-ghost use Rattle.kiasan.specs.Spelled.{EndingHasRange, HasRange, HasRanges, HaveRanges};
+ghost use Rattle.kiasan.specs.Ranges.{EndingHasRange, HasRange, HasRanges, HaveRanges};
 
 use kb_heap::{Ending, Heap, Input, Object, Value};
 use kb_rows::Row;

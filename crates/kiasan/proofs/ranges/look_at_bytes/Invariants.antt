@@ -1,6 +1,6 @@
 use Rattle.std.proofs.Common.{length}
 use Rattle.kb_names.specs.Bytes.{AreBytes}
-use Rattle.kiasan.proofs.spelled.look_at_bytes.Given as goal
+use Rattle.kiasan.proofs.ranges.look_at_bytes.Given as goal
 
 abbrev pub invariant-loop-rest : goal.invariant-loop-rest
 invariant-loop-rest l = AreBytes l.rest → AreBytes l.bytes
