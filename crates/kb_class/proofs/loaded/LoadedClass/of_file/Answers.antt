@@ -1,4 +1,7 @@
+use Rattle.std.proofs.Common.{subst}
+use Rattle.kb_classfile.specs.declared.file.ClassFile.{ClassFile}
 use Rattle.kb_class.specs.Given.{given_of}
+use Rattle.kb_class.specs.Loading.{AreMethodsOf}
 use Rattle.kb_class.proofs.LoadLaws.{sound, own_named, parent_named, has_interfaces, is_class, is_indexed}
 use Rattle.kb_class.proofs.loaded.LoadedClass.of_file.Goals as goal
 
@@ -27,7 +30,7 @@ invariant_of-result c =
     let types = rw c.get.ensures at c.in_ok-named.ensures.types in
     let kinds = rw c.get.ensures at c.in_ok-named.ensures.kinds in
     let fields = rw c.get-2.ensures at c.in_ok-members.ensures.fields in
-    let methods = rw c.get-2.ensures at c.in_ok-members.ensures.methods in
+    let methods = subst (λ (file : ClassFile). AreMethodsOf c.args.id.0 file file.methods c.args.listings.items members.methods) c.get-2.ensures c.in_ok-members.ensures.methods in
     rw c.get-3.ensures (
       has_interfaces given c.requires.given c.requires.rules,
       is_indexed given c.requires.given c.requires.rules c.args.id.0 named.name named.parent members.fields members.methods named.types named.kinds own above types kinds fields methods,
@@ -43,5 +46,5 @@ returns c =
     let types = rw c.get.ensures at c.in_ok-named.ensures.types in
     let kinds = rw c.get.ensures at c.in_ok-named.ensures.kinds in
     let fields = rw c.get-2.ensures at c.in_ok-members.ensures.fields in
-    let methods = rw c.get-2.ensures at c.in_ok-members.ensures.methods in
+    let methods = subst (λ (file : ClassFile). AreMethodsOf c.args.id.0 file file.methods c.args.listings.items members.methods) c.get-2.ensures c.in_ok-members.ensures.methods in
     rw c.get-3.ensures (is_class given c.requires.given c.requires.rules c.args.id.0 named.name named.parent members.fields members.methods named.types named.kinds own above types kinds fields methods)
