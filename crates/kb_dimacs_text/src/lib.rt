@@ -3,23 +3,23 @@
 #![tactic(auto)]
 
 mod answer;
+mod answering;
 mod body;
-mod dimacs;
 mod front;
 mod lines;
 mod numbers;
 mod read;
 mod refusal;
 mod request;
-mod run;
+mod running;
 mod status;
 mod texts;
 
 pub use answer::{Answer, answer_solved};
-pub use dimacs::dimacs;
+pub use answering::dimacs;
 pub use read::read_dimacs;
 pub use refusal::{Cause, Refusal, is_refused_once};
 pub use request::{Request, read_request};
-pub use run::run;
+pub use running::run;
 pub use status::Status;
 pub use std::alloc::AllocError as NoMemory;

@@ -10,6 +10,7 @@ use Rattle.kb_blast.proofs.Listed.{occurring-rising}
 use Rattle.kb_blast.proofs.Saying.{numbers-with_kinds}
 use Rattle.kb_blast.proofs.Pooled.{all-any, are-terms, pool-meets, pool-says, pool-readable}
 use Rattle.kb_blast.proofs.conditions.blast.Goals as goal
+use Rattle.kb_blast.proofs.conditions.blast.Goals.{After-drop-roots-2}
 
 pub numbering-requires : goal.numbering-requires
 numbering-requires c =
@@ -25,7 +26,7 @@ built-requires c =
     subst (λ kinds. IsRising (numbers_of kinds)) (sym c.in_ok-listing.ensures.kinds)
     (subst IsRising (sym (numbers-with_kinds (kinds_of c.args.pool.now) (occurring terms))) (occurring-rising terms))
 
-whole : (c : goal.After-drop-roots) → (c.in_ok-blasted.blasted.vars, c.in_ok-blasted.blasted.formula) ≡ blasted (query_of c.args.pool.now c.args.when.now)
+whole : (c : After-drop-roots-2) → (c.in_ok-blasted.blasted.vars, c.in_ok-blasted.blasted.formula) ≡ blasted (query_of c.args.pool.now c.args.when.now)
 whole c =
     let nodes = c.args.pool.now in
     let when = c.args.when.now in
@@ -37,16 +38,16 @@ whole c =
     (c.in_ok-listing.ensures.kinds ∙ ap (λ ts. with_kinds (kinds_of nodes) (occurring ts)) terms) terms
     (ap (λ m. numbered_conditions m when) order)
 
-formula-is : (c : goal.After-drop-roots) → c.in_ok-blasted.blasted.formula ≡ (blasted (query_of c.args.pool.now c.args.when.now)).1
+formula-is : (c : After-drop-roots-2) → c.in_ok-blasted.blasted.formula ≡ (blasted (query_of c.args.pool.now c.args.when.now)).1
 formula-is c = ap (λ (r : Words × Cnf). r.1) (whole c)
 
-vars-are : (c : goal.After-drop-roots) → c.in_ok-blasted.blasted.vars ≡ (blasted (query_of c.args.pool.now c.args.when.now)).0
+vars-are : (c : After-drop-roots-2) → c.in_ok-blasted.blasted.vars ≡ (blasted (query_of c.args.pool.now c.args.when.now)).0
 vars-are c = ap (λ (r : Words × Cnf). r.0) (whole c)
 
-formed-pool : (c : goal.After-drop-roots) → IsPool c.args.pool.now
+formed-pool : (c : After-drop-roots-2) → IsPool c.args.pool.now
 formed-pool c = subst IsPool c.nodes-nodes.ensures.nodes c.nodes-nodes.ensures.formed
 
-is-numbering : (c : goal.After-drop-roots) → IsNumbering c.args.pool.now (roots_of c.args.when.now) (numbering c.args.pool.now (roots_of c.args.when.now))
+is-numbering : (c : After-drop-roots-2) → IsNumbering c.args.pool.now (roots_of c.args.when.now) (numbering c.args.pool.now (roots_of c.args.when.now))
 is-numbering c =
     let nodes = c.args.pool.now in
     let roots : c.deref.result.now ≡ roots_of c.args.when.now = c.deref.ensures.value ∙ c.in_ok-roots.ensures in

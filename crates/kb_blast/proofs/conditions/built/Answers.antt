@@ -1,11 +1,11 @@
-use Rattle.std.proofs.Common.{◌≡◌, ◌∙◌, ap, refl}
+use Rattle.std.proofs.Common.{◌∙◌, ap, refl, []}
 use Rattle.kb_blast.specs.Query.{numbered_conditions}
 use Rattle.kb_blast.specs.Conditions.{term_words}
 use Rattle.kb_blast.proofs.Loops.{blasted_is}
 use Rattle.kb_blast.proofs.conditions.built.Goals as goal
 
-pub returns-clause : goal.returns-clause
-returns-clause c query kinds terms conditions =
+pub returns : goal.returns
+returns c query kinds terms conditions =
     let listing = c.args.listing.now in
     let words = c.in_ok-words.words.entries in
     let made = term_words words [] listing.terms.items c.variable_words.new.builder in

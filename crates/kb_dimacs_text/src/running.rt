@@ -4,7 +4,7 @@ ghost use Rattle.std.specs.Option.{option_copied};
 ghost use Rattle.kb_dimacs_text.specs.Answers.{Runs, Sends};
 
 use crate::NoMemory;
-use crate::dimacs::dimacs;
+use crate::answering::dimacs;
 use crate::status::Status;
 use std::alloc::Global;
 use std::io::Write;

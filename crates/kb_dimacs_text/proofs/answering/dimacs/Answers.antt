@@ -3,7 +3,7 @@ use Rattle.std.proofs.lemmas.Result.{IfOk-weaker}
 use Rattle.kb_dimacs_text.proofs.AnswerLaws.{IsUnsatisfiable, unsatisfiable_input}
 use Rattle.kb_dimacs_text.specs.Answers.{AnswersInput}
 use Rattle.kb_dimacs_text.specs.declared.answer.Answer.{Answer}
-use Rattle.kb_dimacs_text.proofs.dimacs.dimacs.Goals as goal
+use Rattle.kb_dimacs_text.proofs.answering.dimacs.Goals as goal
 
 pub returns-in-Some-clause-unsatisfiable : goal.returns-in-Some-clause-unsatisfiable
 returns-in-Some-clause-unsatisfiable c =

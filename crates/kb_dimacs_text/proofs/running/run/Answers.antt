@@ -2,7 +2,7 @@ use Rattle.std.proofs.Common.{map, string_bytes, ap, subst, sym}
 use Rattle.std.specs.Option.{option_copied}
 use Rattle.kb_dimacs_text.specs.Answers.{AnswersWords}
 use Rattle.kb_dimacs_text.proofs.AnswerLaws.{runs_answer}
-use Rattle.kb_dimacs_text.proofs.run.run.Goals as goal
+use Rattle.kb_dimacs_text.proofs.running.run.Goals as goal
 
 pub returns-in-Ok : goal.returns-in-Ok
 returns-in-Ok g c =
