@@ -20,9 +20,9 @@ use std::process::ExitCode;
 
 /// Each row is answered by itself.
 #[derive(Drop)]
-struct Bytes;
+struct ByteRows;
 
-impl Rows for Bytes {
+impl Rows for ByteRows {
     fn write_row<S: Shelf, W: Sink>(
         &mut self,
         alloc: Global,
@@ -56,6 +56,6 @@ impl Rows for Bytes {
 fn main(rt: HostRuntime) -> io::Result<ExitCode> {
     let mut shelf = FileShelf::new(&rt);
     let mut out = OutSink::new(io::writer(&rt));
-    write_rows(rt.alloc(), "rows", &mut Bytes, &mut shelf, &mut out)?;
+    write_rows(rt.alloc(), "rows", &mut ByteRows, &mut shelf, &mut out)?;
     Ok(ExitCode::from(0))
 }

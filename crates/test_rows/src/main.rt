@@ -19,9 +19,9 @@ use texts::read_text;
 
 /// Each row is answered by itself.
 #[derive(Drop)]
-struct Texts;
+struct TextRows;
 
-impl Rows for Texts {
+impl Rows for TextRows {
     fn write_row<S: Shelf, W: Sink>(
         &mut self,
         alloc: Global,
@@ -50,6 +50,6 @@ impl Rows for Texts {
 fn main(rt: HostRuntime) -> io::Result<ExitCode> {
     let mut shelf = FileShelf::new(&rt);
     let mut out = OutSink::new(io::writer(&rt));
-    write_rows(rt.alloc(), "rows", &mut Texts, &mut shelf, &mut out)?;
+    write_rows(rt.alloc(), "rows", &mut TextRows, &mut shelf, &mut out)?;
     Ok(ExitCode::from(0))
 }
