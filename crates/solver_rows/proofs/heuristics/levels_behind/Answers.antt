@@ -5,4 +5,4 @@ use Rattle.solver_rows.proofs.heuristics.levels_behind.Goals as goal
 
 pub levels_of-requires : goal.levels_of-requires
 levels_of-requires c =
-    all_negated-at (has c.args.trail.now.literals) c.args.literals.now (sym c.are_false.ensures ∙ c.if-not-known.false)
+    all_negated-at (has c.args.trail.now.literals) c.args.literals.now (sym c.are_false-known.ensures ∙ c.if-not-known.false)
