@@ -230,7 +230,20 @@ fn job_on(
     if files.is_empty() {
         return Err(WordFault::NoFiles);
     }
-    let job = job_with(settings, words_of(alloc, files)?, target);
+    if_enough(job_with(settings, words_of(alloc, files)?, target))
+}
+
+/// The job, where it asks for no more than may be asked for.
+fn if_enough(job: Job) -> Result<Job, WordFault>
+    requires target { IsTarget job.target }
+    requires bounds { AreBounds job.bounds }
+    requires some_paths { 1 ≤ job.paths }
+    requires paths { job.paths ≤ 100000 }
+    requires some_budget { 1 ≤ job.budget }
+    requires budget { job.budget ≤ 100000 }
+    ensures job { Gives (λ told. told) result (if_enough job) }
+    ensures ranges { IfOk result IsJob }
+{
     if job.paths as u64 * job.budget as u64 > MOST_CONFLICTS {
         return Err(WordFault::TooMuch);
     }
