@@ -14,12 +14,36 @@ pub fn line_answer(alloc: Global, text: &[u8]) -> io::Result<String> {
 
 /// The opcode and the int of a line that pushes a constant.
 pub fn int_answer(alloc: Global, text: &[u8]) -> io::Result<String> {
+    match pushed_int(alloc, text)? {
+        Some((op, number)) => Ok(format!(in alloc; "{op:02x} {number}")?),
+        None => Err(malformed()),
+    }
+}
+
+// The opcode and the int of the line, if it pushes one.
+fn pushed_int(alloc: Global, text: &[u8]) -> io::Result<Option<(u8, i32)>> {
     let line = read_line(alloc, text)?;
-    match &line {
-        Some(Line::Body(BodyLine::Instr(op, Operand::Constant(Constant::Int(number))))) => {
-            Ok(format!(in alloc; "{op:02x} {number}")?)
-        }
-        _ => Err(malformed()),
+    Ok(int_of(&line))
+}
+
+fn int_of(line: &Option<Line>) -> Option<(u8, i32)> {
+    match line {
+        Some(Line::Body(body)) => int_in(body),
+        _ => None,
+    }
+}
+
+fn int_in(body: &BodyLine) -> Option<(u8, i32)> {
+    match body {
+        BodyLine::Instr(op, Operand::Constant(constant)) => Some((*op, int_at(constant)?)),
+        _ => None,
+    }
+}
+
+fn int_at(constant: &Constant) -> Option<i32> {
+    match constant {
+        Constant::Int(number) => Some(*number),
+        _ => None,
     }
 }
 
