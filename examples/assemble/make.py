@@ -240,6 +240,89 @@ taken("the most words of arguments", body(f"invokeinterface B g ({WORDS})V", "re
 refused("too many words of arguments", body(f"invokeinterface B g ({WORDS}I)V", "return"), 3)
 refused("too many words of wide arguments", body(f"invokeinterface B g ({WORDS[:253]}J)V", "return"), 3)
 
+# ---- lines, each alone
+
+for name, line in {
+    "a label": ":L0",
+    "the least byte": "bipush -128",
+    "the highest local": "iload 65535",
+    "the ends of an increment": "iinc 255 -128",
+    "a string with a space": "ldc_w str a%20b",
+    "a far branch": "goto_w top",
+    "a tableswitch of the highest int": "tableswitch 2147483647 L0 L1",
+    "a lookupswitch of two ints": "lookupswitch L0 -5:L1 7:L2",
+    "a field of an array type": "putfield A n [LB%2E;",
+    "a call through an interface": "invokeinterface A f ()V",
+    "a cast to an array type": "checkcast [I",
+    "a byte of its own": "raw cb",
+    "a handler of any class": "catch a b c any",
+}.items():
+    ask(f"{name}, alone", "line", line, "a line")
+for name, line in {
+    "nothing": "",
+    "a space behind a mnemonic": "nop ",
+    "wide": "wide",
+    "an instruction on longs": "lload_0",
+    "a label with a dash": ":a-b",
+    "a short above the shorts": "sipush 40000",
+    "a local of three bytes": "iload 65536",
+    "a string without a word": "ldc str ",
+    "two spaces before a label": "ifeq  L",
+    "a tableswitch above the highest int": "tableswitch 2147483647 L L L",
+    "a lookupswitch of one int twice": "lookupswitch L 7:a 7:b",
+    "a field with the type of a method": "getfield A n (I)V",
+    "digits in lower case": "putfield A n [LB%2e;",
+    "flags of two digits": "class 21 A B",
+}.items():
+    ask(f"{name}, alone", "line", line, "no line")
+ask("an int that is pushed", "int", "ldc int -7", "12 -7")
+
+# ---- texts up to the first line that does not fit
+
+EACH = ("class 0021 A java/lang/Object", "implements I", "field 0002 n I", "method 0401 g ()V", "method 0009 f (I)I 1 1", ":top", "iload_0", "ireturn", "end")  # fmt: skip
+ask("each line fits", "front", lines_of(*EACH), "(9, Methods, true)")
+ask("a line without its end", "front", "class 0021 A B", "(0, Start, false)")
+ask("an interface too late", "front", lines_of("class 0021 A B", "field 0000 n I", "implements C"), "(2, Fields, false)")
+ask("an open body", "front", lines_of("class 0021 A B", METHOD, "return"), "(3, Body, true)")
+
+# ---- the line that is told
+
+
+def in_method(*lines):
+    return lines_of("class 0021 A B", METHOD, *lines)
+
+
+taken("a label behind its branch", in_method("goto a", "return", ":a", "end"))
+refused("a body of no lines", in_method("end"), 3)
+refused("a label that is missing in an open body", in_method("goto a", "not_a_line"), 4)
+refused("a label that is missing before a line that is none", in_method("goto a", "return", "end", "not_a_line"), 3)
+refused("two labels of one name", in_method(":a", ":a", "return", "end"), 4)
+refused("a missing label before two of one name", in_method("goto b", ":a", ":a", "return", "end"), 3)
+refused("two labels of one name before a missing one", in_method(":a", ":a", "goto b", "return", "end"), 4)
+refused("no line at all", "", 1)
+refused("a class without the end of its line", "class 0021 A B", 1)
+
+# ---- code and class files as they were laid out by hand or by javac
+
+# `switch (x) { case -1: return 10; case 0: return 20; case 2: return 30; default: return 40; }`, by `javac --release 8 -g:none`
+ask(
+    "a tableswitch of javac", "body",
+    in_method("iload_0", "tableswitch -1 d a b d c", ":a", "bipush 10", "ireturn", ":b", "bipush 20", "ireturn", ":c", "bipush 30",
+              "ireturn", ":d", "bipush 40", "ireturn", "end"),
+    "1aaa000000000028ffffffff000000020000001f000000220000002800000025100aac1014ac101eac1028ac",
+)  # fmt: skip
+# JVMS 8 section 6.5: iload 0, wide iload 300, and a goto to the offset 0
+ask("a local above 255", "body", in_method(":s", "iload 0", "iload 300", "goto s", "end"), "1500c415012ca7fffa")
+ask("a wide load and a far branch", "code", in_method("iload 300", "goto_w a", ":a", "return", "end"), "0 LoadInt(300); 4 Goto(9); 9 Return; ")  # fmt: skip
+# the class and its name, which both lines need, and the superclass and its name
+ask("entries that two lines need", "pool", lines_of("class 0021 A B", "implements A"), "4 entries")
+ask(
+    "class A", "bytes", lines_of(HEAD, "method 0009 f (II)I 2 2", "iload_0", "iload_1", "iadd", "ireturn", "end"),
+    "cafebabe000000340008010001410700010100106a6176612f6c616e672f4f626a656374070003010001660100052849492949010004436f6465"
+    "0021000200040000000000010009000500060001000700000010000200020000"
+    "00041a1b60ac000000000000",
+)  # fmt: skip
+
 (CRATE / "data" / "Whole.asm").write_text(WHOLE)
 (CRATE / "data" / "rows").write_text("".join(f"{asked}\n" for asked, _ in rows))
 (CRATE / "stdout").write_text("".join(f"{told}\n" for _, told in rows))

@@ -1,5 +1,6 @@
 //! Questions to the class of a text.
 
+use crate::lines::{front_answer, int_answer, line_answer};
 use crate::texts::malformed;
 use kb_asm::assemble;
 use kb_classfile::{ClassFile, read_class};
@@ -7,9 +8,21 @@ use kb_code::{Handler, decode};
 use std::alloc::Global;
 use std::io;
 
-/// Why the text is refused, or the answer to a question about its class file: its `bytes`, how many they are (`size`), or the
-/// instructions of its method of code (`code`), which is the first one that has some.
+/// The answer to a question about the lines of a text: whether it spells one (`line`), which int that pushes (`int`), or how many
+/// fit (`front`); or about its class file.
 pub fn answer(alloc: Global, question: &str, text: &[u8]) -> io::Result<String> {
+    match question {
+        "line" => line_answer(alloc, text),
+        "int" => int_answer(alloc, text),
+        "front" => front_answer(alloc, text),
+        _ => class_answer(alloc, question, text),
+    }
+}
+
+/// Why the text is refused, or the answer to a question about its class file: its `bytes`, how many they are (`size`), how many
+/// entries its pool has (`pool`), or the bytes (`body`) or the instructions (`code`) of its method of code, which is the first one
+/// that has some.
+fn class_answer(alloc: Global, question: &str, text: &[u8]) -> io::Result<String> {
     let bytes = match assemble(alloc, text) {
         Ok(bytes) => bytes,
         Err(refusal) => return Ok(format!(in alloc; "{refusal:?}")?),
@@ -20,7 +33,7 @@ pub fn answer(alloc: Global, question: &str, text: &[u8]) -> io::Result<String> 
             let size = bytes.len();
             Ok(format!(in alloc; "{size} bytes")?)
         }
-        "code" => code_text(alloc, bytes.as_slice()),
+        "pool" | "body" | "code" => file_answer(alloc, question, bytes.as_slice()),
         _ => Err(malformed()),
     }
 }
@@ -33,13 +46,34 @@ fn hexadecimal(alloc: Global, bytes: &[u8]) -> io::Result<String> {
     Ok(text)
 }
 
-/// The instructions of the first method with code, or why its code is refused.
-fn code_text(alloc: Global, bytes: &[u8]) -> io::Result<String> {
+/// The answer to a question about the class file of these bytes, or why it is refused.
+fn file_answer(alloc: Global, question: &str, bytes: &[u8]) -> io::Result<String> {
     let file = match read_class(alloc, bytes) {
         Ok(file) => file,
         Err(refusal) => return Ok(format!(in alloc; "{refusal:?}")?),
     };
-    let (code, handlers) = first_code(alloc, &file)?;
+    match question {
+        "pool" => pool_text(alloc, &file),
+        "body" => body_text(alloc, &file),
+        _ => code_text(alloc, &file),
+    }
+}
+
+/// How many entries the pool has. The number 0 is that of none.
+fn pool_text(alloc: Global, file: &ClassFile) -> io::Result<String> {
+    let entries = file.pool.as_slice().len().saturating_sub(1);
+    Ok(format!(in alloc; "{entries} entries")?)
+}
+
+/// The bytes of the code of the first method with code.
+fn body_text(alloc: Global, file: &ClassFile) -> io::Result<String> {
+    let (code, _) = first_code(alloc, file)?;
+    hexadecimal(alloc, code)
+}
+
+/// The instructions of the first method with code, or why its code is refused.
+fn code_text(alloc: Global, file: &ClassFile) -> io::Result<String> {
+    let (code, handlers) = first_code(alloc, file)?;
     let listing = match decode(alloc, code, handlers.as_slice()) {
         Ok(listing) => listing,
         Err(refusal) => return Ok(format!(in alloc; "{refusal:?}")?),

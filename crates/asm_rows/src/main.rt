@@ -7,6 +7,7 @@
 #![tactic(auto)]
 
 mod answers;
+mod lines;
 mod texts;
 
 use answers::answer;

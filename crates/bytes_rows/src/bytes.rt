@@ -1,24 +1,19 @@
 //! Bytes from their text.
 
 use kb_outside::Shelf;
+use kb_table::{malformed, read_file};
 use std::alloc::Global;
-use std::io::{self, Error, ErrorKind};
-
-/// More bytes than a class file here has.
-const ROOM: usize = 2_097_152;
+use std::io;
 
 /// The bytes of a text: those of a file, `@` and its name; or pieces with `.` between two, each in hexadecimal, where `00*9`
 /// stands for a piece nine times. `-` stands for no bytes.
 pub fn read_bytes<S: Shelf>(alloc: Global, text: &str, shelf: &mut S) -> io::Result<Vec<u8>> {
+    if let Some(name) = text.strip_prefix("@") {
+        return read_file(alloc, name, shelf);
+    }
     let mut bytes = Vec::new(alloc);
     if text == "-" {
         return Ok(bytes);
-    }
-    if let Some(name) = text.strip_prefix("@") {
-        return match shelf.read(name, ROOM, &mut bytes) {
-            Ok(()) => Ok(bytes),
-            Err(_) => Err(Error::from(ErrorKind::NotFound)),
-        };
     }
     for piece in text.split('.') {
         append_piece(alloc, piece, &mut bytes)?;
@@ -61,9 +56,4 @@ pub fn number(word: &str) -> io::Result<u32> {
         Ok(number) => Ok(number),
         Err(_) => Err(malformed()),
     }
-}
-
-/// The fault of a row that asks for nothing.
-pub fn malformed() -> Error {
-    Error::from(ErrorKind::InvalidData)
 }

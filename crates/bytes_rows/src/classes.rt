@@ -1,7 +1,8 @@
 //! Questions to class files.
 
-use crate::bytes::{malformed, number};
+use crate::bytes::number;
 use kb_classfile::{ClassFile, PoolEntry, read_class};
+use kb_table::malformed;
 use std::alloc::Global;
 use std::io;
 

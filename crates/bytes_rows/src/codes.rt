@@ -1,7 +1,8 @@
 //! Questions to the code of methods.
 
-use crate::bytes::{malformed, number};
+use crate::bytes::number;
 use kb_code::{Handler, Instr, Listing, decode, op_name};
+use kb_table::malformed;
 use std::alloc::Global;
 use std::io;
 

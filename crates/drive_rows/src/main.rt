@@ -29,14 +29,28 @@ const ROOM: usize = 65_536;
 fn main(rt: HostRuntime) -> io::Result<ExitCode> {
     let mut shelf = FileShelf::new(&rt);
     let mut out = OutSink::new(io::writer(&rt));
-    let world = read_world(rt.alloc(), &mut shelf)?;
-    let Ok(table) = String::from_utf8(read_file(rt.alloc(), "rows", &mut shelf)?) else {
-        return Err(malformed());
-    };
-    for line in table.as_str().lines() {
-        write_row(rt.alloc(), &world, line, &mut out)?;
-    }
+    write_table(rt.alloc(), &mut shelf, &mut out)?;
     Ok(ExitCode::from(0))
+}
+
+fn write_table<S: Shelf, W: Sink>(alloc: Global, shelf: &mut S, out: &mut W) -> io::Result<()> {
+    let table = read_table(alloc, shelf)?;
+    let world = read_world(alloc, shelf)?;
+    write_rows(alloc, &world, table.as_str(), out)
+}
+
+fn write_rows<W: Sink>(alloc: Global, world: &World, table: &str, out: &mut W) -> io::Result<()> {
+    for line in table.lines() {
+        write_row(alloc, world, line, out)?;
+    }
+    Ok(())
+}
+
+fn read_table<S: Shelf>(alloc: Global, shelf: &mut S) -> io::Result<String> {
+    match String::from_utf8(read_file(alloc, "rows", shelf)?) {
+        Ok(table) => Ok(table),
+        Err(_) => Err(malformed()),
+    }
 }
 
 fn read_file<S: Shelf>(alloc: Global, name: &str, shelf: &mut S) -> io::Result<Vec<u8>> {

@@ -8,3 +8,4 @@ pub mod FormLaws
 pub mod TextLaws
 pub mod CodeLaws
 pub mod ListingLaws
+mod MadeLaws

@@ -12,8 +12,8 @@ use Rattle.kb_asm_text.specs.declared.line.Operand.TheVariants as operands
 use Rattle.kb_asm_text.specs.declared.line.BodyLine.TheVariants as bodies
 use Rattle.kb_asm_text.specs.declared.line.Line.{Line}
 use Rattle.kb_asm_text.specs.declared.line.Line.TheVariants as lines
-use Rattle.kb_asm_pool.specs.declared.items.MemberKind.{MemberKind}
-use Rattle.kb_asm_pool.specs.declared.items.MemberKind.TheVariants as kinds
+use Rattle.kb_asm_pool.specs.declared.items.ReferenceKind.{ReferenceKind}
+use Rattle.kb_asm_pool.specs.declared.items.ReferenceKind.TheVariants as kinds
 use Rattle.kb_asm_pool.specs.Texts.{AreDistinct}
 use Rattle.kb_asm_pool.specs.Says.{Says, text, int, class, string, name_type, member}
 use Rattle.kb_asm_pool.specs.Entries.{entry_of, entries_of}
@@ -49,7 +49,7 @@ pair_of pool _ = None
 abbrev pair_in : List PoolEntry → ℕ → Option (List ℕ × List ℕ)
 pair_in pool number = option_and_then (pair_of pool) (entry_at pool number)
 
-abbrev member_of : MemberKind → Option (List ℕ) → Option (List ℕ × List ℕ) → Option Says
+abbrev member_of : ReferenceKind → Option (List ℕ) → Option (List ℕ × List ℕ) → Option Says
 member_of of (Some owner) (Some pair) = Some (member of owner pair.0 pair.1)
 member_of of _ _ = None
 
@@ -81,7 +81,7 @@ module _ (pool : List PoolEntry) where
   is_pair_in : (a b : List ℕ) (number : ℕ) → SaysNameType pool a b number → pair_in pool number ≡ Some (a, b)
   is_pair_in a b number s = ap (λ (o : Option PoolEntry). option_and_then (pair_of pool) o) s.2 ∙ is_both a b s.0 s.1 s.3 s.4
 
-  is_member : (of : MemberKind) (owner name kind : List ℕ) (first second : ℕ) → SaysClass pool owner first → SaysNameType pool name kind second
+  is_member : (of : ReferenceKind) (owner name kind : List ℕ) (first second : ℕ) → SaysClass pool owner first → SaysNameType pool name kind second
       → member_of of (class_in pool first) (pair_in pool second) ≡ Some (member of owner name kind)
   is_member of owner name kind first second s t =
       ap (λ (o : Option (List ℕ)). member_of of o (pair_in pool second)) (is_class_in owner first s)

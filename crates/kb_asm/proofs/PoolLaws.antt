@@ -15,7 +15,7 @@ use Rattle.kb_asm_text.specs.declared.line.BodyLine.{BodyLine}
 use Rattle.kb_asm_text.specs.declared.line.BodyLine.TheVariants as bodies
 use Rattle.kb_asm_text.specs.declared.line.Line.{Line}
 use Rattle.kb_asm_text.specs.declared.line.Line.TheVariants as lines
-use Rattle.kb_asm_pool.specs.declared.items.MemberKind.{MemberKind}
+use Rattle.kb_asm_pool.specs.declared.items.ReferenceKind.{ReferenceKind}
 use Rattle.kb_asm_pool.specs.Says.{Says, text, int, class, string, name_type, member, same, added, all_added}
 use Rattle.kb_asm_pool.specs.Needs.{class_needs, member_needs, constant_says, constant_needs, ref_name, operand_needs, code_needs, caught_needs, body_needs, line_needs}
 use Rattle.kb_asm_check.specs.Limits.{Standing, ldc_says, is_short, is_sound, has_few_words, is_new, are_few, counted, has_room, fits_behind, with_line, nothing, kept_behind}
@@ -66,7 +66,7 @@ closed_last needs last p q one h =
 closed_class : (name : List ℕ) → IsClosedList (class_needs name)
 closed_class name = closed_last (text name ∷ []) (class name) (closed_text name [] closed_none) (and_from (list_any (same (text name)) (text name ∷ [])) true (here (text name) []) refl)
 
-closed_member : (of : MemberKind) (owner name kind : List ℕ) → IsClosedList (member_needs of owner name kind)
+closed_member : (of : ReferenceKind) (owner name kind : List ℕ) → IsClosedList (member_needs of owner name kind)
 closed_member of owner name kind =
     let four : List Says = text owner ∷ class owner ∷ text name ∷ text kind ∷ [] in
     let five : List Says = text owner ∷ class owner ∷ text name ∷ text kind ∷ name_type name kind ∷ [] in

@@ -7,8 +7,8 @@ use Rattle.std.proofs.lemmas.List.Folds.{list_any-append, list_all-append}
 use Rattle.std.proofs.lemmas.Map.Keys.{any_passes_from_place}
 use Rattle.std.proofs.lemmas.Slice.Eq.{bytes_eq-Decides}
 use Rattle.std.specs.Str.{bytes_eq}
-use Rattle.kb_asm_pool.specs.declared.items.MemberKind.{MemberKind}
-use Rattle.kb_asm_pool.specs.declared.items.MemberKind.TheVariants as kinds
+use Rattle.kb_asm_pool.specs.declared.items.ReferenceKind.{ReferenceKind}
+use Rattle.kb_asm_pool.specs.declared.items.ReferenceKind.TheVariants as kinds
 use Rattle.kb_asm_pool.specs.Texts.{AreDistinct, Keeps}
 use Rattle.kb_asm_pool.specs.Says.{Says, text, int, class, string, name_type, member, same_kind, same, added, all_added}
 use Rattle.kb_asm_pool.proofs.ItemLaws.{same-true}
@@ -17,7 +17,7 @@ use Rattle.kb_asm.specs.Needs.{have}
 
 -- ---- the same
 
-same_kind_self : (k : MemberKind) → same_kind k k ≡ true
+same_kind_self : (k : ReferenceKind) → same_kind k k ≡ true
 same_kind_self kinds.Field = refl
 same_kind_self kinds.Method = refl
 same_kind_self kinds.InterfaceMethod = refl

@@ -20,7 +20,7 @@ use Rattle.kb_asm_text.specs.declared.line.FieldHead.{FieldHead}
 use Rattle.kb_asm_text.specs.declared.line.MethodHead.{MethodHead}
 use Rattle.kb_asm_text.specs.declared.line.Line.{Line}
 use Rattle.kb_asm_text.specs.declared.line.Line.TheVariants as lines
-use Rattle.kb_asm_pool.specs.declared.items.MemberKind.TheVariants as members
+use Rattle.kb_asm_pool.specs.declared.items.ReferenceKind.TheVariants as members
 use Rattle.kb_asm_pool.specs.Says.{Says, text, int, class, string, name_type, member}
 use Rattle.kb_asm_pool.specs.Entries.{number_in, entry_of, entries_of}
 use Rattle.kb_asm_body.specs.Layout.{label_of}

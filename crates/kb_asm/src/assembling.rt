@@ -1,18 +1,48 @@
 //! From texts to class files.
 
-ghost use Rattle.std.specs.Prelude.{IfOk, IfErr};
+ghost use Rattle.std.specs.Prelude.{◌≡◌, IfOk, IfErr};
 ghost use Rattle.kb_asm_check.specs.Faults.{Refuses};
 ghost use Rattle.kb_asm.specs.Class.{IsAssembled};
-ghost use Rattle.kb_asm.specs.Working.{AreText, AreBytesOf};
+ghost use Rattle.kb_asm.specs.Needs.{IsWhole, says_of};
+ghost use Rattle.kb_asm.specs.Working.{AreText, IsFileOf, AreBytesOf};
 
+use crate::NoMemory;
 use crate::class::file_of;
-use crate::memory::NoMemory;
 use crate::numbers::code_name_of;
 use crate::pool::pool_of;
 use kb_asm_check::{TextRefusal, read_text};
+use kb_asm_pool::Items;
 use kb_asm_text::Line;
+use kb_classfile::ClassFile;
 use kb_writer::write_class;
 use std::alloc::Global;
+
+/// The bytes of the class file of the lines.
+fn written(
+    pool: &mut Items,
+    alloc: Global,
+    lines: &[Line],
+    file: &ClassFile,
+) -> Result<Vec<u8>, NoMemory>
+    requires says { pool.old.says ≡ says_of lines.now }
+    requires whole { IsWhole pool.old.says }
+    requires whose { IsFileOf pool.old.says lines.now file.now }
+    ensures { IfOk result (λ bytes. AreBytesOf lines.now bytes.items) }
+{
+    let code_name = code_name_of(pool, alloc)?;
+    write_class(alloc, file, code_name)
+}
+
+/// The bytes of the class of the lines of a text, whose pool is this.
+fn bytes_over(pool: &mut Items, alloc: Global, lines: &[Line]) -> Result<Vec<u8>, NoMemory>
+    requires text { AreText lines.now }
+    requires says { pool.old.says ≡ says_of lines.now }
+    requires whole { IsWhole pool.old.says }
+    ensures { IfOk result (λ bytes. AreBytesOf lines.now bytes.items) }
+{
+    let file = file_of(pool, alloc, lines)?;
+    written(pool, alloc, lines, &file)
+}
 
 /// The bytes of the class of the lines of a text.
 fn bytes_of(alloc: Global, lines: &[Line]) -> Result<Vec<u8>, NoMemory>
@@ -20,9 +50,7 @@ fn bytes_of(alloc: Global, lines: &[Line]) -> Result<Vec<u8>, NoMemory>
     ensures { IfOk result (λ bytes. AreBytesOf lines.now bytes.items) }
 {
     let mut pool = pool_of(alloc, lines)?;
-    let file = file_of(&mut pool, alloc, lines)?;
-    let code_name = code_name_of(&mut pool, alloc)?;
-    Ok(write_class(alloc, &file, code_name)?)
+    bytes_over(&mut pool, alloc, lines)
 }
 
 /// The class file of an assembler text.

@@ -12,7 +12,7 @@ ghost use Rattle.kb_asm.specs.Parts.{parts};
 ghost use Rattle.kb_asm.specs.Class.{interface_in, field_in, method_in, IsFieldOf, IsMethodOf};
 ghost use Rattle.kb_asm.specs.Working.{Agree, AreCounted, IsFormedLine, IsReady, IsFileOf};
 
-use crate::memory::NoMemory;
+use crate::NoMemory;
 use crate::methods::methods_of;
 use crate::numbers::{of_class, of_text};
 use crate::parts::push_part;

@@ -10,18 +10,16 @@ ghost use Rattle.kb_asm.specs.Instructions.{SpellsAsked, EncodesLine};
 ghost use Rattle.kb_asm.specs.Class.{IsCodeOf};
 ghost use Rattle.kb_asm.specs.Working.{labels_of, Appends, AreFew, AreCounted, IsFormed, IsFormedLine};
 
+use crate::NoMemory;
 use crate::instr::Body;
-use crate::memory::NoMemory;
 use kb_asm_body::layout_of;
 use kb_asm_pool::Items;
 use kb_asm_text::{BodyLine, Line, Operand, Sizes};
 use kb_classfile::Code;
+use kb_code::MOST_CODE;
 use kb_rows::Row;
 use kb_writer::write_instr;
 use std::alloc::Global;
-
-/// The most bytes of a method's code (JVMS 8 section 4.7.3).
-const MOST_CODE: usize = 65_535;
 
 impl Body<'_> {
     /// Appends an instruction.

@@ -9,8 +9,8 @@ ghost use Rattle.kb_asm.specs.Parts.{parts};
 ghost use Rattle.kb_asm.specs.Class.{handler_in, IsCaught, IsHandlerOf};
 ghost use Rattle.kb_asm.specs.Working.{labels_of, Agree, AreCounted};
 
+use crate::NoMemory;
 use crate::instr::Body;
-use crate::memory::NoMemory;
 use crate::numbers::of_class;
 use crate::parts::push_part;
 use kb_asm_pool::Items;

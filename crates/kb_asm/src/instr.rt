@@ -8,22 +8,16 @@ ghost use Rattle.kb_asm.specs.Needs.{have, IsWhole};
 ghost use Rattle.kb_asm.specs.Instructions.{LeadsTo, IsPair, Names, IsConstant, IsCall, IsBranch, IsAsked};
 ghost use Rattle.kb_asm.specs.Working.{labels_of};
 
-use crate::memory::NoMemory;
+use crate::NoMemory;
 use crate::numbers::{of_call, of_class, of_constant, of_field, of_ref};
 use kb_asm_body::{Layout, argument_words};
 use kb_asm_pool::Items;
 use kb_asm_text::{Case, Constant, Operand};
+use kb_code::{GOTO_W, INVOKEINTERFACE, LDC};
 use kb_names::{Name, Target};
 use kb_rows::Row;
 use kb_writer::Written;
 use std::alloc::Global;
-
-/// The opcodes of ldc, invokeinterface and goto_w (JVMS 8 section 6.5).
-const LDC: u8 = 0x12;
-
-const INVOKEINTERFACE: u8 = 0xb9;
-
-const GOTO_W: u8 = 0xc8;
 
 /// An instruction that pushes a constant.
 fn constant(pool: &mut Items, alloc: Global, op: u8, of: &Constant) -> Result<Written, NoMemory>

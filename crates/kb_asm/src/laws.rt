@@ -9,6 +9,6 @@ ghost use Rattle.kb_asm.specs.Class.{IsCodeOf};
 ghost use Rattle.kb_asm.specs.Listings.{HasListing};
 
 /// The code of a body has a listing, unless a line of it is a byte of its own.
-pub fn one_listing()
+pub fn code_has_a_listing()
     ensures { (pool : List PoolEntry) (sizes : Sizes) (body : List Line) (code : Code) → IsCodeOf pool sizes body code → HasListing body code }
 {}

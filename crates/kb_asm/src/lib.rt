@@ -10,7 +10,6 @@ mod code;
 mod handlers;
 mod instr;
 mod laws;
-mod memory;
 mod methods;
 mod numbers;
 mod parts;
@@ -18,4 +17,5 @@ mod pool;
 
 pub use assembling::assemble;
 pub use kb_asm_check::TextRefusal as AsmRefusal;
-pub use laws::one_listing;
+pub use laws::code_has_a_listing;
+pub use std::alloc::AllocError as NoMemory;

@@ -12,8 +12,8 @@ ghost use Rattle.kb_asm.specs.Parts.{parts};
 ghost use Rattle.kb_asm.specs.Class.{method_in, HasCodeOf, IsMethodOf};
 ghost use Rattle.kb_asm.specs.Working.{Agree, AreCounted, IsFormedLine, IsReady, IsReadyMethod};
 
+use crate::NoMemory;
 use crate::code::code_of;
-use crate::memory::NoMemory;
 use crate::numbers::of_text;
 use crate::parts::push_part;
 use kb_asm_check::body_of;

@@ -8,7 +8,7 @@ ghost use Rattle.kb_asm.specs.Entries.{SaysText, SaysClass, EntrySays};
 ghost use Rattle.kb_asm.specs.Pool.{Has};
 ghost use Rattle.kb_asm.specs.Needs.{have, IsWhole};
 
-use crate::memory::NoMemory;
+use crate::NoMemory;
 use kb_asm_pool::{Items, add_call, add_constant, add_field, add_ref};
 use kb_asm_text::{ClassRef, Constant, FieldName};
 use kb_names::Target;

@@ -4,7 +4,7 @@ ghost use Rattle.std.specs.Prelude.{◌≡◌, ◌++◌, [], OnOk};
 ghost use Rattle.std.specs.List.{cons_option};
 ghost use Rattle.kb_asm.specs.Working.{AreCounted};
 
-use crate::memory::NoMemory;
+use crate::NoMemory;
 use kb_rows::Row;
 
 /// The most items of a list of a class file, whose count has two bytes.

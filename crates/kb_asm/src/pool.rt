@@ -8,13 +8,11 @@ ghost use Rattle.kb_asm_check.specs.Limits.{ldc_says};
 ghost use Rattle.kb_asm.specs.Needs.{IsWhole, says_of};
 ghost use Rattle.kb_asm.specs.Working.{AreText};
 
-use crate::memory::NoMemory;
+use crate::NoMemory;
 use kb_asm_pool::{Items, add_alone, add_needs};
 use kb_asm_text::{BodyLine, Line, Operand};
+use kb_code::LDC;
 use std::alloc::Global;
-
-/// The opcode of ldc (JVMS 8 section 6.5).
-const LDC: u8 = 0x12;
 
 /// The most entries of a pool.
 const MOST_ENTRIES: usize = 65_534;

@@ -5,18 +5,13 @@ ghost use Rattle.std.specs.List.{list_any};
 ghost use Rattle.kb_asm_body.specs.Layout.{offset_at};
 ghost use Rattle.kb_asm_body.specs.Faults.{is_missing, is_out, is_faulty_instr, is_faulty, fault_of};
 
+use crate::NoMemory;
 use crate::layout::{Layout, behind, layout_of};
-use crate::memory::NoMemory;
 use kb_asm_text::{BodyLine, Case, Catch, Line, Operand};
+use kb_code::{GOTO_W, MOST_CODE};
 use kb_names::Name;
 use kb_writer::Written;
 use std::alloc::Global;
-
-/// The most bytes of a method's code.
-const MOST_CODE: u32 = 65_535;
-
-/// The opcode of goto_w (JVMS 8 section 6.5).
-const GOTO_W: u8 = 0xc8;
 
 /// A body, or as much of it as there is.
 #[derive(Clone, Copy)]
@@ -141,7 +136,7 @@ pub fn body_fault(alloc: Global, body: &[Line], is_whole: bool) -> Result<Option
         place += 1;
         rest = others;
     }
-    if is_whole && (at == 0 || at > MOST_CODE) {
+    if is_whole && (at == 0 || at as usize > MOST_CODE) {
         return Ok(Some(place));
     }
     Ok(None)

@@ -5,8 +5,10 @@ ghost use Rattle.std.specs.Option.{option_or};
 ghost use Rattle.std.specs.Str.{bytes_eq};
 ghost use Rattle.kb_asm_body.specs.Layout.{instr_size, line_size, offset_behind, label_of, is_label, offset_at, HasLabels};
 
-use crate::memory::{NoMemory, key_of};
+use crate::NoMemory;
+use crate::memory::key_of;
 use kb_asm_text::{BodyLine, Line, Operand};
+use kb_code::{GOTO_W, INVOKEINTERFACE, LDC};
 use kb_names::Name;
 use kb_writer::padding_behind;
 use std::alloc::Global;
@@ -40,10 +42,10 @@ fn instr_size(op: u8, operand: &Operand, at: u32) -> Result<usize, NoMemory>
     match operand {
         Operand::Alone => Ok(1),
         Operand::Byte(_) | Operand::Primitive(_) => Ok(2),
-        Operand::Constant(_) => Ok(if op == 0x12 { 2 } else { 3 }),
+        Operand::Constant(_) => Ok(if op == LDC { 2 } else { 3 }),
         Operand::Local(local) => Ok(if *local < 256 { 2 } else { 4 }),
-        Operand::Method(_) => Ok(if op == 0xb9 { 5 } else { 3 }),
-        Operand::Target(_) => Ok(if op == 0xc8 { 5 } else { 3 }),
+        Operand::Method(_) => Ok(if op == INVOKEINTERFACE { 5 } else { 3 }),
+        Operand::Target(_) => Ok(if op == GOTO_W { 5 } else { 3 }),
         Operand::Table(_, _, targets) => {
             switch_size(13 + padding_behind(at), 4, targets.as_slice().len())
         }

@@ -5,11 +5,9 @@
 mod faults;
 mod layout;
 mod memory;
-#[cfg(test)]
-mod tests;
 mod words;
 
 pub use faults::body_fault;
 pub use layout::{Layout, layout_of};
-pub use memory::NoMemory;
+pub use std::alloc::AllocError as NoMemory;
 pub use words::argument_words;

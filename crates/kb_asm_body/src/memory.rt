@@ -1,12 +1,9 @@
-//! Want of memory.
+//! Keys of labels.
 
 ghost use Rattle.std.specs.Prelude.{◌≡◌, IfOk};
 
+use crate::NoMemory;
 use std::alloc::Global;
-
-/// Memory ran out.
-#[derive(Clone, Copy, Debug, PartialEq, Eq)]
-pub struct NoMemory;
 
 /// The key of a label.
 pub(crate) fn key_of(alloc: Global, label: &[u8]) -> Result<Vec<u8>, NoMemory>

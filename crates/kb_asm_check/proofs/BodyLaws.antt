@@ -1,5 +1,5 @@
 -- The lines of a body are the first ones.
-use Rattle.std.proofs.Common.{◌≡◌, ◌≤◌, ◌<◌, ℕ, zero, suc, ◌+◌, Bool, true, false, if◌then◌else◌, List, [], ◌∷◌, length, take, get_or, Option, Some, None, IfSome, refl, sym, ap, ◌∙◌, arith}
+use Rattle.std.proofs.Common.{◌≡◌, ◌≤◌, ◌<◌, ℕ, zero, suc, ◌+◌, Bool, true, false, if◌then◌else◌, List, [], ◌∷◌, length, take, get_or, Option, Some, None, IfSome, Result, Ok, Err, IfOk, refl, sym, ap, ◌∙◌, arith}
 use Rattle.kb_asm_text.specs.declared.line.Line.{Line}
 use Rattle.kb_asm_check.specs.Faults.{is_body, body_of}
 
@@ -46,3 +46,8 @@ all_body of [] count few body place =
 pub some_within : (found : Option ℕ) (low high : ℕ) → low ≤ high → IfSome found (λ place. place ≤ low) → IfSome found (λ place. place ≤ high)
 some_within (Some place) low high le h = omega (arith, le, h)
 some_within None low high le h = tt
+
+pub told_within : {E : Type 0} (told : Result (Option ℕ) E) (low high : ℕ) → low ≤ high → IfOk told (λ found. IfSome found (λ place. place ≤ low))
+    → IfOk told (λ found. IfSome found (λ place. place ≤ high))
+told_within (Ok found) low high le h = some_within found low high le h
+told_within (Err e) low high le h = tt

@@ -4,7 +4,7 @@ ghost use Rattle.std.specs.Prelude.{◌≡◌, ◌≤◌, length, IfOk, IfSome};
 ghost use Rattle.kb_asm_body.specs.Faults.{fault_of};
 ghost use Rattle.kb_asm_check.specs.Faults.{is_body, body_of, is_ended, fault_at, fault_from};
 
-use crate::memory::NoMemory;
+use crate::NoMemory;
 use kb_asm_body::body_fault;
 use kb_asm_text::Line;
 use std::alloc::Global;
@@ -39,7 +39,7 @@ fn fault_behind(alloc: Global, lines: &[Line]) -> Result<Option<usize>, NoMemory
 {
     let body = body_of(lines);
     let is_ended = body.len() < lines.len();
-    Ok(body_fault(alloc, body, is_ended)?)
+    body_fault(alloc, body, is_ended)
 }
 
 /// The place, behind this line, of the first faulty line of the body that it begins, if it begins one.

@@ -5,12 +5,10 @@ mod counts;
 mod faults;
 mod laws;
 mod limits;
-mod memory;
 mod reading;
 mod short;
-#[cfg(test)]
-mod tests;
 
 pub use faults::body_of;
 pub use laws::one_answer;
 pub use reading::{TextRefusal, read_text};
+pub use std::alloc::AllocError as NoMemory;

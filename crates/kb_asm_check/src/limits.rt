@@ -5,18 +5,14 @@ ghost use Rattle.kb_asm_pool.specs.Says.{all_added};
 ghost use Rattle.kb_asm_check.specs.Limits.{nothing, ldc_says, labelled, is_new, has_few_words, is_sound, are_few, has_room, with_line, fits_behind, kept};
 ghost use Rattle.kb_asm_check.specs.Walking.{standing_of, IsTaken};
 
+use crate::NoMemory;
 use crate::counts::Counts;
-use crate::memory::NoMemory;
 use crate::short::is_line_short;
 use kb_asm_body::argument_words;
 use kb_asm_pool::{Items, Texts, add_alone, add_needs};
 use kb_asm_text::{BodyLine, Line, Operand};
+use kb_code::{INVOKEINTERFACE, LDC};
 use std::alloc::Global;
-
-/// The opcodes of ldc and invokeinterface (JVMS 8 section 6.5).
-const LDC: u8 = 0x12;
-
-const INVOKEINTERFACE: u8 = 0xb9;
 
 /// The most entries of a pool, and the most constants of ldc lines.
 const MOST_ENTRIES: usize = 65_534;
@@ -147,11 +143,11 @@ impl Limits {
 }
 
 /// How many lines keep the limits, up to the first that does not.
-pub(crate) fn kept(alloc: Global, lines: &[Line]) -> Result<usize, NoMemory>
+fn kept_from(limits: &mut Limits, alloc: Global, lines: &[Line]) -> Result<usize, NoMemory>
+    requires { standing_of limits.old ≡ nothing }
     ensures count { IfOk result (λ count. count ≡ kept lines.now) }
     ensures within { IfOk result (λ count. count ≤ length lines.now) }
 {
-    let mut limits = Limits::new(alloc);
     let mut count = 0;
     let mut rest = lines;
     while let [line, others @ ..] = rest {
@@ -162,4 +158,13 @@ pub(crate) fn kept(alloc: Global, lines: &[Line]) -> Result<usize, NoMemory>
         rest = others;
     }
     Ok(count)
+}
+
+/// How many lines keep the limits, up to the first that does not.
+pub(crate) fn kept(alloc: Global, lines: &[Line]) -> Result<usize, NoMemory>
+    ensures count { IfOk result (λ count. count ≡ kept lines.now) }
+    ensures within { IfOk result (λ count. count ≤ length lines.now) }
+{
+    let mut limits = Limits::new(alloc);
+    kept_from(&mut limits, alloc, lines)
 }

@@ -7,7 +7,7 @@ ghost use Rattle.kb_names.specs.declared.class_names.Spelling.TheVariants.{Raw};
 ghost use Rattle.kb_asm_pool.specs.Needs.{ref_name, operand_needs, caught_needs, body_needs, line_needs};
 ghost use Rattle.kb_asm_check.specs.Limits.{is_short as says_short};
 
-use crate::memory::NoMemory;
+use crate::NoMemory;
 use kb_asm_pool::{method_bytes, type_bytes};
 use kb_asm_text::{BodyLine, Catch, ClassRef, Constant, FieldName, Line, Operand};
 use kb_names::{JType, MethodType, Name, Target};

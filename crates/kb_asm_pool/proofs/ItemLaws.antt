@@ -9,10 +9,10 @@ use Rattle.std.proofs.lemmas.List.{map-append, length-map}
 use Rattle.std.proofs.lemmas.Option.{slice_get-map}
 use Rattle.std.proofs.lemmas.Slice.Eq.{bytes_eq-Decides}
 use Rattle.kb_asm_pool.specs.contracts.items.ItemPartialEq.TheImpl.{eq-value}
-use Rattle.kb_asm_pool.specs.contracts.items.MemberKindPartialEq.TheImpl.{eq-value as kind-eq-value}
+use Rattle.kb_asm_pool.specs.contracts.items.ReferenceKindPartialEq.TheImpl.{eq-value as kind-eq-value}
 use Rattle.kb_asm_pool.proofs.TextLaws.{distinct_if_new}
-use Rattle.kb_asm_pool.specs.declared.items.MemberKind.{MemberKind}
-use Rattle.kb_asm_pool.specs.declared.items.MemberKind.TheVariants as kinds
+use Rattle.kb_asm_pool.specs.declared.items.ReferenceKind.{ReferenceKind}
+use Rattle.kb_asm_pool.specs.declared.items.ReferenceKind.TheVariants as kinds
 use Rattle.kb_asm_pool.specs.declared.items.Item.{Item}
 use Rattle.kb_asm_pool.specs.declared.items.Item.TheVariants as items
 use Rattle.kb_asm_pool.specs.Texts.{AreDistinct, Keeps}
@@ -26,7 +26,7 @@ both : (a b : Bool) → (a && b) ≡ true → (a ≡ true) × (b ≡ true)
 both true b e = (refl, e)
 both false b e = absurd cc
 
-same_kind-true : (k l : MemberKind) → same_kind k l ≡ true → k ≡ l
+same_kind-true : (k l : ReferenceKind) → same_kind k l ≡ true → k ≡ l
 same_kind-true kinds.Field kinds.Field e = refl
 same_kind-true kinds.Method kinds.Method e = refl
 same_kind-true kinds.InterfaceMethod kinds.InterfaceMethod e = refl
@@ -44,7 +44,7 @@ same-true (member k a c e) (member l b d f) h =
     let p = both (same_kind k l) (bytes_eq a b && (bytes_eq c d && bytes_eq e f)) h in
     let q = both (bytes_eq a b) (bytes_eq c d && bytes_eq e f) p.1 in
     let r = both (bytes_eq c d) (bytes_eq e f) q.1 in
-    ap (λ (m : MemberKind). member m a c e) (same_kind-true k l p.0)
+    ap (λ (m : ReferenceKind). member m a c e) (same_kind-true k l p.0)
     ∙ ap (λ (n : List ℕ). member l n c e) ((bytes_eq-Decides a b).0 q.0)
     ∙ ap (λ (n : List ℕ). member l b n e) ((bytes_eq-Decides c d).0 r.0)
     ∙ ap (λ (n : List ℕ). member l b d n) ((bytes_eq-Decides e f).0 r.1)
@@ -52,7 +52,7 @@ same-true a b e = absurd cc
 
 -- ---- items are the same where they say the same
 
-same_kinds : (k l : MemberKind) → (kind-eq-value.it) k l ≡ same_kind k l
+same_kinds : (k l : ReferenceKind) → (kind-eq-value.it) k l ≡ same_kind k l
 same_kinds kinds.Field kinds.Field = refl
 same_kinds kinds.Method kinds.Method = refl
 same_kinds kinds.InterfaceMethod kinds.InterfaceMethod = refl
@@ -195,7 +195,7 @@ text_is texts place bytes e = ap (λ (o : Option (List ℕ)). unwrap_or o []) e
 pub said_pair : (texts : List (List ℕ)) (p q : ℕ) (a b : List ℕ) → slice_get texts p ≡ Some a → slice_get texts q ≡ Some b → said texts (items.NameType p q) ≡ name_type a b
 said_pair texts p q a b e f = ap (λ (n : List ℕ). name_type n (text_at texts q)) (text_is texts p a e) ∙ ap (name_type a) (text_is texts q b f)
 
-pub said_member : (texts : List (List ℕ)) (of : MemberKind) (p q r : ℕ) (a b d : List ℕ) → slice_get texts p ≡ Some a → slice_get texts q ≡ Some b → slice_get texts r ≡ Some d
+pub said_member : (texts : List (List ℕ)) (of : ReferenceKind) (p q r : ℕ) (a b d : List ℕ) → slice_get texts p ≡ Some a → slice_get texts q ≡ Some b → slice_get texts r ≡ Some d
     → said texts (items.Member of p q r) ≡ member of a b d
 said_member texts of p q r a b d e f g =
     ap (λ (n : List ℕ). member of n (text_at texts q) (text_at texts r)) (text_is texts p a e)
@@ -216,7 +216,7 @@ one_more {B = B} f (x ∷ xs) (suc place) y e = ap (λ (l : List B). f x ∷ l) 
 
 -- ---- entries that are added
 
-same_kind-refl : (k : MemberKind) → same_kind k k ≡ true
+same_kind-refl : (k : ReferenceKind) → same_kind k k ≡ true
 same_kind-refl kinds.Field = refl
 same_kind-refl kinds.Method = refl
 same_kind-refl kinds.InterfaceMethod = refl

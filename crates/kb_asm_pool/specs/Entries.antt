@@ -2,8 +2,8 @@
 use Rattle.std.specs.Prelude.{ℕ, ◌+◌, List, ◌∷◌, map, position, Option, None, Some}
 use Rattle.kb_classfile.specs.declared.file.PoolEntry.{PoolEntry}
 use Rattle.kb_classfile.specs.declared.file.PoolEntry.TheVariants as entries
-use Rattle.kb_asm_pool.specs.declared.items.MemberKind.{MemberKind}
-use Rattle.kb_asm_pool.specs.declared.items.MemberKind.TheVariants as kinds
+use Rattle.kb_asm_pool.specs.declared.items.ReferenceKind.{ReferenceKind}
+use Rattle.kb_asm_pool.specs.declared.items.ReferenceKind.TheVariants as kinds
 use Rattle.kb_asm_pool.specs.Says.{Says, text, int, class, string, name_type, member, same}
 
 abbrev pub number_at : Option ℕ → ℕ
@@ -14,7 +14,7 @@ number_at (Some place) = place + 1
 abbrev pub number_in : List Says → Says → ℕ
 number_in says one = number_at (position (same one) says)
 
-abbrev pub member_entry : MemberKind → ℕ → ℕ → PoolEntry
+abbrev pub member_entry : ReferenceKind → ℕ → ℕ → PoolEntry
 member_entry kinds.Field owner of = entries.Field owner of
 member_entry kinds.Method owner of = entries.Method owner of
 member_entry kinds.InterfaceMethod owner of = entries.InterfaceMethod owner of

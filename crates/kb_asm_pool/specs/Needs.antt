@@ -16,20 +16,20 @@ use Rattle.kb_asm_text.specs.declared.line.BodyLine.{BodyLine}
 use Rattle.kb_asm_text.specs.declared.line.BodyLine.TheVariants as bodies
 use Rattle.kb_asm_text.specs.declared.line.Line.{Line}
 use Rattle.kb_asm_text.specs.declared.line.Line.TheVariants as lines
-use Rattle.kb_asm_pool.specs.declared.items.MemberKind.{MemberKind}
-use Rattle.kb_asm_pool.specs.declared.items.MemberKind.TheVariants as kinds
+use Rattle.kb_asm_pool.specs.declared.items.ReferenceKind.{ReferenceKind}
+use Rattle.kb_asm_pool.specs.declared.items.ReferenceKind.TheVariants as kinds
 use Rattle.kb_asm_pool.specs.Says.{Says, text, int, class, string, name_type, member}
 
 -- a class or an array type
 abbrev pub class_needs : List ℕ → List Says
 class_needs name = text name ∷ class name ∷ []
 
-abbrev pub member_needs : MemberKind → List ℕ → List ℕ → List ℕ → List Says
+abbrev pub member_needs : ReferenceKind → List ℕ → List ℕ → List ℕ → List Says
 member_needs of owner name kind =
     text owner ∷ class owner ∷ text name ∷ text kind ∷ name_type name kind ∷ member of owner name kind ∷ []
 
 -- invokeinterface names a method of an interface
-abbrev pub kind_of_call : ℕ → MemberKind
+abbrev pub kind_of_call : ℕ → ReferenceKind
 kind_of_call op = if op == 0xb9 then kinds.InterfaceMethod else kinds.Method
 
 abbrev pub constant_says : Constant → Says

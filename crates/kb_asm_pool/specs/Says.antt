@@ -3,8 +3,8 @@ use Rattle.std.specs.Prelude.{ℕ, ℤ, Bool, true, false, ◌&&◌, List, [], �
 use Rattle.std.specs.List.{list_any}
 use Rattle.std.specs.Ordering.{int_eq}
 use Rattle.std.specs.Str.{bytes_eq}
-use Rattle.kb_asm_pool.specs.declared.items.MemberKind.{MemberKind}
-use Rattle.kb_asm_pool.specs.declared.items.MemberKind.TheVariants as kinds
+use Rattle.kb_asm_pool.specs.declared.items.ReferenceKind.{ReferenceKind}
+use Rattle.kb_asm_pool.specs.declared.items.ReferenceKind.TheVariants as kinds
 
 pub data Says : Type 0 where
   text : List ℕ → Says
@@ -13,9 +13,9 @@ pub data Says : Type 0 where
   string : List ℕ → Says
   name_type : List ℕ → List ℕ → Says
   -- a member by its class, its name and its descriptor
-  member : MemberKind → List ℕ → List ℕ → List ℕ → Says
+  member : ReferenceKind → List ℕ → List ℕ → List ℕ → Says
 
-abbrev pub same_kind : MemberKind → MemberKind → Bool
+abbrev pub same_kind : ReferenceKind → ReferenceKind → Bool
 same_kind kinds.Field kinds.Field = true
 same_kind kinds.Method kinds.Method = true
 same_kind kinds.InterfaceMethod kinds.InterfaceMethod = true

@@ -8,7 +8,7 @@ ghost use Rattle.kb_asm_pool.specs.Items.{IsPlace, IsWithin, said};
 ghost use Rattle.kb_asm_pool.specs.Needs.{class_needs, member_needs};
 ghost use Rattle.kb_asm_pool.specs.Entries.{number_in, member_entry, entry_of, entries_of};
 
-use crate::memory::NoMemory;
+use crate::NoMemory;
 use crate::texts::Texts;
 use indexmap::IndexSet;
 use kb_classfile::PoolEntry;
@@ -17,15 +17,15 @@ use std::alloc::Global;
 use std::marker::Model;
 
 /// Which kind of member an entry names.
-#[derive(Clone, Copy, Debug, PartialEq, Eq, Hash)]
-pub enum MemberKind {
+#[derive(Clone, Copy, PartialEq, Eq, Hash)]
+pub enum ReferenceKind {
     Field,
     Method,
     InterfaceMethod,
 }
 
 /// What an entry says, its texts by their places (JVMS 8 section 4.4).
-#[derive(Clone, Copy, Debug, PartialEq, Eq, Hash)]
+#[derive(Clone, Copy, PartialEq, Eq, Hash)]
 pub(crate) enum Item {
     Text(usize),
     Int(i32),
@@ -33,7 +33,7 @@ pub(crate) enum Item {
     Str(usize),
     NameType(usize, usize),
     /// A member by its class, its name and its descriptor.
-    Member(MemberKind, usize, usize, usize),
+    Member(ReferenceKind, usize, usize, usize),
 }
 
 /// Entries of a constant pool, each once, in the order in which they came. Contracts see what each says.
@@ -167,7 +167,7 @@ impl Items {
     pub fn member(
         &mut self,
         alloc: Global,
-        of: MemberKind,
+        of: ReferenceKind,
         class: &[u8],
         name: &[u8],
         kind: &[u8],
@@ -247,15 +247,15 @@ impl Items {
     }
 }
 
-impl MemberKind {
+impl ReferenceKind {
     /// The entry of such a member.
     fn entry(self, owner: u16, of_type: u16) -> PoolEntry
         ensures { result ≡ member_entry self owner of_type }
     {
         match self {
-            MemberKind::Field => PoolEntry::Field(owner, of_type),
-            MemberKind::Method => PoolEntry::Method(owner, of_type),
-            MemberKind::InterfaceMethod => PoolEntry::InterfaceMethod(owner, of_type),
+            ReferenceKind::Field => PoolEntry::Field(owner, of_type),
+            ReferenceKind::Method => PoolEntry::Method(owner, of_type),
+            ReferenceKind::InterfaceMethod => PoolEntry::InterfaceMethod(owner, of_type),
         }
     }
 }

@@ -5,16 +5,13 @@
 
 mod items;
 mod laws;
-mod memory;
 mod needs;
-#[cfg(test)]
-mod tests;
 mod texts;
 
-pub use items::{Items, MemberKind};
+pub use items::{Items, ReferenceKind};
 pub use laws::no_entry_twice;
-pub use memory::NoMemory;
 pub use needs::{
     add_alone, add_call, add_constant, add_field, add_needs, add_ref, method_bytes, type_bytes,
 };
+pub use std::alloc::AllocError as NoMemory;
 pub use texts::Texts;

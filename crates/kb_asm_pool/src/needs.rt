@@ -6,16 +6,14 @@ ghost use Rattle.kb_names.specs.declared.class_names.Spelling.TheVariants.{Raw};
 ghost use Rattle.kb_asm_pool.specs.Says.{added, all_added, class as says_class};
 ghost use Rattle.kb_asm_pool.specs.Needs.{kind_of_call, field_needs, field_says, call_needs, call_says, constant_says, constant_needs, ref_name, class_needs, operand_needs, code_needs, caught_needs, body_needs, line_needs};
 
-use crate::items::{Items, MemberKind};
-use crate::memory::NoMemory;
+use crate::NoMemory;
+use crate::items::{Items, ReferenceKind};
 use kb_asm_text::{
     BodyLine, Catch, ClassHead, ClassRef, Constant, FieldHead, FieldName, Line, MethodHead, Operand,
 };
+use kb_code::INVOKEINTERFACE;
 use kb_names::{JType, MethodType, Spelling, Target, write_method_type, write_type};
 use std::alloc::Global;
-
-/// The opcode of invokeinterface (JVMS 8 section 6.5).
-const INVOKEINTERFACE: u8 = 0xb9;
 
 /// The descriptor of a type as it stands in a class file.
 pub fn type_bytes(alloc: Global, of: &JType) -> Result<Vec<u8>, NoMemory>
@@ -36,13 +34,13 @@ pub fn method_bytes(alloc: Global, kind: &MethodType) -> Result<Vec<u8>, NoMemor
 }
 
 /// Which kind of member an instruction with this opcode calls.
-pub fn kind_of_call(op: u8) -> MemberKind
+pub fn kind_of_call(op: u8) -> ReferenceKind
     ensures { result ≡ kind_of_call op }
 {
     if op == INVOKEINTERFACE {
-        MemberKind::InterfaceMethod
+        ReferenceKind::InterfaceMethod
     } else {
-        MemberKind::Method
+        ReferenceKind::Method
     }
 }
 
@@ -76,7 +74,7 @@ pub fn add_field(items: &mut Items, alloc: Global, field: &FieldName) -> Result<
     let kind = type_bytes(alloc, &field.kind)?;
     items.member(
         alloc,
-        MemberKind::Field,
+        ReferenceKind::Field,
         field.class.as_slice(),
         field.name.as_slice(),
         kind.as_slice(),

@@ -6,7 +6,7 @@ ghost use Rattle.std.specs.Option.{option_copied};
 ghost use Rattle.std.specs.Str.{bytes_eq};
 ghost use Rattle.kb_asm_pool.specs.Texts.{with_text, Keeps, AreDistinct};
 
-use crate::memory::NoMemory;
+use crate::NoMemory;
 use indexmap::IndexSet;
 use std::alloc::Global;
 use std::marker::Model;

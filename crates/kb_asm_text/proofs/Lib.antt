@@ -5,3 +5,4 @@ pub mod TokenLaws
 pub mod SwitchLaws
 pub mod SameLines
 pub mod TextLaws
+mod PlaceLaws

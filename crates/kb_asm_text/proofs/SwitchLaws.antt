@@ -7,7 +7,8 @@ use Rattle.kb_asm_text.specs.declared.line.Operand.{Operand}
 use Rattle.kb_asm_text.specs.declared.shape.Shape.TheVariants as shapes
 use Rattle.kb_asm_text.specs.Words.{FirstWord, EachWord}
 use Rattle.kb_asm_text.specs.Tokens.{SpellsLabel}
-use Rattle.kb_asm_text.specs.Lines.{is_table, are_rising, SpellsCase, SpellsOperand}
+use Rattle.kb_code.specs.Switches.{are_rising, is_table}
+use Rattle.kb_asm_text.specs.Lines.{key_of_case, SpellsCase, SpellsOperand}
 use Rattle.kb_asm_text.proofs.EachLaws.{each_same}
 use Rattle.kb_asm_text.proofs.TokenLaws.{same_int, same_label, same_case}
 
@@ -27,9 +28,9 @@ table_refuted words first second others low targets e int labels wrong operand h
     (ap (λ (z : ℤ). is_table z (length h.2)) lows ∙ ap (λ (ls : List (List ℕ)). is_table low (length ls)) all) h.4.sound wrong
 
 pub lookup_refuted : (words : List (List ℕ)) (first : List ℕ) (others : List (List ℕ)) (cases : List Case)
-    → words ≡ first ∷ others → EachWord SpellsCase cases others → are_rising cases ≡ false
+    → words ≡ first ∷ others → EachWord SpellsCase cases others → are_rising key_of_case cases ≡ false
     → (operand : Operand) → SpellsOperand shapes.Lookup operand words → ⊥
 lookup_refuted words first others cases e spelled wrong operand h =
     let parts = subst (λ (ws : List (List ℕ)). FirstWord (λ word rest. SpellsLabel h.0 word × EachWord SpellsCase h.1 rest) ws) e h.3.spelled in
     let all : h.1 ≡ cases = each_same SpellsCase same_case h.1 cases others parts.1 spelled in
-    not_both (are_rising h.1) (are_rising cases) (ap are_rising all) h.3.rising wrong
+    not_both (are_rising key_of_case h.1) (are_rising key_of_case cases) (ap (λ (cs : List Case). are_rising key_of_case cs) all) h.3.rising wrong

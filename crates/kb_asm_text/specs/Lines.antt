@@ -1,5 +1,5 @@
 -- The lines of assembler texts. A line is words with one space between two, and its first word says which line it is.
-use Rattle.std.specs.Prelude.{◌≡◌, ℕ, ◌^◌, ℤ, pos, ◌+ℤ◌, ◌-ℤ◌, int_lt, nat_le, Bool, true, false, IsTrue, ◌&&◌, ◌==◌, List, [], ◌∷◌, ◌++◌, length, Option, None, Some, codes, if◌then◌else◌}
+use Rattle.std.specs.Prelude.{◌≡◌, ℕ, ℤ, Bool, false, IsTrue, ◌==◌, List, [], ◌∷◌, ◌++◌, length, Option, None, Some, codes, if◌then◌else◌}
 use Rattle.std.specs.Str.{bytes_eq}
 use Rattle.kb_grammar.specs.Lines.{Lacks}
 use Rattle.kb_grammar.specs.Numbers.{SpellsInt, SpellsWithin}
@@ -7,6 +7,7 @@ use Rattle.kb_names.specs.Descriptors.{SpellsType, SpellsMethod}
 use Rattle.kb_names.specs.declared.class_names.Spelling.TheVariants.{Escaped}
 use Rattle.kb_names.specs.declared.types.Target.{Target}
 use Rattle.kb_code.specs.Forms.{form_of}
+use Rattle.kb_code.specs.Switches.{are_rising, is_table}
 use Rattle.kb_asm_text.specs.declared.keyword.Keyword.{Keyword}
 use Rattle.kb_asm_text.specs.declared.keyword.Keyword.TheVariants as keywords
 use Rattle.kb_asm_text.specs.declared.shape.Shape.{Shape}
@@ -70,10 +71,6 @@ abbrev pub SpellsMethodName : Target → List (List ℕ) → Type 0
 SpellsMethodName method words =
     ThreeWords (λ class name kind. SpellsText method.class class × SpellsText method.name name × SpellsMethod Escaped method.kind kind) words
 
--- whether a tableswitch has a target at least, and its highest int is an int (JVMS 8 section 6.5, tableswitch)
-abbrev pub is_table : ℤ → ℕ → Bool
-is_table low count = nat_le 1 count && int_lt (low +ℤ pos count -ℤ pos 1) (pos (2 ^ 31))
-
 -- an int and a label with a colon between them
 pub record SpellsCase (case : Case) (word : List ℕ) : Type 0 where
   pub key : List ℕ
@@ -83,14 +80,9 @@ pub record SpellsCase (case : Case) (word : List ℕ) : Type 0 where
   pub key_is : SpellsInt case.key key
   pub target_is : SpellsLabel case.target target
 
--- whether each int is above the one before it (JVMS 8 section 6.5, lookupswitch)
-abbrev pub are_above : ℤ → List Case → Bool
-are_above low [] = true
-are_above low (case ∷ cases) = int_lt low case.key && are_above case.key cases
-
-abbrev pub are_rising : List Case → Bool
-are_rising [] = true
-are_rising (case ∷ cases) = are_above case.key cases
+-- the int of a case
+abbrev pub key_of_case : Case → ℤ
+key_of_case case = case.key
 
 -- the words of a tableswitch and of a lookupswitch
 pub record SpellsTable (low : ℤ) (default : List ℕ) (targets : List (List ℕ)) (words : List (List ℕ)) : Type 0 where
@@ -98,7 +90,7 @@ pub record SpellsTable (low : ℤ) (default : List ℕ) (targets : List (List �
   pub spelled : FirstWord (λ word others. SpellsInt low word × FirstWord (λ next rest. SpellsLabel default next × EachWord SpellsLabel targets rest) others) words
 
 pub record SpellsLookup (default : List ℕ) (cases : List Case) (words : List (List ℕ)) : Type 0 where
-  pub rising : IsTrue (are_rising cases)
+  pub rising : IsTrue (are_rising key_of_case cases)
   pub spelled : FirstWord (λ word others. SpellsLabel default word × EachWord SpellsCase cases others) words
 
 -- the words behind a mnemonic of that kind

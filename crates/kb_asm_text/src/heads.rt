@@ -6,8 +6,8 @@ ghost use Rattle.kb_asm_text.specs.declared.line.MethodHead.{MethodHead};
 ghost use Rattle.kb_asm_text.specs.declared.line.Sizes.{Sizes};
 ghost use Rattle.kb_asm_text.specs.Lines.{SpellsClassHead, SpellsFieldHead, SpellsMember, SpellsSized, SpellsMethodHead, SpellsCatch};
 
+use crate::NoMemory;
 use crate::line::{Catch, ClassHead, FieldHead, MethodHead, Sizes};
-use crate::memory::NoMemory;
 use crate::names::{read_caught, read_label, read_method_type, read_text, read_type};
 use crate::tokens::read_flags;
 use crate::words::{five_words, four_words, three_words};

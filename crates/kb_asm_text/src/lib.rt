@@ -6,15 +6,12 @@
 mod heads;
 mod keyword;
 mod line;
-mod memory;
 mod names;
 mod operands;
 mod place;
 mod reading;
 mod shape;
 mod switches;
-#[cfg(test)]
-mod tests;
 mod text;
 mod tokens;
 mod words;
@@ -23,7 +20,7 @@ pub use line::{
     BodyLine, Case, Catch, ClassHead, ClassRef, Constant, FieldHead, FieldName, Line, MethodHead,
     Operand, Sizes,
 };
-pub use memory::NoMemory;
 pub use place::Place;
 pub use reading::read_line;
+pub use std::alloc::AllocError as NoMemory;
 pub use text::{Front, read_front};

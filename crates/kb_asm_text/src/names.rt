@@ -7,8 +7,8 @@ ghost use Rattle.kb_names.specs.Descriptors.{SpellsType, SpellsMethod};
 ghost use Rattle.kb_asm_text.specs.Tokens.{is_label_byte, SpellsLabel, SpellsText, SpellsClassRef, IsArray};
 ghost use Rattle.kb_asm_text.specs.Lines.{SpellsCaught};
 
+use crate::NoMemory;
 use crate::line::ClassRef;
-use crate::memory::NoMemory;
 use kb_grammar::is_line;
 use kb_names::{
     JType, MethodType, Name, NameRefusal, NameTextRefusal, Spelling, read_method_type_as,

@@ -4,8 +4,8 @@ ghost use Rattle.std.specs.Prelude.{IfOk};
 ghost use Rattle.kb_asm_text.specs.Words.{IsReadAs};
 ghost use Rattle.kb_asm_text.specs.Lines.{SpellsConstant, SpellsFieldName, SpellsMethodName, SpellsOperand};
 
+use crate::NoMemory;
 use crate::line::{Constant, FieldName, Operand};
-use crate::memory::NoMemory;
 use crate::names::{read_class_ref, read_label, read_method_type, read_text, read_type};
 use crate::shape::Shape;
 use crate::switches::{lookup_operand, table_operand};

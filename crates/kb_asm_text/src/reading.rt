@@ -6,10 +6,10 @@ ghost use Rattle.kb_grammar.specs.Lines.{IsRead};
 ghost use Rattle.kb_asm_text.specs.Lines.{keyword_of, SpellsBehind, SpellsLine};
 ghost use Rattle.kb_asm_text.specs.declared.keyword.Keyword.TheVariants as keywords;
 
+use crate::NoMemory;
 use crate::heads::{read_catch, read_class, read_field, read_method};
 use crate::keyword::{Keyword, keyword_of};
 use crate::line::{BodyLine, Line};
-use crate::memory::NoMemory;
 use crate::names::{read_label, read_text};
 use crate::operands::read_operand;
 use crate::shape::{op_of, shape_at};

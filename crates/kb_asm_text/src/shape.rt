@@ -9,7 +9,7 @@ use kb_code::op_name;
 use kb_grammar::is_line;
 
 /// What kind of words stand behind a mnemonic.
-#[derive(Clone, Copy, Debug, PartialEq, Eq)]
+#[derive(Clone, Copy)]
 pub enum Shape {
     /// No line has this opcode.
     Unwritten,

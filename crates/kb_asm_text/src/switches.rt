@@ -1,46 +1,28 @@
 //! What stands behind the mnemonics of switches.
 
-ghost use Rattle.std.specs.Prelude.{◌≡◌, length, IfOk};
+ghost use Rattle.std.specs.Prelude.{IfOk};
 ghost use Rattle.kb_grammar.specs.Lines.{IsRead};
 ghost use Rattle.kb_asm_text.specs.Words.{EachWord, IsReadAs};
 ghost use Rattle.kb_asm_text.specs.Tokens.{SpellsLabel};
-ghost use Rattle.kb_asm_text.specs.Lines.{is_table, are_rising, SpellsCase, SpellsOperand};
+ghost use Rattle.kb_asm_text.specs.Lines.{key_of_case, SpellsCase, SpellsOperand};
 
+use crate::NoMemory;
 use crate::line::{Case, Operand};
-use crate::memory::NoMemory;
 use crate::names::read_label;
 use crate::shape::Shape;
 use crate::words::first_word;
+use kb_code::{Keyed, are_rising, is_table};
 use kb_grammar::{cut, read_int};
 use kb_names::Name;
 use kb_rows::Row;
 use std::alloc::Global;
 
-/// Whether a tableswitch has a target at least, and its highest int is an int.
-fn is_table(low: i32, targets: &[Name]) -> bool
-    ensures { result ≡ is_table low (length targets.now) }
-{
-    let most = i64::from(i32::MAX) - i64::from(low) + 1;
-    1 <= targets.len() && targets.len() as u64 <= most as u64
-}
+impl Keyed for Case {
+    ghost key_of = { key_of_case };
 
-/// Whether each int is above the one before it.
-fn are_rising(cases: &[Case]) -> bool
-    ensures { result ≡ are_rising cases.now }
-{
-    let [first, others @ ..] = cases else {
-        return true;
-    };
-    let mut low = first.key;
-    let mut rest = others;
-    while let [next, later @ ..] = rest {
-        if next.key <= low {
-            return false;
-        }
-        low = next.key;
-        rest = later;
+    fn key(&self) -> i32 {
+        self.key
     }
-    true
 }
 
 /// The labels that the words spell.
@@ -110,7 +92,7 @@ pub(crate) fn table_operand(alloc: Global, words: &[Row<u8>]) -> Result<Option<O
     let Some(targets) = read_labels(alloc, rest)? else {
         return Ok(None);
     };
-    if !is_table(low, targets.as_slice()) {
+    if !is_table(low, targets.as_slice().len()) {
         return Ok(None);
     }
     Ok(Some(Operand::Table(low, default, targets)))

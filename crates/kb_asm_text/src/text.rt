@@ -5,8 +5,8 @@ ghost use Rattle.kb_asm_text.specs.declared.line.Line.{Line};
 ghost use Rattle.kb_asm_text.specs.Lines.{SpellsLine};
 ghost use Rattle.kb_asm_text.specs.Texts.{next_place as place_next, IsLongestFront};
 
+use crate::NoMemory;
 use crate::line::Line;
-use crate::memory::NoMemory;
 use crate::place::{Place, next_place};
 use crate::reading::read_line;
 use kb_grammar::cut;
@@ -23,6 +23,16 @@ pub struct Front {
     pub ended: bool,
 }
 
+/// The line, and where it leads, if it may stand there.
+fn placed(place: Place, line: Line) -> Option<(Line, Place)>
+    ensures { MatchOption result (place_next place line ≡ None) (λ p. (p.0 ≡ line) × (place_next place line ≡ Some p.1)) }
+{
+    match next_place(place, &line) {
+        Some(next) => Some((line, next)),
+        None => None,
+    }
+}
+
 /// The line that the text spells, and where it leads, if it may stand there.
 fn next_line(alloc: Global, place: Place, text: &[u8]) -> Result<Option<(Line, Place)>, NoMemory>
     ensures { IfOk result (λ read. MatchOption read
@@ -32,10 +42,7 @@ fn next_line(alloc: Global, place: Place, text: &[u8]) -> Result<Option<(Line, P
     let Some(line) = read_line(alloc, text)? else {
         return Ok(None);
     };
-    match next_place(place, &line) {
-        Some(next) => Ok(Some((line, next))),
-        None => Ok(None),
-    }
+    Ok(placed(place, line))
 }
 
 /// The lines of the text up to the first one that does not fit: that spells no line, is cut short, or may not stand there.

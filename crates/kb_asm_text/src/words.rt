@@ -3,7 +3,7 @@
 ghost use Rattle.std.specs.Prelude.{◌≡◌, ◌∷◌, [], List, ℕ, IfOk, MatchOption};
 ghost use Rattle.kb_asm_text.specs.Words.{IsOfWords};
 
-use crate::memory::NoMemory;
+use crate::NoMemory;
 use kb_grammar::cut;
 use kb_rows::Row;
 use std::alloc::Global;

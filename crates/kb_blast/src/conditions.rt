@@ -1,13 +1,15 @@
 //! Conditions as a formula.
-ghost use Rattle.std.specs.Prelude.{◌≡◌, ◌≤◌, ◌↔◌, ℤ, List, length, map, IfOk};
-ghost use Rattle.kb_chain.specs.Cnf.{AllWithin};
+ghost use Rattle.std.specs.Prelude.{◌≡◌, ◌≤◌, ◌↔◌, ℤ, List, [], length, map, IfOk, OnOk};
+ghost use Rattle.kb_chain.specs.Literal.{Literal};
+ghost use Rattle.kb_chain.specs.Cnf.{Cnf, AllWithin};
 ghost use Rattle.kb_terms.specs.Terms.{variables_of};
-ghost use Rattle.kb_blast.specs.Query.{AreConditions, query_of, numbered_conditions, roots_of};
-ghost use Rattle.kb_blast.specs.Conditions.{formula_of, words_of, condition_literal, with_conditions};
-ghost use Rattle.kb_blast.specs.Meaning.{SaysExactly, Meets, MeetsInPool, AreReadable};
+ghost use Rattle.kb_blast.specs.Query.{Query, AreConditions, query_of, numbered_conditions, roots_of};
+ghost use Rattle.kb_blast.specs.Conditions.{occurring_kinds, blasted, formula_of, words_of, condition_literal, term_words, with_conditions};
+ghost use Rattle.kb_blast.specs.Meaning.{IsRising, SaysExactly, Meets, MeetsInPool, AreReadable};
+ghost use Rattle.kb_blast.specs.Listing.{numbers_of, literals_of};
 
-use crate::listing::{listed, number_in};
-use crate::memory::NoMemory;
+use crate::NoMemory;
+use crate::listing::{Listing, listed, number_in};
 use crate::terms::{term_word, term_words};
 use crate::variables::variable_words;
 use kb_chain::{Formula, Lit, Row};
@@ -38,15 +40,47 @@ pub fn blast(alloc: Global, pool: &Pool, when: &[(TermId, bool)]) -> Result<Blas
     // Its contract says that the pool is formed.
     let _nodes = pool.nodes();
     let listing = listed(alloc, pool, &numbering)?;
+    let blasted = built(alloc, &listing, &numbering, when)?;
+    Ok(blasted)
+}
+
+/// The formula of conditions on listed terms.
+fn built(
+    alloc: Global,
+    listing: &Listing,
+    numbering: &Numbering,
+    when: &[(TermId, bool)],
+) -> Result<Blasted, NoMemory>
+    requires { IsRising (numbers_of listing.now.kinds.entries) }
+    ensures { IfOk result (λ b. (query : Query) → listing.now.kinds.entries ≡ occurring_kinds query → listing.now.terms.items ≡ query.terms
+        → numbered_conditions numbering.now when.now ≡ query.conditions → (b.vars, b.formula) ≡ blasted query) }
+{
     let mut builder = Builder::new(alloc)?;
-    let vars = variable_words(alloc, &mut builder, &listing.kinds)?;
-    let words = term_words(alloc, &mut builder, &vars, &listing.terms)?;
-    add_conditions(&mut builder, &numbering, &words, when)?;
-    let vars = row_of(alloc, &vars)?;
+    let words = variable_words(alloc, &mut builder, &listing.kinds)?;
+    add_circuits(alloc, &mut builder, &words, listing, numbering, when)?;
+    let vars = row_of(alloc, &words)?;
     Ok(Blasted {
         formula: builder.finish(),
         vars,
     })
+}
+
+/// Adds the circuits of listed terms, and the clauses of conditions on them.
+fn add_circuits(
+    alloc: Global,
+    builder: &mut Builder,
+    vars: &BTreeMap<u32, [Lit; 32]>,
+    listing: &Listing,
+    numbering: &Numbering,
+    when: &[(TermId, bool)],
+) -> Result<(), NoMemory>
+    requires { AllWithin builder.old.vars (literals_of vars.now.entries) }
+    ensures { OnOk result ((words : List (List Literal)) (middle : Cnf) → term_words vars.now.entries [] listing.now.terms.items builder.old ≡ (words, middle)
+        → builder.new ≡ with_conditions words (numbered_conditions numbering.now when.now) middle) }
+{
+    let words = term_words(alloc, builder, vars, &listing.terms)?;
+    add_conditions(builder, numbering, &words, when)?;
+    Ok(())
 }
 
 /// The terms of conditions.

@@ -7,7 +7,7 @@ ghost use Rattle.kb_blast.specs.Query.{number_in, operand_of, operands_of, liste
 ghost use Rattle.kb_blast.specs.Conditions.{occurring, with_kinds};
 ghost use Rattle.kb_blast.specs.Listing.{noted, noted_all};
 
-use crate::memory::NoMemory;
+use crate::NoMemory;
 use kb_terms::{Node, Numbering, Operand, Pool, Term, TermId, VarKind};
 use std::alloc::Global;
 use std::collections::BTreeMap;

@@ -5,7 +5,7 @@ ghost use Rattle.kb_circuit.specs.Circuit.{IsCircuit};
 ghost use Rattle.kb_blast.specs.Conditions.{word_of, constant_word, narrowed, op_word, term_word, operand_word, second_word, built_term, term_words};
 ghost use Rattle.kb_blast.specs.Listing.{literals_of};
 
-use crate::memory::NoMemory;
+use crate::NoMemory;
 use kb_chain::Lit;
 use kb_circuit::Builder;
 use kb_terms::{Op, Operand, Term};

@@ -6,7 +6,7 @@ ghost use Rattle.kb_blast.specs.Conditions.{new_bits, variable_word, variable_wo
 ghost use Rattle.kb_blast.specs.Meaning.{IsRising};
 ghost use Rattle.kb_blast.specs.Listing.{numbers_of, literals_of};
 
-use crate::memory::NoMemory;
+use crate::NoMemory;
 use kb_chain::Lit;
 use kb_circuit::{Builder, truth_bits};
 use kb_terms::VarKind;

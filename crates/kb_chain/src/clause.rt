@@ -5,8 +5,8 @@ ghost use Rattle.kb_chain.specs.Literal.{Literal, has, place_of};
 ghost use Rattle.kb_chain.specs.Clause.{IsOrdered, IsInPlaceOrder, clause_of};
 ghost use Rattle.kb_chain.specs.Cnf.{is_within};
 
+use crate::NoMemory;
 use crate::literal::Lit;
-use crate::memory::NoMemory;
 use smallvec::SmallVec;
 use std::alloc::Global;
 use std::marker::Model;

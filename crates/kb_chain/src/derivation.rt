@@ -4,9 +4,9 @@ ghost use Rattle.std.specs.Prelude.{◌≡◌, ◌+◌, ◌*◌, [], Some, None,
 ghost use Rattle.kb_chain.specs.Cnf.{IsWithin};
 ghost use Rattle.kb_chain.specs.Chains.{resolved, entry_of};
 
+use crate::NoMemory;
 use crate::clause::Clause;
 use crate::log::Chain;
-use crate::memory::NoMemory;
 use crate::store::Store;
 use crate::working::Working;
 use std::alloc::Global;

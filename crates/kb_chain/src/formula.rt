@@ -4,9 +4,9 @@ ghost use Rattle.std.specs.Prelude.{◌≡◌, ◌≤◌, ◌<◌, ◌+◌, ◌^
 ghost use Rattle.kb_chain.specs.Literal.{literal};
 ghost use Rattle.kb_chain.specs.Cnf.{IsWithin, AllWithin};
 
+use crate::NoMemory;
 use crate::clause::Clause;
 use crate::literal::Lit;
-use crate::memory::NoMemory;
 use std::alloc::Global;
 use std::marker::Model;
 

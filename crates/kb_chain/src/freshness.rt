@@ -9,13 +9,13 @@ ghost use Rattle.kb_chain.specs.Propagation.{others, Misses, IsNew};
 ghost use Rattle.kb_chain.specs.Index.{IsFrontOf, IsIndexed, IsRoot, IsRefuted};
 ghost use Rattle.kb_chain.specs.Verdicts.{JudgesFresh};
 
+use crate::NoMemory;
 use crate::clause::Clause;
 use crate::derivation::derive;
 use crate::formula::Formula;
 use crate::index::Index;
 use crate::literal::Lit;
 use crate::log::{Chain, Log, Verdict};
-use crate::memory::NoMemory;
 use crate::propagation::{examine, propagate};
 use crate::signs::has_both_signs;
 use crate::store::Store;
@@ -35,27 +35,67 @@ pub fn check_fresh(alloc: Global, formula: &Formula, log: &Log) -> Result<Verdic
     }
     let mut store = Store::new(alloc, formula);
     let mut working = Working::new(alloc, formula.vars())?;
+    check_from(alloc, formula, entries, &mut store, &mut working)
+}
+
+/// Whether each entry is new, where the store has the formula's clauses alone.
+fn check_from(
+    alloc: Global,
+    formula: &Formula,
+    entries: &[Chain],
+    store: &mut Store<'_>,
+    working: &mut Working,
+) -> Result<Verdict, NoMemory>
+    requires few { length formula.now.clauses + length entries.now < 2 ^ 32 }
+    requires store { store.old ≡ formula.now }
+    requires working { working.old.places ≡ 2 * formula.now.vars + 2 }
+    requires empty { working.old.clause ≡ [] }
+    ensures { IfOk result (JudgesFresh formula.now.clauses entries.now) }
+{
     let mut trail = Trail::new(alloc, formula.vars())?;
     let mut index = index_of(alloc, formula)?;
-    let mut quiet = begin(formula, &store, &index, &mut trail)?;
+    let quiet = begin(formula, store, &index, &mut trail)?;
+    check_entries(
+        alloc, formula, entries, store, working, &mut trail, &mut index, quiet,
+    )
+}
+
+/// Whether each entry is new, where the formula alone was looked at so far, and the trail has what it reaches.
+fn check_entries(
+    alloc: Global,
+    formula: &Formula,
+    entries: &[Chain],
+    store: &mut Store<'_>,
+    working: &mut Working,
+    trail: &mut Trail,
+    index: &mut Index,
+    quiet: bool,
+) -> Result<Verdict, NoMemory>
+    requires few { length formula.now.clauses + length entries.now < 2 ^ 32 }
+    requires store { store.old ≡ formula.now }
+    requires working { working.old.places ≡ 2 * formula.now.vars + 2 }
+    requires empty { working.old.clause ≡ [] }
+    requires places { trail.old.places ≡ 2 * formula.now.vars + 2 }
+    requires rows { length index.old.occurrences.items ≡ 2 * formula.now.vars + 2 }
+    requires indexed { IsIndexed formula.now.clauses index.old }
+    requires root { OnTrue quiet (IsRoot formula.now.clauses trail.old.literals) }
+    requires refuted { OnFalse quiet (IsRefuted formula.now.clauses trail.old.literals) }
+    ensures { IfOk result (JudgesFresh formula.now.clauses entries.now) }
+{
+    let first = formula.clauses().len();
+    let mut quiet = quiet;
     for (i, entry) in entries.iter().enumerate() {
-        let Some(clause) = derive(alloc, &store, &mut working, entry)? else {
+        let Some(clause) = derive(alloc, store, working, entry)? else {
             return Ok(Verdict::Bad(i as u32));
         };
         if !quiet {
             return Ok(Verdict::Bad(i as u32));
         }
-        let likely = likely_missed(&store, entry, &clause);
-        if !is_new(&store, &index, &mut trail, &clause, likely)? {
+        let likely = likely_missed(store, entry, &clause);
+        if !is_new(store, index, trail, &clause, likely)? {
             return Ok(Verdict::Bad(i as u32));
         }
-        quiet = take_in(
-            &mut store,
-            &mut index,
-            &mut trail,
-            (first + i) as u32,
-            clause,
-        )?;
+        quiet = take_in(store, index, trail, (first + i) as u32, clause)?;
     }
     Ok(Verdict::Good)
 }

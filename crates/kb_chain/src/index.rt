@@ -5,8 +5,8 @@ ghost use Rattle.kb_chain.specs.Literal.{Literal};
 ghost use Rattle.kb_chain.specs.Working.{AreWithin};
 ghost use Rattle.kb_chain.specs.Index.{IsIndexed};
 
+use crate::NoMemory;
 use crate::clause::Clause;
-use crate::memory::NoMemory;
 use kb_rows::Row;
 use std::alloc::Global;
 

@@ -6,11 +6,11 @@ ghost use Rattle.kb_chain.specs.Index.{has_number};
 ghost use Rattle.kb_chain.specs.Chains.{derived};
 ghost use Rattle.kb_chain.specs.Needed.{cites, is_kept, AreClosed, IsNeeded, SkipsOthers};
 
+use crate::NoMemory;
 use crate::clause::Clause;
 use crate::derivation::derive;
 use crate::formula::Formula;
 use crate::log::Chain;
-use crate::memory::NoMemory;
 use crate::store::Store;
 use crate::working::Working;
 use std::alloc::Global;

@@ -8,10 +8,10 @@ ghost use Rattle.kb_chain.specs.Working.{AreWithin};
 ghost use Rattle.kb_chain.specs.Propagation.{IsClosed, Includes, NegatesSome, all_negated, others};
 ghost use Rattle.kb_chain.specs.Index.{IsFrontOf, IsIndexed, IsSettled, AreSettled, open_literals, status_of};
 
+use crate::NoMemory;
 use crate::clause::Clause;
 use crate::index::Index;
 use crate::literal::Lit;
-use crate::memory::NoMemory;
 use crate::store::Store;
 use crate::trail::Trail;
 

@@ -4,10 +4,10 @@ ghost use Rattle.std.specs.Prelude.{◌≡◌, ℕ, Bool, Ok, IfOk};
 ghost use Rattle.kb_chain.specs.Clause.{Satisfies};
 ghost use Rattle.kb_chain.specs.Verdicts.{JudgesRefutation};
 
+use crate::NoMemory;
 use crate::derivation::derive;
 use crate::formula::Formula;
 use crate::log::{Log, Verdict};
-use crate::memory::NoMemory;
 use crate::store::Store;
 use crate::working::Working;
 use std::alloc::Global;

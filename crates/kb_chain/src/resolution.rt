@@ -4,9 +4,9 @@ ghost use Rattle.std.specs.Prelude.{◌≡◌, ◌++◌, ◌↔◌, Some, None, 
 ghost use Rattle.kb_chain.specs.Clause.{are_opposite, without, resolvent_of};
 ghost use Rattle.kb_chain.specs.Literal.{literal, has};
 
+use crate::NoMemory;
 use crate::clause::Clause;
 use crate::literal::{Lit, place_of};
-use crate::memory::NoMemory;
 use std::alloc::Global;
 
 /// Why there is no resolvent.

@@ -4,9 +4,9 @@ ghost use Rattle.std.specs.Prelude.{◌≡◌, [], ◌∷◌, ◌++◌, OnOk, On
 ghost use Rattle.std.specs.Option.{option_copied};
 ghost use Rattle.kb_chain.specs.Cnf.{IsWithin, AllWithin};
 
+use crate::NoMemory;
 use crate::clause::Clause;
 use crate::formula::Formula;
-use crate::memory::NoMemory;
 use std::alloc::Global;
 use std::marker::Model;
 

@@ -5,9 +5,9 @@ ghost use Rattle.kb_chain.specs.Literal.{Literal, place_of, has};
 ghost use Rattle.kb_chain.specs.Working.{AreWithin};
 ghost use Rattle.kb_chain.specs.Index.{joined};
 
+use crate::NoMemory;
 use crate::literal::Lit;
 use crate::marks::is_marked;
-use crate::memory::NoMemory;
 use std::alloc::Global;
 use std::marker::Model;
 

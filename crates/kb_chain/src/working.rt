@@ -6,10 +6,10 @@ ghost use Rattle.kb_chain.specs.Literal.{Literal, literal, place_of, same, has};
 ghost use Rattle.kb_chain.specs.Clause.{IsOrdered, with_literal, are_opposite, resolvent_of};
 ghost use Rattle.kb_chain.specs.Working.{marked, AreWithin};
 
+use crate::NoMemory;
 use crate::clause::Clause;
 use crate::literal::{Lit, place_of};
 use crate::marks::{is_marked, unmark};
-use crate::memory::NoMemory;
 use crate::resolution::has_sign;
 use std::alloc::Global;
 use std::marker::Model;

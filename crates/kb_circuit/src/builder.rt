@@ -6,8 +6,8 @@ ghost use Rattle.kb_circuit.specs.Meaning.{IsFree};
 ghost use Rattle.kb_circuit.specs.Words.{GateFits};
 ghost use Rattle.kb_circuit.specs.Gates.{and_gate, xor_gate, or_gate, mux_gate, masked_mux_gate, gate_of, full_adder};
 
+use crate::NoMemory;
 use crate::gate::Gate;
-use crate::memory::NoMemory;
 use kb_chain::{Clause, Formula, Lit};
 use std::alloc::Global;
 use std::marker::Model;

@@ -6,9 +6,9 @@ ghost use Rattle.kb_circuit.specs.Circuit.{IsCircuit};
 ghost use Rattle.kb_circuit.specs.Division.{absolute, brought_down, division_turn, long_division, absolute_division, any_bit, div_word, rem_word};
 ghost use Rattle.kb_circuit.specs.Meaning.{Computes};
 
+use crate::NoMemory;
 use crate::builder::Builder;
 use crate::gate::Gate;
-use crate::memory::NoMemory;
 use crate::words::negated_bits;
 use kb_chain::Lit;
 

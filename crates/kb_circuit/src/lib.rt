@@ -4,11 +4,10 @@
 mod builder;
 mod division;
 mod gate;
-mod memory;
 mod multiplication;
 mod shift;
 mod words;
 
 pub use builder::Builder;
-pub use memory::NoMemory;
+pub use std::alloc::AllocError as NoMemory;
 pub use words::truth_bits;

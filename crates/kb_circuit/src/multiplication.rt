@@ -6,8 +6,8 @@ ghost use Rattle.kb_circuit.specs.Circuit.{IsCircuit};
 ghost use Rattle.kb_circuit.specs.Meaning.{Computes};
 ghost use Rattle.kb_circuit.specs.Multiplication.{row_word, with_row, mul_word};
 
+use crate::NoMemory;
 use crate::builder::Builder;
-use crate::memory::NoMemory;
 use crate::shift::Shift;
 use kb_chain::Lit;
 

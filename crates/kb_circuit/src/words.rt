@@ -7,9 +7,9 @@ ghost use Rattle.kb_circuit.specs.Meaning.{Computes};
 ghost use Rattle.kb_circuit.specs.Words.{negated_bits, sign_negated, false_bits, truth_bits, bitwise, and_word, or_word, xor_word, plus, add_word, sub_word, neg_word, equal_from, equal, eq_word, below, ult_word, lt_word, GateFits};
 ghost use Rattle.kb_circuit.specs.Shifts.{stage, shift_word, shl_word, shr_word, ushr_word};
 
+use crate::NoMemory;
 use crate::builder::Builder;
 use crate::gate::Gate;
-use crate::memory::NoMemory;
 use crate::shift::Shift;
 use kb_chain::Lit;
 

@@ -22,17 +22,13 @@ use Rattle.kb_class.specs.Class.{Class}
 use Rattle.kb_class.specs.Naming.{Has}
 use Rattle.kb_class.specs.Given.{IsListing, AreListings, IsGiven}
 use Rattle.kb_class.specs.Loading.{SpellsExact, SpellsKind, AreMethodsOf, IsCodeOf, IsClassOf, IsWhole}
-use Rattle.kb_class.specs.Loaded.{interface_of}
-use Rattle.kb_class.specs.Tables.{type_numbers, kind_index_of, field_index, method_index, kind_numbers, IsSpelled, IsTable, IsFieldTold, IsMethodTold, HasSize, IsSound}
-use Rattle.kb_class.proofs.Lists.{has_left, has_right, map_has, has_mapped, has_filtered, all_has, all_by_has}
+use Rattle.kb_class.specs.Loaded.{told_at, interface_of}
+use Rattle.kb_class.specs.Tables.{type_numbers, field_name_index, method_name_index, name_numbers, SpellsItself, kind_index_of, field_index, method_index, kind_numbers, IsSpelled, IsTable, IsFieldTold, IsMethodTold, HasSize, IsSound}
+use Rattle.kb_class.proofs.Lists.{has_left, has_right, has_either, map_has, has_mapped, has_filtered, all_has, all_by_has}
 use Rattle.kb_class.proofs.Spellings.{entry_named, kind_described, kind_of_type, kind_of_method}
 use Rattle.kb_class.proofs.PoolLaws.{found_text, same_some, class_named}
 use Rattle.kb_class.proofs.IndexLaws.{named_by_class, described_by_member, among_numbers}
 use Rattle.kb_class.proofs.Sound.{spelled_sound}
-
-some_found : (P : List ℕ → Type 0) (o : Option (List ℕ)) → IsFound P o → IsSome o
-some_found P None is = absurd is
-some_found P (Some text) is = refl
 
 pub some_is : {A : Type 0} (o : Option A) (x : A) → o ≡ Some x → IsSome o
 some_is o x e = rw e refl
@@ -86,8 +82,35 @@ module _ (file : ClassFile) (rules : KeepsRules file) where
           | inr m ↦ elim m [ inl f ↦ field_text number f | inr n ↦ own_text number n ]
         ]
 
-  module _ (table : List (Option MemberKind)) (described : IsTable SpellsKind file.pool (kind_numbers file) table) where
-    field_told : (field : Field) → Has file.fields field → IsFieldTold file table field
+  -- each name of a field or method is a text
+  pub names_spelled : AllByRecursion (IsSpelled SpellsItself file.pool) (name_numbers file)
+  names_spelled = all_by_has (IsSpelled SpellsItself file.pool) (name_numbers file) each where
+    name_text : (number : ℕ) → IsFound IsNotEmpty (utf8_in file.pool number) → IsSpelled SpellsItself file.pool number
+    name_text number is =
+        let text = found_text IsNotEmpty (utf8_in file.pool number) is in
+        (text.0, text.1, (text.0, refl))
+
+    each : (number : ℕ) → Has (name_numbers file) number → IsSpelled SpellsItself file.pool number
+    each number has =
+        elim (has_either (map field_name_index file.fields) (map method_name_index file.methods) number has) [
+          | inl h ↦
+              let field = has_mapped field_name_index file.fields number h in
+              subst (IsSpelled SpellsItself file.pool) field.2 (name_text field.0.name (all_has (HasFieldName file) file.fields field.0 rules.names.fields field.1))
+          | inr h ↦
+              let method = has_mapped method_name_index file.methods number h in
+              subst (IsSpelled SpellsItself file.pool) method.2 (name_text method.0.name (all_has (HasMethodName file) file.methods method.0 rules.names.methods method.1))
+        ]
+
+  module _ (names : List (Option (List ℕ))) (called : IsTable SpellsItself file.pool (name_numbers file) names)
+      (table : List (Option MemberKind)) (described : IsTable SpellsKind file.pool (kind_numbers file) table) where
+    -- the name that the table has is the text
+    name_of : (number : ℕ) → Has (name_numbers file) number → (name : List ℕ) × (told_at names number ≡ Some name) × (utf8_in file.pool number ≡ Some name)
+    name_of number has =
+        let told = called.whole number has in
+        let right = (called.right number told.0 told.1).1 in
+        (told.0, told.1, right.1 ∙ ap (λ (n : List ℕ). Some n) (sym right.2))
+
+    field_told : (field : Field) → Has file.fields field → IsFieldTold file names table field
     field_told field has =
         let number : Has (kind_numbers file) field.kind = has_left _ _ field.kind (has_right (filter_map kind_index_of file.pool) _ field.kind (map_has field_index file.fields field has)) in
         let told = described.whole field.kind number in
@@ -95,17 +118,20 @@ module _ (file : ClassFile) (rules : KeepsRules file) where
         let text = found_text (IsTypeText Raw) (utf8_in file.pool field.kind) (all_has (HasFieldType file) file.fields field rules.descriptors.fields has) in
         let is : IsTypeText Raw right.0 = subst (IsTypeText Raw) (same_some (utf8_in file.pool field.kind) text.0 right.0 text.1 right.1) text.2 in
         let kind = kind_of_type told.0 right.0 right.2 is in
+        let name = name_of field.name (has_left _ _ field.name (map_has field_name_index file.fields field has)) in
         record {
-          named = some_found IsNotEmpty (utf8_in file.pool field.name) (all_has (HasFieldName file) file.fields field rules.names.fields has);
+          name = name.0;
+          named = name.1;
+          named_so = name.2;
           type = kind.0;
           told = told.1 ∙ ap (λ (k : MemberKind). Some k) kind.1;
           spelled = (right.0, right.1, kind.2);
         }
 
-    pub fields_told : AllByRecursion (IsFieldTold file table) file.fields
-    fields_told = all_by_has (IsFieldTold file table) file.fields field_told
+    pub fields_told : AllByRecursion (IsFieldTold file names table) file.fields
+    fields_told = all_by_has (IsFieldTold file names table) file.fields field_told
 
-    method_told : IsSound file → (method : ClassMethod) → Has file.methods method → IsMethodTold file table method
+    method_told : IsSound file → (method : ClassMethod) → Has file.methods method → IsMethodTold file names table method
     method_told sound method has =
         let number : Has (kind_numbers file) method.kind = has_right (filter_map kind_index_of file.pool ++ map field_index file.fields) _ method.kind (map_has method_index file.methods method has) in
         let told = described.whole method.kind number in
@@ -113,16 +139,19 @@ module _ (file : ClassFile) (rules : KeepsRules file) where
         let text = found_text (IsMethodText Raw) (utf8_in file.pool method.kind) (all_has (HasMethodType file) file.methods method rules.descriptors.methods has) in
         let is : IsMethodText Raw right.0 = subst (IsMethodText Raw) (same_some (utf8_in file.pool method.kind) text.0 right.0 text.1 right.1) text.2 in
         let kind = kind_of_method told.0 right.0 right.2 is in
+        let name = name_of method.name (has_right (map field_name_index file.fields) _ method.name (map_has method_name_index file.methods method has)) in
         record {
-          named = some_found IsNotEmpty (utf8_in file.pool method.name) (all_has (HasMethodName file) file.methods method rules.names.methods has);
+          name = name.0;
+          named = name.1;
+          named_so = name.2;
           type = kind.0;
           told = told.1 ∙ ap (λ (k : MemberKind). Some k) kind.1;
           spelled = (right.0, right.1, kind.2);
           sized = all_has (λ (m : ClassMethod). IfSome m.code HasSize) file.methods method sound.sizes has;
         }
 
-    pub methods_told : IsSound file → AllByRecursion (IsMethodTold file table) file.methods
-    methods_told sound = all_by_has (IsMethodTold file table) file.methods (method_told sound)
+    pub methods_told : IsSound file → AllByRecursion (IsMethodTold file names table) file.methods
+    methods_told sound = all_by_has (IsMethodTold file names table) file.methods (method_told sound)
 
   -- ---- interfaces
 

@@ -1,6 +1,7 @@
 -- What a class file with its listings must be to become a class.
 use Rattle.std.specs.Prelude.{ℕ, List, [], ◌∷◌, Option, Some, None, map}
 use Rattle.std.specs.List.{AllByRecursion}
+use Rattle.kb_classfile.specs.declared.file.ClassFile.{ClassFile}
 use Rattle.kb_classfile.specs.declared.file.Method.{Method as ClassMethod}
 use Rattle.kb_classfile.specs.declared.file.Code.{Code}
 use Rattle.kb_classfile.specs.declared.file.Handler.{Handler as ClassHandler}
@@ -30,6 +31,10 @@ AreListings [] [] = Unit {0}
 AreListings (method ∷ methods) (listing ∷ listings) = IsListing method.code listing × AreListings methods listings
 AreListings [] (listing ∷ listings) = ⊥
 AreListings (method ∷ methods) [] = ⊥
+
+-- the class that is given so
+abbrev pub given_of : ClassFile → List (Option Listing) → GivenClass
+given_of file listings = record { file = file; listings = listings }
 
 -- What a class must be to be given: a file that some bytes spell, with the listings of its methods.
 pub record IsGiven (class : GivenClass) : Type 0 where

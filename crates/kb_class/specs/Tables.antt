@@ -25,6 +25,16 @@ use Rattle.kb_class.specs.Naming.{Has}
 abbrev pub type_numbers : List PoolEntry → List ℕ
 type_numbers pool = filter_map name_index_of pool
 
+abbrev pub field_name_index : Field → ℕ
+field_name_index field = field.name
+
+abbrev pub method_name_index : ClassMethod → ℕ
+method_name_index method = method.name
+
+-- the names of fields and of methods
+abbrev pub name_numbers : ClassFile → List ℕ
+name_numbers file = map field_name_index file.fields ++ map method_name_index file.methods
+
 abbrev pub kind_index_of : PoolEntry → Option ℕ
 kind_index_of (entries.NameType name kind) = Some kind
 kind_index_of _ = None
@@ -40,6 +50,10 @@ abbrev pub kind_numbers : ClassFile → List ℕ
 kind_numbers file = (filter_map kind_index_of file.pool ++ map field_index file.fields) ++ map method_index file.methods
 
 -- ---- tables
+
+-- a name is spelled by its own bytes
+abbrev pub SpellsItself : List ℕ → List ℕ → Type 0
+SpellsItself name text = name ≡ text
 
 -- some value is spelled by the text
 abbrev pub IsSpelling : {A : Type 0} → (A → List ℕ → Type 0) → List ℕ → Type 0
@@ -74,17 +88,21 @@ pub record IsSound (file : ClassFile) : Type 0 where
   pub interfaces_are : AllByRecursion (NamesEntry kinds.Class file.pool) file.interfaces
   pub sizes : AllByRecursion (λ method. IfSome method.code HasSize) file.methods
 
--- ---- members whose descriptors are in the table
+-- ---- members whose names and descriptors are in the tables
 
-pub record IsFieldTold (file : ClassFile) (table : List (Option MemberKind)) (field : Field) : Type 0 where
-  pub named : IsSome (utf8_of file field.name)
+pub record IsFieldTold (file : ClassFile) (names : List (Option (List ℕ))) (described : List (Option MemberKind)) (field : Field) : Type 0 where
+  pub name : List ℕ
+  pub named : told_at names field.name ≡ Some name
+  pub named_so : utf8_of file field.name ≡ Some name
   pub type : JType
-  pub told : told_at table field.kind ≡ Some (member_kinds.Field type)
+  pub told : told_at described field.kind ≡ Some (member_kinds.Field type)
   pub spelled : HasText file.pool field.kind (SpellsType Raw type)
 
-pub record IsMethodTold (file : ClassFile) (table : List (Option MemberKind)) (method : ClassMethod) : Type 0 where
-  pub named : IsSome (utf8_of file method.name)
+pub record IsMethodTold (file : ClassFile) (names : List (Option (List ℕ))) (described : List (Option MemberKind)) (method : ClassMethod) : Type 0 where
+  pub name : List ℕ
+  pub named : told_at names method.name ≡ Some name
+  pub named_so : utf8_of file method.name ≡ Some name
   pub type : MethodType
-  pub told : told_at table method.kind ≡ Some (member_kinds.Method type)
+  pub told : told_at described method.kind ≡ Some (member_kinds.Method type)
   pub spelled : HasText file.pool method.kind (SpellsMethod Raw type)
   pub sized : IfSome method.code HasSize

@@ -10,7 +10,7 @@ use kb_classfile::{ClassFile, PoolEntry};
 use kb_names::ExactType;
 
 /// What an entry names that names a member: a Fieldref, a Methodref or an InterfaceMethodref (JVMS 8 section 4.4.2).
-#[derive(Clone, Copy, Debug, PartialEq, Eq)]
+#[derive(Clone, Copy, PartialEq, Eq)]
 pub enum ReferenceKind {
     Field,
     Method,

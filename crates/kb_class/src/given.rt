@@ -4,7 +4,7 @@ use kb_code::Listing;
 use kb_names::Row;
 
 /// A class file with the listing of each method's code, in file order: None where a method has no code.
-#[derive(Debug, Drop)]
+#[derive(Drop)]
 pub struct GivenClass {
     pub file: ClassFile,
     pub listings: Row<Option<Listing>>,

@@ -1,7 +1,7 @@
 //! Classes in plain terms: what a class file says once the numbers of its constant pool are replaced by what they name, and
 //! the classes of the platform.
 //!
-//! `specs/Loading.antt` ties a class to its file; nothing above this crate speaks of the constant pool.
+//! `specs/Loading.antt` ties a class to its file. Crates above ask for what an entry of the constant pool stands for, by its number.
 #![tactic(auto)]
 
 mod entries;

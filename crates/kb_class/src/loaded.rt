@@ -5,7 +5,7 @@ ghost use Rattle.std.specs.Option.{option_copied};
 ghost use Rattle.kb_names.specs.declared.types.ExactType.{ExactType};
 ghost use Rattle.kb_format.specs.Rules.{KeepsRules};
 ghost use Rattle.kb_class.specs.declared.members.MemberKind.{MemberKind};
-ghost use Rattle.kb_class.specs.Given.{IsGiven};
+ghost use Rattle.kb_class.specs.Given.{IsGiven, given_of};
 ghost use Rattle.kb_class.specs.Loading.{IsClassOf};
 ghost use Rattle.kb_class.specs.Class.{TypeEntry, type_of_entry, text_of_entry, int_of_entry, reference_of_entry};
 ghost use Rattle.kb_class.specs.References.{sought_of};
@@ -15,11 +15,13 @@ ghost use Rattle.kb_class.specs.Platform.{PlatformClass, platform_table, IsPlatf
 use crate::entries::{Reference, int_entry, reference_entry, text_entry, type_entry};
 use crate::given::GivenClass;
 use crate::ids::ClassId;
-use crate::loading::{class_name, fields_of, methods_of, named_kinds, named_types};
+use crate::loading::{members_of, named_of};
 use crate::members::{FieldInfo, MemberKind, MethodInfo};
 use crate::platform::{kind_at, kinds_of_methods, name_at};
 use kb_classfile::ClassFile;
+use kb_code::Listing;
 use kb_names::{ExactType, Name, NoMemory, Row};
+use kb_rows::Held;
 use std::alloc::Global;
 use std::marker::Model;
 
@@ -29,7 +31,7 @@ pub const PLATFORM_CLASSES: usize = 20;
 // Where a class comes from.
 #[derive(Drop)]
 pub(crate) enum Origin {
-    File(ClassFile),
+    File(Held<ClassFile>),
     // The platform, with the names of its interfaces.
     Platform(Row<Name>),
 }
@@ -87,21 +89,31 @@ impl LoadedClass {
         ensures { IfOk result (λ class. IsClassOf id.0 given class) }
     {
         let GivenClass { file, listings } = given;
-        let name = class_name(alloc, &file, file.this)?;
-        let parent = class_name(alloc, &file, file.parent)?;
-        let types = named_types(alloc, &file)?;
-        let kinds = named_kinds(alloc, &file)?;
-        let fields = fields_of(alloc, &file, kinds.as_slice())?;
-        let methods = methods_of(alloc, id, &file, kinds.as_slice(), listings.into_vec())?;
+        let file = Held::new(alloc, file)?;
+        LoadedClass::of_file(alloc, id, file, listings.into_vec())
+    }
+
+    fn of_file(
+        alloc: Global,
+        id: ClassId,
+        file: Held<ClassFile>,
+        listings: Vec<Option<Listing>>,
+    ) -> Result<LoadedClass, NoMemory>
+        requires given { IsGiven (given_of file listings.items) }
+        requires rules { KeepsRules file }
+        ensures { IfOk result (λ class. IsClassOf id.0 (given_of file listings.items) class) }
+    {
+        let named = named_of(alloc, file.get())?;
+        let members = members_of(alloc, id, file.get(), named.kinds.as_slice(), listings)?;
         Ok(LoadedClass {
-            name,
-            access: file.access,
-            parent: Some(parent),
-            fields,
-            methods,
+            name: named.name,
+            access: file.get().access,
+            parent: Some(named.parent),
+            fields: members.fields,
+            methods: members.methods,
             origin: Origin::File(file),
-            types,
-            kinds,
+            types: named.types,
+            kinds: named.kinds,
         })
     }
 
@@ -151,7 +163,7 @@ impl LoadedClass {
         ensures { result ≡ length self.now.interfaces }
     {
         match &self.origin {
-            Origin::File(file) => file.interfaces.as_slice().len(),
+            Origin::File(file) => file.get().interfaces.as_slice().len(),
             Origin::Platform(interfaces) => interfaces.as_slice().len(),
         }
     }
@@ -161,7 +173,10 @@ impl LoadedClass {
         ensures { option_copied result ≡ slice_get self.now.interfaces place }
     {
         match &self.origin {
-            Origin::File(file) => file.class_name(*file.interfaces.as_slice().get(place)?),
+            Origin::File(file) => {
+                let file = file.get();
+                file.class_name(*file.interfaces.as_slice().get(place)?)
+            }
             Origin::Platform(interfaces) => Some(interfaces.as_slice().get(place)?.as_slice()),
         }
     }
@@ -185,7 +200,7 @@ impl LoadedClass {
         ensures { option_copied result ≡ self.now.file }
     {
         match &self.origin {
-            Origin::File(file) => Some(file),
+            Origin::File(file) => Some(file.get()),
             Origin::Platform(_) => None,
         }
     }
@@ -195,7 +210,7 @@ impl LoadedClass {
         ensures { option_copied result ≡ type_of_entry (slice_get self.now.entries entry) }
     {
         match &self.origin {
-            Origin::File(file) => type_entry(file, self.types.as_slice(), entry),
+            Origin::File(file) => type_entry(file.get(), self.types.as_slice(), entry),
             Origin::Platform(_) => None,
         }
     }
@@ -205,7 +220,7 @@ impl LoadedClass {
         ensures { option_copied result ≡ text_of_entry (slice_get self.now.entries entry) }
     {
         match &self.origin {
-            Origin::File(file) => text_entry(file, entry),
+            Origin::File(file) => text_entry(file.get(), entry),
             Origin::Platform(_) => None,
         }
     }
@@ -215,7 +230,7 @@ impl LoadedClass {
         ensures { result ≡ int_of_entry (slice_get self.now.entries entry) }
     {
         match &self.origin {
-            Origin::File(file) => int_entry(file, entry),
+            Origin::File(file) => int_entry(file.get(), entry),
             Origin::Platform(_) => None,
         }
     }
@@ -226,7 +241,12 @@ impl LoadedClass {
     {
         match &self.origin {
             Origin::File(file) => {
-                reference_entry(file, self.types.as_slice(), self.kinds.as_slice(), entry)
+                reference_entry(
+                    file.get(),
+                    self.types.as_slice(),
+                    self.kinds.as_slice(),
+                    entry,
+                )
             }
             Origin::Platform(_) => None,
         }
@@ -251,7 +271,7 @@ impl LoadedClass {
         ensures { result ≡ length self.now.entries }
     {
         match &self.origin {
-            Origin::File(file) => file.pool.as_slice().len(),
+            Origin::File(file) => file.get().pool.as_slice().len(),
             Origin::Platform(_) => 0,
         }
     }

@@ -4,14 +4,14 @@ use kb_code::{Handler, Listing};
 use kb_names::{JType, MethodType, Name, Row};
 
 /// The type of a field or of a method (JVMS 8 section 4.3).
-#[derive(Debug, Drop)]
+#[derive(Drop)]
 pub enum MemberKind {
     Field(JType),
     Method(MethodType),
 }
 
 /// A field that a class declares, with its access flags (JVMS 8 section 4.5).
-#[derive(Debug, Drop)]
+#[derive(Drop)]
 pub struct FieldInfo {
     pub access: u16,
     pub name: Name,
@@ -19,7 +19,7 @@ pub struct FieldInfo {
 }
 
 /// The code of a method (JVMS 8 section 4.7.3): `size` is its length in bytes, 1 to 65,535.
-#[derive(Debug, Drop)]
+#[derive(Drop)]
 pub struct MethodCode {
     pub max_stack: u16,
     pub max_locals: u16,
@@ -30,7 +30,7 @@ pub struct MethodCode {
 
 /// A method, with the class that declares it and its access flags (JVMS 8 section 4.6). No code where the method is abstract,
 /// native, or one of a platform class.
-#[derive(Debug, Drop)]
+#[derive(Drop)]
 pub struct MethodInfo {
     pub class: ClassId,
     pub access: u16,

@@ -8,7 +8,7 @@ ghost use Rattle.kb_class.specs.PlatformRows.{superclass_name, kind_access, kind
 
 use crate::ids::ClassId;
 use crate::members::{MemberKind, MethodInfo};
-use kb_names::{JType, MethodType, Name, NoMemory, Row};
+use kb_names::{JType, MethodType, Name, NoMemory, Row, SharedRow};
 use std::alloc::Global;
 
 // A class that others are below.
@@ -143,9 +143,9 @@ impl PlatformKind {
         match self {
             PlatformKind::Text => {
                 let first = none.with(Name::from_slice(alloc, SERIALIZABLE)?)?;
-                Ok(first.with(Name::from_slice(alloc, COMPARABLE)?)?)
+                first.with(Name::from_slice(alloc, COMPARABLE)?)
             }
-            PlatformKind::Throwable => Ok(none.with(Name::from_slice(alloc, SERIALIZABLE)?)?),
+            PlatformKind::Throwable => none.with(Name::from_slice(alloc, SERIALIZABLE)?),
             PlatformKind::Object | PlatformKind::Thrown(_) | PlatformKind::Interface => Ok(none),
         }
     }
@@ -158,18 +158,18 @@ impl PlatformKind {
         match self {
             PlatformKind::Object => {
                 let first = none.with(constructor(alloc, id)?)?;
-                Ok(first.with(equals(alloc, id)?)?)
+                first.with(equals(alloc, id)?)
             }
             PlatformKind::Throwable | PlatformKind::Thrown(_) => {
                 let first = none.with(constructor(alloc, id)?)?;
-                Ok(first.with(constructor_of_text(alloc, id)?)?)
+                first.with(constructor_of_text(alloc, id)?)
             }
             PlatformKind::Text | PlatformKind::Interface => Ok(none),
         }
     }
 }
 
-fn method(id: ClassId, name: Name, params: Row<JType>, returned: Option<JType>) -> MethodInfo
+fn method(id: ClassId, name: Name, params: SharedRow<JType>, returned: Option<JType>) -> MethodInfo
     ensures { result ≡ record { class = id; access = 0x0001; name = name; kind = record { params = params; result = returned }; code = None } }
 {
     MethodInfo {
@@ -188,7 +188,7 @@ fn constructor(alloc: Global, id: ClassId) -> Result<MethodInfo, NoMemory>
     ensures { IfOk result (IsPlatformMethod id.0 constructor) }
 {
     let name = Name::from_slice(alloc, b"<init>")?;
-    Ok(method(id, name, Row::new(alloc), None))
+    Ok(method(id, name, SharedRow::new(), None))
 }
 
 fn constructor_of_text(alloc: Global, id: ClassId) -> Result<MethodInfo, NoMemory>
@@ -208,11 +208,11 @@ fn equals(alloc: Global, id: ClassId) -> Result<MethodInfo, NoMemory>
 }
 
 // One parameter of that class.
-fn one_class(alloc: Global, name: &[u8]) -> Result<Row<JType>, NoMemory>
+fn one_class(alloc: Global, name: &[u8]) -> Result<SharedRow<JType>, NoMemory>
     ensures { IfOk result (λ params. params ≡ types.Class name.now ∷ []) }
 {
     let class = JType::Class(Name::from_slice(alloc, name)?);
-    Ok(Row::new(alloc).with(class)?)
+    SharedRow::from_row(Row::new(alloc).with(class)?)
 }
 
 /// What the descriptors of the methods say.

@@ -5,7 +5,7 @@ ghost use Rattle.std.specs.List.{AllByRecursion};
 ghost use Rattle.kb_classfile.specs.Pool.{name_index_of};
 ghost use Rattle.kb_class.specs.Loading.{HasText};
 ghost use Rattle.kb_class.specs.Loaded.{told_at};
-ghost use Rattle.kb_class.specs.Tables.{type_numbers, kind_index_of, kind_numbers, field_index, method_index, IsSpelled, IsTable, Puts};
+ghost use Rattle.kb_class.specs.Tables.{type_numbers, field_name_index, method_name_index, name_numbers, kind_index_of, kind_numbers, field_index, method_index, IsSpelled, IsTable, Puts};
 
 use crate::texts::{Spelled, text_of};
 use kb_classfile::{ClassFile, Field, Method, PoolEntry};
@@ -84,6 +84,34 @@ fn add_name(numbers: &mut Row<u16>, entry: &PoolEntry) -> Result<(), NoMemory>
         PoolEntry::Class(name) => Ok(numbers.push(*name)?),
         _ => Ok(()),
     }
+}
+
+/// The numbers of the names of fields and methods.
+pub(crate) fn name_numbers(alloc: Global, file: &ClassFile) -> Result<Row<u16>, NoMemory>
+    ensures { IfOk result (λ numbers. numbers ≡ name_numbers file.now) }
+{
+    let mut numbers = Row::new(alloc);
+    add_field_names(&mut numbers, file.fields.as_slice())?;
+    add_method_names(&mut numbers, file.methods.as_slice())?;
+    Ok(numbers)
+}
+
+fn add_field_names(numbers: &mut Row<u16>, fields: &[Field]) -> Result<(), NoMemory>
+    ensures { OnOk result (numbers.new ≡ numbers.old ++ map field_name_index fields.now) }
+{
+    for field in fields {
+        numbers.push(field.name)?;
+    }
+    Ok(())
+}
+
+fn add_method_names(numbers: &mut Row<u16>, methods: &[Method]) -> Result<(), NoMemory>
+    ensures { OnOk result (numbers.new ≡ numbers.old ++ map method_name_index methods.now) }
+{
+    for method in methods {
+        numbers.push(method.name)?;
+    }
+    Ok(())
 }
 
 /// The numbers of the descriptors of NameAndType entries, fields and methods.

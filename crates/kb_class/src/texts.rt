@@ -5,7 +5,7 @@ ghost use Rattle.kb_classfile.specs.Pool.{utf8_of};
 ghost use Rattle.kb_names.specs.Descriptors.{SpellsType, SpellsMethod, IsTypeText, IsMethodText};
 ghost use Rattle.kb_names.specs.declared.class_names.Spelling.TheVariants.{Raw};
 ghost use Rattle.kb_class.specs.Loading.{SpellsExact, SpellsKind};
-ghost use Rattle.kb_class.specs.Tables.{IsSpelling};
+ghost use Rattle.kb_class.specs.Tables.{SpellsItself, IsSpelling};
 
 use crate::members::MemberKind;
 use kb_classfile::ClassFile;
@@ -25,14 +25,6 @@ pub(crate) fn text_of(file: &ClassFile, number: u16) -> &[u8]
     }
 }
 
-/// The name that the Utf8 entry with that number has.
-pub(crate) fn name_of(alloc: Global, file: &ClassFile, number: u16) -> Result<Name, NoMemory>
-    requires { IsSome (utf8_of file.now number) }
-    ensures { IfOk result (λ name. utf8_of file.now number ≡ Some name) }
-{
-    Name::from_slice(alloc, text_of(file, number))
-}
-
 // What a text says in one of its roles.
 pub(crate) trait Spelled: Drop {
     ghost use Rattle.std.specs.Prelude.{ℕ, List};
@@ -45,6 +37,15 @@ pub(crate) trait Spelled: Drop {
         Self: Sized,
         requires { IsSpelling spells text.now }
         ensures { IfOk result (λ value. spells value text.now) };
+}
+
+/// The name of a field or method.
+impl Spelled for Name {
+    ghost spells = { SpellsItself };
+
+    fn read(alloc: Global, text: &[u8]) -> Result<Name, NoMemory> {
+        Name::from_slice(alloc, text)
+    }
 }
 
 /// A type, by the name that a Class entry gives it.

@@ -1,6 +1,5 @@
 -- Looking into the constant pool (JVMS 8 section 4.4), and what its entries name.
 use Rattle.std.specs.Prelude.{◌≡◌, ℕ, zero, suc, ◌+◌, Bool, true, false, List, [], ◌∷◌, Option, Some, None, slice_get, IsTrue, if◌then◌else◌}
-use Rattle.std.specs.List.{list_any}
 use Rattle.std.specs.Option.{option_and_then}
 use Rattle.std.specs.Str.{bytes_eq}
 use Rattle.kb_classfile.specs.declared.file.PoolEntry.{PoolEntry}
@@ -109,8 +108,3 @@ first_fault_of pool (reference ∷ others) = fault_or (fault_of pool reference) 
 abbrev pub is_text : List ℕ → Option (List ℕ) → Bool
 is_text text (Some found) = bytes_eq found text
 is_text text None = false
-
--- whether a text was found, and is one of these
-abbrev pub is_one_of : List (List ℕ) → Option (List ℕ) → Bool
-is_one_of texts (Some found) = list_any (bytes_eq found) texts
-is_one_of texts None = false

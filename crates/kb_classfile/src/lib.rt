@@ -21,4 +21,5 @@ pub use laws::{
     bytes_behind, cut_short, no_fault, one_class, other_magic, other_version, too_long,
 };
 pub use read::read_class;
-pub use refusal::{ClassRefusal, NoMemory};
+pub use refusal::ClassRefusal;
+pub use std::alloc::AllocError as NoMemory;

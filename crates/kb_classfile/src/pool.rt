@@ -8,7 +8,7 @@ use crate::file::PoolEntry;
 use crate::refusal::ClassRefusal;
 
 /// What kind of entry a number must name.
-#[derive(Clone, Copy, Debug, PartialEq, Eq)]
+#[derive(Clone, Copy)]
 pub enum EntryKind {
     /// A Utf8 entry.
     Text,
@@ -19,7 +19,7 @@ pub enum EntryKind {
 }
 
 /// A number that names an entry of the constant pool, and the offset of the number in the file.
-#[derive(Clone, Copy, Debug, PartialEq, Eq)]
+#[derive(Clone, Copy)]
 pub struct Reference {
     pub at: usize,
     pub index: u16,

@@ -14,7 +14,7 @@ use kb_rows::Row;
 use std::alloc::Global;
 use std::marker::Model;
 
-/// What was read of the pool by now: the entries by their numbers, the references in them, and whether the next
+/// What has been read of the pool so far: the entries by their numbers, the references in them, and whether the next
 /// number is the second one of a Long or Double.
 #[derive(Drop)]
 pub struct PoolRead {

@@ -5,10 +5,6 @@ ghost use Rattle.kb_classfile.specs.declared.refusal.ClassRefusal.TheVariants as
 
 use std::alloc::{AllocError, AllocFailed};
 
-/// Memory ran out.
-#[derive(Clone, Copy, Debug, PartialEq, Eq)]
-pub struct NoMemory;
-
 /// What is wrong with a class file: the first fault that is met. Offsets count bytes from the front of
 /// the file.
 #[derive(Clone, Copy, Debug, PartialEq, Eq)]

@@ -18,7 +18,8 @@ use Rattle.kb_code.specs.declared.refusal.CodeRefusal.{CodeRefusal}
 use Rattle.kb_code.specs.declared.refusal.CodeRefusal.TheVariants as refusals
 use Rattle.kb_code.specs.Forms.{form_of, wide_form_of, local_instr, entry_instr}
 use Rattle.kb_code.specs.Listing.{IsU1, IsU2, IsByte, IsShort, IsInt, IsNear, IsFar, IsPadding, AreBytes, IsAbove, IsIncreasing, SpellsPair, SpellsWideForm, SpellsWide, SpellsForm, SpellsOperands, SpellsLoose}
-use Rattle.kb_code.specs.Reading.{cut, u1, u2, u4, byte, short, int, near, far, padding_at, padding, bounds_fault, bounds, count_of, table_switch, count_fault, is_above, is_increasing, keys_fault, pair, lookup_switch, skipped, increment, wide_increment, interface_call, wide_formed, widened, formed, operands, instruction, item}
+use Rattle.kb_code.specs.Switches.{key_of, are_above, are_rising}
+use Rattle.kb_code.specs.Reading.{cut, u1, u2, u4, byte, short, int, near, far, padding_at, padding, bounds_fault, bounds, count_of, table_switch, count_fault, keys_fault, pair, lookup_switch, skipped, increment, wide_increment, interface_call, wide_formed, widened, formed, operands, instruction, item}
 
 -- ---- tools
 
@@ -227,21 +228,21 @@ table_exact from =
     (table_to from) (table_from from)
 
 -- whether ints rise
-above_to : (low : ℤ) (pairs : List (ℤ × ℤ)) → is_above low pairs ≡ true → IsAbove low pairs
+above_to : (low : ℤ) (pairs : List (ℤ × ℤ)) → are_above key_of low pairs ≡ true → IsAbove low pairs
 above_to low [] h = tt
 above_to low (p ∷ pairs) h =
-    let both = and_parts (int_lt low p.0) (is_above p.0 pairs) h in
+    let both = and_parts (int_lt low p.0) (are_above key_of p.0 pairs) h in
     (grind (arith, ints, both.0), above_to p.0 pairs both.1)
 
-above_from : (low : ℤ) (pairs : List (ℤ × ℤ)) → IsAbove low pairs → is_above low pairs ≡ true
+above_from : (low : ℤ) (pairs : List (ℤ × ℤ)) → IsAbove low pairs → are_above key_of low pairs ≡ true
 above_from low [] h = refl
-above_from low (p ∷ pairs) h = and_from (int_lt low p.0) (is_above p.0 pairs) (grind (arith, ints, h.0)) (above_from p.0 pairs h.1)
+above_from low (p ∷ pairs) h = and_from (int_lt low p.0) (are_above key_of p.0 pairs) (grind (arith, ints, h.0)) (above_from p.0 pairs h.1)
 
-increasing_to : (pairs : List (ℤ × ℤ)) → is_increasing pairs ≡ true → IsIncreasing pairs
+increasing_to : (pairs : List (ℤ × ℤ)) → are_rising key_of pairs ≡ true → IsIncreasing pairs
 increasing_to [] h = tt
 increasing_to (p ∷ pairs) h = above_to p.0 pairs h
 
-increasing_from : (pairs : List (ℤ × ℤ)) → IsIncreasing pairs → is_increasing pairs ≡ true
+increasing_from : (pairs : List (ℤ × ℤ)) → IsIncreasing pairs → are_rising key_of pairs ≡ true
 increasing_from [] h = refl
 increasing_from (p ∷ pairs) h = above_from p.0 pairs h
 
@@ -260,7 +261,7 @@ pairs_exact : (from n : ℕ) → Exact (cut from) (judged (keys_fault from) (rep
 pairs_exact from n =
     judged_exact (cut from) (keys_fault from) (repeated (λ number. pair from) n) (λ pairs at bytes. (length pairs ≡ n) × Each (SpellsPair from) pairs at bytes) IsIncreasing
     (repeated_exact (cut from) (λ number. pair from) (SpellsPair from) n (λ number. pair_exact from))
-    (λ at pairs h. increasing_to pairs (none_if_true (is_increasing pairs) (refusals.Switch from) h)) (λ at pairs h. rw (increasing_from pairs h) refl)
+    (λ at pairs h. increasing_to pairs (none_if_true (are_rising key_of pairs) (refusals.Switch from) h)) (λ at pairs h. rw (increasing_from pairs h) refl)
 
 abbrev LookupRead : ℕ → Loose → Piece
 LookupRead from loose at bytes =

@@ -1,3 +1,4 @@
+pub mod Switches
 pub mod Forms
 pub mod Names
 pub mod Listing

@@ -1,6 +1,6 @@
 -- Reading code from left to right, an instruction at a time, with the first fault that is met. `Listing` states the grammar
 -- apart from this; the reader is proved exact for it.
-use Rattle.std.specs.Prelude.{◌≡◌, ℕ, ◌+◌, ◌-◌, ◌%◌, ℤ, pos, ◌+ℤ◌, ◌-ℤ◌, Bool, true, List, [], ◌∷◌, Option, Some, None, Result, Ok, Err, nat_abs, int_lt, ◌&&◌, if◌then◌else◌}
+use Rattle.std.specs.Prelude.{◌≡◌, ℕ, ◌+◌, ◌-◌, ◌%◌, ℤ, pos, ◌+ℤ◌, ◌-ℤ◌, List, [], ◌∷◌, Option, Some, None, Result, Ok, Err, nat_abs, int_lt, if◌then◌else◌}
 use Rattle.std.specs.Int.{w8, w16, w32, cast_signed}
 use Rattle.kb_grammar.specs.Reading.{Place, Reader, ◌>>=◌, done, fault, here, judged, run, number, repeated, values_of}
 use Rattle.kb_code.specs.declared.instruction.Instr.TheVariants as instrs
@@ -13,6 +13,7 @@ use Rattle.kb_code.specs.declared.form.Loose.TheVariants as looses
 use Rattle.kb_code.specs.declared.refusal.CodeRefusal.{CodeRefusal}
 use Rattle.kb_code.specs.declared.refusal.CodeRefusal.TheVariants as refusals
 use Rattle.kb_code.specs.Forms.{form_of, wide_form_of, local_instr, entry_instr}
+use Rattle.kb_code.specs.Switches.{key_of, are_rising}
 
 -- What a function returned, seen by view, is what reading gives, unless memory ran out.
 abbrev pub Fails : {A : Type 0} → CodeRefusal → Result A CodeRefusal → Type 0
@@ -100,18 +101,9 @@ table_switch from = do
 abbrev pub count_fault : ℕ → ℕ → ℤ → Option CodeRefusal
 count_fault from at count = if int_lt count (pos 0) then Some (refusals.Switch from) else None
 
--- whether each int is above the one before it
-abbrev pub is_above : ℤ → List (ℤ × ℤ) → Bool
-is_above low [] = true
-is_above low (pair ∷ others) = int_lt low pair.0 && is_above pair.0 others
-
-abbrev pub is_increasing : List (ℤ × ℤ) → Bool
-is_increasing [] = true
-is_increasing (pair ∷ others) = is_above pair.0 others
-
 -- the fault of ints that do not rise
 abbrev pub keys_fault : ℕ → ℕ → List (ℤ × ℤ) → Option CodeRefusal
-keys_fault from at pairs = if is_increasing pairs then None else Some (refusals.Switch from)
+keys_fault from at pairs = if are_rising key_of pairs then None else Some (refusals.Switch from)
 
 unfoldable pub pair : ℕ → Reader CodeRefusal (ℤ × ℤ)
 pair from = do

@@ -3,6 +3,9 @@
 use crate::instruction::Instr;
 use kb_rows::Row;
 
+/// The most bytes of a method's code (JVMS 8 section 4.7.3).
+pub const MOST_CODE: usize = 65_535;
+
 /// The instructions of a method's code with their offsets, in order.
 #[derive(Debug, Drop)]
 pub struct Listing {

@@ -6,6 +6,13 @@ ghost use Rattle.kb_code.specs.Forms.{form_of, wide_form_of, constant_form, load
 use crate::form::{Branch, Entry, Form, Local, WideForm};
 use crate::instruction::{Cond, Elem, Instr, IntCut, IntOp};
 
+/// ldc, invokeinterface and goto_w (JVMS 8 section 6.5).
+pub const LDC: u8 = 0x12;
+
+pub const INVOKEINTERFACE: u8 = 0xb9;
+
+pub const GOTO_W: u8 = 0xc8;
+
 /// Constants, 00 to 14.
 #[tactic(auto, unfolding(crate::specs::Forms::constant_form))]
 fn constant_form(op: u8) -> Form

@@ -2,9 +2,10 @@
 
 ghost use Rattle.std.specs.Prelude.{◌≡◌, pos};
 ghost use Rattle.kb_grammar.specs.Reading.{judged, repeated};
-ghost use Rattle.kb_code.specs.Reading.{Gives, padding_at, padding, bounds_fault, bounds, count_of, far, int, pair, table_switch, count_fault, is_increasing, keys_fault, lookup_switch};
+ghost use Rattle.kb_code.specs.Reading.{Gives, padding_at, padding, bounds_fault, bounds, count_of, far, int, pair, table_switch, count_fault, keys_fault, lookup_switch};
 
 use crate::form::Loose;
+use crate::keyed::are_rising;
 use crate::reader::Reader;
 use crate::refusal::CodeRefusal;
 use kb_rows::Row;
@@ -27,25 +28,6 @@ fn count_of(ends: (i32, i32)) -> u64
     ensures { result ≡ count_of ends }
 {
     u64::from(ends.1.abs_diff(ends.0)) + 1
-}
-
-/// Whether each int is above the one before it.
-fn is_increasing(pairs: &[(i32, i64)]) -> bool
-    ensures { result ≡ is_increasing pairs.now }
-{
-    let [first, others @ ..] = pairs else {
-        return true;
-    };
-    let mut low = first.0;
-    let mut rest = others;
-    while let [next, later @ ..] = rest {
-        if next.0 <= low {
-            return false;
-        }
-        low = next.0;
-        rest = later;
-    }
-    true
 }
 
 impl<'a> Reader<'a> {
@@ -147,7 +129,7 @@ impl<'a> Reader<'a> {
         ensures { Gives (λ pairs. (pairs, self.new)) result (judged (keys_fault from) (repeated (λ number. pair from) count) self.old) }
     {
         let pairs = self.pairs(alloc, from, count)?;
-        if !is_increasing(pairs.as_slice()) {
+        if !are_rising(pairs.as_slice()) {
             return Err(CodeRefusal::Switch(from));
         }
         Ok(pairs)

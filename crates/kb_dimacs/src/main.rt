@@ -1,24 +1,7 @@
 //! Reads a formula in the DIMACS format from standard input and writes what the solver says of it.
 #![tactic(auto)]
 
-mod answer;
-mod body;
-mod dimacs;
-mod front;
-mod lines;
-mod memory;
-mod numbers;
-mod read;
-mod refusal;
-mod request;
-mod run;
-mod status;
-#[cfg(test)]
-mod tests;
-mod texts;
-
-use run::run;
-use status::Status;
+use kb_dimacs_text::{Status, run};
 use std::env::{self, Env};
 use std::io::{self, ErrorKind, Read};
 use std::process::ExitCode;

@@ -23,7 +23,7 @@ use Rattle.kb_picture.specs.Instances.{IsInstance}
 use Rattle.kb_frames.specs.Cuts.{IsLicensed, setting_of}
 use Rattle.kb_picture.specs.Exactly.{ExactlyOneHas}
 use Rattle.kb_drive.specs.Covers.{Covers}
-use Rattle.kb_drive.specs.Within.{IsDecided, AreDecided, IsWithin, EndsOnPath, NoneThrows}
+use Rattle.kb_drive.specs.Within.{IsLeafDecided, AreDecided, IsWithin, EndsOnPath, NoneThrows}
 
 -- a listed thing that has the input
 record IsAt {A : Type 0} (Has : A → Input → Type 0) (listed : List A) (input : Input) : Type 0 where
@@ -58,7 +58,7 @@ ends_within world target bounds paths budget listed input covers decided correct
     let at = one-has IsInstance listed input (covers.inputs input correct) in
     go at (at.item.leaf) refl (decided at.place at.item at.there)
   where
-    go : (at : IsAt IsInstance listed input) (leaf : Leaf) → at.item.leaf ≡ leaf → IsDecided at.item.leaf → EndsOnPath world target bounds listed input
+    go : (at : IsAt IsInstance listed input) (leaf : Leaf) → at.item.leaf ≡ leaf → IsLeafDecided at.item.leaf → EndsOnPath world target bounds listed input
     go at (EndedLeaf ended) e d = record {
       place = at.place;
       path = at.item;

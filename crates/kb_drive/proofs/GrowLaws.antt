@@ -24,7 +24,7 @@ use Rattle.kb_picture.specs.declared.picture.Seen.TheVariants as seens
 use Rattle.kb_picture.specs.Instances.{variable_value, variable_values}
 use Rattle.kb_picture.specs.Places.{slot_value}
 use Rattle.kb_picture.specs.Queries.{kind_seen}
-use Rattle.kb_picture.specs.Shapes.{HasShape, HoldEach, Holds}
+use Rattle.kb_picture.specs.Shapes.{HasShape, HoldEach, HoldsSeen}
 use Rattle.kb_picture.specs.WellFormed.{variable_seen, variables_seen}
 use Rattle.kb_frames.specs.State.{State}
 use Rattle.kb_frames.specs.States.{IsState}
@@ -180,7 +180,7 @@ comparison_stays world old new input formed terms stays before now t there = go 
 
 -- ---- slots
 
-holds_some : (input : Input) (places : List ℕ) (number : ℕ) (value : Option Value) (seen : Seen) → slice_get input.args number ≡ value → Holds input.heap places value seen
+holds_some : (input : Input) (places : List ℕ) (number : ℕ) (value : Option Value) (seen : Seen) → slice_get input.args number ≡ value → HoldsSeen input.heap places value seen
     → number < length input.args
 holds_some input places number (Some value) seen e holds = slice_get_within input.args number value e
 holds_some input places number None (seens.Int v) e holds = absurd (cc)
@@ -190,9 +190,9 @@ holds_some input places number None (seens.Obj o) e holds = absurd (cc)
 holds_some input places number None seens.Beyond e holds = absurd (cc)
 
 held_at : (input : Input) (places : List ℕ) (seen : List (Origin × Seen)) (i : ℕ) (slot : Origin × Seen) → HoldEach input places seen → slice_get seen i ≡ Some slot
-    → Holds input.heap places (slot_value input places slot.0) slot.1
+    → HoldsSeen input.heap places (slot_value input places slot.0) slot.1
 held_at input places [] i slot each e = absurd cc
-held_at input places (s ∷ seen) zero slot each e = let same : s ≡ slot = cc in subst (λ (x : Origin × Seen). Holds input.heap places (slot_value input places x.0) x.1) same each.0
+held_at input places (s ∷ seen) zero slot each e = let same : s ≡ slot = cc in subst (λ (x : Origin × Seen). HoldsSeen input.heap places (slot_value input places x.0) x.1) same each.0
 held_at input places (s ∷ seen) (suc i) slot each e = held_at input places seen i slot each.1 e
 
 -- an argument that is seen is one of the input's

@@ -28,7 +28,7 @@ use Rattle.kb_frames.specs.Paths.{numbered_ended, path_numbering, path_of}
 use Rattle.kb_frames.specs.StandsFor.{IsInstanceOf, reading_at}
 use Rattle.kb_frames.specs.Comparing.{comparison_at, comparison_of}
 use Rattle.kb_stepint.specs.Ways.{Take}
-use Rattle.kb_drive.specs.Compared.{ComparesAsRuns, IsMade, IsSuchComparison}
+use Rattle.kb_drive.specs.Compared.{ComparesAsRuns, IsComparisonMade, IsSuchComparison}
 use Rattle.kb_drive.specs.EmittedLaws.{InputsAreOfStates, IsOfState, input_for}
 use Rattle.kb_drive.specs.Explorable.{IsExplorable}
 use Rattle.kb_drive.specs.Pieces.{IsBehind}
@@ -54,15 +54,15 @@ module _ (endings_mean : EndingsMean) (emits : InputsAreOfStates) (one_places : 
         → IsPathOf world after.state decisions leaf
         → (input : Input) (short : IsShortInstance world target (path_of after.state decisions leaf) count input) (i : ℕ) (condition : ℕ × Bool)
         → slice_get (path_of after.state decisions leaf).when i ≡ Some condition
-        → IsSuchComparison (IsMade world target bounds input) (comparison_at (path_of after.state decisions leaf) input short.instance_of.shape.places.objects condition.0)
+        → IsSuchComparison (IsComparisonMade world target bounds input) (comparison_at (path_of after.state decisions leaf) input short.instance_of.shape.places.objects condition.0)
     unfolding path_of
     condition_made count values after decisions leaf behind means input short i condition at =
         let is = means.means.conditions i condition at in
         let was = (means.means.short count input).0 short.instance_of in
         -- the places are those of the picture, whichever of the two shapes tells them
         let same = one_places after.state.picture input was.shape short.instance_of.shape in
-        subst (IsSuchComparison (IsMade world target bounds input)) (sym (is.comparison input short.instance_of.shape.places.objects))
-        (subst (λ (places : PlaceLists). IsSuchComparison (IsMade world target bounds input) (comparison_of after.state.nodes (variable_values after.state.picture input places.objects) is.term))
+        subst (IsSuchComparison (IsComparisonMade world target bounds input)) (sym (is.comparison input short.instance_of.shape.places.objects))
+        (subst (λ (places : PlaceLists). IsSuchComparison (IsComparisonMade world target bounds input) (comparison_of after.state.nodes (variable_values after.state.picture input places.objects) is.term))
         same (behind.explored.compared input short.correct was i (is.term, condition.1) is.there refl))
 
     -- The conditions of a path behind an alternative are comparisons that the runs make.

@@ -2,7 +2,7 @@
 use Rattle.std.proofs.Common.{◌≡◌, ◌≢◌, ◌⊎◌, ℕ, zero, suc, ◌<◌, List, [], ◌∷◌, ◌++◌, map, Some, slice_get, inl, inr, refl, sym, ap, ◌∙◌, subst, arith, append_assoc}
 use Rattle.std.specs.Option.{option_map}
 use Rattle.std.proofs.lemmas.Option.{slice_get-map}
-use Rattle.kb_drive.specs.Division.{ComesBefore, IsFrontOf, AreDecisions}
+use Rattle.kb_drive.specs.Division.{DecisionsComeBefore, IsFrontOf, AreDecisions}
 use Rattle.kb_drive.specs.Walks.{IsBelow, IsBelowEach, AreRising, BeginWith}
 
 -- ---- one list below another
@@ -23,7 +23,7 @@ next_below [] n m less = inl less
 next_below (k ∷ ks) n m less = inr (refl, next_below ks n m less)
 
 -- a list that is below another one comes before it, and neither is the front of the other
-pub below_before : (one other : List ℕ) → IsBelow one other → ComesBefore one other
+pub below_before : (one other : List ℕ) → IsBelow one other → DecisionsComeBefore one other
 below_before [] other h = absurd h
 below_before (n ∷ ns) [] h = absurd h
 below_before (n ∷ ns) (m ∷ ms) h = elim h [ inl less ↦ inl less | inr same ↦ inr (same.0, below_before ns ms same.1) ]

@@ -25,7 +25,7 @@ use Rattle.kb_stepint.specs.Simulation.{IsComparedBy as IsComparedByStep, IsRead
 use Rattle.kb_stepint.specs.Ways.{Take}
 use Rattle.kb_drive.specs.declared.piece.Piece.{Piece}
 use Rattle.kb_stepint.specs.Reached.{IsReached}
-use Rattle.kb_drive.specs.Compared.{IsMade, IsSuchComparison}
+use Rattle.kb_drive.specs.Compared.{IsComparisonMade, IsSuchComparison}
 use Rattle.kb_drive.specs.Pieces.{AreMadeIn, AreValuesFor, HasOutcome, IsBehind, IsPiece}
 use Rattle.kb_drive.specs.ReadFirst.{AreReadFirst, IsReadFirst, SomeReadsAt}
 use Rattle.kb_drive.specs.Runs.{starts_of}
@@ -77,7 +77,7 @@ module _ (world : World) (target : MethodId) (bounds : Bounds) (piece : Piece) (
 
   -- the configuration of which the piece stands, as one of a run that counts
   made_there : (input : Input) (c : Config) (comparison : Option Comparison) → StandsFor (setting_of world bounds) old input c
-      → IsComparedByStep (setting_of world bounds) c comparison → IsSuchComparison (IsMade world target bounds input) comparison
+      → IsComparedByStep (setting_of world bounds) c comparison → IsSuchComparison (IsComparisonMade world target bounds input) comparison
   made_there input c None stands never = never
   made_there input c (Some comparison) stands has = record {
     start = start_of world target input;
@@ -99,10 +99,10 @@ module _ (world : World) (target : MethodId) (bounds : Bounds) (piece : Piece) (
       whole = record { shape = was.shape; conditions = subst (AreMetInPool old.nodes (variable_values old.picture input was.shape.places.objects)) (sym (take_all (length old.when) old.when (omega arith))) was.conditions }
 
       go : (i < length old.when) ⊎ (length old.when ≤ i)
-          → IsSuchComparison (IsMade world target bounds input) (comparison_of new.nodes (variable_values new.picture input short.shape.places.objects) condition.0)
+          → IsSuchComparison (IsComparisonMade world target bounds input) (comparison_of new.nodes (variable_values new.picture input short.shape.places.objects) condition.0)
       go (inl less) =
           let there = at_front new.when old.when i condition leads.kept.conditions less at in
-          subst (IsSuchComparison (IsMade world target bounds input))
+          subst (IsSuchComparison (IsComparisonMade world target bounds input))
           (comparison_stays world old new input is.reached.reached.sound leads.kept.terms leads.stays whole.shape short.shape condition.0
           (condition_term old.nodes old.when i condition is.reached.reached.sound.conditions there))
           (is.explored.compared input correct whole i condition there exempt)

@@ -16,10 +16,10 @@ use Rattle.kb_drive.specs.Runs.{starts_of, SomeCompares}
 -- ---- which of them may be conditions
 
 -- a run that counts makes the comparison
-abbrev pub IsMade : World → MethodId → Bounds → Input → Comparison → Type 0
-IsMade world target bounds input comparison = SomeCompares (setting_of world bounds) (starts_of world target input) comparison
+abbrev pub IsComparisonMade : World → MethodId → Bounds → Input → Comparison → Type 0
+IsComparisonMade world target bounds input comparison = SomeCompares (setting_of world bounds) (starts_of world target input) comparison
 
--- whether the condition in that place may be another one; none may by now
+-- whether the condition in that place may be another one; none may for now
 abbrev pub is_exempt : World → MethodId → Path → ℕ → Bool
 is_exempt world target path place = false
 
@@ -46,4 +46,4 @@ pub record AreComparisons (Such : Input → Comparison → Type 0) (world : Worl
 
 -- The path's conditions are comparisons that the runs make.
 abbrev pub ComparesAsRuns : World → MethodId → Bounds → Path → Type 0
-ComparesAsRuns world target bounds path = AreComparisons (IsMade world target bounds) world target path
+ComparesAsRuns world target bounds path = AreComparisons (IsComparisonMade world target bounds) world target path

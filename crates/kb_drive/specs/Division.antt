@@ -20,10 +20,10 @@ Divide world method Has listed = DivideThose (IsTypeCorrect world method) Has li
 -- ---- lists of decisions
 
 -- one list of numbers comes before the other: it is smaller at the first place where they differ, or ends there
-abbrev pub ComesBefore : List ℕ → List ℕ → Type 0
-ComesBefore one [] = ⊥
-ComesBefore [] (second ∷ others) = Unit {0}
-ComesBefore (first ∷ rest) (second ∷ others) = (first < second) ⊎ ((first ≡ second) × ComesBefore rest others)
+abbrev pub DecisionsComeBefore : List ℕ → List ℕ → Type 0
+DecisionsComeBefore one [] = ⊥
+DecisionsComeBefore [] (second ∷ others) = Unit {0}
+DecisionsComeBefore (first ∷ rest) (second ∷ others) = (first < second) ⊎ ((first ≡ second) × DecisionsComeBefore rest others)
 
 -- the other list begins with the one
 abbrev pub IsFrontOf : List ℕ → List ℕ → Type 0
@@ -32,6 +32,6 @@ IsFrontOf one other = (rest : List ℕ) × (other ≡ one ++ rest)
 -- The decisions of listed things rise, and those of none are the front of another's.
 pub record AreDecisions {A : Type 0} (decisions_of : A → List ℕ) (listed : List A) : Type 0 where
   pub rising : (i j : ℕ) (one other : A) → slice_get listed i ≡ Some one → slice_get listed j ≡ Some other → i < j
-      → ComesBefore (decisions_of one) (decisions_of other)
+      → DecisionsComeBefore (decisions_of one) (decisions_of other)
   pub apart : (i j : ℕ) (one other : A) → slice_get listed i ≡ Some one → slice_get listed j ≡ Some other → i ≢ j
       → IsFrontOf (decisions_of one) (decisions_of other) → ⊥

@@ -12,7 +12,7 @@ use Rattle.kb_frames.specs.State.{State}
 use Rattle.kb_frames.specs.States.{IsState}
 use Rattle.kb_input.specs.Emitted.{emitted_input}
 use Rattle.kb_drive.specs.Values.{followed_by_zeros}
-use Rattle.kb_stepint.specs.Simulation.{HasInput}
+use Rattle.kb_stepint.specs.Simulation.{HasInputOfState}
 use Rattle.kb_drive.specs.Explorable.{IsExplorable}
 use Rattle.kb_drive.specs.Pieces.{AreValuesFor}
 
@@ -29,4 +29,4 @@ pub record IsOfState (world : World) (state : State) (when : List (TermId × Boo
 abbrev pub InputsAreOfStates : Type 0
 InputsAreOfStates =
     (world : World) (bounds : Bounds) (state : State) (when : List (TermId × Bool)) (values : List ℤ) → IsExplorable world state.method bounds → IsState world state
-    → HasInput world state → AreValuesFor state.nodes when values → IsOfState world state when (input_for world state values)
+    → HasInputOfState world state → AreValuesFor state.nodes when values → IsOfState world state when (input_for world state values)

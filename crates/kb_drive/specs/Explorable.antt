@@ -1,4 +1,4 @@
--- The methods that can be explored by now.
+-- The methods that can be explored for now.
 use Rattle.std.specs.Prelude.{◌≡◌, true}
 use Rattle.kb_class.specs.declared.ids.MethodId.{MethodId}
 use Rattle.kb_heap.specs.declared.bounds.Bounds.{Bounds}

@@ -22,12 +22,12 @@ use Rattle.kb_frames.specs.States.{IsState}
 use Rattle.kb_frames.specs.Comparing.{comparison_of}
 use Rattle.kb_frames.specs.Meant.{with_first}
 use Rattle.kb_stepint.specs.Reached.{IsReached}
-use Rattle.kb_stepint.specs.Simulation.{HasInput, IsOutcome}
+use Rattle.kb_stepint.specs.Simulation.{HasInputOfState, IsOutcome}
 use Rattle.kb_stepint.specs.Ways.{Take}
 use Rattle.kb_stepref.specs.Laws.{GoesOnReached}
 use Rattle.kb_stepref.specs.Reached.{IsHeapReached}
 use Rattle.kb_drive.specs.declared.piece.Piece.{Piece}
-use Rattle.kb_drive.specs.Compared.{IsMade, IsSuchComparison}
+use Rattle.kb_drive.specs.Compared.{IsComparisonMade, IsSuchComparison}
 use Rattle.kb_drive.specs.ReadFirst.{AreReadFirst}
 use Rattle.kb_drive.specs.Runs.{starts_of}
 use Rattle.kb_drive.specs.Steps.{EndsIn}
@@ -43,7 +43,7 @@ pub record AreValuesFor (nodes : List Node) (when : List (TermId × Bool)) (valu
 
 -- ---- states
 
--- whether a condition of a state may be another one than a comparison of the run; none may by now
+-- whether a condition of a state may be another one than a comparison of the run; none may for now
 abbrev pub is_exempt_in : State → ℕ → Bool
 is_exempt_in state place = false
 
@@ -51,7 +51,7 @@ is_exempt_in state place = false
 abbrev pub AreMadeIn : World → MethodId → Bounds → State → Input → List ℕ → Type 0
 AreMadeIn world target bounds state input places =
     (i : ℕ) (condition : TermId × Bool) → slice_get state.when i ≡ Some condition → is_exempt_in state i ≡ false
-    → IsSuchComparison (IsMade world target bounds input) (comparison_of state.nodes (variable_values state.picture input places) condition.0)
+    → IsSuchComparison (IsComparisonMade world target bounds input) (comparison_of state.nodes (variable_values state.picture input places) condition.0)
 
 -- A state of the exploration of a method, where the values meet the first so many of its conditions.
 pub record IsExplored (world : World) (target : MethodId) (bounds : Bounds) (count : ℕ) (values : List ℤ) (state : State) : Type 0 where
@@ -95,7 +95,7 @@ pub record IsBehind (world : World) (target : MethodId) (bounds : Bounds) (count
   pub reached : IsReached world after.state
   pub leads : GoesOnReached world after.state after.outcome
   -- an input can be made of its picture, so that some input has its shape and meets those conditions
-  pub picture : HasInput world after.state
+  pub picture : HasInputOfState world after.state
   pub ending : EndsIn world after.state after.outcome
   pub outcomes : (input : Input) → IsTypeCorrect world target input → (instance_of : IsInstanceOf after.state input)
       → HasOutcome world target bounds after input instance_of

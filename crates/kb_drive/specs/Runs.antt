@@ -1,4 +1,4 @@
--- The runs of an input of which an exploration speaks, and what some configuration of one of them makes or reads. By now the
+-- The runs of an input of which an exploration speaks, and what some configuration of one of them makes or reads. For now the
 -- one run that counts is that of the method explored.
 use Rattle.std.specs.Prelude.{◌≡◌, ℕ, List, [], ◌∷◌, Some}
 use Rattle.kb_class.specs.Naming.{Has}

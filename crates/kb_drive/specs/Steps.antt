@@ -15,7 +15,7 @@ use Rattle.kb_frames.specs.Endings.{IsEndingIn}
 use Rattle.kb_frames.specs.Measure.{choices_left}
 use Rattle.kb_frames.specs.State.{State}
 use Rattle.kb_stepint.specs.Reached.{IsReached}
-use Rattle.kb_stepint.specs.Simulation.{AddsComparisons, FollowsStep, HasInput, Keeps, ReadsWhatItSees, TakesOneWay}
+use Rattle.kb_stepint.specs.Simulation.{AddsComparisons, FollowsStep, HasInputOfState, Keeps, ReadsWhatItSees, TakesOneWay}
 use Rattle.kb_stepint.specs.Ways.{Take}
 use Rattle.kb_stepref.specs.Laws.{AreInRange, GoesOnReached}
 use Rattle.kb_stepref.specs.Reached.{IsHeapReached}
@@ -64,7 +64,7 @@ pub record LeadsOn (world : World) (bounds : Bounds) (old : State) (after : Take
   pub compared : AddsComparisons world bounds old after.state
   pub read : ReadsWhatItSees world bounds old after.state
   -- an input can be made of its picture
-  pub picture : HasInput world after.state
+  pub picture : HasInputOfState world after.state
   pub stays : StaysAtInputs old.picture after.state.picture
   pub ending : EndsIn world after.state after.outcome
   -- where its state goes on, steps lead on from there

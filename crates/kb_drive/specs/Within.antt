@@ -19,15 +19,15 @@ use Rattle.kb_frames.specs.Cuts.{setting_of, RunsPast}
 use Rattle.kb_drive.specs.Covers.{EachPath}
 
 -- the leaf is an ending or a cut
-abbrev pub IsDecided : Leaf → Type 0
-IsDecided (EndedLeaf ended) = Unit {0}
-IsDecided (Cut bound input) = Unit {0}
-IsDecided (Undecided log) = ⊥
-IsDecided Open = ⊥
+abbrev pub IsLeafDecided : Leaf → Type 0
+IsLeafDecided (EndedLeaf ended) = Unit {0}
+IsLeafDecided (Cut bound input) = Unit {0}
+IsLeafDecided (Undecided log) = ⊥
+IsLeafDecided Open = ⊥
 
 -- no path is undecided or open
 abbrev pub AreDecided : List Path → Type 0
-AreDecided listed = EachPath (λ (path : Path). IsDecided path.leaf) listed
+AreDecided listed = EachPath (λ (path : Path). IsLeafDecided path.leaf) listed
 
 -- no path states that something is thrown
 abbrev pub NoneThrows : List Path → Type 0

@@ -36,7 +36,7 @@ pub(crate) fn learn<O: Oracle>(
     ensures later_bad { O.bad oracle.old ≤ O.bad oracle.new }
     ensures later_unsure { O.unsure oracle.old ≤ O.unsure oracle.new }
 {
-    let state = &taken.piece.state;
+    let state = &taken.piece.get().state;
     let when = state.conditions();
     if when.len() == taken.stood {
         return Ok(Known::Kept);
@@ -46,13 +46,13 @@ pub(crate) fn learn<O: Oracle>(
 }
 
 /// The stop of an exploration whose oracle has stopped at the conditions of a piece.
-pub(crate) fn stopped(piece: &Piece, stop: OracleStop) -> DriveStop
+pub(crate) fn stopped(alloc: Global, piece: &Piece, stop: OracleStop) -> DriveStop
     requires { AreTerms piece.now.state.nodes (path_roots piece.now.state Open) }
     ensures { IfOracle (λ i path. IsOf stop i × (path ≡ path_of_piece piece.now Open)) result }
 {
     match stop {
-        OracleStop::Bad(number) => match path_of(piece, Leaf::Open) {
-            Ok(path) => DriveStop::Oracle(number, path),
+        OracleStop::Bad(number) => match path_of(alloc, piece, Leaf::Open) {
+            Ok(path) => DriveStop::Oracle(number, path.into_inner()),
             Err(_) => DriveStop::NoMemory,
         },
         OracleStop::NoMemory => DriveStop::NoMemory,

@@ -18,7 +18,7 @@ ghost use Rattle.kb_drive.specs.Values.{HaveValuesFrom, OfGiven};
 ghost use Rattle.kb_drive.specs.Whole.{CoversPiece};
 
 use crate::NoMemory;
-use crate::follow::wait;
+use crate::follow::begin;
 use crate::piece::Piece;
 use crate::stop::DriveStop;
 use crate::walk::{Walk, step};
@@ -35,8 +35,8 @@ use std::alloc::Global;
 /// conditions. Once `paths` paths are listed, each alternative that waits is listed as an open one, and nobody is asked about
 /// it.
 ///
-/// An undecided path has a log of as many entries as the oracle's budget. It takes time in proportion to the paths times their
-/// length, and keeps one state for each choice that waits.
+/// An undecided path has a log of as many entries as the oracle's budget. It keeps one state for each choice that waits, which
+/// is copied for each alternative but the last, and makes the formula of all conditions for each question.
 ///
 /// Source: King, 1976; Khurshid, Păsăreanu and Visser, TACAS 2003.
 pub fn explore_from<O: Oracle>(
@@ -97,7 +97,7 @@ pub(crate) fn explore_piece<O: Oracle>(
     ensures later_unsure { O.unsure oracle.old ≤ O.unsure oracle.new }
 {
     let mut walk = Walk::new(alloc, piece.state.method(), paths);
-    walk.add(wait(alloc, world, bounds, piece)?)?;
+    walk.add(begin(alloc, world, bounds, piece)?)?;
     while step(alloc, world, bounds, &mut walk, oracle)? {}
     Ok(walk.listed)
 }

@@ -6,19 +6,19 @@ ghost use Rattle.kb_drive.specs.Taking.{choices_at};
 
 use crate::NoMemory;
 use crate::leaf::{cut_path, ended_path, path_of};
-use crate::piece::Piece;
+use crate::piece::{Piece, with_values};
 use crate::steps::choices;
 use crate::waiting::{Taken, Waiting};
 use kb_frames::Outcome;
 use kb_heap::Bounds;
 use kb_oracle::Answer;
 use kb_picture::{Choice, Leaf, Path};
-use kb_rows::Row;
+use kb_rows::{Held, Row};
 use kb_world::World;
 use std::alloc::Global;
 
 /// What is known of an alternative's conditions.
-#[derive(Debug, Drop)]
+#[derive(Drop)]
 pub(crate) enum Known {
     /// Nobody is asked.
     Open,
@@ -32,7 +32,7 @@ pub(crate) enum Known {
 #[derive(Drop)]
 pub(crate) enum Next {
     /// It is listed.
-    Lists(Path),
+    Lists(Held<Path>),
     /// It waits at its next choice.
     Waits(Waiting),
     /// It has no inputs.
@@ -51,7 +51,7 @@ pub(crate) fn follow(
     ensures { IfOk result (λ next. next ≡ follows world.now bounds.now taken known) }
 {
     match known {
-        Known::Open => Ok(Next::Lists(path_of(&taken.piece, Leaf::Open)?)),
+        Known::Open => Ok(Next::Lists(path_of(alloc, taken.piece.get(), Leaf::Open)?)),
         Known::Kept => follow_outcome(alloc, world, bounds, taken.piece, taken.outcome),
         Known::Answered(answer) => follow_answer(alloc, world, bounds, taken, answer),
     }
@@ -69,12 +69,12 @@ fn follow_answer(
 {
     match answer {
         Answer::Model(values) => {
-            let piece = taken.piece.with_values(values);
+            let piece = with_values(taken.piece, values);
             follow_outcome(alloc, world, bounds, piece, taken.outcome)
         }
         Answer::Refuted(_) => Ok(Next::Leaves),
         Answer::Undecided(log) => {
-            let path = path_of(&taken.piece, Leaf::Undecided(log))?;
+            let path = path_of(alloc, taken.piece.get(), Leaf::Undecided(log))?;
             Ok(Next::Lists(path))
         }
     }
@@ -85,7 +85,7 @@ fn follow_outcome(
     alloc: Global,
     world: &World,
     bounds: &Bounds,
-    piece: Piece,
+    piece: Held<Piece>,
     outcome: Outcome,
 ) -> Result<Next, NoMemory>
     requires { CanFollowOutcome world.now piece outcome }
@@ -94,13 +94,13 @@ fn follow_outcome(
     match outcome {
         Outcome::Asks => wait(alloc, world, bounds, piece),
         Outcome::Goes => wait(alloc, world, bounds, piece),
-        Outcome::Ends(ending) => Ok(Next::Lists(ended_path(alloc, world, &piece, ending)?)),
-        Outcome::Cut(bound) => Ok(Next::Lists(cut_path(alloc, world, &piece, bound)?)),
+        Outcome::Ends(ending) => Ok(Next::Lists(ended_path(alloc, world, piece.get(), ending)?)),
+        Outcome::Cut(bound) => Ok(Next::Lists(cut_path(alloc, world, piece.get(), bound)?)),
     }
 }
 
-/// The piece waits at its next choice; where there is no alternative it has no inputs.
-pub(crate) fn wait(
+/// A piece waits at its next choice.
+pub(crate) fn begin(
     alloc: Global,
     world: &World,
     bounds: &Bounds,
@@ -109,11 +109,20 @@ pub(crate) fn wait(
     requires { IsHeapReached world.now piece.state }
     ensures { IfOk result (λ next. next ≡ waits_at piece (choices_at world.now bounds.now piece.state)) }
 {
-    let choices = choices(alloc, world, &piece.state, bounds)?;
+    let held = Held::new(alloc, piece)?;
+    wait(alloc, world, bounds, held)
+}
+
+// The piece waits at its next choice; where there is no alternative it has no inputs.
+fn wait(alloc: Global, world: &World, bounds: &Bounds, piece: Held<Piece>) -> Result<Next, NoMemory>
+    requires { IsHeapReached world.now piece.state }
+    ensures { IfOk result (λ next. next ≡ waits_at piece (choices_at world.now bounds.now piece.state)) }
+{
+    let choices = choices(alloc, world, &piece.get().state, bounds)?;
     Ok(waits_at(piece, choices))
 }
 
-fn waits_at(piece: Piece, choices: Row<Choice>) -> Next
+fn waits_at(piece: Held<Piece>, choices: Row<Choice>) -> Next
     ensures { result ≡ waits_at piece choices }
 {
     if choices.as_slice().is_empty() {

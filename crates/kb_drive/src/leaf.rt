@@ -12,16 +12,17 @@ use crate::piece::Piece;
 use kb_heap::{Bound, Input};
 use kb_input::input_of;
 use kb_picture::{Ended, Leaf, Path, SymEnding};
+use kb_rows::Held;
 use kb_world::World;
 use std::alloc::Global;
 
 /// The path of a piece with that leaf, whose terms have their numbers in the state's pool.
-pub(crate) fn path_of(piece: &Piece, leaf: Leaf) -> Result<Path, NoMemory>
+pub(crate) fn path_of(alloc: Global, piece: &Piece, leaf: Leaf) -> Result<Held<Path>, NoMemory>
     requires { AreTerms piece.now.state.nodes (path_roots piece.now.state leaf) }
     ensures { IfOk result (λ path. path ≡ path_of_piece piece.now leaf) }
 {
     match piece.state.path(piece.decisions.as_slice(), leaf) {
-        Ok(path) => Ok(path),
+        Ok(path) => Held::new(alloc, path),
         Err(_) => Err(NoMemory),
     }
 }
@@ -32,12 +33,12 @@ pub(crate) fn ended_path(
     world: &World,
     piece: &Piece,
     ending: SymEnding,
-) -> Result<Path, NoMemory>
+) -> Result<Held<Path>, NoMemory>
     requires { AreTerms piece.now.state.nodes (path_roots piece.now.state (EndedLeaf (ended_in piece.now.state ending (input_of_piece world.now piece.now)))) }
     ensures { IfOk result (λ path. path ≡ path_of_piece piece.now (EndedLeaf (ended_in piece.now.state ending (input_of_piece world.now piece.now)))) }
 {
     let ended = ended_in(alloc, world, piece, ending)?;
-    path_of(piece, Leaf::Ended(ended))
+    path_of(alloc, piece, Leaf::Ended(ended))
 }
 
 // An ending, with what the state keeps as written and as made, and the input of the piece.
@@ -66,12 +67,12 @@ pub(crate) fn cut_path(
     world: &World,
     piece: &Piece,
     bound: Bound,
-) -> Result<Path, NoMemory>
+) -> Result<Held<Path>, NoMemory>
     requires { AreTerms piece.now.state.nodes (path_roots piece.now.state (Cut bound (input_of_piece world.now piece.now))) }
     ensures { IfOk result (λ path. path ≡ path_of_piece piece.now (Cut bound (input_of_piece world.now piece.now))) }
 {
     let input = input_of_piece(alloc, world, piece)?;
-    path_of(piece, Leaf::Cut(bound, input))
+    path_of(alloc, piece, Leaf::Cut(bound, input))
 }
 
 // The input of a piece, for its values, followed by 0s.

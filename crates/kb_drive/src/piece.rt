@@ -1,9 +1,9 @@
 //! Pieces of an exploration.
-ghost use Rattle.std.specs.Prelude.{◌≡◌, [], ◌∷◌, ◌++◌, IfOk};
+ghost use Rattle.std.specs.Prelude.{◌≡◌, [], IfOk};
 
 use crate::NoMemory;
 use kb_frames::SymState;
-use kb_rows::Row;
+use kb_rows::{Held, Row};
 use std::alloc::Global;
 
 /// A state to which an exploration has led, with the decisions that led to it, and with values that meet its conditions: that
@@ -27,40 +27,33 @@ impl Piece {
         }
     }
 
-    /// Another piece that equals this one.
-    pub(crate) fn copied(&self, alloc: Global) -> Result<Piece, NoMemory>
+    fn copied(&self, alloc: Global) -> Result<Piece, NoMemory>
         ensures { IfOk result (λ copy. copy ≡ self.now) }
     {
-        let state = self.state.copy()?;
         let decisions = self.decisions.as_slice().to_vec(alloc)?;
         let values = self.values.as_slice().to_vec(alloc)?;
+        let state = self.state.copy()?;
         Ok(Piece {
             state,
             decisions: Row::from_vec(decisions),
             values: Row::from_vec(values),
         })
     }
+}
 
-    /// The piece behind the decision of that number.
-    pub(crate) fn decided(self, number: u32) -> Result<Piece, NoMemory>
-        ensures { IfOk result (λ piece. piece ≡ record self { decisions = self.decisions ++ number ∷ [] }) }
-    {
-        let decisions = self.decisions.with(number)?;
-        Ok(Piece {
-            state: self.state,
-            decisions,
-            values: self.values,
-        })
-    }
+/// Another piece that equals this one.
+pub(crate) fn copied(alloc: Global, piece: &Held<Piece>) -> Result<Held<Piece>, NoMemory>
+    ensures { IfOk result (λ copy. copy ≡ piece.now) }
+{
+    let copy = piece.get().copied(alloc)?;
+    Held::new(alloc, copy)
+}
 
-    /// The piece with these values.
-    pub(crate) fn with_values(self, values: Row<i32>) -> Piece
-        ensures { result ≡ record self { values = values } }
-    {
-        Piece {
-            state: self.state,
-            decisions: self.decisions,
-            values,
-        }
-    }
+/// The piece with these values.
+pub(crate) fn with_values(piece: Held<Piece>, values: Row<i32>) -> Held<Piece>
+    ensures { result ≡ record piece { values = values } }
+{
+    let mut piece = piece;
+    piece.get_mut().values = values;
+    piece
 }

@@ -4,7 +4,7 @@ use crate::NoMemory;
 use kb_picture::Path;
 
 /// Why there is no list of paths.
-#[derive(Debug, Drop)]
+#[derive(Drop)]
 pub enum DriveStop {
     /// The oracle's answer of that number does not serve the conditions of the path, which is open. The oracle has counted it.
     Oracle(u32, Path),

@@ -1,17 +1,17 @@
 //! Choices that wait, and the taking of their alternatives.
-ghost use Rattle.std.specs.Prelude.{◌≡◌, suc, [], ◌∷◌, slice_get, IfOk, IfSome, OnOk};
+ghost use Rattle.std.specs.Prelude.{◌≡◌, suc, [], ◌∷◌, length, slice_get, IfOk, IfSome, OnOk};
 ghost use Rattle.kb_stepint.specs.Reached.{IsReached};
 ghost use Rattle.kb_drive.specs.Following.{IsTakenFrom, IsTakenOf, has_more};
 ghost use Rattle.kb_drive.specs.Parts.{decided};
 ghost use Rattle.kb_drive.specs.Walks.{CanBeTaken, EachWaiting};
 
 use crate::NoMemory;
-use crate::piece::Piece;
+use crate::piece::{Piece, copied};
 use crate::steps::take;
 use kb_frames::Outcome;
 use kb_heap::Bounds;
 use kb_picture::Choice;
-use kb_rows::Row;
+use kb_rows::{Held, Row};
 use kb_world::World;
 use std::alloc::Global;
 use std::marker::Model;
@@ -19,7 +19,7 @@ use std::marker::Model;
 /// A choice of a piece: all its alternatives, and the number of the next one that is taken.
 #[derive(Drop)]
 pub(crate) struct Waiting {
-    pub(crate) piece: Piece,
+    pub(crate) piece: Held<Piece>,
     pub(crate) choices: Row<Choice>,
     pub(crate) next: u32,
 }
@@ -28,7 +28,7 @@ pub(crate) struct Waiting {
 /// conditions stood before.
 #[derive(Drop)]
 pub(crate) struct Taken {
-    pub(crate) piece: Piece,
+    pub(crate) piece: Held<Piece>,
     pub(crate) outcome: Outcome,
     pub(crate) stood: usize,
 }
@@ -114,7 +114,7 @@ impl Waiting {
         ensures taken { IfOk result (IsTakenOf world.now bounds.now self.now (slice_get self.now.choices self.now.next)) }
         ensures reached { IfOk result (λ taken. IsReached world.now taken.piece.state) }
     {
-        let piece = self.piece.copied(alloc)?;
+        let piece = copied(alloc, &self.piece)?;
         let choices = self.choices.as_slice();
         take_in(alloc, world, bounds, piece, choices, self.next)
     }
@@ -136,7 +136,7 @@ fn take_in(
     alloc: Global,
     world: &World,
     bounds: &Bounds,
-    piece: Piece,
+    piece: Held<Piece>,
     choices: &[Choice],
     next: u32,
 ) -> Result<Taken, NoMemory>
@@ -144,11 +144,9 @@ fn take_in(
     ensures taken { IfOk result (IsTakenOf world.now bounds.now (record { piece = piece; choices = choices.now; next = next }) (slice_get choices.now next)) }
     ensures reached { IfOk result (λ taken. IsReached world.now taken.piece.state) }
 {
-    let stood = piece.state.conditions().len();
     let mut piece = piece;
-    let choice = &choices[next as usize];
-    let outcome = take(alloc, world, &mut piece.state, choice, bounds)?;
-    let piece = decide(piece, choices.len(), next)?;
+    let stood = piece.get().state.conditions().len();
+    let outcome = go_on(alloc, world, bounds, piece.get_mut(), choices, next)?;
     Ok(Taken {
         piece,
         outcome,
@@ -156,12 +154,31 @@ fn take_in(
     })
 }
 
-// The piece behind the alternative of that number, of so many.
-fn decide(piece: Piece, offered: usize, number: u32) -> Result<Piece, NoMemory>
-    ensures { IfOk result (λ behind. behind ≡ record piece { decisions = decided piece.decisions offered number }) }
+// The piece goes on by the alternative of that number. After want of memory it is only dropped.
+fn go_on(
+    alloc: Global,
+    world: &World,
+    bounds: &Bounds,
+    piece: &mut Piece,
+    choices: &[Choice],
+    next: u32,
+) -> Result<Outcome, NoMemory>
+    requires { CanBeTaken world.now bounds.now (record { piece = piece.old; choices = choices.now; next = next }) }
+    ensures taken { IfOk result (λ outcome. IsTakenOf world.now bounds.now (record { piece = piece.old; choices = choices.now; next = next }) (slice_get choices.now next) (record { piece = piece.new; outcome = outcome; stood = length piece.old.state.when })) }
+    ensures reached { OnOk result (IsReached world.now piece.new.state) }
+{
+    let choice = &choices[next as usize];
+    let outcome = take(alloc, world, &mut piece.state, choice, bounds)?;
+    decide(piece, choices.len(), next)?;
+    Ok(outcome)
+}
+
+// The piece is then behind the alternative of that number, of so many.
+fn decide(piece: &mut Piece, offered: usize, number: u32) -> Result<(), NoMemory>
+    ensures { OnOk result (piece.new ≡ record piece.old { decisions = decided piece.old.decisions offered number }) }
 {
     if offered > 1 {
-        return piece.decided(number);
+        return piece.decisions.push(number);
     }
-    Ok(piece)
+    Ok(())
 }

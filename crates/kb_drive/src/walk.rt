@@ -19,7 +19,7 @@ use kb_class::MethodId;
 use kb_heap::Bounds;
 use kb_oracle::Oracle;
 use kb_picture::{Leaf, Path};
-use kb_rows::Row;
+use kb_rows::{Held, Row};
 use kb_world::World;
 use std::alloc::Global;
 
@@ -59,11 +59,11 @@ impl Walk {
         }
     }
 
-    fn list(&mut self, path: Path) -> Result<(), NoMemory>
+    fn list(&mut self, path: Held<Path>) -> Result<(), NoMemory>
         ensures { OnOk result (self.new ≡ walk_with self.old (Lists path)) }
     {
-        let closed = closed_with(self.closed, &path)?;
-        self.listed.push(path)?;
+        let closed = closed_with(self.closed, path.get())?;
+        self.listed.push(path.into_inner())?;
         self.closed = closed;
         Ok(())
     }
@@ -138,6 +138,6 @@ fn ask_within<O: Oracle>(
     }
     match learn(alloc, taken, oracle) {
         Ok(known) => Ok(known),
-        Err(stop) => Err(stopped(&taken.piece, stop)),
+        Err(stop) => Err(stopped(alloc, taken.piece.get(), stop)),
     }
 }

@@ -1,13 +1,13 @@
-//! The base of a search: its clauses with their derivations in the log, the literals that are true, and the watches that tell what
-//! the clauses force. Under proof: the log derives each clause, and what propagation meets.
+//! The base of a search: its clauses with their derivations in the log, the literals that are true, and the watches that tell
+//! what the clauses force. Under proof: the log derives each clause, and what propagation meets.
 ghost use Rattle.std.specs.Prelude.{◌≡◌, ℕ, ◌+◌, ◌<◌, true, [], ◌∷◌, length, OnOk, IfOk, IfSome, IfNone};
 ghost use Rattle.kb_eliminate.specs.Base.{Stands, IsReady, KeepsBase, Forgets, IsConflict, IsPropagated, IsSecondLiteral, IsDoomed};
 ghost use Rattle.kb_eliminate.specs.Trail.{TrailGrows};
 ghost use Rattle.kb_eliminate.specs.Watches.{IsAwake};
 
+use crate::NoMemory;
 use crate::begin::watch_all;
 use crate::clauses::Clauses;
-use crate::memory::NoMemory;
 use crate::propagation::propagate;
 use crate::trail::Trail;
 use crate::watches::Watches;

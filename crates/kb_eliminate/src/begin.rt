@@ -7,8 +7,8 @@ ghost use Rattle.kb_eliminate.specs.Store.{IsJustified};
 ghost use Rattle.kb_eliminate.specs.Base.{IsConflict};
 ghost use Rattle.kb_eliminate.specs.Watches.{AreEmpty, IsBegun, paired, put_pair};
 
+use crate::NoMemory;
 use crate::clauses::Clauses;
-use crate::memory::NoMemory;
 use crate::trail::Trail;
 use crate::watch::{Pair, Watch};
 use crate::watches::{Watches, put_watch};

@@ -2,7 +2,7 @@
 ghost use Rattle.std.specs.Prelude.{◌≡◌, ◌<◌, [], ◌∷◌, ◌++◌, length, slice_get, Some, OnOk};
 ghost use Rattle.kb_eliminate.specs.Rows.{IsNamed, AreNamed};
 
-use crate::memory::NoMemory;
+use crate::NoMemory;
 use kb_chain::Lit;
 use std::alloc::Global;
 use std::marker::Model;

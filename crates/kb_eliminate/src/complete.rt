@@ -3,7 +3,7 @@ ghost use Rattle.std.specs.Prelude.{◌≡◌, ℕ, ◌+◌, ◌<◌, ◌≤◌,
 ghost use Rattle.kb_chain.specs.Literal.{literal, has};
 ghost use Rattle.kb_eliminate.specs.Base.{IsModelOf};
 
-use crate::memory::NoMemory;
+use crate::NoMemory;
 use crate::trail::Trail;
 use kb_chain::{Lit, Row};
 use std::alloc::Global;

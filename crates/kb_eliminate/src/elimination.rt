@@ -1,13 +1,13 @@
-//! Bounded variable elimination (Davis and Putnam, 1960; Eén and Biere, 2005). Which variables go is free; that the log derives each
-//! resolvent is under proof. That a model extends to the variables that went is checked at the end of the search.
+//! Bounded variable elimination (Davis and Putnam, 1960; Eén and Biere, 2005). Which variables go is free; that the log derives
+//! each resolvent is under proof. That a model extends to the variables that went is checked at the end of the search.
 ghost use Rattle.std.specs.Prelude.{◌≡◌, ◌++◌, false, [], OnOk, IfOk, IfSome};
 ghost use Rattle.std.specs.Bool.{OnTrue};
 ghost use Rattle.kb_chain.specs.Literal.{has, negated};
 ghost use Rattle.kb_eliminate.specs.Base.{Stands, IsReady};
 ghost use Rattle.kb_eliminate.specs.Elimination.{IsUndecided, IsResolventAt, each_with, AreGone};
 
+use crate::NoMemory;
 use crate::base::Base;
-use crate::memory::NoMemory;
 use crate::occurrences::Occurrences;
 use crate::resolvents::{add_resolvent, resolvent};
 use crate::trail::Trail;
@@ -46,7 +46,8 @@ impl Eliminated {
     }
 }
 
-/// Eliminates variables at level 0 as long as their resolvents are no more than the clauses that have them (Eén and Biere, 2005).
+/// Eliminates variables at level 0 as long as their resolvents are no more than the clauses that have them (Eén and Biere,
+/// 2005).
 pub fn eliminate(
     alloc: Global,
     base: &mut Base<'_>,
@@ -307,7 +308,7 @@ fn add_each(
     Ok(true)
 }
 
-/// Adds the resolvent of two clauses, if it says something: false where it is empty, or the variable has a value by now.
+/// Adds the resolvent of two clauses, if it says something: false where it is empty, or the variable has a value already.
 fn add(
     alloc: Global,
     base: &mut Base<'_>,

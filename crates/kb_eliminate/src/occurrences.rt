@@ -1,6 +1,7 @@
-//! Occurrence lists: the clauses that have a literal, for variable elimination. Free: what they name is looked at again before use.
+//! Occurrence lists: the clauses that have a literal, for variable elimination. Free: what they name is looked at again before
+//! use.
+use crate::NoMemory;
 use crate::base::Base;
-use crate::memory::NoMemory;
 use crate::trail::Trail;
 use crate::watch::Pair;
 use kb_chain::Lit;

@@ -1,5 +1,5 @@
-//! Unit propagation by two watched literals (Moskewicz and others, 2001), with a blocking literal beside each watch (as in MiniSat).
-//! Under proof: it ends with a false clause, or when no clause forces anything more.
+//! Unit propagation by two watched literals (Moskewicz and others, 2001), with a blocking literal beside each watch (as in
+//! MiniSat). Under proof: it ends with a false clause, or when no clause forces anything more.
 ghost use Rattle.std.specs.Prelude.{◌≡◌, ℕ, ◌+◌, ◌*◌, ◌<◌, ◌≤◌, Bool, true, false, List, [], ◌∷◌, length, take, slice_get, Some, OnOk, IfOk, IfSome, IfNone};
 ghost use Rattle.std.specs.Bool.{OnTrue, OnFalse};
 ghost use Rattle.kb_chain.specs.Literal.{Literal, has, negated, same, place_of};
@@ -9,8 +9,8 @@ ghost use Rattle.kb_eliminate.specs.Base.{IsConflict};
 ghost use Rattle.kb_eliminate.specs.Watches.{Quiet, IsWatching, IsAwake, Walks, AllListed, StaysQuiet, is_blocked, all_blocked, IsOther};
 ghost use Rattle.kb_eliminate.specs.declared.watch.Watch.{Watch};
 
+use crate::NoMemory;
 use crate::clauses::Clauses;
-use crate::memory::NoMemory;
 use crate::trail::Trail;
 use crate::watch::{Pair, Watch};
 use crate::watches::{WatchList, Watches, put_back, put_watch};

@@ -6,15 +6,15 @@ ghost use Rattle.kb_chain.specs.Clause.{has_only};
 ghost use Rattle.kb_eliminate.specs.Resolvents.{IsResolvent, IsMerged};
 ghost use Rattle.kb_eliminate.specs.Base.{Stands, IsReady};
 
+use crate::NoMemory;
 use crate::base::{Base, second_of};
 use crate::begin::watch_pair;
-use crate::memory::NoMemory;
 use crate::trail::Trail;
 use kb_chain::{Chain, Lit, Row};
 use std::alloc::Global;
 
-/// The resolvent of two clauses, without what is false at level 0. None where a clause has both literals of the pivot's variable,
-/// and where the resolvent is true at level 0 or has both literals of a variable.
+/// The resolvent of two clauses, without what is false at level 0. None where a clause has both literals of the pivot's
+/// variable, and where the resolvent is true at level 0 or has both literals of a variable.
 pub fn resolvent(
     alloc: Global,
     trail: &Trail,

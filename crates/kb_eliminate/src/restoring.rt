@@ -6,11 +6,11 @@ ghost use Rattle.kb_chain.specs.Literal.{Literal, has, is_true};
 ghost use Rattle.kb_chain.specs.Clause.{Satisfies, assignment_of, clause_true};
 ghost use Rattle.kb_eliminate.specs.Base.{Stands};
 
+use crate::NoMemory;
 use crate::base::Base;
 use crate::clauses::Clauses;
 use crate::complete::model;
 use crate::elimination::Eliminated;
-use crate::memory::NoMemory;
 use kb_chain::{Clause, Lit, Row};
 use std::alloc::Global;
 

@@ -5,7 +5,7 @@ ghost use Rattle.kb_chain.specs.Trail.{IsMarked};
 ghost use Rattle.kb_eliminate.specs.Trail.{Assigned, IsTrail, level_start, before_level};
 ghost use Rattle.kb_eliminate.specs.Tables.{IsDistinct};
 
-use crate::memory::NoMemory;
+use crate::NoMemory;
 use kb_chain::Lit;
 use std::alloc::Global;
 use std::marker::Model;

@@ -4,7 +4,7 @@ ghost use Rattle.kb_chain.specs.Literal.{place_of};
 ghost use Rattle.kb_eliminate.specs.Watches.{at_literal, AreEmpty};
 ghost use Rattle.kb_eliminate.specs.Forgetting.{has_awake_clause, only_awake, asleep};
 
-use crate::memory::NoMemory;
+use crate::NoMemory;
 use crate::watch::{Pair, Watch};
 use kb_chain::Lit;
 use std::alloc::Global;

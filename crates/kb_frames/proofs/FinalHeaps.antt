@@ -1,5 +1,5 @@
--- Where a state stands for a heap, that heap has the input's objects with what the state keeps as written, then the literals, then what
--- the run made.
+-- Where a state stands for a heap, that heap has the input's objects with what the state keeps as written, then the literals,
+-- then what the run made.
 use Rattle.std.proofs.Common.{◌≡◌, ◌≢◌, ◌⊎◌, inl, inr, ℕ, zero, suc, ◌+◌, ◌<◌, ◌≤◌, List, [], ◌∷◌, ◌++◌, length, length-append, map, take, drop, fold, replicate, Option, Some, None, option_map, slice_get, refl, sym, ap, ◌∙◌, subst, arith}
 use Rattle.std.specs.Option.{option_map_or}
 use Rattle.std.proofs.lemmas.Bool.{cases_eq, cases_lt}

@@ -1,5 +1,5 @@
--- The path of a state says of inputs what the state says: its terms have the values of the pool's, so its conditions are met by the same
--- inputs and make the same comparisons.
+-- The path of a state says of inputs what the state says: its terms have the values of the pool's, so its conditions are met by
+-- the same inputs and make the same comparisons.
 use Rattle.std.proofs.Common.{◌≡◌, ◌↔◌, ℕ, zero, suc, ◌<◌, ℤ, Bool, true, List, [], ◌∷◌, length, map, take, Option, Some, None, slice_get, inl, inr, refl, sym, ap, ◌∙◌, subst, take_all, arith}
 use Rattle.std.specs.Prelude.{unwrap_or, option_map}
 use Rattle.std.proofs.lemmas.Bool.{and_parts}

@@ -1,5 +1,5 @@
--- What is asked about the path of a state is what the state asks: the walk that numbers a path's terms begins with its conditions, so
--- the conditions' own terms come first, with the numbers that they have alone.
+-- What is asked about the path of a state is what the state asks: the walk that numbers a path's terms begins with its
+-- conditions, so the conditions' own terms come first, with the numbers that they have alone.
 use Rattle.std.proofs.Common.{◌≡◌, ℕ, zero, suc, Bool, true, List, [], ◌∷◌, ◌++◌, length, take, take_at, fold, Option, Some, None, slice_get, inl, inr, refl, sym, ap, ◌∙◌, subst, arith}
 use Rattle.std.specs.Prelude.{unwrap_or}
 use Rattle.std.specs.List.{cons_option}

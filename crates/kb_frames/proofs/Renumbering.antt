@@ -1,5 +1,5 @@
--- The walk over a path's own list of terms meets them in the order of that list: it goes the same way as the walk over the pool that
--- numbered them.
+-- The walk over a path's own list of terms meets them in the order of that list: it goes the same way as the walk over the pool
+-- that numbered them.
 use Rattle.std.proofs.Common.{◌≡◌, ℕ, zero, suc, ◌<◌, ◌≤◌, List, [], ◌∷◌, ◌++◌, length, take, fold, slice_get, Option, Some, None, Bool, true, false, refl, sym, ap, subst, ◌∙◌, arith, if◌then◌else◌, ◌||◌, ◌==◌, true≢false, append_assoc, length-append, inl, inr}
 use Rattle.std.specs.Prelude.{unwrap_or}
 use Rattle.std.specs.List.{flat_map, cons_option}

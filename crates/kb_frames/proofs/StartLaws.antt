@@ -1,4 +1,5 @@
--- The state before the arguments are read stands for the beginning of each run of its method: nothing is known of the input yet.
+-- The state before the arguments are read stands for the beginning of each run of its method: nothing is known of the input
+-- yet.
 use Rattle.std.proofs.Common.{◌≡◌, ℕ, ◌+◌, [], length, length-append, drop, Option, Some, None, refl, arith}
 use Rattle.std.specs.Prelude.{replicate, slice_get}
 use Rattle.std.proofs.lemmas.List.{drop_all, length-replicate}

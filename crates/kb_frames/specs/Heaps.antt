@@ -30,10 +30,10 @@ abbrev pub find_cell : List (List Cell) → ℕ → ℕ → Option Cell
 find_cell cells object slot = option_and_then (λ (slots : List Cell). slice_get slots slot) (slice_get cells object)
 
 -- the value of a slot that was read or written
-abbrev pub value_in : Cell → Option SymValue
-value_in Untouched = None
-value_in (Read value) = Some value
-value_in (Written value) = Some value
+abbrev pub value_of_cell : Cell → Option SymValue
+value_of_cell Untouched = None
+value_of_cell (Read value) = Some value
+value_of_cell (Written value) = Some value
 
 -- the value of a slot or an element of an object that the run has made, where it has that
 abbrev pub made_value : List SymObject → ℕ → ℕ → Option SymValue

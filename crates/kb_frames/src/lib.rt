@@ -27,39 +27,5 @@ pub use laws::{
 pub use next::{is_int_instruction, is_reference, is_static, variable_kind};
 pub use path::PathStop;
 pub use state::{SymState, start};
-use std::alloc::{AllocError, AllocFailed};
+pub use std::alloc::AllocError as NoMemory;
 pub use value::{Cell, Outcome, SymValue};
-
-/// Memory ran out.
-#[derive(Clone, Copy, Debug, PartialEq, Eq)]
-pub struct NoMemory;
-
-impl From<AllocError> for NoMemory {
-    fn from(_error: AllocError) -> NoMemory {
-        NoMemory
-    }
-}
-
-impl<T: Drop> From<AllocFailed<T>> for NoMemory {
-    fn from(_error: AllocFailed<T>) -> NoMemory {
-        NoMemory
-    }
-}
-
-impl From<kb_names::NoMemory> for NoMemory {
-    fn from(_error: kb_names::NoMemory) -> NoMemory {
-        NoMemory
-    }
-}
-
-impl From<kb_picture::NoMemory> for NoMemory {
-    fn from(_error: kb_picture::NoMemory) -> NoMemory {
-        NoMemory
-    }
-}
-
-impl From<kb_terms::NoMemory> for NoMemory {
-    fn from(_error: kb_terms::NoMemory) -> NoMemory {
-        NoMemory
-    }
-}

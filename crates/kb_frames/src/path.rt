@@ -14,12 +14,12 @@ ghost use Rattle.kb_frames.specs.Paths.{term_id, terms_stated, path_roots, path_
 use crate::NoMemory;
 use crate::state::SymState;
 use kb_picture::{Ended, Leaf, Made, Out, Path, Picture, SymEnding, Write};
-use kb_rows::Row;
+use kb_rows::{Held, Row};
 use kb_terms::{Node, Numbering, Operand, Term, TermId};
 use std::alloc::Global;
 
 /// There was no memory for a path: its leaf, as it was handed in.
-#[derive(Debug, Drop)]
+#[derive(Drop)]
 pub struct PathStop {
     pub leaf: Leaf,
 }
@@ -29,6 +29,14 @@ pub struct PathStop {
 struct Trunk {
     decisions: Row<u32>,
     picture: Picture,
+    terms: Row<Term>,
+    when: Row<(u32, bool)>,
+    numbering: Numbering,
+}
+
+/// The terms and the conditions of a path, and the numbers of its terms.
+#[derive(Drop)]
+struct Numbered {
     terms: Row<Term>,
     when: Row<(u32, bool)>,
     numbering: Numbering,
@@ -47,14 +55,14 @@ impl SymState {
     {
         match self.trunk(decisions, &leaf) {
             Ok(trunk) => {
-                let leaf = numbered_leaf(self.pool.nodes(), &trunk.numbering, leaf);
-                Ok(with_leaf(trunk, leaf))
+                let leaf = numbered_leaf(self.pool.nodes(), &trunk.get().numbering, leaf);
+                Ok(with_leaf(trunk.into_inner(), leaf))
             }
             Err(NoMemory) => Err(PathStop { leaf }),
         }
     }
 
-    fn trunk(&self, decisions: &[u32], leaf: &Leaf) -> Result<Trunk, NoMemory>
+    fn trunk(&self, decisions: &[u32], leaf: &Leaf) -> Result<Held<Trunk>, NoMemory>
         requires { AreTerms self.now.nodes (path_roots self.now leaf.now) }
         ensures numbering { IfOk result (λ trunk. trunk.numbering ≡ path_numbering self.now leaf.now) }
         ensures decisions { IfOk result (λ trunk. trunk.decisions ≡ decisions.now) }
@@ -62,18 +70,42 @@ impl SymState {
         ensures terms { IfOk result (λ trunk. trunk.terms ≡ listed self.now.nodes trunk.numbering trunk.numbering) }
         ensures when { IfOk result (λ trunk. trunk.when ≡ numbered_conditions trunk.numbering self.now.when) }
     {
+        let numbered = self.numbered(leaf)?;
+        let decisions = decisions.to_vec(self.alloc)?;
+        let picture = self.picture.copied(self.alloc)?;
+        let numbered = numbered.into_inner();
+        Held::new(
+            self.alloc,
+            Trunk {
+                decisions: Row::from_vec(decisions),
+                picture,
+                terms: numbered.terms,
+                when: numbered.when,
+                numbering: numbered.numbering,
+            },
+        )
+    }
+
+    // The terms and the conditions, by the numbers of the terms that these and the leaf meet.
+    fn numbered(&self, leaf: &Leaf) -> Result<Held<Numbered>, NoMemory>
+        requires { AreTerms self.now.nodes (path_roots self.now leaf.now) }
+        ensures numbering { IfOk result (λ numbered. numbered.numbering ≡ path_numbering self.now leaf.now) }
+        ensures terms { IfOk result (λ numbered. numbered.terms ≡ listed self.now.nodes numbered.numbering numbered.numbering) }
+        ensures when { IfOk result (λ numbered. numbered.when ≡ numbered_conditions numbered.numbering self.now.when) }
+    {
         let alloc = self.alloc;
         let roots = self.roots(leaf)?;
         let numbering = self.pool.numbering(alloc, &roots)?;
         let terms = listed(alloc, self.pool.nodes(), &numbering)?;
         let when = numbered_conditions(alloc, &numbering, self.when.as_slice())?;
-        Ok(Trunk {
-            decisions: Row::from_vec(decisions.to_vec(alloc)?),
-            picture: self.picture.copied(alloc)?,
-            terms,
-            when,
-            numbering,
-        })
+        Held::new(
+            alloc,
+            Numbered {
+                terms,
+                when,
+                numbering,
+            },
+        )
     }
 
     // The terms of the conditions, and those that the leaf states.

@@ -14,7 +14,7 @@ use crate::value::{Cell, SymValue};
 use kb_class::MethodId;
 use kb_names::ExactType;
 use kb_picture::{Init, Picture};
-use kb_rows::Row;
+use kb_rows::{Held, Row};
 use kb_terms::Pool;
 use kb_world::World;
 use std::alloc::Global;
@@ -83,6 +83,21 @@ impl Stage {
     }
 }
 
+/// What a state keeps of heaps.
+#[derive(Drop)]
+struct HeapParts {
+    cells: Row<Row<Cell>>,
+    made: Row<SymObject>,
+    picture: Picture,
+}
+
+/// What a state keeps of terms and of their truths.
+#[derive(Drop)]
+struct TruthParts {
+    when: Conditions,
+    nodes: Pool,
+}
+
 /// A state of the runs of a method over all inputs of a path at once.
 #[derive(Drop)]
 pub struct SymState {
@@ -146,18 +161,52 @@ impl SymState {
     pub fn copy(&self) -> Result<SymState, NoMemory>
         ensures { IfOk result (λ copy. copy ≡ self.now) }
     {
+        let heaps = self.copied_heaps()?;
+        let truths = self.copied_truths()?;
+        let stage = self.stage.copied(self.alloc)?;
+        Ok(self.with_parts(stage, heaps.into_inner(), truths.into_inner()))
+    }
+
+    fn copied_heaps(&self) -> Result<Held<HeapParts>, NoMemory>
+        ensures { IfOk result (λ parts. parts ≡ record { cells = self.now.cells; made = self.now.made; picture = self.now.picture }) }
+    {
         let alloc = self.alloc;
-        Ok(SymState {
+        let cells = copied_cells(alloc, self.cells.as_slice())?;
+        let made = copied_objects(alloc, self.made.as_slice())?;
+        let picture = self.picture.copied(alloc)?;
+        Held::new(
             alloc,
+            HeapParts {
+                cells,
+                made,
+                picture,
+            },
+        )
+    }
+
+    fn copied_truths(&self) -> Result<Held<TruthParts>, NoMemory>
+        ensures { IfOk result (λ parts. parts ≡ record { when = self.now.when; nodes = self.now.nodes }) }
+    {
+        let when = self.when.copied(self.alloc)?;
+        let nodes = self.pool.copy()?;
+        Held::new(self.alloc, TruthParts { when, nodes })
+    }
+
+    // The state with these parts in the place of its own.
+    fn with_parts(&self, stage: Stage, heaps: HeapParts, truths: TruthParts) -> SymState
+        ensures { result ≡ record self.now { stage = stage; picture = heaps.picture; cells = heaps.cells; made = heaps.made; nodes = truths.nodes; when = truths.when } }
+    {
+        SymState {
+            alloc: self.alloc,
             init: self.init,
             method: self.method,
-            stage: self.stage.copied(alloc)?,
+            stage,
             carried: self.carried,
-            picture: self.picture.copied(alloc)?,
-            cells: copied_cells(alloc, self.cells.as_slice())?,
-            made: copied_objects(alloc, self.made.as_slice())?,
-            pool: self.pool.copy()?,
-            when: self.when.copied(alloc)?,
-        })
+            picture: heaps.picture,
+            cells: heaps.cells,
+            made: heaps.made,
+            pool: truths.nodes,
+            when: truths.when,
+        }
     }
 }

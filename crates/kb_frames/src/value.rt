@@ -5,7 +5,7 @@ use kb_picture::SymEnding;
 use kb_terms::TermId;
 
 /// A value of a state. A location keeps its number also when it is known which object it is.
-#[derive(Clone, Copy, Debug, PartialEq, Eq)]
+#[derive(Clone, Copy, PartialEq, Eq)]
 pub enum SymValue {
     Int(TermId),
     Null,
@@ -20,7 +20,7 @@ pub enum SymValue {
 }
 
 /// What becomes of a state when a choice is taken.
-#[derive(Debug, Drop)]
+#[derive(Drop)]
 pub enum Outcome {
     /// The instruction needs another choice.
     Asks,
@@ -33,7 +33,7 @@ pub enum Outcome {
 }
 
 /// What a slot or an element of an object of the picture holds.
-#[derive(Clone, Copy, Debug, PartialEq, Eq)]
+#[derive(Clone, Copy, PartialEq, Eq)]
 pub enum Cell {
     /// As at the start of the run, and not known.
     Untouched,

@@ -6,7 +6,7 @@ ghost use Rattle.kb_grammar.specs.LineFormats.{IsLineFormat, SpellsByLines, Read
 use crate::words::cut;
 
 /// Why a text of lines was not read.
-#[derive(Clone, Copy, Debug, PartialEq, Eq)]
+#[derive(Clone, Copy, PartialEq, Eq)]
 pub enum LineRefusal<S> {
     /// The first line, from 1, at which no text of the format goes on. A line that is cut short, and one that is
     /// missing at the end, count as lines.

@@ -1,7 +1,7 @@
 //! The bounds of a run and of an exploration.
 
 /// The bounds of a run. A run ends as past a bound at the instruction that would go beyond it.
-#[derive(Clone, Copy, Debug, PartialEq, Eq)]
+#[derive(Clone, Copy, PartialEq, Eq)]
 pub struct RunBounds {
     /// The greatest length of an array that is made in the run.
     pub alloc: u32,
@@ -14,9 +14,9 @@ pub struct RunBounds {
 }
 
 /// The bounds of an exploration: those of its runs and those of its inputs.
-#[derive(Clone, Copy, Debug, PartialEq, Eq)]
+#[derive(Clone, Copy, PartialEq, Eq)]
 pub struct Bounds {
-    /// The greatest number of references from an argument to an input object.
+    /// The greatest depth of an input object; one in an argument has depth 1, one in its slot depth 2.
     pub k: u32,
     /// The greatest length of an input array.
     pub array: u32,
@@ -24,7 +24,7 @@ pub struct Bounds {
 }
 
 /// One of the bounds.
-#[derive(Clone, Copy, Debug, PartialEq, Eq)]
+#[derive(Clone, Copy, PartialEq, Eq)]
 pub enum Bound {
     K,
     Array,

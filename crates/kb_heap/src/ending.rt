@@ -7,7 +7,7 @@ use std::alloc::Global;
 
 /// An instruction of a method, by its offset in the method's code; the code's length where the code runs off its
 /// end.
-#[derive(Debug, Drop)]
+#[derive(Drop)]
 pub struct Place {
     pub method: Target,
     pub at: u32,
@@ -39,7 +39,7 @@ impl Place {
 }
 
 /// How a run ends.
-#[derive(Debug, Drop)]
+#[derive(Drop)]
 pub enum Ending {
     /// The method has returned, with a value unless its result is `void`.
     Returned(Option<Value>),

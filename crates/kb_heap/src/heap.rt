@@ -7,7 +7,7 @@ use kb_names::{ExactType, Same, are_same};
 use std::alloc::Global;
 
 /// A value: every one is of category 1 (JVMS 8 section 2.11.1).
-#[derive(Clone, Copy, Debug, PartialEq, Eq)]
+#[derive(Clone, Copy, PartialEq, Eq)]
 pub enum Value {
     /// An int; a boolean is 0 or 1.
     Int(i32),
@@ -33,7 +33,7 @@ fn copied_values(alloc: Global, values: &[Value]) -> Result<Row<Value>, NoMemory
 }
 
 /// An object: its exact type, and the value of each of its slots or elements, in order.
-#[derive(Debug, Drop)]
+#[derive(Drop)]
 pub struct Object {
     pub kind: ExactType,
     pub values: Row<Value>,
@@ -80,13 +80,13 @@ fn copied_objects(alloc: Global, objects: &[Object]) -> Result<Row<Object>, NoMe
 }
 
 /// An object that found no room, handed back.
-#[derive(Debug, Drop)]
+#[derive(Drop)]
 pub struct HeapFull {
     pub object: Object,
 }
 
 /// The objects of a heap. An object's number is its place in the list, from 0.
-#[derive(Debug, Drop)]
+#[derive(Drop)]
 pub struct Heap {
     pub objects: Row<Object>,
 }
@@ -159,7 +159,7 @@ impl Heap {
 }
 
 /// What a run begins with: the input objects, and the arguments with the receiver first.
-#[derive(Debug, Drop)]
+#[derive(Drop)]
 pub struct Input {
     pub heap: Heap,
     pub args: Row<Value>,

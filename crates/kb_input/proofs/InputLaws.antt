@@ -47,7 +47,7 @@ use Rattle.kb_picture.specs.Instances.{IsInstance, variable_value, variable_valu
 use Rattle.kb_picture.specs.Laws.{form_of}
 use Rattle.kb_picture.specs.Places.{slot_value, place_of, objects_placed, locs_placed}
 use Rattle.kb_picture.specs.Queries.{type_of_slot, slot_of_class, component_of, kind_for, kind_seen}
-use Rattle.kb_picture.specs.Shapes.{HasShape, HoldEach, Holds, IsNoPlace, AreApart, AreSuch, IsSuch, HasLength, EachStands, Stands}
+use Rattle.kb_picture.specs.Shapes.{HasShape, HoldEach, HoldsSeen, IsNoPlace, AreApart, AreSuch, IsSuch, HasLength, EachStands, Stands}
 use Rattle.kb_picture.specs.WellFormed.{IsSlot, HasSlot, HasElement, IsLengthOf, IsStanding, variable_seen, variables_seen, slots_seen}
 use Rattle.kb_picture.specs.WellTyped.{SeenFits, SeenFitsDeclared, LocFits, StandingFits, SomeFits, IsIntLength, is_int_type}
 use Rattle.kb_link.specs.Subtypes.{fits}
@@ -610,14 +610,14 @@ module _ (world : World) (id : MethodId) (picture : Picture) (values : List ℤ)
   all_locs_placed = locs_are_placed picture.locs (λ n loc at. (let place = loc_place n loc at in (loc_number place.read n, place.placed)))
 
   -- what is seen in a slot
-  holds : (i : ℕ) (slot : Origin) (how : Seen) → slice_get picture.seen i ≡ Some (slot, how) → Holds emitted.heap places (slot_value emitted places slot) how
+  holds : (i : ℕ) (slot : Origin) (how : Seen) → slice_get picture.seen i ≡ Some (slot, how) → HoldsSeen emitted.heap places (slot_value emitted places slot) how
   holds i slot (Int number) at = (int_at values number, slot_read i slot (Int number) at)
   holds i slot Null at = slot_read i slot Null at
   holds i slot (Loc number) at = (loc_number i number, slot_read i slot (Loc number) at, number_inside i slot (Loc number) (loc_number i number) at refl)
   holds i slot (Obj o) at = (o, at_below (length picture.objects) o (h.typed.formed.seen i (slot, Obj o) at), slot_read i slot (Obj o) at)
   holds i slot Beyond at = (own_of i, slot_read i slot Beyond at, number_inside i slot Beyond (own_of i) at refl, own_is_no_place i (slot, Beyond) at refl)
 
-  hold_each : (seen : List (Origin × Seen)) → ((i : ℕ) (x : Origin × Seen) → slice_get seen i ≡ Some x → Holds emitted.heap places (slot_value emitted places x.0) x.1) → HoldEach emitted places seen
+  hold_each : (seen : List (Origin × Seen)) → ((i : ℕ) (x : Origin × Seen) → slice_get seen i ≡ Some x → HoldsSeen emitted.heap places (slot_value emitted places x.0) x.1) → HoldEach emitted places seen
   hold_each [] each = tt
   hold_each (x ∷ seen) each = (each 0 x refl, hold_each seen (λ i y at. each (suc i) y at))
 

@@ -12,20 +12,4 @@ mod objects;
 
 pub use input::input_of;
 pub use laws::{inputs_are_instances, inputs_are_of_pictures};
-use std::alloc::AllocError;
-
-/// Memory ran out.
-#[derive(Clone, Copy, Debug, PartialEq, Eq)]
-pub struct NoMemory;
-
-impl From<AllocError> for NoMemory {
-    fn from(_error: AllocError) -> NoMemory {
-        NoMemory
-    }
-}
-
-impl From<kb_names::NoMemory> for NoMemory {
-    fn from(_error: kb_names::NoMemory) -> NoMemory {
-        NoMemory
-    }
-}
+pub use std::alloc::AllocError as NoMemory;

@@ -11,20 +11,4 @@ mod laws;
 
 pub use choices::read_choices;
 pub use laws::{choices_fit, takes_exactly_one};
-use std::alloc::AllocError;
-
-/// Memory ran out.
-#[derive(Clone, Copy, Debug, PartialEq, Eq)]
-pub struct NoMemory;
-
-impl From<AllocError> for NoMemory {
-    fn from(_error: AllocError) -> NoMemory {
-        NoMemory
-    }
-}
-
-impl From<kb_names::NoMemory> for NoMemory {
-    fn from(_error: kb_names::NoMemory) -> NoMemory {
-        NoMemory
-    }
-}
+pub use std::alloc::AllocError as NoMemory;

@@ -9,7 +9,7 @@ use Rattle.std.proofs.lemmas.List.{take_all}
 use Rattle.std.proofs.lemmas.Slice.Eq.{bytes_eq-Decides}
 use Rattle.kb_order.specs.Texts.{IsBefore, IsRising, IsPlace}
 use Rattle.kb_order.proofs.TextLaws.{before_itself, contains_tail, rising_head, rising_tail}
-use Rattle.kb_names.specs.declared.NoMemory.{NoMemory}
+use Rattle.std.specs.declared.alloc.AllocError.{AllocError as NoMemory}
 use Rattle.kb_link.specs.World.{literal_in}
 use Rattle.kb_link.specs.Universe.{IsLiteral, AreLiterals}
 use Rattle.kb_link.specs.Mentions.{AddsTexts, AnyOf, HasLiteral}

@@ -8,7 +8,7 @@ use Rattle.kb_class.specs.Loading.{IsClassOf}
 use Rattle.kb_class.specs.Platform.{PlatformClass, IsPlatform, platform_table}
 use Rattle.std.specs.declared.vec.Vec.{Vec}
 use Rattle.std.specs.declared.alloc.Global.{Global}
-use Rattle.kb_names.specs.declared.NoMemory.{NoMemory}
+use Rattle.std.specs.declared.alloc.AllocError.{AllocError as NoMemory}
 use Rattle.kb_class.specs.Given.{AreGiven}
 use Rattle.kb_link.specs.Links.{KeepsFormat, most_classes, AreClassesOf, ArePlatform, Loads}
 

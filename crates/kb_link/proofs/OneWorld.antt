@@ -16,7 +16,7 @@ use Rattle.kb_class.proofs.OneClass.{one_class_is}
 use Rattle.kb_link.specs.declared.linking.LinkRefusal.{LinkRefusal}
 use Rattle.kb_link.specs.declared.linking.LinkRefusal.TheVariants as refusals
 use Rattle.kb_link.specs.Links.{most_classes, KeepsFormat, Loads, AreClassesOf, ArePlatform, IsLinked, Links, BreaksFormat, RefusesClasses, RefusesLoaded, RefusesLink}
-use Rattle.kb_link.specs.Rules.{IsFirst, IsNoneSuch, name_of, HaveDifferentNames, IsGivenTwice, all_super_names, IsMissing, HaveSupers, IsOnCircle, IsFirstOnCircle, HaveNoCircle, all_claims, IsBad, HaveGoodSupers, IsFirstBad}
+use Rattle.kb_link.specs.Rules.{IsFirst, IsNoneSuch, name_of, HaveDifferentNames, IsGivenTwice, all_super_names, IsMissing, HaveSupers, IsOnCircle, IsFirstClassOnCircle, HaveNoCircle, all_claims, IsBad, HaveGoodSupers, IsFirstBad}
 use Rattle.kb_link.specs.Split.{Placed, placed_from, IsSplit, HaveNoSplit, IsFirstSplit}
 use Rattle.kb_link.specs.Subtypes.{Claim, IsChain, AreChains}
 use Rattle.kb_link.specs.Tables.{refusal_of}
@@ -205,7 +205,7 @@ module _ (classes : List Class) where
     go (inr (inl less)) = absurd (earlier_again one other a b less)
     go (inr (inr more)) = absurd (earlier_again other one b a more)
 
-  circle_one : (one other : List ℕ) → IsFirstOnCircle classes one → IsFirstOnCircle classes other → one ≡ other
+  circle_one : (one other : List ℕ) → IsFirstClassOnCircle classes one → IsFirstClassOnCircle classes other → one ≡ other
   circle_one one other a b = go (cases_order a.number b.number) where
     go : (a.number ≡ b.number) ⊎ ((a.number < b.number) ⊎ (b.number < a.number)) → one ≡ other
     go (inl same) = same_Some one other (sym a.named ∙ ap (slice_get (map name_of classes)) same ∙ b.named)
@@ -221,7 +221,7 @@ module _ (classes : List Class) where
   Lacking r = (name : List ℕ) × (r ≡ refusals.Missing name) × IsFirst (IsMissing classes) (all_super_names classes) name
 
   abbrev Circling : Reason
-  Circling r = (name : List ℕ) × (r ≡ refusals.Circle name) × IsFirstOnCircle classes name
+  Circling r = (name : List ℕ) × (r ≡ refusals.Circle name) × IsFirstClassOnCircle classes name
 
   abbrev Bad : Reason
   Bad r = (name : List ℕ) × (r ≡ refusals.BadSuper name) × IsFirstBad classes name

@@ -1,7 +1,8 @@
 -- Walks over lists: what holds of all items, and where it ends.
-use Rattle.std.proofs.Common.{◌≡◌, ℕ, zero, suc, ◌+◌, ◌<◌, List, [], ◌∷◌, ◌++◌, length, take, get_or, slice_get, Some, map, refl, sym, ap, subst, ◌∙◌, arith}
+use Rattle.std.proofs.Common.{◌≡◌, ℕ, zero, suc, ◌+◌, ◌-◌, ◌<◌, ◌≤◌, List, [], ◌∷◌, ◌++◌, length, take, drop, get_or, slice_get, Some, map, refl, sym, ap, subst, ◌∙◌, arith}
 use Rattle.std.specs.List.{AllByRecursion}
 use Rattle.std.proofs.lemmas.Grind.{take_at_read}
+use Rattle.std.proofs.lemmas.List.{take_all}
 
 module _ {A : Type 0} (P : A → Type 0) where
   pub pushed : (xs : List A) (x : A) → AllByRecursion P xs → P x → AllByRecursion P (xs ++ x ∷ [])
@@ -32,6 +33,17 @@ module _ {A : Type 0} (P : A → Type 0) where
   pub all_front : (xs ys : List A) → AllByRecursion P (xs ++ ys) → AllByRecursion P xs
   all_front [] ys all = tt
   all_front (w ∷ xs) ys all = (all.0, all_front xs ys all.1)
+
+-- ---- the rest of a list
+
+-- the next item of the rest, and what stands behind it
+pub next_rest : {A : Type 0} (rest : List A) (x : A) → 1 ≤ length rest → x ≡ get_or rest 0 x → rest ≡ x ∷ take (length rest - 1) (drop 1 rest)
+next_rest [] x some is = absurd (omega (arith, some))
+next_rest (y ∷ others) x some is =
+    let long : length others ≤ length (y ∷ others) - 1 = omega arith in
+    let same : take (length (y ∷ others) - 1) others ≡ others = take_all (length (y ∷ others) - 1) others long in
+    let head : x ≡ y = is in
+    ap (λ z. z ∷ others) (sym head) ∙ ap (λ zs. x ∷ zs) (sym same)
 
 -- ---- lists of what is made of each item
 

@@ -13,3 +13,4 @@ pub mod Sharing
 pub mod Initialisers
 pub mod Mentions
 pub mod Placing
+pub mod Names

@@ -14,7 +14,7 @@ use Rattle.kb_link.specs.declared.linking.LinkRefusal.TheVariants as refusals
 use Rattle.kb_link.specs.World.{World}
 use Rattle.kb_link.specs.Subtypes.{AreChains, AreSupers}
 use Rattle.kb_link.specs.Universe.{IsUniverse, AreLiterals}
-use Rattle.kb_link.specs.Rules.{HaveDifferentNames, HaveDifferentFields, HaveOwnMethods, IsGivenTwice, HaveSupers, IsMissing, all_super_names, IsFirst, HaveNoCircle, IsFirstOnCircle, HaveGoodSupers, IsFirstBad}
+use Rattle.kb_link.specs.Rules.{HaveDifferentNames, HaveDifferentFields, HaveOwnMethods, IsGivenTwice, HaveSupers, IsMissing, all_super_names, IsFirst, HaveNoCircle, IsFirstClassOnCircle, HaveGoodSupers, IsFirstBad}
 use Rattle.kb_link.specs.Split.{HaveNoSplit, IsFirstSplit}
 
 -- the most classes that are linked
@@ -99,7 +99,7 @@ pub record BreaksFormat (given : List GivenClass) (file : ℕ) (fault : FormatFa
 abbrev pub RefusesClasses : List Class → LinkRefusal → Type 0
 RefusesClasses classes (refusals.Twice name) = IsGivenTwice classes name
 RefusesClasses classes (refusals.Missing name) = HaveDifferentNames classes × IsFirst (IsMissing classes) (all_super_names classes) name
-RefusesClasses classes (refusals.Circle name) = HaveDifferentNames classes × HaveSupers classes × IsFirstOnCircle classes name
+RefusesClasses classes (refusals.Circle name) = HaveDifferentNames classes × HaveSupers classes × IsFirstClassOnCircle classes name
 RefusesClasses classes (refusals.BadSuper name) =
     HaveDifferentNames classes × HaveSupers classes × HaveNoCircle classes × IsFirstBad classes name
 RefusesClasses classes (refusals.SplitPackage name method) =

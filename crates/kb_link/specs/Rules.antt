@@ -94,7 +94,7 @@ abbrev pub IsOnCircle : List Class → ℕ → Type 0
 IsOnCircle classes number = StandsOnCircle (direct_supers classes) number
 
 -- the name of the first class that stands on a circle
-pub record IsFirstOnCircle (classes : List Class) (name : List ℕ) : Type 0 where
+pub record IsFirstClassOnCircle (classes : List Class) (name : List ℕ) : Type 0 where
   pub number : ℕ
   pub named : slice_get (map name_of classes) number ≡ Some name
   pub on_circle : IsOnCircle classes number

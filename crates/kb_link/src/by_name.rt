@@ -69,7 +69,8 @@ fn places_by_name(
     Ok(table)
 }
 
-/// Puts the place behind those of the name.
+/// Puts the place behind those of the name. Where memory runs out the table may have lost that name's places: it is only to
+/// be dropped then.
 pub fn add_place(
     alloc: Global,
     table: &mut HashMap<Vec<u8>, Row<u32>>,

@@ -18,7 +18,7 @@ const INTERFACE: u16 = 0x0200;
 const FINAL_OR_INTERFACE: u16 = 0x0210;
 
 /// As what a class is named by another one.
-#[derive(Clone, Copy, Debug, PartialEq, Eq)]
+#[derive(Clone, Copy)]
 pub(crate) enum ClaimKind {
     /// As its superclass.
     Parent,

@@ -1,10 +1,11 @@
 //! Classes by their numbers and by their names.
-ghost use Rattle.std.specs.Prelude.{◌≡◌, ◌<◌, ◌^◌, IfOk, IfErr, ◌++◌, ◌∷◌, [], Some, None, length, slice_get};
+ghost use Rattle.std.specs.Prelude.{◌≡◌, ◌<◌, ◌^◌, IfOk, OnOk, IfErr, Some, length, slice_get};
 ghost use Rattle.std.specs.Option.{option_copied};
 ghost use Rattle.kb_link.specs.World.{number_in};
 ghost use Rattle.kb_link.specs.Rules.{HaveDifferentNames};
 ghost use Rattle.kb_link.specs.Links.{RefusesClasses};
-ghost use Rattle.kb_link.specs.Tables.{StopsAtAgain, IsRefusalOf};
+ghost use Rattle.kb_link.specs.Tables.{HasNames, IsRefusalOf};
+ghost use Rattle.kb_link.specs.Names.{AddsName, AddsNewName, HasName};
 ghost use Rattle.kb_link.specs.declared.linking.LinkRefusal.TheVariants as refusals;
 
 use crate::linking::LinkRefusal;
@@ -44,51 +45,8 @@ impl Classes {
         ensures differ { IfOk result HaveDifferentNames }
         ensures refused { IfErr result (RefusesClasses list.items) }
     {
-        let mut classes = Classes {
-            list: Vec::new(alloc),
-            names: IndexSet::new(alloc),
-        };
-        for class in list {
-            classes = classes.with(alloc, class)?;
-        }
-        Ok(classes)
-    }
-
-    // The classes with one more behind them, unless one of them has its name.
-    fn with(self, alloc: Global, class: LoadedClass) -> Result<Classes, LinkRefusal>
-        requires { HaveDifferentNames self }
-        ensures same { IfOk result (λ classes. classes ≡ self ++ class ∷ []) }
-        ensures differ { IfOk result HaveDifferentNames }
-        ensures refused { IfErr result (StopsAtAgain self class) }
-    {
-        if self.number_of(class.name().as_slice()).is_some() {
-            return Err(twice(alloc, class.name()));
-        }
-        match self.with_new(alloc, class) {
-            Ok(classes) => Ok(classes),
-            Err(_) => Err(LinkRefusal::NoMemory),
-        }
-    }
-
-    // The classes with one of a new name behind them. Classes without a number of 32 bits are want of memory.
-    fn with_new(self, alloc: Global, class: LoadedClass) -> Result<Classes, NoMemory>
-        requires { HaveDifferentNames self × (number_in self class.name ≡ None) }
-        ensures same { IfOk result (λ classes. classes ≡ self ++ class ∷ []) }
-        ensures differ { IfOk result HaveDifferentNames }
-    {
-        let mut list = self.list;
-        let mut names = self.names;
-        if list.len() >= u32::MAX as usize {
-            return Err(NoMemory);
-        }
-        let key = key_of(alloc, class.name().as_slice())?;
-        let Ok(_) = names.insert(key) else {
-            return Err(NoMemory);
-        };
-        match list.push(class) {
-            Ok(()) => Ok(Classes { list, names }),
-            Err(_) => Err(NoMemory),
-        }
+        let names = names_of(alloc, list.as_slice())?;
+        Ok(Classes { list, names })
     }
 
     /// The classes in the order of their numbers. No two have one name.
@@ -107,6 +65,49 @@ impl Classes {
         let number = self.names.get_index_of(name)?;
         Some(number as u32)
     }
+}
+
+// The names of these classes. Classes without a number of 32 bits are want of memory.
+fn names_of(alloc: Global, classes: &[LoadedClass]) -> Result<IndexSet<Vec<u8>>, LinkRefusal>
+    ensures differ { IfOk result (λ names. HaveDifferentNames classes.now) }
+    ensures names { IfOk result (λ names. HasNames names classes.now) }
+    ensures refused { IfErr result (RefusesClasses classes.now) }
+{
+    if classes.len() >= u32::MAX as usize {
+        return Err(LinkRefusal::NoMemory);
+    }
+    let mut names = IndexSet::new(alloc);
+    let mut rest = classes;
+    while let [class, others @ ..] = rest {
+        add_name(alloc, &mut names, class.name())?;
+        rest = others;
+    }
+    Ok(names)
+}
+
+// Adds the name of one class more, unless a class before it has that name.
+fn add_name(alloc: Global, names: &mut IndexSet<Vec<u8>>, name: &Name) -> Result<(), LinkRefusal>
+    ensures more { OnOk result (AddsName names.old names.new name.now) }
+    ensures refused { IfErr result (HasName names.old name.now) }
+{
+    if names.get_index_of(name.as_slice()).is_some() {
+        return Err(twice(alloc, name));
+    }
+    match add_new(alloc, names, name) {
+        Ok(()) => Ok(()),
+        Err(_) => Err(LinkRefusal::NoMemory),
+    }
+}
+
+// Adds the name of one class more, which no class before it has.
+fn add_new(alloc: Global, names: &mut IndexSet<Vec<u8>>, name: &Name) -> Result<(), NoMemory>
+    ensures { OnOk result (AddsNewName names.old names.new name.now) }
+{
+    let key = key_of(alloc, name.as_slice())?;
+    let Ok(_) = names.insert(key) else {
+        return Err(NoMemory);
+    };
+    Ok(())
 }
 
 // The refusal of a name that two classes have.

@@ -32,3 +32,5 @@ pub use laws::{linked_or_refused, one_reason, one_world};
 pub use linked::Linked;
 pub use linking::{LinkRefusal, What, link};
 pub use slots::FieldSlot;
+pub use subtypes::is_above_arrays;
+pub use universe::is_concrete;

@@ -3,15 +3,16 @@ ghost use Rattle.std.specs.Prelude.{◌≡◌, ◌<◌, ◌↔◌, length, map, 
 ghost use Rattle.std.specs.Option.{option_copied, option_and_then};
 ghost use Rattle.kb_class.specs.Class.{Class};
 ghost use Rattle.kb_link.specs.World.{chain_of, method_at, methods_in, number_in, type_entry_of, int_entry_of, literal_entry_of};
-ghost use Rattle.kb_link.specs.Subtypes.{direct_supers, AreChains, is_below, is_super};
+ghost use Rattle.kb_link.specs.Subtypes.{direct_supers, AreChains, AreSupers, is_below, is_super};
 ghost use Rattle.kb_link.specs.Members.{declared_method};
-ghost use Rattle.kb_link.specs.Slots.{slots_of};
-ghost use Rattle.kb_link.specs.Rules.{HaveDifferentNames, HaveSupers, HaveNoCircle, HaveGoodSupers};
+ghost use Rattle.kb_link.specs.Slots.{slots_of, slots_along};
+ghost use Rattle.kb_link.specs.Rules.{HaveDifferentNames, HaveOwnMethods, HaveSupers, HaveNoCircle, HaveGoodSupers};
 ghost use Rattle.kb_link.specs.Split.{HaveNoSplit, is_special};
 ghost use Rattle.kb_link.specs.Links.{AreLoaded, IsLinked, RefusesClasses};
-ghost use Rattle.kb_link.specs.Tables.{AreIndexed};
-ghost use Rattle.kb_link.specs.Initialisers.{is_initialised};
-ghost use Rattle.kb_link.specs.Placing.{place_in};
+ghost use Rattle.kb_link.specs.Tables.{AreIndexed, HasPlaces};
+ghost use Rattle.kb_link.specs.Initialisers.{has_initialiser, is_initialised};
+ghost use Rattle.kb_link.specs.Placing.{ArePlacings, place_in};
+ghost use Rattle.kb_link.specs.Universe.{IsUniverse, AreLiterals};
 ghost use Rattle.kb_link.specs.Targets.{Declares, IsTargetOf};
 
 use crate::by_name::{MethodIndex, number_named, number_of_method};
@@ -98,13 +99,19 @@ fn tables_of(
     ensures classes { IfOk result (λ world. world.classes ≡ classes) }
     ensures linked { IfOk result IsLinked }
 {
-    let supers = supers_of(alloc, &classes, order)?;
-    let universe = universe_of(alloc, &classes)?;
-    let literals = literals_of(alloc, &classes)?;
-    let slots = slots_of(alloc, &classes, chains.as_slice())?;
-    let places = places_of(alloc, &classes)?;
-    let initialised = initialised_of(alloc, &classes, chains.as_slice())?;
-    let placings = placings_of(alloc, &classes, places.as_slice())?;
+    let of_classes = class_tables(alloc, &classes, order, chains.as_slice())?;
+    let of_methods = method_tables(alloc, &classes, chains.as_slice())?;
+    let ClassTables {
+        supers,
+        universe,
+        literals,
+        slots,
+    } = of_classes;
+    let MethodTables {
+        places,
+        initialised,
+        placings,
+    } = of_methods;
     Ok(Linked {
         classes,
         chains,
@@ -114,6 +121,69 @@ fn tables_of(
         slots,
         places,
         indexes,
+        initialised,
+        placings,
+    })
+}
+
+// What is known of classes.
+#[derive(Drop)]
+pub(crate) struct ClassTables {
+    supers: Vec<Row<bool>>,
+    universe: Row<ExactType>,
+    literals: TextSet,
+    slots: Vec<Row<FieldSlot>>,
+}
+
+// What is known of these classes.
+fn class_tables(
+    alloc: Global,
+    classes: &Classes,
+    order: &Order,
+    chains: &[Row<u32>],
+) -> Result<ClassTables, NoMemory>
+    requires { order.now ≡ direct_supers classes.now }
+    ensures supers { IfOk result (λ tables. AreSupers classes.now tables.supers.items) }
+    ensures universe { IfOk result (λ tables. IsUniverse classes.now tables.universe) }
+    ensures literals { IfOk result (λ tables. AreLiterals classes.now tables.literals) }
+    ensures slots { IfOk result (λ tables. tables.slots.items ≡ map (slots_along classes.now) chains.now) }
+{
+    let supers = supers_of(alloc, classes, order)?;
+    let universe = universe_of(alloc, classes)?;
+    let literals = literals_of(alloc, classes)?;
+    let slots = slots_of(alloc, classes, chains)?;
+    Ok(ClassTables {
+        supers,
+        universe,
+        literals,
+        slots,
+    })
+}
+
+// What is known of methods, beside their tables by names.
+#[derive(Drop)]
+pub(crate) struct MethodTables {
+    places: Vec<MethodPlace>,
+    initialised: Vec<bool>,
+    placings: Vec<Row<Option<u32>>>,
+}
+
+// What is known of the methods of these classes.
+fn method_tables(
+    alloc: Global,
+    classes: &Classes,
+    chains: &[Row<u32>],
+) -> Result<MethodTables, NoMemory>
+    requires { HaveOwnMethods classes.now }
+    ensures places { IfOk result (λ tables. HasPlaces classes.now tables.places.items) }
+    ensures initialised { IfOk result (λ tables. tables.initialised.items ≡ map (has_initialiser classes.now) chains.now) }
+    ensures placings { IfOk result (λ tables. ArePlacings (methods_in classes.now) tables.placings.items) }
+{
+    let places = places_of(alloc, classes)?;
+    let initialised = initialised_of(alloc, classes, chains)?;
+    let placings = placings_of(alloc, classes, places.as_slice())?;
+    Ok(MethodTables {
+        places,
         initialised,
         placings,
     })
@@ -186,7 +256,7 @@ impl Linked {
         self.universe.as_slice()
     }
 
-    /// How many string literals there are. Those beyond the numbers of 32 bits cannot be there: their entries are fewer.
+    /// How many string literals there are.
     pub fn literals(&self) -> u32
         ensures { result ≡ length self.now.literals }
     {
@@ -218,16 +288,16 @@ impl Linked {
     }
 
     /// Whether the first class or interface is the second one, or below it.
-    pub(crate) fn is_below(&self, low: &Name, high: &Name) -> bool
+    pub fn is_below(&self, low: &[u8], high: &[u8]) -> bool
         ensures { result ≡ is_below self.now low.now high.now }
     {
         if low == high {
             return true;
         }
-        let Some(below) = self.classes.number_of(low.as_slice()) else {
+        let Some(below) = self.classes.number_of(low) else {
             return false;
         };
-        let Some(above) = self.classes.number_of(high.as_slice()) else {
+        let Some(above) = self.classes.number_of(high) else {
             return false;
         };
         is_super(self.supers.as_slice(), below, above)

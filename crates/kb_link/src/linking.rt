@@ -3,7 +3,9 @@ ghost use Rattle.std.specs.Prelude.{◌≡◌, ◌≤◌, length, IfOk, IfErr, I
 ghost use Rattle.std.specs.List.{AllByRecursion};
 ghost use Rattle.kb_class.specs.Given.{AreGiven};
 ghost use Rattle.kb_link.specs.Tables.{AreIndexed};
-ghost use Rattle.kb_link.specs.declared.linking.LinkRefusal.TheVariants as refusals;
+ghost use Rattle.kb_link.specs.Rules.{HaveDifferentNames, HaveOwnMethods, HaveSupers, HaveNoCircle, HaveGoodSupers};
+ghost use Rattle.kb_link.specs.Split.{HaveNoSplit};
+ghost use Rattle.kb_link.specs.Subtypes.{direct_supers, AreChains};
 ghost use Rattle.kb_link.specs.Links.{AreLoaded, KeepsFormat, Loads, Links, IsLinked, RefusesClasses, RefusesLink, most_classes};
 
 use crate::by_name::{MethodIndex, indexes_of};
@@ -16,7 +18,8 @@ use crate::linked::{Linked, linked_of};
 use crate::loading::{check_formats, load_all};
 use crate::packages::check_packages;
 use kb_class::{GivenClass, LoadedClass};
-use kb_names::{Name, Target};
+use kb_names::{Name, Row, Target};
+use kb_order::Order;
 use std::alloc::Global;
 
 /// The most classes that are linked.
@@ -107,22 +110,51 @@ fn link_classes(alloc: Global, classes: Vec<LoadedClass>) -> Result<Linked, Link
     ensures refused { IfErr result (RefusesClasses classes.items) }
 {
     let classes = Classes::new(alloc, classes)?;
-    let direct = direct_supers(alloc, &classes)?;
-    let order = check_circles(alloc, &classes, direct)?;
-    check_claims(alloc, &classes)?;
+    let order = order_in(alloc, &classes)?;
+    link_ordered(alloc, classes, order)
+}
+
+// What stands above each class, where superclasses and interfaces are what they must be.
+fn order_in(alloc: Global, classes: &Classes) -> Result<Order, LinkRefusal>
+    requires { HaveDifferentNames classes.now }
+    ensures order { IfOk result (λ order. order ≡ direct_supers classes.now) }
+    ensures there { IfOk result (λ order. HaveSupers classes.now × HaveNoCircle classes.now × HaveGoodSupers classes.now) }
+    ensures refused { IfErr result (RefusesClasses classes.now) }
+{
+    let direct = direct_supers(alloc, classes)?;
+    let order = check_circles(alloc, classes, direct)?;
+    check_claims(alloc, classes)?;
+    Ok(order)
+}
+
+// The world of these classes, whose superclasses and interfaces are what they must be.
+fn link_ordered(alloc: Global, classes: Classes, order: Order) -> Result<Linked, LinkRefusal>
+    requires { (order ≡ direct_supers classes) × HaveDifferentNames classes × AreLoaded classes × HaveSupers classes × HaveNoCircle classes × HaveGoodSupers classes }
+    ensures classes { IfOk result (λ world. world.classes ≡ classes) }
+    ensures linked { IfOk result IsLinked }
+    ensures refused { IfErr result (RefusesClasses classes) }
+{
     let chains = chains_of(alloc, &classes, &order)?;
-    let indexes = indexes_in(alloc, &classes)?;
-    check_packages(alloc, &classes, chains.as_slice(), indexes.as_slice())?;
+    let indexes = indexes_in(alloc, &classes, chains.as_slice())?;
     linked_of(alloc, classes, order, chains, indexes)
 }
 
-// The tables of the methods of each class by their names.
-fn indexes_in(alloc: Global, classes: &Classes) -> Result<Vec<MethodIndex>, LinkRefusal>
+// The tables of the methods of each class by their names, where no package is split.
+fn indexes_in(
+    alloc: Global,
+    classes: &Classes,
+    chains: &[Row<u32>],
+) -> Result<Vec<MethodIndex>, LinkRefusal>
+    requires { HaveOwnMethods classes.now × HaveSupers classes.now × HaveNoCircle classes.now × HaveGoodSupers classes.now × AreChains classes.now chains.now }
     ensures indexed { IfOk result (λ indexes. AreIndexed classes.now indexes.items) }
-    ensures refused { IfErr result (λ refusal. refusal ≡ refusals.NoMemory) }
+    ensures whole { IfOk result (λ indexes. HaveNoSplit classes.now chains.now) }
+    ensures refused { IfErr result (RefusesClasses classes.now) }
 {
-    match indexes_of(alloc, classes) {
-        Ok(indexes) => Ok(indexes),
-        Err(_) => Err(LinkRefusal::NoMemory),
+    let Ok(indexes) = indexes_of(alloc, classes) else {
+        return Err(LinkRefusal::NoMemory);
+    };
+    match check_packages(alloc, classes, chains, indexes.as_slice()) {
+        Ok(()) => Ok(indexes),
+        Err(refusal) => Err(refusal),
     }
 }

@@ -7,15 +7,13 @@ ghost use Rattle.kb_link.specs.Slots.{has_slot_type, is_static, has_slot, slot_o
 use crate::classes::Classes;
 use crate::items::item_at;
 use kb_class::{ClassId, FieldInfo, LoadedClass};
+use kb_classfile::STATIC;
 use kb_names::{JType, Name, NoMemory, Row};
 use std::alloc::Global;
 
-/// ACC_STATIC (JVMS 8 table 4.5-A).
-const STATIC: u16 = 0x0008;
-
 /// A slot of the objects of a class: the class that declares the field, the slot's number from 0, and the field's name and
 /// type.
-#[derive(Debug, Drop)]
+#[derive(Drop)]
 pub struct FieldSlot {
     pub class: ClassId,
     pub slot: u32,
@@ -103,7 +101,7 @@ fn with_field(
         return Ok(slots);
     }
     let slot = slot_of(alloc, slots.as_slice().len(), number, field)?;
-    Ok(slots.with(slot)?)
+    slots.with(slot)
 }
 
 // The slot of that number. Numbers beyond 32 bits are want of memory.

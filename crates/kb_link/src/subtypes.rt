@@ -24,7 +24,10 @@ impl Linked {
         ensures { result ≡ fits self.now low.now (type_of_exact high.now) }
     {
         match (low, high) {
-            (ExactType::Class(below), ExactType::Class(above)) => self.is_below(below, above),
+            (ExactType::Class(below), ExactType::Class(above)) => self.is_below(
+                below.as_slice(),
+                above.as_slice(),
+            ),
             (ExactType::Class(_), ExactType::Array(_)) => false,
             (ExactType::Array(_), ExactType::Class(above)) => is_above_arrays(above.as_slice()),
             (ExactType::Array(below), ExactType::Array(above)) => self.type_fits(below, above),
@@ -36,7 +39,7 @@ impl Linked {
         ensures { result ≡ fits self.now (exact.Class low.now) high.now }
     {
         match high {
-            JType::Class(name) => self.is_below(low, name),
+            JType::Class(name) => self.is_below(low.as_slice(), name.as_slice()),
             _ => false,
         }
     }
@@ -71,7 +74,10 @@ impl Linked {
         ensures { result ≡ type_fits self.now low.now high.now }
     {
         match (low, high) {
-            (JType::Class(below), JType::Class(above)) => self.is_below(below, above),
+            (JType::Class(below), JType::Class(above)) => self.is_below(
+                below.as_slice(),
+                above.as_slice(),
+            ),
             (JType::Array(_), JType::Class(above)) => is_above_arrays(above.as_slice()),
             (JType::Bool, JType::Bool) => true,
             (JType::Byte, JType::Byte) => true,
@@ -86,8 +92,8 @@ impl Linked {
     }
 }
 
-// Whether the class is one that every array is a subtype of.
-fn is_above_arrays(name: &[u8]) -> bool
+/// Whether the class is one that every array is a subtype of.
+pub fn is_above_arrays(name: &[u8]) -> bool
     ensures { result ≡ is_above_arrays name.now }
 {
     if name == b"java/lang/Object".as_slice() {

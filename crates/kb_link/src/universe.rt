@@ -21,6 +21,9 @@ use kb_names::{Component, ExactType, JType, Name, NoMemory, Row};
 use kb_order::TextSet;
 use std::alloc::Global;
 
+/// ACC_INTERFACE and ACC_ABSTRACT (JVMS 8 table 4.1-A).
+const NOT_CONCRETE: u16 = 0x0600;
+
 /// The universe of these classes.
 pub(crate) fn universe_of(alloc: Global, classes: &Classes) -> Result<Row<ExactType>, NoMemory>
     ensures { IfOk result (IsUniverse classes.now) }
@@ -116,11 +119,11 @@ fn push_if_named(
     push_class(alloc, class, universe)
 }
 
-// Whether it is neither an interface nor abstract.
-fn is_concrete(class: &LoadedClass) -> bool
+/// Whether it is neither an interface nor abstract.
+pub fn is_concrete(class: &LoadedClass) -> bool
     ensures { result ≡ is_concrete class.now }
 {
-    class.access() & 0x0600 == 0
+    class.access() & NOT_CONCRETE == 0
 }
 
 fn push_class(

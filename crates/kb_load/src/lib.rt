@@ -1,9 +1,10 @@
 //! From the bytes of class files to their world, for programs that want no reason where there is none: those that ask questions
-//! from tables of rows.
+//! from tables of rows. `specs/Worlds.antt` says what the world of these bytes is.
 #![tactic(auto)]
 
 ghost use Rattle.std.specs.Prelude.{[], ◌∷◌, IfOk, IfSome};
-ghost use Rattle.kb_class.specs.Given.{AreGiven, AreListings, IsGiven};
+ghost use Rattle.kb_class.specs.Given.{AreListings, IsGiven};
+ghost use Rattle.kb_load.specs.Worlds.{AddsClass, AreClasses, IsClassOf, IsWorldOf, contents_of};
 
 use kb_class::{GivenClass, handlers_of};
 use kb_classfile::{ClassFile, Method, read_class};
@@ -14,7 +15,9 @@ use std::alloc::Global;
 
 /// The world of the classes that these bytes spell, in order; None where some bytes are no class file, code that cannot be decoded
 /// is among them, the classes cannot be linked, or memory runs out.
-pub fn world_of(alloc: Global, files: &[Vec<u8>]) -> Option<World> {
+pub fn world_of(alloc: Global, files: &[Vec<u8>]) -> Option<World>
+    ensures { IfSome result (IsWorldOf (contents_of files.now)) }
+{
     let classes = given_classes(alloc, files)?;
     match link(alloc, classes) {
         Ok(world) => Some(world),
@@ -22,21 +25,32 @@ pub fn world_of(alloc: Global, files: &[Vec<u8>]) -> Option<World> {
     }
 }
 
+// The classes that these bytes spell, in order.
 fn given_classes(alloc: Global, files: &[Vec<u8>]) -> Option<Vec<GivenClass>>
-    ensures { IfSome result (λ classes. AreGiven classes.items) }
+    ensures { IfSome result (λ classes. AreClasses (contents_of files.now) classes.items) }
 {
     let mut classes = Vec::new(alloc);
     for bytes in files {
-        let class = given_class(alloc, bytes.as_slice())?;
-        let Ok(()) = classes.push(class) else {
-            return None;
-        };
+        add_class(alloc, bytes.as_slice(), &mut classes)?;
     }
     Some(classes)
 }
 
-fn given_class(alloc: Global, bytes: &[u8]) -> Option<GivenClass>
-    ensures { IfSome result IsGiven }
+// Adds the class that the bytes spell.
+fn add_class(alloc: Global, bytes: &[u8], classes: &mut Vec<GivenClass>) -> Option<()>
+    ensures { IfSome result (λ done. AddsClass bytes.now classes.old.items classes.new.items) }
+{
+    let class = given_class(alloc, bytes)?;
+    let Ok(()) = classes.push(class) else {
+        return None;
+    };
+    Some(())
+}
+
+/// The class that the bytes spell; None where they are no class file, its code cannot be decoded, or memory runs out.
+pub fn given_class(alloc: Global, bytes: &[u8]) -> Option<GivenClass>
+    ensures spelled { IfSome result (IsClassOf bytes.now) }
+    ensures given { IfSome result IsGiven }
 {
     let Ok(file) = read_class(alloc, bytes) else {
         return None;

@@ -16,7 +16,7 @@ use Rattle.kb_semantics.specs.Values.{new_object}
 use Rattle.kb_semantics.specs.Ways.{goes_to, handler_at, lands, nearest_handler, standpoint, throws, throws_in, throws_object, ill_typed}
 use Rattle.kb_machine.specs.Landings.{landed, unwound}
 use Rattle.kb_machine.specs.Turns.{config_of, setting_of, told}
-use Rattle.kb_machine.specs.declared.NoMemory.{NoMemory}
+use Rattle.std.specs.declared.alloc.AllocError.{AllocError as NoMemory}
 use Rattle.kb_machine.specs.declared.state.State.{State}
 use Rattle.kb_machine.specs.declared.turn.Step.{Step}
 use Rattle.kb_machine.specs.declared.turn.Step.TheVariants as steps

@@ -1,10 +1,12 @@
 -- How a run goes on from a state.
-use Rattle.std.proofs.Common.{◌≡◌, ℕ, suc, ◌+◌, ◌-◌, ◌<◌, ◌≤◌, Some, None, refl, sym, ap, ◌∙◌, arith}
+use Rattle.std.proofs.Common.{◌≡◌, ℕ, suc, ◌+◌, ◌-◌, ◌<◌, ◌≤◌, Some, None, Result, Ok, Err, IfOk, refl, sym, ap, ◌∙◌, arith}
 use Rattle.std.proofs.lemmas.Bool.{lt-leb, le-leb}
 use Rattle.kb_code.specs.declared.instruction.Instr.{Instr}
 use Rattle.kb_heap.specs.declared.bounds.Bound.TheVariants.{Steps}
+use Rattle.kb_heap.specs.declared.ending.Ending.{Ending}
 use Rattle.kb_heap.specs.declared.ending.Ending.TheVariants.{Past}
-use Rattle.kb_semantics.specs.Config.{Setting, Config, Outcome, instruction_at}
+use Rattle.kb_heap.specs.declared.heap.Heap.{Heap}
+use Rattle.kb_semantics.specs.Config.{Setting, Config, Ended, Outcome, instruction_at}
 use Rattle.kb_semantics.specs.Step.{effect, follow, run, step}
 use Rattle.kb_semantics.specs.Ways.{ill_typed, past}
 use Rattle.kb_machine.specs.Turns.{setting_of, config_of, config_at, told, ending_told}
@@ -66,3 +68,10 @@ runs_off s c left more at = run_on s c left (ill_typed s c) (step_off s c more a
 
 pub runs_past : (s : Setting) (c : Config) (left : ℕ) → s.bounds.steps ≤ c.carried → run (suc left) s c ≡ record { ending = Past Steps; heap = c.heap }
 runs_past s c left spent = run_on s c left (past c Steps) (step_past s c spent)
+
+-- ---- the ending that is told
+
+pub told_so : {E : Type 0} (told : Result Ending E) (ended : Ended) (heap : Heap) (ending : Ending) → IfOk told (λ (it : Ending). it ≡ ending)
+    → ended ≡ record { ending = ending; heap = heap } → IfOk told (λ (it : Ending). ended ≡ record { ending = it; heap = heap })
+told_so (Ok it) ended heap ending is so = so ∙ ap (λ (it : Ending). record { ending = it; heap = heap }) (sym is)
+told_so (Err e) ended heap ending is so = is

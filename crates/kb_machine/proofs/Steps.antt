@@ -12,7 +12,7 @@ use Rattle.kb_heap.specs.declared.bounds.Bound.TheVariants.{Alloc}
 use Rattle.kb_semantics.specs.Instructions.{makes, makes_array, new_array}
 use Rattle.kb_semantics.specs.Ways.{negative_size, past, branches, enters, goes_on, goes_to, hands_over, jumps, lands, nearest_handler, returns_value, standpoint, throws, throws_in, throws_object}
 use Rattle.kb_machine.specs.Turns.{config_of, setting_of, told}
-use Rattle.kb_machine.specs.declared.NoMemory.{NoMemory}
+use Rattle.std.specs.declared.alloc.AllocError.{AllocError as NoMemory}
 use Rattle.kb_machine.specs.declared.state.State.{State}
 use Rattle.kb_machine.specs.declared.turn.Turn.{Turn}
 use Rattle.kb_machine.specs.declared.turn.Step.{Step}

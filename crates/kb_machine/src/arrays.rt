@@ -28,7 +28,7 @@ pub(crate) struct Elements<'h> {
 }
 
 /// What an array has at an index.
-#[derive(Clone, Copy, Debug, PartialEq, Eq)]
+#[derive(Clone, Copy)]
 pub(crate) enum Loaded {
     Value(Value),
     /// The index is not in the array.
@@ -37,7 +37,7 @@ pub(crate) enum Loaded {
 }
 
 /// What becomes of a value that is to be stored in an array.
-#[derive(Clone, Copy, Debug, PartialEq, Eq)]
+#[derive(Clone, Copy)]
 pub(crate) enum Stored {
     /// It is kept so at that place.
     Kept(u32, Value),

@@ -2,10 +2,10 @@
 
 ghost use Rattle.std.specs.Prelude.{◌≡◌, ◌↔◌, ◌<◌, ◌^◌, IsTrue, length, map};
 ghost use Rattle.std.specs.List.{AllByRecursion};
+ghost use Rattle.kb_names.specs.declared.types.JType.{JType};
 ghost use Rattle.kb_names.specs.declared.types.JType.TheVariants as types;
 ghost use Rattle.kb_class.specs.Naming.{Has};
 ghost use Rattle.kb_heap.specs.Heap.{object_at};
-ghost use Rattle.kb_link.specs.declared.slots.FieldSlot.{FieldSlot as PlainSlot};
 ghost use Rattle.kb_link.specs.Slots.{is_static};
 ghost use Rattle.kb_semantics.specs.Inputs.{HasReceiver, HasValuesOf, IsInputObject, IsTypeCorrect, argument_types};
 ghost use Rattle.kb_semantics.specs.Values.{AreValuesOf, IsObjectOf, IsValueOf};
@@ -17,6 +17,30 @@ use kb_world::{FieldSlot, World};
 
 /// ACC_STATIC (JVMS 8 table 4.6-A).
 const STATIC: u16 = 0x0008;
+
+// What has a type: a slot, or the type itself.
+trait Typed {
+    ghost kind: { Self → JType };
+
+    fn kind(&self) -> &JType
+        ensures { result.now ≡ kind self.now };
+}
+
+impl Typed for JType {
+    ghost kind = { λ of. of };
+
+    fn kind(&self) -> &JType {
+        self
+    }
+}
+
+impl Typed for FieldSlot {
+    ghost kind = { λ slot. slot.kind };
+
+    fn kind(&self) -> &JType {
+        &self.kind
+    }
+}
 
 /// Whether the input is type-correct for the method: as many arguments as parameters, each a value of its parameter's type, before
 /// them a receiver where the method is not static, and each object one of a type of the world's universe with values of the types
@@ -114,27 +138,9 @@ fn has_values_of(world: &World, heap: &Heap, of: &ExactType, values: &[Value]) -
     ensures { IsTrue result ↔ HasValuesOf world.now heap.now of.now values.now }
 {
     match of {
-        ExactType::Class(name) => have_slots(world, heap, world.slots_named(name), values),
+        ExactType::Class(name) => are_values_of(world, heap, world.slots_named(name), values),
         ExactType::Array(component) => are_elements(world, heap, component, values),
     }
-}
-
-fn have_slots(world: &World, heap: &Heap, slots: &[FieldSlot], values: &[Value]) -> bool
-    ensures { IsTrue result ↔ AreValuesOf world.now heap.now (map (λ (slot : PlainSlot). slot.kind) slots.now) values.now }
-{
-    let mut left = slots;
-    let mut rest = values;
-    while let [slot, others @ ..] = left {
-        let [value, more @ ..] = rest else {
-            return false;
-        };
-        if !is_value_of(world, heap, &slot.kind, *value) {
-            return false;
-        }
-        left = others;
-        rest = more;
-    }
-    rest.is_empty()
 }
 
 // So many values as an int can count, each of the component.
@@ -160,16 +166,17 @@ fn are_all_of(world: &World, heap: &Heap, component: &JType, values: &[Value]) -
     true
 }
 
-fn are_values_of(world: &World, heap: &Heap, params: &[JType], args: &[Value]) -> bool
-    ensures { IsTrue result ↔ AreValuesOf world.now heap.now params.now args.now }
+// Whether there are as many values as places, each of the type of its place.
+fn are_values_of<P: Typed>(world: &World, heap: &Heap, places: &[P], values: &[Value]) -> bool
+    ensures { IsTrue result ↔ AreValuesOf world.now heap.now (map P.kind places.now) values.now }
 {
-    let mut left = params;
-    let mut rest = args;
-    while let [of, others @ ..] = left {
+    let mut left = places;
+    let mut rest = values;
+    while let [place, others @ ..] = left {
         let [value, more @ ..] = rest else {
             return false;
         };
-        if !is_value_of(world, heap, of, *value) {
+        if !is_value_of(world, heap, place.kind(), *value) {
             return false;
         }
         left = others;

@@ -31,26 +31,4 @@ mod ways;
 
 pub use fits::fits_types;
 pub use machine::{first_heap, literal, run};
-use std::alloc::AllocError;
-
-/// Memory ran out.
-#[derive(Clone, Copy, Debug, PartialEq, Eq)]
-pub struct NoMemory;
-
-impl From<AllocError> for NoMemory {
-    fn from(_error: AllocError) -> NoMemory {
-        NoMemory
-    }
-}
-
-impl From<kb_names::NoMemory> for NoMemory {
-    fn from(_error: kb_names::NoMemory) -> NoMemory {
-        NoMemory
-    }
-}
-
-impl From<kb_heap::NoMemory> for NoMemory {
-    fn from(_error: kb_heap::NoMemory) -> NoMemory {
-        NoMemory
-    }
-}
+pub use std::alloc::AllocError as NoMemory;

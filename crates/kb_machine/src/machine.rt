@@ -14,7 +14,7 @@ use crate::state::{Callers, State};
 use crate::turn::{Step, Turn};
 use kb_class::MethodId;
 use kb_heap::{Bound, Ending, Heap, Input, Object, Place, Row, RunBounds};
-use kb_names::{ExactType, MethodType, Name, Target};
+use kb_names::{ExactType, MethodType, Name, SharedRow, Target};
 use kb_world::World;
 use std::alloc::Global;
 
@@ -38,29 +38,28 @@ pub fn run(
     let Ok(inputs) = u32::try_from(input.heap.objects.as_slice().len()) else {
         return Err(NoMemory);
     };
-    let state = State {
+    let mut state = State {
         frame: Frame::begin(alloc, world, target, input.args.as_slice())?,
         callers: Callers::new(alloc),
         heap: first_heap(alloc, world, &input.heap)?,
     };
-    run_from(alloc, world, bounds, inputs, state)
+    let ending = run_from(alloc, world, bounds, inputs, &mut state)?;
+    Ok((ending, state.heap))
 }
 
-// The run from the state on, where nothing was carried out before.
+// How the run from the state on ends, where nothing was carried out before, and the state then.
 fn run_from(
     alloc: Global,
     world: &World,
     bounds: &RunBounds,
     inputs: u32,
-    state: State,
-) -> Result<(Ending, Heap), NoMemory>
-    ensures { IfOk result (λ ended. run (suc bounds.now.steps) (record { world = world.now; bounds = bounds.now }) (begun inputs state) ≡ record { ending = ended.0; heap = ended.1 }) }
+    state: &mut State,
+) -> Result<Ending, NoMemory>
+    ensures { IfOk result (λ ending. run (suc bounds.now.steps) (record { world = world.now; bounds = bounds.now }) (begun inputs state.old) ≡ record { ending = ending; heap = state.new.heap }) }
 {
-    let mut state = state;
     for carried in 0..bounds.steps {
         let Some(found) = instruction_at(world, &state.frame) else {
-            let place = ending_of(alloc, world, state.ill_typed())?;
-            return Ok((place, state.heap));
+            return ending_of(alloc, world, state.ill_typed());
         };
         let turn = Turn {
             alloc,
@@ -72,11 +71,10 @@ fn run_from(
         };
         let step = state.take(&turn, found.instr)?;
         if step != Step::Goes {
-            let ending = ending_of(alloc, world, step)?;
-            return Ok((ending, state.heap));
+            return ending_of(alloc, world, step);
         }
     }
-    Ok((Ending::Past(Bound::Steps), state.heap))
+    Ok(Ending::Past(Bound::Steps))
 }
 
 // How the run ends, where a step ends it.
@@ -117,7 +115,7 @@ fn no_target(alloc: Global) -> Target
         class: Name::new(alloc),
         name: Name::new(alloc),
         kind: MethodType {
-            params: Row::new(alloc),
+            params: SharedRow::new(),
             result: None,
         },
     }

@@ -21,7 +21,7 @@ pub(crate) struct Turn<'w> {
 
 /// How a call finds its method: by the receiver's class (invokevirtual, invokeinterface), upwards from a class that does not
 /// depend on the receiver (invokespecial), or as the method that is named (invokestatic).
-#[derive(Clone, Copy, Debug, PartialEq, Eq)]
+#[derive(Clone, Copy)]
 pub(crate) enum Call {
     BySelection,
     Special,
@@ -29,7 +29,7 @@ pub(crate) enum Call {
 }
 
 /// What a step comes to.
-#[derive(Clone, Copy, Debug, PartialEq, Eq)]
+#[derive(Clone, Copy, PartialEq, Eq)]
 pub(crate) enum Step {
     Goes,
     Returned(Option<Value>),

@@ -17,7 +17,7 @@ use kb_names::ExactType;
 use kb_world::World;
 
 /// Where an exception comes to.
-#[derive(Clone, Copy, Debug, PartialEq, Eq)]
+#[derive(Clone, Copy)]
 pub(crate) enum Landing {
     /// The frame goes on at a handler.
     Caught,

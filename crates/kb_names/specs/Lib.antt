@@ -1,4 +1,5 @@
 pub mod Bytes
+pub mod Shared
 pub mod Shape
 pub mod Types
 pub mod Reading

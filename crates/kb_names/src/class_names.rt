@@ -4,7 +4,7 @@ ghost use Rattle.kb_names.specs.Stages.{class_start, class_read, class_step, som
 
 use crate::name_texts::NameStage;
 use crate::stages::Stage;
-use crate::{Name, NoMemory};
+use crate::{NoMemory, Row};
 use std::alloc::Global;
 
 /// How the names of classes stand in a descriptor.
@@ -19,12 +19,12 @@ pub enum Spelling {
 // How far a class's name is read.
 #[derive(Drop)]
 pub(crate) enum ClassStage {
-    RawName(Name),
+    RawName(Row<u8>),
     EscapedName(NameStage),
 }
 
 impl Stage for ClassStage {
-    type Value = Name;
+    type Value = Row<u8>;
 
     ghost step = { class_step };
 
@@ -45,7 +45,7 @@ impl Stage for ClassStage {
     }
 
     // A class's name is not empty.
-    fn whole(self) -> Option<Name> {
+    fn whole(self) -> Option<Row<u8>> {
         match self {
             ClassStage::RawName(name) => unless_empty(name),
             ClassStage::EscapedName(stage) => unless_empty(stage.whole()?),
@@ -58,15 +58,15 @@ pub(crate) fn class_begins(alloc: Global, spelling: Spelling) -> ClassStage
     ensures { result ≡ class_start spelling }
 {
     match spelling {
-        Spelling::Raw => ClassStage::RawName(Name::new(alloc)),
-        Spelling::Escaped => ClassStage::EscapedName(NameStage::Plain(Name::new(alloc))),
+        Spelling::Raw => ClassStage::RawName(Row::new(alloc)),
+        Spelling::Escaped => ClassStage::EscapedName(NameStage::Plain(Row::new(alloc))),
     }
 }
 
-pub(crate) fn unless_empty(name: Name) -> Option<Name>
+pub(crate) fn unless_empty(name: Row<u8>) -> Option<Row<u8>>
     ensures { result ≡ some_bytes name }
 {
-    if name.is_empty() {
+    if name.as_slice().is_empty() {
         return None;
     }
     Some(name)

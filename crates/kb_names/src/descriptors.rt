@@ -10,7 +10,7 @@ ghost use Rattle.kb_names.specs.declared.types.MethodType.{MethodType};
 
 use crate::class_names::{ClassStage, class_begins};
 use crate::stages::{Stage, TextStop, read_text};
-use crate::{Component, JType, MethodType, NoMemory, Row, Spelling};
+use crate::{Component, JType, MethodType, Name, NoMemory, Row, SharedRow, Spelling};
 use std::alloc::Global;
 
 /// Why a descriptor was not read.
@@ -100,7 +100,10 @@ fn in_name(
         };
     }
     match class.whole() {
-        Some(name) => Ok(Some(TypeStage::Whole(arrays(alloc, dims, JType::Class(name))?))),
+        Some(name) => {
+            let class = JType::Class(Name::from_row(name)?);
+            Ok(Some(TypeStage::Whole(arrays(alloc, dims, class)?)))
+        }
         None => Ok(None),
     }
 }
@@ -176,7 +179,7 @@ impl Stage for MethodStage {
             MethodStage::Return(spelling, params) => {
                 if byte == b'V' {
                     return Ok(Some(MethodStage::Method(MethodType {
-                        params,
+                        params: SharedRow::from_row(params)?,
                         result: None,
                     })));
                 }
@@ -226,7 +229,7 @@ fn returned(
 {
     match stage.next(alloc, byte)? {
         Some(TypeStage::Whole(of)) => Ok(Some(MethodStage::Method(MethodType {
-            params,
+            params: SharedRow::from_row(params)?,
             result: Some(of),
         }))),
         Some(stage) => Ok(Some(MethodStage::Returned(params, stage))),

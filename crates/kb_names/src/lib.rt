@@ -7,10 +7,9 @@ mod descriptors;
 mod name;
 mod name_texts;
 mod same;
+mod shared;
 mod stages;
 mod targets;
-#[cfg(test)]
-mod tests;
 mod types;
 mod writing;
 
@@ -22,17 +21,8 @@ pub use kb_rows::Row;
 pub use name::Name;
 pub use name_texts::{NameTextRefusal, read_name, write_name};
 pub use same::{Same, are_same};
-use std::alloc::AllocError;
+pub use shared::SharedRow;
+pub use std::alloc::AllocError as NoMemory;
 pub use targets::{TargetRefusal, read_target, write_target};
 pub use types::{Component, ExactType, JType, MethodType, Target};
 pub use writing::{write_method_type, write_type};
-
-/// Memory ran out.
-#[derive(Clone, Copy, Debug, PartialEq, Eq)]
-pub struct NoMemory;
-
-impl From<AllocError> for NoMemory {
-    fn from(_error: AllocError) -> NoMemory {
-        NoMemory
-    }
-}

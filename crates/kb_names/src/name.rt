@@ -1,16 +1,16 @@
 //! Names, which are lists of bytes.
-ghost use Rattle.std.specs.Prelude.{◌≡◌, ◌↔◌, ◌<◌, [], ◌∷◌, ◌++◌, IfOk, IsTrue};
+ghost use Rattle.std.specs.Prelude.{◌≡◌, ◌↔◌, ◌<◌, [], IfOk, IsTrue};
 ghost use Rattle.kb_names.specs.Bytes.{AreBytes};
 
-use crate::NoMemory;
+use crate::{NoMemory, Row, SharedRow};
 use std::alloc::Global;
 use std::marker::Model;
 
-/// The name of a class, a field or a method: any bytes. That each item of a name is a byte, below 256, is an
-/// invariant.
+/// The name of a class, a field or a method: any bytes, made once and shared by all copies. That each item of a
+/// name is a byte, below 256, is an invariant.
 #[derive(Debug, Drop)]
 pub struct Name {
-    bytes: Vec<u8>,
+    bytes: SharedRow<u8>,
 }
 
 impl Model for Name {
@@ -18,20 +18,20 @@ impl Model for Name {
 
     ghost Value = { List ℕ };
 
-    ghost view = { λ name. name.bytes.items };
+    ghost view = { λ name. name.bytes };
 
     ghost use Rattle.kb_names.specs.Bytes.{AreBytes};
 
-    ghost invariant = { λ name. AreBytes name.bytes.items };
+    ghost invariant = { λ name. AreBytes name.bytes };
 }
 
 impl Name {
-    /// The name of no bytes.
-    pub fn new(alloc: Global) -> Name
+    /// The name of no bytes. It takes no memory.
+    pub fn new(_alloc: Global) -> Name
         ensures { result ≡ [] }
     {
         Name {
-            bytes: Vec::new(alloc),
+            bytes: SharedRow::new(),
         }
     }
 
@@ -39,36 +39,31 @@ impl Name {
     pub fn is_empty(&self) -> bool
         ensures { IsTrue result ↔ (self.now ≡ []) }
     {
-        self.bytes.is_empty()
+        self.as_slice().is_empty()
     }
 
-    // The name with one byte more.
-    pub(crate) fn with(self, byte: u8) -> Result<Name, NoMemory>
-        ensures { IfOk result (λ name. name ≡ self ++ byte ∷ []) }
+    /// The name of these bytes, which are not copied.
+    pub fn from_vec(bytes: Vec<u8>) -> Result<Name, NoMemory>
+        ensures { IfOk result (λ name. name ≡ bytes.items) }
     {
-        let mut bytes = self.bytes;
-        match bytes.push(byte) {
-            Ok(()) => Ok(Name { bytes }),
-            Err(_) => Err(NoMemory),
-        }
+        tell_bytes(bytes.as_slice());
+        Ok(Name {
+            bytes: SharedRow::from_vec(bytes)?,
+        })
     }
 
-    /// The name of these bytes.
-    pub fn from_vec(bytes: Vec<u8>) -> Name
-        ensures { result ≡ bytes.items }
+    // The name of these bytes, which are not copied.
+    pub(crate) fn from_row(bytes: Row<u8>) -> Result<Name, NoMemory>
+        ensures { IfOk result (λ name. name ≡ bytes) }
     {
-        look_at_each(bytes.as_slice());
-        Name { bytes }
+        Name::from_vec(bytes.into_vec())
     }
 
     /// The name of these bytes, copied.
     pub fn from_slice(alloc: Global, bytes: &[u8]) -> Result<Name, NoMemory>
         ensures { IfOk result (λ name. name ≡ bytes.now) }
     {
-        match bytes.to_vec(alloc) {
-            Ok(bytes) => Ok(Name::from_vec(bytes)),
-            Err(_) => Err(NoMemory),
-        }
+        Name::from_vec(bytes.to_vec(alloc)?)
     }
 
     /// Its bytes.
@@ -79,24 +74,26 @@ impl Name {
         self.bytes.as_slice()
     }
 
-    /// Another name of the same bytes.
-    pub fn copied(&self, alloc: Global) -> Result<Name, NoMemory>
+    /// Another owner of the name. It copies no byte.
+    pub fn copied(&self, _alloc: Global) -> Result<Name, NoMemory>
         ensures { IfOk result (λ name. name ≡ self.now) }
     {
-        Name::from_slice(alloc, self.as_slice())
+        Ok(Name {
+            bytes: self.bytes.copied()?,
+        })
     }
 }
 
 // Does nothing. That an item of a list is a byte is known once it is read.
-fn look_at_each(bytes: &[u8])
+fn tell_bytes(bytes: &[u8])
     ensures { AreBytes bytes.now }
 {
     for byte in bytes {
-        look_at(*byte);
+        tell_byte(*byte);
     }
 }
 
-fn look_at(_byte: u8)
+fn tell_byte(_byte: u8)
     ensures { _byte < 256 }
 {}
 
@@ -110,7 +107,7 @@ impl PartialEq for Name {
     ghost laws = { partial_equiv_from_equiv nat_list_eq_equiv };
 
     fn eq(&self, other: &Name) -> bool {
-        self.bytes.as_slice() == other.bytes.as_slice()
+        self.as_slice() == other.as_slice()
     }
 }
 

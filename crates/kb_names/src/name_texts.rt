@@ -5,7 +5,7 @@ ghost use Rattle.std.specs.Io.{appended_bytes};
 ghost use Rattle.kb_names.specs.Refusals.{RefusesName, ReadsName};
 
 use crate::stages::{Stage, TextStop, read_text};
-use crate::{Name, NoMemory};
+use crate::{Name, NoMemory, Row};
 use std::alloc::Global;
 
 /// Why the text of a name was not read.
@@ -21,15 +21,15 @@ pub enum NameTextRefusal {
 // How far the text of a name is read.
 #[derive(Drop)]
 pub(crate) enum NameStage {
-    Plain(Name),
+    Plain(Row<u8>),
     // Behind a `%`.
-    Percent(Name),
+    Percent(Row<u8>),
     // Behind a `%` and the first digit.
-    High(Name, u8),
+    High(Row<u8>, u8),
 }
 
 impl Stage for NameStage {
-    type Value = Name;
+    type Value = Row<u8>;
 
     ghost step = { name_step };
 
@@ -58,7 +58,7 @@ impl Stage for NameStage {
         }
     }
 
-    fn whole(self) -> Option<Name> {
+    fn whole(self) -> Option<Row<u8>> {
         match self {
             NameStage::Plain(name) => Some(name),
             NameStage::Percent(_) | NameStage::High(_, _) => None,
@@ -67,7 +67,7 @@ impl Stage for NameStage {
 }
 
 // The name with a byte that is written with a `%`, unless it may not be written so.
-fn escaped(name: Name, byte: u8) -> Result<Option<NameStage>, NoMemory>
+fn escaped(name: Row<u8>, byte: u8) -> Result<Option<NameStage>, NoMemory>
     ensures { IfOk result (λ next. next ≡ with_escaped name byte) }
 {
     if is_plain(byte) {
@@ -155,8 +155,11 @@ pub fn read_name(alloc: Global, text: &[u8]) -> Result<Name, NameTextRefusal>
     ensures only { (name : List ℕ) → SpellsName name text.now → ReadsName result name }
     ensures bad { IfErr result (RefusesName IsNameText text.now) }
 {
-    match read_text(alloc, NameStage::Plain(Name::new(alloc)), text) {
-        Ok(name) => Ok(name),
+    match read_text(alloc, NameStage::Plain(Row::new(alloc)), text) {
+        Ok(name) => match Name::from_row(name) {
+            Ok(name) => Ok(name),
+            Err(NoMemory) => Err(NameTextRefusal::NoMemory),
+        },
         Err(TextStop::At(at)) => Err(NameTextRefusal::BadName(at)),
         Err(TextStop::NoMemory) => Err(NameTextRefusal::NoMemory),
     }

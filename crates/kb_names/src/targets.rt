@@ -76,7 +76,10 @@ fn in_class(alloc: Global, stage: NameStage, byte: u8) -> Result<Option<TargetSt
         return Ok(None);
     };
     match unless_empty(name) {
-        Some(class) => Ok(Some(TargetStage::InMethod(class, NameStage::Plain(Name::new(alloc))))),
+        Some(class) => Ok(Some(TargetStage::InMethod(
+            Name::from_row(class)?,
+            NameStage::Plain(Row::new(alloc)),
+        ))),
         None => Ok(None),
     }
 }
@@ -99,7 +102,7 @@ fn in_method(
     match stage.whole() {
         Some(name) => Ok(Some(TargetStage::InKind(
             class,
-            name,
+            Name::from_row(name)?,
             MethodStage::Params(Spelling::Escaped, Row::new(alloc)),
         ))),
         None => Ok(None),
@@ -113,7 +116,7 @@ pub fn read_target(alloc: Global, text: &[u8]) -> Result<Target, TargetRefusal>
     ensures only { (target : Target) → SpellsTarget target text.now → ReadsTarget result target }
     ensures bad { IfErr result (RefusesTarget text.now) }
 {
-    let start = TargetStage::InClass(NameStage::Plain(Name::new(alloc)));
+    let start = TargetStage::InClass(NameStage::Plain(Row::new(alloc)));
     match read_text(alloc, start, text) {
         Ok(target) => Ok(target),
         Err(TextStop::At(at)) => Err(TargetRefusal::BadTarget(at)),

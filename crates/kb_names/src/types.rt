@@ -3,9 +3,10 @@ ghost use Rattle.std.specs.Prelude.{◌≡◌, ◌↔◌, IfOk, IsTrue};
 ghost use Rattle.kb_names.specs.Types.{shape_of, arrays_of};
 
 use crate::same::{Same, are_same};
-use crate::{Name, NoMemory, Row};
+use crate::{Name, NoMemory, SharedRow};
 use std::alloc::Global;
 use std::marker::Model;
+use std::sync::Arc;
 
 /// A type of a field, a parameter or a result (JVMS 8 section 4.3.2).
 #[cycle(types)]
@@ -25,15 +26,16 @@ pub enum JType {
     Array(Component),
 }
 
-/// The component type of an array.
+/// The component type of an array, made once and shared by all copies.
 #[cycle(types)]
 #[derive(Debug, Drop)]
 pub struct Component {
-    of: Box<JType>,
+    of: Arc<JType, Global>,
 }
 
 impl Model for Component {
     ghost use Rattle.std.specs.Prelude.{◌+◌, ◌≤◌};
+    ghost use Rattle.std.specs.Arc.{arc_value};
     ghost use Rattle.std.proofs.Common.{arith};
     ghost use Rattle.kb_names.specs.Shape.{Shape};
 
@@ -41,7 +43,7 @@ impl Model for Component {
 
     ghost use Rattle.kb_names.specs.Types.{shape_of};
 
-    ghost view = { λ component. shape_of component.of.value };
+    ghost view = { λ component. shape_of (arc_value component.of) };
 
     ghost size = { λ shape. shape.dims };
 
@@ -53,10 +55,9 @@ impl Component {
     pub fn new(alloc: Global, of: JType) -> Result<Component, NoMemory>
         ensures { IfOk result (λ component. component ≡ shape_of of) }
     {
-        match Box::new(alloc, of) {
-            Ok(of) => Ok(Component { of }),
-            Err(_) => Err(NoMemory),
-        }
+        Ok(Component {
+            of: Arc::new(alloc, of)?,
+        })
     }
 
     /// The type.
@@ -65,11 +66,19 @@ impl Component {
     {
         &self.of
     }
+
+    // Another owner of the type.
+    fn copied(&self) -> Result<Component, NoMemory>
+        ensures { IfOk result (λ copy. copy ≡ self.now) }
+    {
+        Ok(Component {
+            of: Arc::try_clone(&self.of)?,
+        })
+    }
 }
 
 impl JType {
-    /// Another type that equals this one.
-    #[cycle(types)]
+    /// Another type that equals this one. It takes no memory.
     pub fn copied(&self, alloc: Global) -> Result<JType, NoMemory>
         ensures { IfOk result (λ copy. copy ≡ self.now) }
     {
@@ -83,10 +92,7 @@ impl JType {
             JType::Float => Ok(JType::Float),
             JType::Double => Ok(JType::Double),
             JType::Class(name) => Ok(JType::Class(name.copied(alloc)?)),
-            JType::Array(component) => {
-                let of = component.of.copied(alloc)?;
-                Ok(JType::Array(Component::new(alloc, of)?))
-            }
+            JType::Array(component) => Ok(JType::Array(component.copied()?)),
         }
     }
 
@@ -117,17 +123,6 @@ impl Same for JType {
     }
 }
 
-// Another row of equal types.
-fn copied_types(alloc: Global, types: &[JType]) -> Result<Row<JType>, NoMemory>
-    ensures { IfOk result (λ copy. copy ≡ types.now) }
-{
-    let mut copy = Row::new(alloc);
-    for of in types {
-        copy.push(of.copied(alloc)?)?;
-    }
-    Ok(copy)
-}
-
 // Another result that equals this one.
 fn copied_result(alloc: Global, of: &Option<JType>) -> Result<Option<JType>, NoMemory>
     ensures { IfOk result (λ copy. copy ≡ of.now) }
@@ -152,7 +147,7 @@ fn is_same_result(one: &Option<JType>, other: &Option<JType>) -> bool
 /// The parameters and the result of a method; no result for `void` (JVMS 8 section 4.3.3).
 #[derive(Debug, Drop)]
 pub struct MethodType {
-    pub params: Row<JType>,
+    pub params: SharedRow<JType>,
     pub result: Option<JType>,
 }
 
@@ -161,7 +156,7 @@ impl MethodType {
     pub fn copied(&self, alloc: Global) -> Result<MethodType, NoMemory>
         ensures { IfOk result (λ copy. copy ≡ self.now) }
     {
-        let params = copied_types(alloc, self.params.as_slice())?;
+        let params = self.params.copied()?;
         let returned = copied_result(alloc, &self.result)?;
         Ok(MethodType {
             params,

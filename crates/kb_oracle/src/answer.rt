@@ -2,9 +2,9 @@
 ghost use Rattle.std.specs.Prelude.{◌≡◌, IfOk};
 ghost use Rattle.kb_oracle.specs.Answers.{unsure_after, bad_after};
 
-use crate::memory::NoMemory;
+use crate::NoMemory;
 use kb_chain::{Log, Row};
-use std::alloc::{AllocError, AllocFailed};
+use std::alloc::AllocFailed;
 
 /// What is known of a query.
 #[derive(Clone, Debug, Drop)]
@@ -18,7 +18,7 @@ pub enum Answer {
 }
 
 /// Why there is no answer.
-#[derive(Clone, Copy, Debug, PartialEq, Eq)]
+#[derive(Clone, Copy, PartialEq, Eq)]
 pub enum OracleStop {
     /// The answer of that number, among those that the oracle goes by, does not serve the query. The oracle has counted it.
     Bad(u32),
@@ -37,17 +37,6 @@ impl From<NoMemory> for OracleStop {
     }
 }
 
-impl From<AllocError> for OracleStop {
-    ghost use Rattle.std.specs.Prelude.{◌≡◌};
-    ghost use Rattle.kb_oracle.specs.declared.answer.OracleStop.TheVariants.{NoMemory};
-
-    ghost from_gives = { λ _ e. e ≡ NoMemory };
-
-    fn from(_error: AllocError) -> OracleStop {
-        OracleStop::NoMemory
-    }
-}
-
 impl<T: Drop> From<AllocFailed<T>> for OracleStop {
     ghost use Rattle.std.specs.Prelude.{◌≡◌};
     ghost use Rattle.kb_oracle.specs.declared.answer.OracleStop.TheVariants.{NoMemory};
@@ -60,7 +49,7 @@ impl<T: Drop> From<AllocFailed<T>> for OracleStop {
 }
 
 /// An answer that is the same.
-pub(crate) fn copy_of(answer: &Answer) -> Result<Answer, AllocError>
+pub(crate) fn copy_of(answer: &Answer) -> Result<Answer, NoMemory>
     ensures { IfOk result (λ copy. copy ≡ answer.now) }
 {
     answer.clone()

@@ -3,7 +3,6 @@
 
 mod answer;
 mod law;
-mod memory;
 mod oracle;
 mod search;
 mod solver_oracle;
@@ -16,4 +15,5 @@ pub use law::{
 };
 pub use oracle::Oracle;
 pub use solver_oracle::SolverOracle;
+pub(crate) use std::alloc::AllocError as NoMemory;
 pub use told_oracle::{Told, ToldOracle};

@@ -10,8 +10,8 @@ ghost use Rattle.kb_blast.specs.Meaning.{AreMetInPool, AreReadable, Reads, IsEls
 ghost use Rattle.kb_oracle.specs.Answers.{IsAnswerTo, IfModel, IfRefuted, OnUndecided, IsDecided};
 ghost use Rattle.kb_oracle.specs.Search.{IsFound};
 
+use crate::NoMemory;
 use crate::answer::Answer;
-use crate::memory::NoMemory;
 use kb_blast::{Blasted, blast, read_back};
 use kb_chain::Row;
 use kb_sat::{Solved, solve};

@@ -8,8 +8,8 @@ ghost use Rattle.kb_blast.specs.Meaning.{AreMetInPool};
 ghost use Rattle.kb_oracle.specs.Answers.{IsAnswerTo, LeavesOpen, IfModel, OnUndecided, IfBad, Gains};
 ghost use Rattle.kb_oracle.specs.States.{told_at, IsHandedOn, DoesAsTold, IsToldBad, told_after};
 
+use crate::NoMemory;
 use crate::answer::{Answer, OracleStop, bad_after, copy_of, unsure_after};
-use crate::memory::NoMemory;
 use crate::oracle::Oracle;
 use crate::search::decide;
 use kb_blast::blast;
@@ -19,7 +19,7 @@ use std::alloc::Global;
 use std::marker::Model;
 
 /// What a call of a [`ToldOracle`] is told to do.
-#[derive(Clone, Debug, Drop)]
+#[derive(Clone, Drop)]
 pub enum Told {
     /// Stop with `Bad` of this number.
     Bad(u32),

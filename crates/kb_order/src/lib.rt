@@ -2,15 +2,12 @@
 #![tactic(auto)]
 
 mod complete;
-mod memory;
 mod order;
 mod table;
-#[cfg(test)]
-mod tests;
 mod texts;
 
 pub use complete::is_complete;
 pub use kb_rows::Row;
-pub use memory::NoMemory;
 pub use order::{Order, order_of};
+pub use std::alloc::AllocError as NoMemory;
 pub use texts::{TextSet, ordered_set};

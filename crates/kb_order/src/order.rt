@@ -4,7 +4,7 @@ ghost use Rattle.std.specs.Prelude.{◌≡◌, ◌<◌, ◌≤◌, ◌↔◌, �
 ghost use Rattle.std.specs.Bool.{IsTrue};
 ghost use Rattle.kb_order.specs.Order.{IsComplete, IsAbove, IsStrictlyAbove, IsDirectlyAbove, HasNoCircle, IsFirstOnCircle, AreMarksAbove, IsRank, set_marks};
 
-use crate::memory::NoMemory;
+use crate::NoMemory;
 use crate::table::{is_marked, table_of};
 use kb_rows::Row;
 use std::alloc::Global;

@@ -4,7 +4,7 @@ ghost use Rattle.std.specs.Prelude.{◌≡◌, ◌<◌, ◌||◌, ℕ, IfOk, OnO
 ghost use Rattle.kb_order.specs.Order.{stands, IsComplete};
 ghost use Rattle.kb_order.specs.Table.{mark_at, joined_row, IsSquare, IsTable, IsJoinedThrough};
 
-use crate::memory::NoMemory;
+use crate::NoMemory;
 use kb_rows::Row;
 use std::alloc::Global;
 

@@ -6,7 +6,7 @@ ghost use Rattle.std.specs.List.{Contains};
 ghost use Rattle.kb_order.specs.Texts.{IsOrderedSet, IsPlace, IsRising};
 ghost use Rattle.kb_order.specs.Sorting.{IsFalling, HasSameTexts, IsTaken};
 
-use crate::memory::NoMemory;
+use crate::NoMemory;
 use kb_rows::Row;
 use std::alloc::Global;
 use std::marker::Model;

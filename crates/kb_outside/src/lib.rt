@@ -1,5 +1,6 @@
 //! What the program reads from and writes to: shelves of files and sinks of bytes. Each has one form
-//! over the system and one in memory, whose bytes and faults are told to the last one.
+//! over the system and one in memory, whose bytes and faults are told to the last one. Besides, the
+//! words of the command line.
 #![tactic(auto)]
 
 mod memory_shelf;
@@ -10,6 +11,7 @@ mod shelves;
 mod sinks;
 #[cfg(test)]
 mod tests;
+mod words;
 
 pub use memory_shelf::MemoryShelf;
 pub use memory_sink::MemorySink;
@@ -17,7 +19,5 @@ pub use reading::read_up_to;
 pub use real::{FileShelf, OutSink};
 pub use shelves::{Shelf, ShelfStop};
 pub use sinks::{Sink, SinkFailed, send_all};
-
-/// Memory ran out.
-#[derive(Clone, Copy, Debug, PartialEq, Eq)]
-pub struct NoMemory;
+pub use std::alloc::AllocError as NoMemory;
+pub use words::{WordsStop, command_words};

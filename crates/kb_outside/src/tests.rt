@@ -1,11 +1,12 @@
 //! Shelves and sinks over files of the system and in memory, and readers and writers that fail.
 
 use crate::{
-    FileShelf, MemoryShelf, MemorySink, OutSink, Shelf, ShelfStop, Sink, SinkFailed, read_up_to,
-    send_all,
+    FileShelf, MemoryShelf, MemorySink, OutSink, Shelf, ShelfStop, Sink, SinkFailed, WordsStop,
+    command_words, read_up_to, send_all,
 };
 use std::alloc::{AllocError, Global};
-use std::io::{self, ErrorKind, Read};
+use std::env::{Env, FillError};
+use std::io::{self, ErrorKind, Read, Write};
 use std::path::PathBuf;
 use std::test::Fail;
 use std::{env, fs, process};
@@ -260,5 +261,96 @@ fn writer_has_what_is_said_to_be_taken(rt: HostRuntime) -> Result<(), Fail> {
     assert_eq!(rt; send_all(&mut out, text.as_slice()), Err(SinkFailed));
     assert_eq!(rt; out.faults(), 1);
     assert_eq!(rt; room.as_slice(), front.as_slice());
+    Ok(())
+}
+
+/// A writer that takes each piece whole, and counts its calls and their bytes.
+#[derive(Drop)]
+struct Counting {
+    calls: usize,
+    bytes: usize,
+}
+
+impl Write for Counting {
+    fn write(&mut self, buf: &[u8]) -> io::Result<usize> {
+        self.calls = self.calls.saturating_add(1);
+        self.bytes = self.bytes.saturating_add(buf.len());
+        Ok(buf.len())
+    }
+
+    fn flush(&mut self) -> io::Result<()> {
+        Ok(())
+    }
+}
+
+#[test]
+fn writer_gets_a_text_by_one_call(rt: HostRuntime) -> Result<(), Fail> {
+    let text = varied(rt.alloc(), 100_000)?;
+    let mut counting = Counting { calls: 0, bytes: 0 };
+    let mut out = OutSink::new(&mut counting);
+    assert_eq!(rt; send_all(&mut out, text.as_slice()), Ok(()));
+    assert_eq!(rt; out.faults(), 0);
+    assert_eq!(rt; counting.calls, 1);
+    assert_eq!(rt; counting.bytes, 100_000);
+    Ok(())
+}
+
+/// A command line of the program's name and one word, with these bytes.
+#[derive(Drop)]
+struct CommandLine<'a> {
+    word: &'a [u8],
+}
+
+impl<'a> Env for CommandLine<'a> {
+    fn arg(&self, i: usize, buf: &mut [u8]) -> Result<usize, FillError> {
+        let text = match i {
+            0 => b"program".as_slice(),
+            1 => self.word,
+            _ => return Err(FillError::NotPresent),
+        };
+        if buf.len() < text.len() {
+            return Err(FillError::TooLong);
+        }
+        buf[..text.len()].copy_from_slice(text);
+        Ok(text.len())
+    }
+
+    fn var(&self, _name: &str, _buf: &mut [u8]) -> Result<usize, FillError> {
+        Err(FillError::NotPresent)
+    }
+
+    fn var_at(&self, _i: usize, _buf: &mut [u8]) -> Result<usize, FillError> {
+        Err(FillError::NotPresent)
+    }
+}
+
+#[test]
+fn words_are_those_after_the_name(rt: HostRuntime) -> Result<(), Fail> {
+    let line = CommandLine {
+        word: "größe".as_bytes(),
+    };
+    match command_words(&(line, rt.alloc())) {
+        Ok(words) => {
+            assert_eq!(rt; words.len(), 1);
+            assert_eq!(rt; words[0].as_str(), "größe");
+        }
+        Err(_) => assert!(rt; false, "the word is UTF-8"),
+    }
+    Ok(())
+}
+
+#[test]
+fn a_word_that_is_not_utf8_is_told(rt: HostRuntime) -> Result<(), Fail> {
+    let line = CommandLine {
+        word: b"gr\xf6\xdfe".as_slice(),
+    };
+    match command_words(&(line, rt.alloc())) {
+        Ok(_) => assert!(rt; false, "the word is not UTF-8"),
+        Err(stop) => {
+            assert_eq!(rt; stop, WordsStop::NotUtf8);
+            assert_eq!(rt; stop.code(), 71);
+        }
+    }
+    assert_eq!(rt; WordsStop::NoMemory.code(), 8);
     Ok(())
 }

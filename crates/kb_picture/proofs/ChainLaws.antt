@@ -1,5 +1,5 @@
--- The objects of a picture lie at the ends of chains: an object of depth d is the last one of d different objects of the input, of
--- which an argument holds the first and each the next.
+-- The objects of a picture lie at the ends of chains: an object of depth d is the last one of d different objects of the input,
+-- of which an argument holds the first and each the next.
 use Rattle.std.proofs.Common.{◌≡◌, ◌≢◌, inl, inr, ℕ, zero, suc, ◌+◌, ◌<◌, List, [], ◌∷◌, ◌++◌, length, fold, Option, Some, None, slice_get, slice_index_or, refl, sym, ap, subst, ◌∙◌, option_and_then, option_map, arith, length-append}
 use Rattle.std.proofs.lemmas.Option.{get_or_from_slice_get}
 use Rattle.kb_names.specs.declared.types.JType.{JType}
@@ -26,7 +26,7 @@ use Rattle.kb_picture.specs.declared.picture.Picture.{Picture}
 use Rattle.kb_picture.specs.Depths.{depth_in, depths_of, depth_at, IsBeyond, IsBeyondK}
 use Rattle.kb_picture.specs.Laws.{IsChainTo}
 use Rattle.kb_picture.specs.Places.{value_in, slot_value, place_of, objects_placed, locs_placed}
-use Rattle.kb_picture.specs.Shapes.{IsNoPlace, Holds, HoldEach, HasLength, AreApart, HasShape}
+use Rattle.kb_picture.specs.Shapes.{IsNoPlace, HoldsSeen, HoldEach, HasLength, AreApart, HasShape}
 use Rattle.kb_picture.specs.WellFormed.{IsLengthOf}
 use Rattle.kb_picture.proofs.PlaceLaws.{placed_parts}
 use Rattle.kb_picture.proofs.ShapeLaws.{place_inside, objects_inside}
@@ -54,7 +54,8 @@ different_more xs b different fresh = λ i j o here there.
 
 -- ---- the chain before an object
 
--- A chain of the picture's objects with numbers below a bound, of which the last one holds an object: as many as its depth, with it.
+-- A chain of the picture's objects with numbers below a bound, of which the last one holds an object: as many as its depth,
+-- with it.
 record Front (input : Input) (all : List ℕ) (bound depth place : ℕ) : Type 0 where
   before : List ℕ
   linked : BeginsAtArgument input (before ++ place ∷ [])
@@ -244,10 +245,10 @@ further_chain picture input k shape slot place deeper e below apart =
     }
 
 hold_at : (input : Input) (places : List ℕ) (seen : List (Origin × Seen)) (i : ℕ) (slot : Origin × Seen) → HoldEach input places seen → slice_get seen i ≡ Some slot
-    → Holds input.heap places (slot_value input places slot.0) slot.1
+    → HoldsSeen input.heap places (slot_value input places slot.0) slot.1
 hold_at input places [] i slot each at = absurd cc
 hold_at input places (first ∷ seen) zero slot each at =
-    subst (λ (s : Origin × Seen). Holds input.heap places (slot_value input places s.0) s.1) (let same : first ≡ slot = cc in same) each.0
+    subst (λ (s : Origin × Seen). HoldsSeen input.heap places (slot_value input places s.0) s.1) (let same : first ≡ slot = cc in same) each.0
 hold_at input places (first ∷ seen) (suc i) slot each at = hold_at input places seen i slot each.1 at
 
 pub loc_at : (input : Input) (objects : List ℕ) (locs : List PicLoc) (found : List ℕ) (i : ℕ) (loc : PicLoc) → locs_placed input objects locs ≡ Some found → slice_get locs i ≡ Some loc

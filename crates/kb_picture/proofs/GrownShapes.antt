@@ -29,7 +29,7 @@ use Rattle.kb_picture.specs.Growing.{IsUnread, PlacesKept}
 use Rattle.kb_picture.specs.Growth.{after_read, after_int_read, with_open_loc, with_fresh}
 use Rattle.kb_picture.specs.Laws.{with_seen}
 use Rattle.kb_picture.specs.Places.{value_in, slot_value, object_named, place_of, objects_placed, locs_placed, with_locs_placed, places_of}
-use Rattle.kb_picture.specs.Shapes.{HasShape, HoldEach, Holds, IsNoPlace, AreApart, Stands}
+use Rattle.kb_picture.specs.Shapes.{HasShape, HoldEach, HoldsSeen, IsNoPlace, AreApart, Stands}
 use Rattle.kb_picture.specs.WellFormed.{IsSlot, IsSeenAs, IsStanding, variables_seen}
 
 -- ---- lists of places
@@ -104,7 +104,7 @@ hold_front input places [] more hold = tt
 hold_front input places (slot ∷ seen) more hold = (hold.0, hold_front input places seen more hold.1)
 
 holds_fewer : (picture : Picture) (heap : Heap) (places more : List ℕ) (value : Option Value) (seen : Seen) → length places ≡ length picture.objects
-    → IsSeenAs picture seen → Holds heap (places ++ more) value seen → Holds heap places value seen
+    → IsSeenAs picture seen → HoldsSeen heap (places ++ more) value seen → HoldsSeen heap places value seen
 holds_fewer picture heap places more value (seens.Int number) len seen_ok holds = holds
 holds_fewer picture heap places more value seens.Null len seen_ok holds = holds
 holds_fewer picture heap places more value (seens.Loc number) len seen_ok holds = holds
@@ -119,7 +119,7 @@ hold_fewer world params picture input places more [] len each hold = tt
 hold_fewer world params picture input places more (x ∷ seen) len each hold =
     let at = each zero x refl in (
       holds_fewer picture input.heap places more (slot_value input places x.0) x.1 len at.1
-          (subst (λ (v : Option Value). Holds input.heap (places ++ more) v x.1) (slot_same world params picture.objects input places more x.0 len at.0) hold.0),
+          (subst (λ (v : Option Value). HoldsSeen input.heap (places ++ more) v x.1) (slot_same world params picture.objects input places more x.0 len at.0) hold.0),
       hold_fewer world params picture input places more seen len (λ n y there. each (suc n) y there) hold.1,
     )
 

@@ -29,24 +29,24 @@ use Rattle.kb_picture.specs.Growing.{IsUnread}
 use Rattle.kb_picture.specs.Growth.{after_read, with_open_loc, with_fresh}
 use Rattle.kb_picture.specs.Laws.{with_seen, object_placed_behind, loc_placed_behind}
 use Rattle.kb_picture.specs.Places.{slot_value, place_of}
-use Rattle.kb_picture.specs.Shapes.{HasShape, HoldEach, Holds, IsNoPlace, AreApart, IsSuch, Stands}
+use Rattle.kb_picture.specs.Shapes.{HasShape, HoldEach, HoldsSeen, IsNoPlace, AreApart, IsSuch, Stands}
 use Rattle.kb_picture.specs.WellFormed.{IsSlot, IsSeenAs}
 
 -- ---- what is seen behind the others
 
 pub hold_last : (input : Input) (places : List ℕ) (seen : List (Origin × Seen)) (slot : Origin) (how : Seen) → HoldEach input places (seen ++ (slot, how) ∷ [])
-    → Holds input.heap places (slot_value input places slot) how
+    → HoldsSeen input.heap places (slot_value input places slot) how
 hold_last input places [] slot how hold = hold.0
 hold_last input places (x ∷ seen) slot how hold = hold_last input places seen slot how hold.1
 
 pub hold_behind : (input : Input) (places : List ℕ) (seen : List (Origin × Seen)) (slot : Origin) (how : Seen) → HoldEach input places seen
-    → Holds input.heap places (slot_value input places slot) how → HoldEach input places (seen ++ (slot, how) ∷ [])
+    → HoldsSeen input.heap places (slot_value input places slot) how → HoldEach input places (seen ++ (slot, how) ∷ [])
 hold_behind input places [] slot how hold one = (one, tt)
 hold_behind input places (x ∷ seen) slot how hold one = (hold.0, hold_behind input places seen slot how hold.1 one)
 
 -- ---- one more place
 
-holds_more : (heap : Heap) (places : List ℕ) (p : ℕ) (value : Option Value) (seen : Seen) → (seen ≡ seens.Beyond → ⊥) → Holds heap places value seen → Holds heap (places ++ p ∷ []) value seen
+holds_more : (heap : Heap) (places : List ℕ) (p : ℕ) (value : Option Value) (seen : Seen) → (seen ≡ seens.Beyond → ⊥) → HoldsSeen heap places value seen → HoldsSeen heap (places ++ p ∷ []) value seen
 holds_more heap places p value (seens.Int number) inside h = h
 holds_more heap places p value seens.Null inside h = h
 holds_more heap places p value (seens.Loc number) inside h = h
@@ -59,7 +59,7 @@ hold_more : (world : World) (params : ℕ) (picture : Picture) (input : Input) (
     → HoldEach input places seen → HoldEach input (places ++ p ∷ []) seen
 hold_more world params picture input places p [] len each inside hold = tt
 hold_more world params picture input places p (x ∷ seen) len each inside hold = (
-  subst (λ (v : Option Value). Holds input.heap (places ++ p ∷ []) v x.1)
+  subst (λ (v : Option Value). HoldsSeen input.heap (places ++ p ∷ []) v x.1)
       (sym (slot_same world params picture.objects input places (p ∷ []) x.0 len (each 0 x refl).0))
       (holds_more input.heap places p (slot_value input places x.0) x.1 (inside 0 x refl) hold.0),
   hold_more world params picture input places p seen len (λ n y at. each (suc n) y at) (λ n y at. inside (suc n) y at) hold.1,
@@ -96,12 +96,12 @@ module _ (world : World) (params : ℕ) (picture : Picture) (slot : Origin) (inp
   held = slot_value input shape.places.objects slot
 
   -- a slot that is seen as nothing new
-  pub seen_back : (how : Seen) → HasShape (with_seen picture (slot, how)) input → Holds input.heap shape.places.objects held how
+  pub seen_back : (how : Seen) → HasShape (with_seen picture (slot, how)) input → HoldsSeen input.heap shape.places.objects held how
   seen_back how after =
       let same : after.places ≡ shape.places = seen_places picture (slot, how) input shape after in
-      subst (λ (places : PlaceLists). Holds input.heap places.objects (slot_value input places.objects slot) how) same (hold_last input after.places.objects picture.seen slot how after.seen)
+      subst (λ (places : PlaceLists). HoldsSeen input.heap places.objects (slot_value input places.objects slot) how) same (hold_last input after.places.objects picture.seen slot how after.seen)
 
-  pub seen_forth : (how : Seen) → Holds input.heap shape.places.objects held how → HasShape (with_seen picture (slot, how)) input
+  pub seen_forth : (how : Seen) → HoldsSeen input.heap shape.places.objects held how → HasShape (with_seen picture (slot, how)) input
   seen_forth how holds = record {
     places = shape.places;
     placed = places_seen picture input (slot, how) ∙ shape.placed;

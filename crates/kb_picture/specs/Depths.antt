@@ -1,5 +1,6 @@
--- How deep the objects of a picture lie: an object that was found in an argument has the depth 1, another one that of the object in
--- which it was found and one more (the bound on chains of references is that of Deng, Lee and Robby, ASE 2006; counting from 1 is own).
+-- How deep the objects of a picture lie: an object that was found in an argument has the depth 1, another one that of the
+-- object in which it was found and one more (the bound on chains of references is that of Deng, Lee and Robby, ASE 2006;
+-- counting from 1 is own).
 use Rattle.std.specs.Prelude.{ℕ, suc, ◌<◌, ◌⊎◌, List, [], ◌∷◌, ◌++◌, fold}
 use Rattle.std.specs.List.{slice_index_or}
 use Rattle.kb_class.specs.Naming.{Has}

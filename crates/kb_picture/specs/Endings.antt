@@ -43,8 +43,8 @@ pub record Reading : Type 0 where
 abbrev pub place_at : List ℕ → ℕ → ℕ
 place_at places number = slice_index_or places number 0
 
--- The value at an input: a location has the value of its place, whether it is open or bound, so that it keeps it when it is bound.
--- The literals stand behind the input's objects, and the objects of the run behind the literals.
+-- The value at an input: a location has the value of its place, whether it is open or bound, so that it keeps it when it is
+-- bound. The literals stand behind the input's objects, and the objects of the run behind the literals.
 abbrev pub out_value : Reading → Out → Value
 out_value r (Int operand) = IntValue (operand_value r.variables r.terms operand)
 out_value r Null = NullValue

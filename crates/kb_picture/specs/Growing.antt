@@ -1,5 +1,5 @@
--- What holds of each picture that grows: it stays well-formed and keeps its types, whoever has its shape had the one before, and
--- earlier objects and locations keep their places.
+-- What holds of each picture that grows: it stays well-formed and keeps its types, whoever has its shape had the one before,
+-- and earlier objects and locations keep their places.
 use Rattle.std.specs.Prelude.{◌≡◌, ℕ, true, false, length, take, Some, slice_get}
 use Rattle.kb_class.specs.Naming.{Has}
 use Rattle.kb_class.specs.declared.ids.MethodId.{MethodId}

@@ -1,6 +1,6 @@
--- How a picture grows: where a reference is read for the first time, by what is chosen (null, an object of the picture, a new one:
--- Khurshid, Păsăreanu and Visser, TACAS 2003; an object that is not known yet: Deng, Lee and Robby, ASE 2006), and by the first
--- read of an int or a boolean.
+-- How a picture grows: where a reference is read for the first time, by what is chosen (null, an object of the picture, a new
+-- one: Khurshid, Păsăreanu and Visser, TACAS 2003; an object that is not known yet: Deng, Lee and Robby, ASE 2006), and by the
+-- first read of an int or a boolean.
 use Rattle.std.specs.Prelude.{length}
 use Rattle.kb_names.specs.declared.types.ExactType.{ExactType}
 use Rattle.kb_picture.specs.declared.choice.Choice.{Choice}
@@ -21,8 +21,9 @@ with_open_loc picture slot = with_loc picture (record { origin = slot; standing 
 abbrev pub with_fresh : Picture → Origin → ExactType → Length → Picture
 with_fresh picture slot kind len = with_object picture (record { kind = kind; length = len; origin = slot })
 
--- The picture after a reference was read for the first time, by what was chosen: the slot is seen as null, as a new location, as an
--- object that was there, as a new object, or as one that is none of the picture's. What is no choice of a reference changes nothing.
+-- The picture after a reference was read for the first time, by what was chosen: the slot is seen as null, as a new location,
+-- as an object that was there, as a new object, or as one that is none of the picture's. What is no choice of a reference
+-- changes nothing.
 unfoldable pub after_read : Picture → Origin → Choice → Picture
 after_read picture slot Null = with_seen picture (slot, seens.Null)
 after_read picture slot Location = with_seen (with_open_loc picture slot) (slot, seens.Loc (length picture.locs))

@@ -1,5 +1,5 @@
--- The instances of a path: the inputs whose first heap has the path's shape and whose ints meet its conditions (the path condition
--- of symbolic execution: King, 1976).
+-- The instances of a path: the inputs whose first heap has the path's shape and whose ints meet its conditions (the path
+-- condition of symbolic execution: King, 1976).
 use Rattle.std.specs.Prelude.{ℕ, ℤ, pos, List, take, Option, Some, None}
 use Rattle.std.specs.List.{filter_map}
 use Rattle.std.specs.Option.{option_map_or}
@@ -25,8 +25,8 @@ variable_value value (Loc number) = None
 variable_value value (Obj number) = None
 variable_value value Beyond = None
 
--- The values of the variables for an input, where `places` are the places of the picture's objects: each is what its slot holds in
--- the first heap. The variables are numbered in the order of reading, so that they are those of the slots seen as ints.
+-- The values of the variables for an input, where `places` are the places of the picture's objects: each is what its slot holds
+-- in the first heap. The variables are numbered in the order of reading, so that they are those of the slots seen as ints.
 unfoldable pub variable_values : Picture → Input → List ℕ → List ℤ
 variable_values picture input places = filter_map (λ slot. variable_value (slot_value input places slot.0) slot.1) picture.seen
 
@@ -44,8 +44,8 @@ pub record IsInstance (path : Path) (input : Input) : Type 0 where
 abbrev pub with_conditions : Path → ℕ → Path
 with_conditions path count = record path { when = take count path.when }
 
--- A short instance of a path for a number of conditions: an input that is type-correct for the method, and an instance of the path
--- with so many of its conditions.
+-- A short instance of a path for a number of conditions: an input that is type-correct for the method, and an instance of the
+-- path with so many of its conditions.
 pub record IsShortInstance (world : World) (method : MethodId) (path : Path) (count : ℕ) (input : Input) : Type 0 where
   pub correct : IsTypeCorrect world method input
   pub instance_of : IsInstance (with_conditions path count) input

@@ -51,8 +51,8 @@ object_placed_behind places place = record places { objects = places.objects ++ 
 abbrev pub loc_placed_behind : PlaceLists → ℕ → PlaceLists
 loc_placed_behind places place = record places { locs = places.locs ++ place ∷ [] }
 
--- A picture that grows keeps the places that it had: another slot that is seen, or another standing of locations, changes none, and
--- a further object or location has the place to which its own origin leads.
+-- A picture that grows keeps the places that it had: another slot that is seen, or another standing of locations, changes none,
+-- and a further object or location has the place to which its own origin leads.
 pub record PlacesStay : Type 0 where
   pub seen : (picture : Picture) (input : Input) (slot : Origin × Seen) → places_of (with_seen picture slot) input ≡ places_of picture input
   pub standing : (picture : Picture) (input : Input) (locs : List PicLoc) → loc_origins locs ≡ loc_origins picture.locs
@@ -82,8 +82,8 @@ pub record IsChainTo (input : Input) (depth place : ℕ) : Type 0 where
   pub is_chain : IsChain input (before ++ place ∷ [])
   pub long : length (before ++ place ∷ []) ≡ depth
 
--- In an input that has a picture's shape an object of depth d is the end of a chain of d objects. So where an object that is none
--- of the picture's lies deeper than k, the input is past k; and where an array is longer than n, it is past n.
+-- In an input that has a picture's shape an object of depth d is the end of a chain of d objects. So where an object that is
+-- none of the picture's lies deeper than k, the input is past k; and where an array is longer than n, it is past n.
 pub record DepthsAreChains : Type 0 where
   pub chain : (picture : Picture) (input : Input) (shape : HasShape picture input) (number place depth : ℕ)
       → slice_get shape.places.objects number ≡ Some place → slice_get (depths_of picture.objects) number ≡ Some depth → IsChainTo input depth place

@@ -1,5 +1,5 @@
--- The order in which a path's terms stand: a walk meets them from what the path states, operands first, the left one first, each
--- once (the depth-first order of a graph's nodes, each behind those that it leads to: Tarjan, 1972).
+-- The order in which a path's terms stand: a walk meets them from what the path states, operands first, the left one first,
+-- each once (the depth-first order of a graph's nodes, each behind those that it leads to: Tarjan, 1972).
 use Rattle.std.specs.Prelude.{ℕ, zero, suc, Bool, List, [], ◌∷◌, ◌++◌, length, map, fold, Option, Some, None, slice_get, ◌==◌, if◌then◌else◌}
 use Rattle.std.specs.List.{list_any, flat_map}
 use Rattle.std.specs.Option.{option_map_or}

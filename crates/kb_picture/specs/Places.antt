@@ -1,6 +1,6 @@
--- Where the objects of a picture lie in an input: each is found by following its origin through the input's first heap, from the
--- argument on (as symbolic objects are reached in lazy initialisation: Khurshid, Păsăreanu and Visser, TACAS 2003). An origin is
--- followed in the same way for an object and for a location, and which object a location is plays no part in it.
+-- Where the objects of a picture lie in an input: each is found by following its origin through the input's first heap, from
+-- the argument on (as symbolic objects are reached in lazy initialisation: Khurshid, Păsăreanu and Visser, TACAS 2003). An
+-- origin is followed in the same way for an object and for a location, and which object a location is plays no part in it.
 use Rattle.std.specs.Prelude.{ℕ, List, [], ◌∷◌, ◌++◌, length, nat_lt, Option, Some, None, option_map, option_and_then, slice_get}
 use Rattle.std.specs.Option.{option_map_or}
 use Rattle.kb_heap.specs.declared.heap.Value.{Value}
@@ -20,8 +20,8 @@ use Rattle.kb_picture.specs.declared.picture.PlaceLists.{PlaceLists}
 abbrev pub value_in : Heap → List ℕ → ℕ → ℕ → Option Value
 value_in heap places object slot = option_and_then (λ place. value_at heap place slot) (slice_get places object)
 
--- What a slot of the first heap holds, where `places` are the places of the picture's objects: an argument by its number, a slot
--- or an element of an object in the object's place. None where there is no such argument, object, slot or element.
+-- What a slot of the first heap holds, where `places` are the places of the picture's objects: an argument by its number, a
+-- slot or an element of an object in the object's place. None where there is no such argument, object, slot or element.
 abbrev pub slot_value : Input → List ℕ → Origin → Option Value
 slot_value input places (Arg number) = slice_get input.args number
 slot_value input places (Field object slot) = value_in input.heap places object slot

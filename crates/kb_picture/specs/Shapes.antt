@@ -41,17 +41,17 @@ abbrev pub IsObjectOfPicture : List ℕ → ℕ → Option Value → Type 0
 IsObjectOfPicture places number value = (place : ℕ) × (slice_get places number ≡ Some place) × (value ≡ Some (Ref place))
 
 -- The value is what is seen. Whether an int is a boolean is told by the type of its slot, which a type-correct input keeps.
-abbrev pub Holds : Heap → List ℕ → Option Value → Seen → Type 0
-Holds heap places value (Int number) = (z : ℤ) × (value ≡ Some (IntValue z))
-Holds heap places value Null = value ≡ Some NullValue
-Holds heap places value (Loc number) = IsSomeObject heap value
-Holds heap places value (Obj number) = IsObjectOfPicture places number value
-Holds heap places value Beyond = IsFurtherObject heap places value
+abbrev pub HoldsSeen : Heap → List ℕ → Option Value → Seen → Type 0
+HoldsSeen heap places value (Int number) = (z : ℤ) × (value ≡ Some (IntValue z))
+HoldsSeen heap places value Null = value ≡ Some NullValue
+HoldsSeen heap places value (Loc number) = IsSomeObject heap value
+HoldsSeen heap places value (Obj number) = IsObjectOfPicture places number value
+HoldsSeen heap places value Beyond = IsFurtherObject heap places value
 
 -- each slot that is seen holds what is seen
 abbrev pub HoldEach : Input → List ℕ → List (Origin × Seen) → Type 0
 HoldEach input places [] = Unit {0}
-HoldEach input places (slot ∷ seen) = Holds input.heap places (slot_value input places slot.0) slot.1 × HoldEach input places seen
+HoldEach input places (slot ∷ seen) = HoldsSeen input.heap places (slot_value input places slot.0) slot.1 × HoldEach input places seen
 
 -- ---- objects
 

@@ -1,6 +1,7 @@
 -- When a path is well-formed in a world and for a method of it: what it names is there, and everything stands in its order. The
 -- arguments that are there are those of the method, the slots those of the world's classes (The Java Virtual Machine
--- Specification, Java SE 8 Edition, sections 2.6.1 and 2.7; that literals are numbered in the order of their bytes is an own rule).
+-- Specification, Java SE 8 Edition, sections 2.6.1 and 2.7; that literals are numbered in the order of their bytes is an own
+-- rule).
 use Rattle.std.specs.Prelude.{◌≡◌, ◌≢◌, ◌⊎◌, ℕ, suc, ◌<◌, ◌≤◌, Bool, true, false, List, length, take, map, Option, Some, None, slice_get}
 use Rattle.std.specs.List.{filter_map}
 use Rattle.kb_blast.specs.Meaning.{OperandFits, IsComparison}
@@ -167,8 +168,8 @@ pub record IsTermAt (picture : Picture) (number : ℕ) (term : Term) : Type 0 wh
   pub left : IsOperand picture number term.left
   pub right : IsSecond picture number (is_binary term.op) term.right
 
--- The terms of a path are those that a walk from its conditions and its leaf meets, in that order; no two of them are equal, and each
--- condition is on a comparison.
+-- The terms of a path are those that a walk from its conditions and its leaf meets, in that order; no two of them are equal,
+-- and each condition is on a comparison.
 pub record AreTermsOf (path : Path) : Type 0 where
   pub each : (number : ℕ) (term : Term) → slice_get path.terms number ≡ Some term → IsTermAt path.picture number term
   pub met : met_from path.terms (roots_of path) ≡ numbers_below (length path.terms)

@@ -1,5 +1,5 @@
--- When a picture keeps the types of a method's arguments and of the world's slots (The Java Virtual Machine Specification, Java SE 8
--- Edition, sections 2.3, 2.4, 2.7 and 4.3.3; which exact types an object of an input may have is an own rule).
+-- When a picture keeps the types of a method's arguments and of the world's slots (The Java Virtual Machine Specification, Java
+-- SE 8 Edition, sections 2.3, 2.4, 2.7 and 4.3.3; which exact types an object of an input may have is an own rule).
 use Rattle.std.specs.Prelude.{◌≡◌, ◌<◌, ◌^◌, ℕ, suc, Bool, true, false, length, Option, Some, None, slice_get}
 use Rattle.kb_class.specs.Naming.{Has}
 use Rattle.kb_class.specs.declared.ids.MethodId.{MethodId}
@@ -46,8 +46,8 @@ SomeFits world type = (kind : ExactType) × Has world.universe kind × (fits wor
 
 -- ---- what is seen
 
--- a location that is no object of the picture yet is of a type that some object has; which types its object fits, where it is one,
--- is said of the object
+-- a location that is no object of the picture yet is of a type that some object has; which types its object fits, where it is
+-- one, is said of the object
 abbrev pub StandingFits : World → JType → Standing → Type 0
 StandingFits world type standings.Open = SomeFits world type
 StandingFits world type standings.Beyond = SomeFits world type

@@ -4,7 +4,7 @@ use crate::picture::Length;
 use kb_names::ExactType;
 
 /// An alternative of a choice.
-#[derive(Debug, Drop)]
+#[derive(Drop)]
 pub enum Choice {
     /// The only way on: nothing is chosen.
     Only,

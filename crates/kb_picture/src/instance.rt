@@ -1,7 +1,7 @@
 //! Whether an input is an instance of a path.
 ghost use Rattle.std.specs.Prelude.{◌≡◌, ◌↔◌, Some, IfOk, IsTrue, slice_get};
 ghost use Rattle.kb_picture.specs.Places.{places_of};
-ghost use Rattle.kb_picture.specs.Shapes.{HasLength, IsSuch, Holds, HoldEach, Stands, HasShape};
+ghost use Rattle.kb_picture.specs.Shapes.{HasLength, IsSuch, HoldsSeen, HoldEach, Stands, HasShape};
 ghost use Rattle.kb_picture.specs.Instances.{IsInstance};
 ghost use Rattle.kb_picture.specs.Places.{object_named};
 ghost use Rattle.kb_picture.specs.Tables.{Tells, EachPair, StandsAt, is_int, is_null, is_place, is_further};
@@ -16,8 +16,8 @@ use kb_heap::{Heap, Input, Value};
 use kb_world::World;
 use std::alloc::Global;
 
-/// Whether the input is an instance of the path, where `places` are those that [`crate::places`] gives for the two. Each term is
-/// computed once. What the path names is known to be in its world, which is not looked at.
+/// Whether the input is an instance of the path, where `places` are those that [`crate::places`] gives for the two. Each term
+/// is computed once. What the path names is known to be in its world, which is not looked at.
 pub fn is_instance(
     alloc: Global,
     _world: &World,
@@ -83,7 +83,7 @@ fn hold_each(input: &Input, places: &[u32], table: &[bool], seen: &[(Origin, See
 // Whether the value of a slot is what is seen.
 fn holds(heap: &Heap, places: &[u32], table: &[bool], value: Option<Value>, seen: Seen) -> bool
     requires { Tells table.now places.now }
-    ensures { IsTrue result ↔ Holds heap.now places.now value seen }
+    ensures { IsTrue result ↔ HoldsSeen heap.now places.now value seen }
 {
     match seen {
         Seen::Int(_) => is_int(value),

@@ -1,8 +1,8 @@
 //! What a path of an exploration says of an input: the picture of its first heap, the conditions on its ints, and how its run
 //! ends.
 //!
-//! `specs/` has the definitions: where the objects of a picture lie in an input (`Places`), which inputs are instances of a path
-//! (`Shapes`, `Instances`), the ending and the heap that an ended path states (`Endings`), when a path is well-formed
+//! `specs/` has the definitions: where the objects of a picture lie in an input (`Places`), which inputs are instances of a
+//! path (`Shapes`, `Instances`), the ending and the heap that an ended path states (`Endings`), when a path is well-formed
 //! (`WellFormed`), and how a picture grows (`Growth`) and keeps the types of a method (`WellTyped`).
 #![tactic(auto)]
 
@@ -29,26 +29,4 @@ pub use laws::{
 pub use path::{Ended, Leaf, Made, Out, Path, SymEnding, Write};
 pub use picture::{Length, Origin, PicLoc, PicObject, Picture, PlaceLists, Seen, Standing};
 pub use placing::places;
-use std::alloc::AllocError;
-
-/// Memory ran out.
-#[derive(Clone, Copy, Debug, PartialEq, Eq)]
-pub struct NoMemory;
-
-impl From<AllocError> for NoMemory {
-    fn from(_error: AllocError) -> NoMemory {
-        NoMemory
-    }
-}
-
-impl From<kb_heap::NoMemory> for NoMemory {
-    fn from(_error: kb_heap::NoMemory) -> NoMemory {
-        NoMemory
-    }
-}
-
-impl From<kb_names::NoMemory> for NoMemory {
-    fn from(_error: kb_names::NoMemory) -> NoMemory {
-        NoMemory
-    }
-}
+pub use std::alloc::AllocError as NoMemory;

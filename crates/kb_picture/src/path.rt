@@ -8,7 +8,7 @@ use kb_rows::Row;
 use kb_terms::{Operand, Term};
 
 /// A value that a run leaves, as a path states it for each of its inputs.
-#[derive(Clone, Copy, Debug, PartialEq, Eq)]
+#[derive(Clone, Copy, PartialEq, Eq)]
 pub enum Out {
     Int(Operand),
     Null,
@@ -23,21 +23,21 @@ pub enum Out {
 }
 
 /// A slot of an object of the picture that the run wrote, and the last value there.
-#[derive(Clone, Copy, Debug, PartialEq, Eq)]
+#[derive(Clone, Copy, PartialEq, Eq)]
 pub struct Write {
     pub slot: Origin,
     pub value: Out,
 }
 
 /// An object that the run made, with the last values of its slots or elements.
-#[derive(Debug, Drop)]
+#[derive(Drop)]
 pub struct Made {
     pub kind: ExactType,
     pub values: Row<Out>,
 }
 
 /// How a run ends.
-#[derive(Debug, Drop)]
+#[derive(Drop)]
 pub enum SymEnding {
     /// The method has returned, with a value unless its result is `void`.
     Returned(Option<Out>),
@@ -48,7 +48,7 @@ pub enum SymEnding {
 }
 
 /// How the runs of an ended path's inputs end, and one of these inputs.
-#[derive(Debug, Drop)]
+#[derive(Drop)]
 pub struct Ended {
     pub ending: SymEnding,
     pub writes: Row<Write>,
@@ -57,7 +57,7 @@ pub struct Ended {
 }
 
 /// Where a path ends.
-#[derive(Debug, Drop)]
+#[derive(Drop)]
 pub enum Leaf {
     /// Every run of its inputs ends so.
     Ended(Ended),
@@ -71,7 +71,7 @@ pub enum Leaf {
 
 /// A path: the choices that lead to it, the picture of its inputs, its terms, each after its operands, its conditions, each the
 /// number of a term with its truth, and its leaf.
-#[derive(Debug, Drop)]
+#[derive(Drop)]
 pub struct Path {
     pub decisions: Row<u32>,
     pub picture: Picture,

@@ -7,7 +7,7 @@ use kb_rows::Row;
 use std::alloc::Global;
 
 /// A slot of an input's first heap.
-#[derive(Clone, Copy, Debug, PartialEq, Eq)]
+#[derive(Clone, Copy, PartialEq, Eq)]
 pub enum Origin {
     /// The argument of that number, the receiver first.
     Arg(u32),
@@ -18,7 +18,7 @@ pub enum Origin {
 }
 
 /// What a slot is seen to hold.
-#[derive(Clone, Copy, Debug, PartialEq, Eq)]
+#[derive(Clone, Copy, PartialEq, Eq)]
 pub enum Seen {
     /// The int or boolean of the variable of that number.
     Int(u32),
@@ -32,7 +32,7 @@ pub enum Seen {
 }
 
 /// Which object a location is.
-#[derive(Clone, Copy, Debug, PartialEq, Eq)]
+#[derive(Clone, Copy, PartialEq, Eq)]
 pub enum Standing {
     /// Any object: it was not looked into yet.
     Open,
@@ -43,7 +43,7 @@ pub enum Standing {
 }
 
 /// The length of an object of the picture.
-#[derive(Clone, Copy, Debug, PartialEq, Eq)]
+#[derive(Clone, Copy, PartialEq, Eq)]
 pub enum Length {
     /// It is no array.
     Plain,
@@ -53,7 +53,7 @@ pub enum Length {
 }
 
 /// An object of the picture: its exact type, its length, and the slot in which it was found.
-#[derive(Debug, Drop)]
+#[derive(Drop)]
 pub struct PicObject {
     pub kind: ExactType,
     pub length: Length,
@@ -88,7 +88,7 @@ fn copied_objects(alloc: Global, objects: &[PicObject]) -> Result<Row<PicObject>
 }
 
 /// A location: the slot that it was read from, and which object it is.
-#[derive(Clone, Copy, Debug, PartialEq, Eq)]
+#[derive(Clone, Copy, PartialEq, Eq)]
 pub struct PicLoc {
     pub origin: Origin,
     pub standing: Standing,
@@ -96,7 +96,7 @@ pub struct PicLoc {
 
 /// What is known of an input's first heap: the slots that were read, in the order of reading, the locations, in the same
 /// order, and the objects, in the order in which they were chosen.
-#[derive(Debug, Drop)]
+#[derive(Drop)]
 pub struct Picture {
     pub seen: Row<(Origin, Seen)>,
     pub locs: Row<PicLoc>,
@@ -131,7 +131,7 @@ impl Picture {
 }
 
 /// For each object and each location of a picture the object of an input that it is.
-#[derive(Debug, Drop)]
+#[derive(Drop)]
 pub struct PlaceLists {
     pub objects: Row<u32>,
     pub locs: Row<u32>,

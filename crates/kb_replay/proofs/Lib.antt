@@ -1,3 +1,4 @@
+mod Marks
 mod Runnable
 pub mod OneAnswer
 pub mod RunEnds

@@ -1,5 +1,5 @@
 -- How tests are found fit one after another.
-use Rattle.std.proofs.Common.{◌≡◌, ◌⊎◌, inl, inr, ℕ, zero, suc, ◌+◌, ◌<◌, ◌≤◌, Bool, true, false, slice_get, slice_set, slice_index_or, append-nil, List, [], ◌∷◌, ◌++◌, length, take, drop, get_or, refl, sym, ◌∙◌, ap, subst, arith, drop-cons}
+use Rattle.std.proofs.Common.{◌≡◌, ◌⊎◌, inl, inr, ℕ, zero, suc, ◌+◌, ◌<◌, ◌≤◌, Bool, slice_index_or, append-nil, List, [], ◌∷◌, ◌++◌, length, take, drop, get_or, refl, sym, ◌∙◌, ap, subst, arith, drop-cons}
 use Rattle.std.proofs.lemmas.List.{take_all, take-append-drop}
 use Rattle.std.proofs.Math.Seq.{take-suc}
 use Rattle.kb_class.specs.declared.ids.MethodId.{MethodId}
@@ -52,27 +52,6 @@ first_stop world tests ids i test number stop inside at are n stops =
     }
 
 -- ---- marks
-
-marked_pushed : (flags : List Bool) (n : ℕ) → IsMarked (flags ++ false ∷ []) n → IsMarked flags n
-marked_pushed [] zero at = absurd cc
-marked_pushed [] (suc n) at = absurd cc
-marked_pushed (f ∷ flags) zero at = at
-marked_pushed (f ∷ flags) (suc n) at = marked_pushed flags n at
-
-marked_set : (flags : List Bool) (place n : ℕ) → IsMarked (slice_set flags place true) n → (n ≡ place) ⊎ IsMarked flags n
-marked_set [] place n at = inr at
-marked_set (f ∷ flags) zero zero at = inl refl
-marked_set (f ∷ flags) zero (suc n) at = inr at
-marked_set (f ∷ flags) (suc p) zero at = inr at
-marked_set (f ∷ flags) (suc p) (suc n) at = elim (marked_set flags p n at) [ inl e ↦ inl (ap suc e) | inr a ↦ inr a ]
-
--- a flag that is not set marks nothing
-pub marked_kept : (before flags : List Bool) → ((n : ℕ) → IsMarked flags n → IsMarked before n) → (n : ℕ) → IsMarked (flags ++ false ∷ []) n → IsMarked before n
-marked_kept before flags kept n at = kept n (marked_pushed flags n at)
-
-pub marked_last : (before flags : List Bool) (place : ℕ) → ((n : ℕ) → IsMarked flags n → IsMarked before n) → (n : ℕ) → IsMarked (slice_set flags place true) n
-    → (n ≡ place) ⊎ IsMarked before n
-marked_last before flags place kept n at = elim (marked_set flags place n at) [ inl e ↦ inl e | inr a ↦ inr (kept n a) ]
 
 same_id : (a b : MethodId) → a.0 ≡ b.0 → a ≡ b
 same_id a b e = λ i. record { 0 = e i }

@@ -1,5 +1,5 @@
 //! Whether tests may be run: looked at in their order, before any of them is.
-ghost use Rattle.std.specs.Prelude.{◌≡◌, ◌⊎◌, ℕ, IfErr, IfOk, IsTrue};
+ghost use Rattle.std.specs.Prelude.{◌≡◌, ◌⊎◌, ◌↔◌, ℕ, IfErr, IfOk, IsTrue, OnOk};
 ghost use Rattle.kb_replay.specs.Replays.{AreAccepted, AreRunnable, IsFit, IsMarked, IsRunnable, Stops, StopsAt};
 ghost use Rattle.kb_link.specs.Targets.{IsTargetOf};
 
@@ -97,7 +97,7 @@ fn fit_method(world: &World, test: &Test) -> Result<MethodId, ReplayStop>
 }
 
 fn is_marked(flags: &[bool], id: MethodId) -> bool
-    ensures { IsTrue result → IsMarked flags.now id.0 }
+    ensures { IsTrue result ↔ IsMarked flags.now id.0 }
 {
     match flags.get(id.0 as usize) {
         Some(flag) => *flag,
@@ -106,9 +106,10 @@ fn is_marked(flags: &[bool], id: MethodId) -> bool
 }
 
 // Marks one method more.
-#[tactic(auto, using(crate::proofs::Runnable::marked_last, crate::proofs::Runnable::marked_kept))]
+#[tactic(auto, using(crate::proofs::Marks::marked_last, crate::proofs::Marks::marked_now, crate::proofs::Marks::marked_kept, crate::proofs::Marks::kept_marked))]
 fn mark(flags: &mut Vec<bool>, id: MethodId) -> Result<(), NoMemory>
-    ensures { (number : ℕ) → IsMarked flags.new.items number → (number ≡ id.0) ⊎ IsMarked flags.old.items number }
+    ensures alone { (number : ℕ) → IsMarked flags.new.items number → (number ≡ id.0) ⊎ IsMarked flags.old.items number }
+    ensures marked { OnOk result ((number : ℕ) → (number ≡ id.0) ⊎ IsMarked flags.old.items number → IsMarked flags.new.items number) }
 {
     let place = id.0 as usize;
     while flags.len() <= place {

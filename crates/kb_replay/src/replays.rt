@@ -12,7 +12,7 @@ use kb_world::World;
 use std::alloc::Global;
 
 /// What the machine's run says of a test.
-#[derive(Debug, Drop)]
+#[derive(Drop)]
 pub enum Replayed {
     /// It ends as the test says, and leaves the heap that it says.
     Passes,

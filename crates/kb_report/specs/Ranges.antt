@@ -51,34 +51,34 @@ OriginFits (Arg number) = IsSmall number
 OriginFits (Field object slot) = IsSmall object × IsSmall slot
 OriginFits (Element array index) = IsSmall array × IsSmall index
 
-abbrev pub SeenFits : Seen → Type 0
-SeenFits (seens.Int number) = IsSmall number
-SeenFits seens.Null = Unit {0}
-SeenFits (seens.Loc number) = IsSmall number
-SeenFits (seens.Obj number) = IsSmall number
-SeenFits seens.Beyond = Unit {0}
+abbrev pub IsSeenInRange : Seen → Type 0
+IsSeenInRange (seens.Int number) = IsSmall number
+IsSeenInRange seens.Null = Unit {0}
+IsSeenInRange (seens.Loc number) = IsSmall number
+IsSeenInRange (seens.Obj number) = IsSmall number
+IsSeenInRange seens.Beyond = Unit {0}
 
-abbrev pub StandingFits : Standing → Type 0
-StandingFits standings.Open = Unit {0}
-StandingFits (standings.Obj number) = IsSmall number
-StandingFits standings.Beyond = Unit {0}
+abbrev pub IsStandingInRange : Standing → Type 0
+IsStandingInRange standings.Open = Unit {0}
+IsStandingInRange (standings.Obj number) = IsSmall number
+IsStandingInRange standings.Beyond = Unit {0}
 
 abbrev pub LengthFits : Length → Type 0
 LengthFits Plain = Unit {0}
 LengthFits (Is n) = IsSmall n
 LengthFits (Above n) = IsSmall n
 
-abbrev pub OperandFits : Operand → Type 0
-OperandFits (Const z) = FitsSigned w32 z
-OperandFits (Var number) = IsSmall number
-OperandFits (TermOperand number) = IsSmall number
+abbrev pub IsOperandInRange : Operand → Type 0
+IsOperandInRange (Const z) = FitsSigned w32 z
+IsOperandInRange (Var number) = IsSmall number
+IsOperandInRange (TermOperand number) = IsSmall number
 
 abbrev pub SecondFits : Option Operand → Type 0
 SecondFits None = Unit {0}
-SecondFits (Some operand) = OperandFits operand
+SecondFits (Some operand) = IsOperandInRange operand
 
 abbrev pub OutFits : Out → Type 0
-OutFits (outs.Int operand) = OperandFits operand
+OutFits (outs.Int operand) = IsOperandInRange operand
 OutFits outs.Null = Unit {0}
 OutFits (outs.Loc number) = IsSmall number
 OutFits (outs.Obj number) = IsSmall number
@@ -96,17 +96,17 @@ PlaceFits place = IsSmall place.at
 -- ---- the parts of a path
 
 abbrev pub SlotFits : Origin × Seen → Type 0
-SlotFits slot = OriginFits slot.0 × SeenFits slot.1
+SlotFits slot = OriginFits slot.0 × IsSeenInRange slot.1
 
 pub record ObjectFits (object : PicObject) : Type 0 where
   pub length : LengthFits object.length
   pub origin : OriginFits object.origin
 
-abbrev pub LocFits : PicLoc → Type 0
-LocFits loc = StandingFits loc.standing
+abbrev pub IsLocInRange : PicLoc → Type 0
+IsLocInRange loc = IsStandingInRange loc.standing
 
-pub record TermFits (term : Term) : Type 0 where
-  pub left : OperandFits term.left
+pub record IsTermInRange (term : Term) : Type 0 where
+  pub left : IsOperandInRange term.left
   pub right : SecondFits term.right
 
 abbrev pub ConditionFits : ℕ × Bool → Type 0
@@ -154,9 +154,9 @@ pub record PathFits (path : Path) : Type 0 where
   pub counts : HasCounts path
   pub decisions : AllByRecursion IsSmall path.decisions
   pub seen : AllByRecursion SlotFits path.picture.seen
-  pub locs : AllByRecursion LocFits path.picture.locs
+  pub locs : AllByRecursion IsLocInRange path.picture.locs
   pub objects : AllByRecursion ObjectFits path.picture.objects
-  pub terms : AllByRecursion TermFits path.terms
+  pub terms : AllByRecursion IsTermInRange path.terms
   pub when : AllByRecursion ConditionFits path.when
   pub leaf : LeafFits path.leaf
 

@@ -5,7 +5,7 @@ ghost use Rattle.kb_report.specs.Report.{kind_of, count_of};
 use kb_picture::{Leaf, Path};
 
 /// What the last line of a report counts.
-#[derive(Clone, Copy, Debug, PartialEq, Eq)]
+#[derive(Clone, Copy, PartialEq, Eq)]
 pub enum LeafKind {
     Ended,
     Cut,

@@ -16,26 +16,4 @@ mod words;
 pub use kb_rows::Row;
 pub use kinds::LeafKind;
 pub use report::{Report, report_text};
-use std::alloc::AllocError;
-
-/// Memory ran out.
-#[derive(Clone, Copy, Debug, PartialEq, Eq)]
-pub struct NoMemory;
-
-impl From<AllocError> for NoMemory {
-    fn from(_error: AllocError) -> NoMemory {
-        NoMemory
-    }
-}
-
-impl From<kb_names::NoMemory> for NoMemory {
-    fn from(_error: kb_names::NoMemory) -> NoMemory {
-        NoMemory
-    }
-}
-
-impl From<kb_log_text::NoMemory> for NoMemory {
-    fn from(_error: kb_log_text::NoMemory) -> NoMemory {
-        NoMemory
-    }
-}
+pub use std::alloc::AllocError as NoMemory;

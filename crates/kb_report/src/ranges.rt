@@ -7,7 +7,7 @@ ghost use Rattle.std.specs.Int.{w32};
 ghost use Rattle.std.specs.Int.RustNames.{FitsSigned};
 ghost use Rattle.std.specs.List.{AllByRecursion};
 ghost use Rattle.kb_log_text.specs.Lines.{IsStep, IsChain};
-ghost use Rattle.kb_report.specs.Ranges.{IsSmall, IsCount, OriginFits, SeenFits, LengthFits, OperandFits, OutFits, ValueFits, SlotFits, ObjectFits, LocFits, TermFits, ConditionFits, WriteFits, MadeFits, InputObjectFits, InputFits, EndingFits, EndedFits, LeafFits, HasCounts, PathFits, BoundsFit, ReportFits};
+ghost use Rattle.kb_report.specs.Ranges.{IsSmall, IsCount, OriginFits, IsSeenInRange, LengthFits, IsOperandInRange, OutFits, ValueFits, SlotFits, ObjectFits, IsLocInRange, IsTermInRange, ConditionFits, WriteFits, MadeFits, InputObjectFits, InputFits, EndingFits, EndedFits, LeafFits, HasCounts, PathFits, BoundsFit, ReportFits};
 
 use crate::report::Report;
 use kb_chain::Chain;
@@ -78,7 +78,7 @@ impl Ranged for Origin {
 }
 
 impl Ranged for Seen {
-    ghost fits = { SeenFits };
+    ghost fits = { IsSeenInRange };
 
     fn look_at(&self) {
         match *self {
@@ -104,7 +104,7 @@ impl Ranged for Length {
 }
 
 impl Ranged for Operand {
-    ghost fits = { OperandFits };
+    ghost fits = { IsOperandInRange };
 
     fn look_at(&self) {
         match *self {
@@ -154,7 +154,7 @@ impl Ranged for (Origin, Seen) {
 }
 
 impl Ranged for PicLoc {
-    ghost fits = { LocFits };
+    ghost fits = { IsLocInRange };
 
     fn look_at(&self) {
         match self.standing {
@@ -175,7 +175,7 @@ impl Ranged for PicObject {
 }
 
 impl Ranged for Term {
-    ghost fits = { TermFits };
+    ghost fits = { IsTermInRange };
 
     fn look_at(&self) {
         self.left.look_at();

@@ -23,8 +23,8 @@ use kb_world::World;
 use std::alloc::Global;
 
 /// The paths of a method, with what it was explored with: when it is chosen which object a reference is, the bounds on inputs and
-/// runs, the most paths that are not open, and the most conflicts of one question to the solver.
-#[derive(Debug, Drop)]
+/// runs, the most paths that are not open, and the most clauses that the solver derives for one question.
+#[derive(Drop)]
 pub struct Report {
     pub target: Target,
     pub init: Init,

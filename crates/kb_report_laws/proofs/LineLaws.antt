@@ -34,7 +34,7 @@ use Rattle.kb_picture.specs.declared.picture.Seen.{Seen}
 use Rattle.kb_report.specs.Words.{exact_text, place_text, bound_name, slot_text, seen_text, standing_text, length_text, term_text, operand_text, second_text, out_text, value_text}
 use Rattle.kb_report.specs.Blocks.{spaced, further_decisions, decisions_text, path_line, see_line, loc_line, obj_line, let_line, when_line, ending_line, set_line, new_line, arg_line, in_line}
 use Rattle.kb_terms.specs.Op.{op_name}
-use Rattle.kb_report.specs.Ranges.{IsSmall, IsCount, SlotFits, LocFits, LengthFits, ObjectFits, TermFits, SecondFits, ConditionFits, WriteFits, OutFits, ValueFits, MadeFits, InputObjectFits, EndingFits, PlaceFits}
+use Rattle.kb_report.specs.Ranges.{IsSmall, IsCount, SlotFits, IsLocInRange, LengthFits, ObjectFits, IsTermInRange, SecondFits, ConditionFits, WriteFits, OutFits, ValueFits, MadeFits, InputObjectFits, EndingFits, PlaceFits}
 use Rattle.kb_report_laws.proofs.Lacking.{digits_lack, count_lacks, target_lacks, lacks_is, space, line_feed, dot}
 use Rattle.kb_report_laws.proofs.Reading.{same_seen, same_standing, same_out, same_value}
 use Rattle.kb_report_laws.proofs.WordLaws.{same_digits, same_exact, same_place, same_term, same_slot, kinds_of, exact_lacks, op_lacks, operand_lacks, out_lacks, value_lacks, seen_lacks, standing_lacks, slot_lacks}
@@ -219,17 +219,17 @@ same_obj_line world objects others number one other p q e =
 
 -- ---- locations, terms, conditions
 
-pub same_loc_line : (number : ℕ) (one other : PicLoc) → LocFits one → LocFits other → loc_line number one ≡ loc_line number other → one.standing ≡ other.standing
+pub same_loc_line : (number : ℕ) (one other : PicLoc) → IsLocInRange one → IsLocInRange other → loc_line number one ≡ loc_line number other → one.standing ≡ other.standing
 unfolding loc_line
 same_loc_line number one other p q e = same_standing one.standing other.standing p q (behind_number (codes "loc l") number (standing_text one.standing) (standing_text other.standing) e)
 
-pub loc_line_lacks : (number : ℕ) (loc : PicLoc) → IsCount number → LocFits loc → Lacks 10 (loc_line number loc)
+pub loc_line_lacks : (number : ℕ) (loc : PicLoc) → IsCount number → IsLocInRange loc → Lacks 10 (loc_line number loc)
 unfolding loc_line
 loc_line_lacks number loc small fits =
     Lacks-++ 10 (codes "loc l") (decimal number ++ (codes " " ++ standing_text loc.standing)) (lacks_is 10 (codes "loc l") refl)
     (Lacks-++ 10 (decimal number) (codes " " ++ standing_text loc.standing) (count_lacks 10 number line_feed.apart small) (omega arith, standing_lacks 10 line_feed loc.standing fits))
 
-pub same_let_line : (number : ℕ) (one other : Term) → TermFits one → TermFits other → let_line number one ≡ let_line number other → one ≡ other
+pub same_let_line : (number : ℕ) (one other : Term) → IsTermInRange one → IsTermInRange other → let_line number one ≡ let_line number other → one ≡ other
 unfolding let_line
 same_let_line number one other p q e = same_term one other p q (behind_number (codes "let t") number (term_text one) (term_text other) e)
 
@@ -238,13 +238,13 @@ unfolding second_text
 second_lacks None fits = tt
 second_lacks (Some operand) fits = (omega arith, operand_lacks 10 line_feed operand fits)
 
-term_lacks : (term : Term) → TermFits term → Lacks 10 (term_text term)
+term_lacks : (term : Term) → IsTermInRange term → Lacks 10 (term_text term)
 unfolding term_text
 term_lacks term fits =
     Lacks-++ 10 (op_name term.op) (codes " " ++ (operand_text term.left ++ second_text term.right)) (op_lacks 10 line_feed term.op)
     (omega arith, Lacks-++ 10 (operand_text term.left) (second_text term.right) (operand_lacks 10 line_feed term.left fits.left) (second_lacks term.right fits.right))
 
-pub let_line_lacks : (number : ℕ) (term : Term) → IsCount number → TermFits term → Lacks 10 (let_line number term)
+pub let_line_lacks : (number : ℕ) (term : Term) → IsCount number → IsTermInRange term → Lacks 10 (let_line number term)
 unfolding let_line
 let_line_lacks number term small fits =
     Lacks-++ 10 (codes "let t") (decimal number ++ (codes " " ++ term_text term)) (lacks_is 10 (codes "let t") refl)

@@ -32,7 +32,7 @@ use Rattle.kb_picture.specs.declared.picture.Picture.{Picture}
 use Rattle.kb_picture.specs.declared.picture.Seen.{Seen}
 use Rattle.kb_report.specs.Words.{bound_name}
 use Rattle.kb_report.specs.Blocks.{numbered_lines, path_line, see_line, loc_line, obj_line, picture_lines, let_line, when_line, ending_line, set_line, new_line, arg_line, in_line, input_lines, leaf_line, further_lines, leaf_lines, path_lines}
-use Rattle.kb_report.specs.Ranges.{SlotFits, LocFits, ObjectFits, TermFits, ConditionFits, WriteFits, MadeFits, ValueFits, InputObjectFits, InputFits, EndedFits, LeafFits, PathFits}
+use Rattle.kb_report.specs.Ranges.{SlotFits, IsLocInRange, ObjectFits, IsTermInRange, ConditionFits, WriteFits, MadeFits, ValueFits, InputObjectFits, InputFits, EndedFits, LeafFits, PathFits}
 use Rattle.kb_report_laws.proofs.Reading.{same_bound}
 use Rattle.kb_report_laws.proofs.FieldLaws.{all_at}
 use Rattle.kb_report_laws.proofs.WordLaws.{kinds_of, map_at, same_slot}
@@ -254,7 +254,7 @@ module _ (world : World) (linked : IsLinked world) where
 
   -- the three sections of a picture's lines
   same_picture : (params many : ℕ) (one other : Picture) → IsPicture world params one → IsPicture world many other
-      → AllByRecursion SlotFits one.seen → AllByRecursion SlotFits other.seen → AllByRecursion LocFits one.locs → AllByRecursion LocFits other.locs
+      → AllByRecursion SlotFits one.seen → AllByRecursion SlotFits other.seen → AllByRecursion IsLocInRange one.locs → AllByRecursion IsLocInRange other.locs
       → AllByRecursion ObjectFits one.objects → AllByRecursion ObjectFits other.objects
       → map (see_line world one.objects) one.seen ≡ map (see_line world other.objects) other.seen → numbered_lines loc_line 0 one.locs ≡ numbered_lines loc_line 0 other.locs
       → numbered_lines (obj_line world one.objects) 0 one.objects ≡ numbered_lines (obj_line world other.objects) 0 other.objects → one ≡ other
@@ -269,7 +269,7 @@ module _ (world : World) (linked : IsLinked world) where
       (alike_same params many one.objects other.objects kinds) one.objects other.objects found found_too pairs in
       let seen = same_mapped (see_line world one.objects) (see_line world other.objects) (IsSeenThere world params one.objects) (IsSeenThere world many other.objects)
       (λ x y a b e. same_see_line world linked one.objects other.objects kinds params many x y a b e) one.seen other.seen (seen_there world params one p sp) (seen_there world many other q sq) sees in
-      let standings = pairs_numbered loc_line loc_line LocFits LocFits (λ (x y : PicLoc). x.standing ≡ y.standing) same_loc_line 0 one.locs other.locs lp lq locs in
+      let standings = pairs_numbered loc_line loc_line IsLocInRange IsLocInRange (λ (x y : PicLoc). x.standing ≡ y.standing) same_loc_line 0 one.locs other.locs lp lq locs in
       let locations = same_locs one.locs other.locs standings (λ n x y a b.
       let first = (p.locs n x a).0 in
       let second = (q.locs n y b).0 in
@@ -434,7 +434,7 @@ module _ (world : World) (linked : IsLinked world) where
       let leaf = same_leaf one.picture.objects other.picture.objects kinds one.leaf other.leaf us vs (leaf_there one one.leaf wp.leaf p.leaf) (leaf_there other other.leaf wq.leaf q.leaf) p.leaf q.leaf h k
       (same_leaf_kind one.leaf other.leaf last.0) last.0 last.1 in
       let decisions = same_path_line one.decisions other.decisions p.decisions q.decisions first.0 in
-      let terms = pairs_same TermFits TermFits (λ (x y : Term). x ≡ y) (λ x y a b same. same) one.terms other.terms p.terms q.terms
-      (pairs_numbered let_line let_line TermFits TermFits (λ (x y : Term). x ≡ y) same_let_line 0 one.terms other.terms p.terms q.terms lets.0) in
+      let terms = pairs_same IsTermInRange IsTermInRange (λ (x y : Term). x ≡ y) (λ x y a b same. same) one.terms other.terms p.terms q.terms
+      (pairs_numbered let_line let_line IsTermInRange IsTermInRange (λ (x y : Term). x ≡ y) same_let_line 0 one.terms other.terms p.terms q.terms lets.0) in
       let when = same_mapped when_line when_line ConditionFits ConditionFits same_when_line one.when other.when p.when q.when whens.0 in
       ((λ i. record { decisions = decisions i; picture = picture i; terms = terms i; when = when i; leaf = leaf.0 i }), leaf.1)

@@ -27,7 +27,7 @@ use Rattle.kb_picture.specs.declared.picture.Seen.TheVariants as seens
 use Rattle.kb_picture.specs.declared.picture.Standing.{Standing}
 use Rattle.kb_picture.specs.declared.picture.Standing.TheVariants as standings
 use Rattle.kb_report.specs.Words.{bound_name, init_name, seen_text, standing_text, operand_text, out_text, value_text}
-use Rattle.kb_report.specs.Ranges.{SeenFits, StandingFits, OperandFits, OutFits, ValueFits}
+use Rattle.kb_report.specs.Ranges.{IsSeenInRange, IsStandingInRange, IsOperandInRange, OutFits, ValueFits}
 
 -- what is read of one text is one thing
 pub same_read : {A : Type 0} (read : List ℕ → Option A) (x y : A) (s t : List ℕ) → read s ≡ Some x → read t ≡ Some y → s ≡ t → x ≡ y
@@ -66,13 +66,13 @@ lettered_operand (first ∷ others) =
 abbrev operand_of : List ℕ → Option Operand
 operand_of text = option_or (option_map (λ (z : ℤ). Const z) (int_of text)) (lettered_operand text)
 
-pub operand_read : (operand : Operand) → OperandFits operand → operand_of (operand_text operand) ≡ Some operand
+pub operand_read : (operand : Operand) → IsOperandInRange operand → operand_of (operand_text operand) ≡ Some operand
 unfolding operand_text
 operand_read (Const z) fits = ap (λ (o : Option ℤ). option_or (option_map (λ (y : ℤ). Const y) o) (lettered_operand (signed_decimal z))) (int_read z fits)
 operand_read (Var n) fits = ap (λ (o : Option ℕ). option_map (λ (m : ℕ). Var m) o) (number_read n fits)
 operand_read (TermOperand n) fits = ap (λ (o : Option ℕ). option_map (λ (m : ℕ). TermOperand m) o) (number_read n fits)
 
-pub same_operand : (one other : Operand) → OperandFits one → OperandFits other → operand_text one ≡ operand_text other → one ≡ other
+pub same_operand : (one other : Operand) → IsOperandInRange one → IsOperandInRange other → operand_text one ≡ operand_text other → one ≡ other
 same_operand one other p q e = same_read operand_of one other (operand_text one) (operand_text other) (operand_read one p) (operand_read other q) e
 
 abbrev other_out : List ℕ → Option Out
@@ -128,7 +128,7 @@ seen_of (first ∷ others) =
     else if first == 110 then Some seens.Null
     else Some seens.Beyond
 
-seen_read : (seen : Seen) → SeenFits seen → seen_of (seen_text seen) ≡ Some seen
+seen_read : (seen : Seen) → IsSeenInRange seen → seen_of (seen_text seen) ≡ Some seen
 unfolding seen_text
 seen_read (seens.Int n) fits = ap (λ (o : Option ℕ). option_map (λ (m : ℕ). seens.Int m) o) (number_read n fits)
 seen_read seens.Null fits = refl
@@ -136,7 +136,7 @@ seen_read (seens.Loc n) fits = ap (λ (o : Option ℕ). option_map (λ (m : ℕ)
 seen_read (seens.Obj n) fits = ap (λ (o : Option ℕ). option_map (λ (m : ℕ). seens.Obj m) o) (number_read n fits)
 seen_read seens.Beyond fits = refl
 
-pub same_seen : (one other : Seen) → SeenFits one → SeenFits other → seen_text one ≡ seen_text other → one ≡ other
+pub same_seen : (one other : Seen) → IsSeenInRange one → IsSeenInRange other → seen_text one ≡ seen_text other → one ≡ other
 same_seen one other p q e = same_read seen_of one other (seen_text one) (seen_text other) (seen_read one p) (seen_read other q) e
 
 -- `oN`, `open` and `beyond`
@@ -146,13 +146,13 @@ standing_of (first ∷ others) =
     if first == 111 then option_or (option_map (λ (n : ℕ). standings.Obj n) (number_of others)) (Some standings.Open)
     else Some standings.Beyond
 
-standing_read : (standing : Standing) → StandingFits standing → standing_of (standing_text standing) ≡ Some standing
+standing_read : (standing : Standing) → IsStandingInRange standing → standing_of (standing_text standing) ≡ Some standing
 unfolding standing_text
 standing_read standings.Open fits = refl
 standing_read (standings.Obj n) fits = ap (λ (o : Option ℕ). option_or (option_map (λ (m : ℕ). standings.Obj m) o) (Some standings.Open)) (number_read n fits)
 standing_read standings.Beyond fits = refl
 
-pub same_standing : (one other : Standing) → StandingFits one → StandingFits other → standing_text one ≡ standing_text other → one ≡ other
+pub same_standing : (one other : Standing) → IsStandingInRange one → IsStandingInRange other → standing_text one ≡ standing_text other → one ≡ other
 same_standing one other p q e = same_read standing_of one other (standing_text one) (standing_text other) (standing_read one p) (standing_read other q) e
 
 -- ---- names

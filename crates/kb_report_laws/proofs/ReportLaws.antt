@@ -27,7 +27,7 @@ use Rattle.kb_report.specs.declared.kinds.LeafKind.TheVariants.{Ended as EndedKi
 use Rattle.kb_report.specs.Words.{init_name}
 use Rattle.kb_report.specs.Blocks.{numbered_lines, path_line, see_line, loc_line, obj_line, picture_lines, let_line, when_line, set_line, new_line, arg_line, in_line, input_lines, leaf_line, further_lines, leaf_lines, path_lines}
 use Rattle.kb_report.specs.Report.{title_line, target_line, run_bounds_text, bounds_text, limits_text, settings_line, head_lines, kind_of, same_kind, count_of, kinds_text, total_line, report_lines, report_text}
-use Rattle.kb_report.specs.Ranges.{IsSmall, ValueFits, InputObjectFits, InputFits, LocFits, TermFits, ConditionFits, MadeFits, LeafFits, PathFits, BoundsFit, ReportFits}
+use Rattle.kb_report.specs.Ranges.{IsSmall, ValueFits, InputObjectFits, InputFits, IsLocInRange, IsTermInRange, ConditionFits, MadeFits, LeafFits, PathFits, BoundsFit, ReportFits}
 use Rattle.kb_report_laws.specs.OneText.{IsSound}
 use Rattle.kb_report_laws.proofs.Lacking.{digits_lack, count_lacks, target_lacks, lacks_is, space, line_feed}
 use Rattle.kb_report_laws.proofs.Reading.{same_init}
@@ -228,10 +228,10 @@ module _ (world : World) (linked : IsLinked world) where
             (AreLines-++ (map (see_line world picture.objects) picture.seen) (numbered_lines loc_line 0 picture.locs ++ numbered_lines (obj_line world picture.objects) 0 picture.objects)
             (mapped_are_lines (see_line world picture.objects) (IsSeenThere world params picture.objects) (see_line_lacks world params picture.objects) picture.seen (seen_there world params picture sound.formed.picture p.seen))
             (AreLines-++ (numbered_lines loc_line 0 picture.locs) (numbered_lines (obj_line world picture.objects) 0 picture.objects)
-            (numbered_are_lines loc_line LocFits loc_line_lacks 0 picture.locs (omega (arith, p.counts.locs)) p.locs)
+            (numbered_are_lines loc_line IsLocInRange loc_line_lacks 0 picture.locs (omega (arith, p.counts.locs)) p.locs)
             (numbered_are_lines (obj_line world picture.objects) (IsFoundThere world params picture.objects) (obj_line_lacks world params picture.objects) 0 picture.objects (omega (arith, p.counts.objects)) (found_there world params picture sound.formed.picture p.objects))))
             (AreLines-++ (numbered_lines let_line 0 path.terms) (map when_line path.when ++ leaf_line path.leaf ∷ further_lines world picture.objects path.leaf)
-            (numbered_are_lines let_line TermFits let_line_lacks 0 path.terms (omega (arith, p.counts.terms)) p.terms)
+            (numbered_are_lines let_line IsTermInRange let_line_lacks 0 path.terms (omega (arith, p.counts.terms)) p.terms)
             (AreLines-++ (map when_line path.when) (leaf_line path.leaf ∷ further_lines world picture.objects path.leaf) (mapped_are_lines when_line ConditionFits when_line_lacks path.when p.when)
             (leaf_line_lacks path.leaf p.leaf, further_are_lines picture.objects path.leaf (leaf_there world linked path path.leaf sound.formed.leaf p.leaf) p.leaf))),
       )

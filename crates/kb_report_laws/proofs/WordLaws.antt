@@ -46,7 +46,7 @@ use Rattle.kb_picture.specs.declared.picture.Seen.TheVariants as seens
 use Rattle.kb_picture.specs.declared.picture.Standing.{Standing}
 use Rattle.kb_picture.specs.declared.picture.Standing.TheVariants as standings
 use Rattle.kb_report.specs.Words.{exact_text, place_text, fields_named, has_namesake, kind_text, field_text, field_of_type, field_of, slot_text, seen_text, standing_text, operand_text, second_text, term_text, out_text, value_text}
-use Rattle.kb_report.specs.Ranges.{IsSmall, OriginFits, SeenFits, StandingFits, OperandFits, SecondFits, OutFits, ValueFits, PlaceFits, TermFits}
+use Rattle.kb_report.specs.Ranges.{IsSmall, OriginFits, IsSeenInRange, IsStandingInRange, IsOperandInRange, SecondFits, OutFits, ValueFits, PlaceFits, IsTermInRange}
 use Rattle.kb_report_laws.proofs.Lacking.{IsGap, digits_lack, signed_lacks, name_lacks, gap_in_name, type_lacks, target_lacks, above, are_high, high_lacks, space, dot, colon, bracket, bracket_end}
 use Rattle.kb_report_laws.proofs.NameLaws.{same_name, same_type, same_target, not_bracket}
 use Rattle.kb_report_laws.proofs.Reading.{same_operand, same_op}
@@ -107,7 +107,7 @@ module _ (byte : ℕ) (gap : IsGap byte) where
   pub op_lacks : (op : Op) → Lacks byte (op_name op)
   op_lacks op = high_lacks byte gap.low (op_name op) (op_high op)
 
-  pub operand_lacks : (operand : Operand) → OperandFits operand → Lacks byte (operand_text operand)
+  pub operand_lacks : (operand : Operand) → IsOperandInRange operand → Lacks byte (operand_text operand)
   unfolding operand_text
   operand_lacks (Const z) fits = signed_lacks byte z gap.apart fits
   operand_lacks (Var number) fits = lettered (codes "v") number refl fits
@@ -128,7 +128,7 @@ module _ (byte : ℕ) (gap : IsGap byte) where
   value_lacks values.Null fits = high_lacks byte gap.low (codes "null") refl
   value_lacks (values.Ref object) fits = lettered (codes "i") object refl fits
 
-  pub seen_lacks : (seen : Seen) → SeenFits seen → Lacks byte (seen_text seen)
+  pub seen_lacks : (seen : Seen) → IsSeenInRange seen → Lacks byte (seen_text seen)
   unfolding seen_text
   seen_lacks (seens.Int number) fits = lettered (codes "v") number refl fits
   seen_lacks seens.Null fits = high_lacks byte gap.low (codes "null") refl
@@ -136,7 +136,7 @@ module _ (byte : ℕ) (gap : IsGap byte) where
   seen_lacks (seens.Obj number) fits = lettered (codes "o") number refl fits
   seen_lacks seens.Beyond fits = high_lacks byte gap.low (codes "beyond") refl
 
-  pub standing_lacks : (standing : Standing) → StandingFits standing → Lacks byte (standing_text standing)
+  pub standing_lacks : (standing : Standing) → IsStandingInRange standing → Lacks byte (standing_text standing)
   unfolding standing_text
   standing_lacks standings.Open fits = high_lacks byte gap.low (codes "open") refl
   standing_lacks (standings.Obj number) fits = lettered (codes "o") number refl fits
@@ -144,7 +144,7 @@ module _ (byte : ℕ) (gap : IsGap byte) where
 
 -- ---- terms
 
-same_operands : (left first : Operand) (right second : Option Operand) → OperandFits left → OperandFits first → SecondFits right → SecondFits second
+same_operands : (left first : Operand) (right second : Option Operand) → IsOperandInRange left → IsOperandInRange first → SecondFits right → SecondFits second
     → operand_text left ++ second_text right ≡ operand_text first ++ second_text second → (left ≡ first) × (right ≡ second)
 unfolding second_text
 same_operands left first None None p q h k e = (same_operand left first p q (sym (append-nil (operand_text left)) ∙ e ∙ append-nil (operand_text first)), refl)
@@ -156,7 +156,7 @@ same_operands left first (Some right) (Some second) p q h k e =
     let parts = same_cut 32 (operand_text left) (operand_text first) (operand_text right) (operand_text second) (operand_lacks 32 space left p) (operand_lacks 32 space first q) e in
     (same_operand left first p q parts.0, ap (λ (o : Operand). Some o) (same_operand right second h k parts.1))
 
-pub same_term : (one other : Term) → TermFits one → TermFits other → term_text one ≡ term_text other → one ≡ other
+pub same_term : (one other : Term) → IsTermInRange one → IsTermInRange other → term_text one ≡ term_text other → one ≡ other
 unfolding term_text
 same_term one other p q e =
     let parts = same_cut 32 (op_name one.op) (op_name other.op) (operand_text one.left ++ second_text one.right) (operand_text other.left ++ second_text other.right) (op_lacks 32 space one.op) (op_lacks 32 space other.op) e in

@@ -4,8 +4,8 @@
 //! [`Row`] is seen as the list of its items. The crates that offer it do so under its own name.
 #![tactic(auto)]
 
+mod held;
 mod row;
-#[cfg(test)]
-mod tests;
 
+pub use held::Held;
 pub use row::Row;

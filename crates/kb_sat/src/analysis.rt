@@ -1,5 +1,6 @@
-//! Conflict analysis: the clause of the first unique implication point (Marques-Silva and Sakallah, 1999), with local minimisation
-//! (Sörensson and Biere, 2009), and the refutation from a conflict at level 0. Under proof: the chain of each clause gives it.
+//! Conflict analysis: the clause of the first unique implication point (Marques-Silva and Sakallah, 1999), with local
+//! minimisation (Sörensson and Biere, 2009), and the refutation from a conflict at level 0. Under proof: the chain of each
+//! clause gives it.
 ghost use Rattle.std.specs.Prelude.{◌≡◌, ℕ, ◌+◌, ◌-◌, ◌<◌, ◌≤◌, ◌==◌, ◌&&◌, ◌||◌, ◌⊎◌, not, true, false, List, [], ◌∷◌, length, take, slice_get, Some, None, OnOk, IfOk, IfSome, MatchOption};
 ghost use Rattle.std.specs.Bool.{OnTrue};
 ghost use Rattle.std.specs.List.{list_any};
@@ -20,8 +21,8 @@ use kb_chain::{Chain, Formula, Lit, Row, Store, derive_needed};
 use kb_eliminate::{Clauses, NoMemory, Trail};
 use std::alloc::Global;
 
-/// What a conflict teaches: a clause by its chain, without the literals that are false at level 0. The first one becomes true as
-/// soon as the search is back at the level; if there are others, the last of them to become false stands next to it.
+/// What a conflict teaches: a clause by its chain, without the literals that are false at level 0. The first one becomes true
+/// as soon as the search is back at the level; if there are others, the last of them to become false stands next to it.
 #[derive(Drop)]
 pub(crate) struct Learned {
     pub(crate) chain: Chain,

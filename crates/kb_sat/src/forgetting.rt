@@ -18,8 +18,8 @@ struct Candidate {
     length: usize,
 }
 
-/// Lets learned clauses go that were of little help: half of those that are on more than two levels, were not used since the last
-/// time and are no reason of a true literal. The search is whole no longer.
+/// Lets learned clauses go that were of little help: half of those that are on more than two levels, were not used since the
+/// last time and are no reason of a true literal. The search is whole no longer.
 pub(crate) fn forget(alloc: Global, search: &mut Search<'_>) -> Result<(), NoMemory>
     requires stands { Stands search.old.base }
     requires equipped { Equipped search.old }

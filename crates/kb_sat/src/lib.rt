@@ -15,4 +15,8 @@ mod solver;
 
 pub use counts::Counts;
 pub use kb_eliminate::NoMemory;
+// What the search is free to do: for programs that show it.
+pub use order::ActivityOrder;
+pub use pace::Crowding;
+pub use ranks::{Rank, Ranks, levels_of};
 pub use solver::{Solved, solve, solve_counted};

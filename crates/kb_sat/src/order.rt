@@ -1,5 +1,5 @@
-//! The order in which variables are decided, by their activity in conflicts (VSIDS of Chaff: Moskewicz and others, 2001, in MiniSat's
-//! form). Free: contracts see only that it holds variables.
+//! The order in which variables are decided, by their activity in conflicts (VSIDS of Chaff: Moskewicz and others, 2001, in
+//! MiniSat's form). Free: contracts see only that it holds variables.
 ghost use Rattle.std.specs.Prelude.{◌≡◌, ◌+◌, ◌<◌, ◌≤◌, length, IfOk, IfSome};
 ghost use Rattle.kb_sat.specs.Order.{HavePlaces};
 
@@ -17,7 +17,7 @@ const ABSENT: usize = usize::MAX;
 /// (the decaying sums of Chaff, in MiniSat's form with a growing increment). A binary heap with the place of each variable.
 /// Contracts see the number of variables.
 #[derive(Drop)]
-pub(crate) struct ActivityOrder {
+pub struct ActivityOrder {
     limit: u32,
     heap: Vec<u32>,
     places: Vec<usize>,
@@ -42,7 +42,7 @@ impl Model for ActivityOrder {
 
 impl ActivityOrder {
     /// All variables from 1 to `vars`, by rising number.
-    pub(crate) fn new(alloc: Global, vars: u32) -> Result<ActivityOrder, NoMemory>
+    pub fn new(alloc: Global, vars: u32) -> Result<ActivityOrder, NoMemory>
         ensures { IfOk result (λ order. order ≡ vars) }
     {
         let heap = first_variables(alloc, vars)?;
@@ -60,14 +60,14 @@ impl ActivityOrder {
         })
     }
 
-    pub(crate) fn vars(&self) -> u32
+    pub fn vars(&self) -> u32
         ensures { result ≡ self.now }
     {
         self.limit
     }
 
     /// Takes out the most active variable.
-    pub(crate) fn pop(&mut self) -> Option<u32>
+    pub fn pop(&mut self) -> Option<u32>
         ensures variable { IfSome result (λ v. (0 < v) × (v ≤ self.old)) }
         ensures vars { self.new ≡ self.old }
     {
@@ -88,7 +88,7 @@ impl ActivityOrder {
     }
 
     /// Puts a variable in, if it is not there.
-    pub(crate) fn insert(&mut self, variable: u32) -> Result<(), NoMemory>
+    pub fn insert(&mut self, variable: u32) -> Result<(), NoMemory>
         requires above { 0 < variable }
         requires below { variable ≤ self.old }
         ensures { self.new ≡ self.old }
@@ -108,7 +108,7 @@ impl ActivityOrder {
     }
 
     /// Raises the activity of a variable.
-    pub(crate) fn bump(&mut self, variable: u32)
+    pub fn bump(&mut self, variable: u32)
         requires { variable ≤ self.old }
         ensures { self.new ≡ self.old }
     {
@@ -129,7 +129,7 @@ impl ActivityOrder {
     }
 
     /// Makes later conflicts count for more, by a sixteenth.
-    pub(crate) fn decay(&mut self)
+    pub fn decay(&mut self)
         ensures { self.new ≡ self.old }
     {
         self.increment = self
@@ -225,45 +225,4 @@ fn more_active_child(heap: &[u32], activities: &[u64], place: usize) -> Option<u
     }
     let is_right = activities[heap[right] as usize] > activities[heap[left] as usize];
     Some(if is_right { right } else { left })
-}
-
-#[cfg(test)]
-mod tests {
-    use super::*;
-    use std::test::Fail;
-
-    #[test]
-    fn pops_by_activity(rt: HostRuntime) -> Result<(), Fail> {
-        let mut order = ActivityOrder::new(rt.alloc(), 4)?;
-        order.bump(2);
-        order.decay();
-        order.bump(3);
-        order.bump(4);
-        order.bump(4);
-        assert_eq!(rt; order.pop(), Some(4));
-        assert_eq!(rt; order.pop(), Some(3));
-        order.insert(4)?;
-        order.insert(4)?;
-        assert_eq!(rt; order.pop(), Some(4));
-        assert_eq!(rt; order.pop(), Some(2));
-        assert_eq!(rt; order.pop(), Some(1));
-        assert_eq!(rt; order.pop(), None);
-        Ok(())
-    }
-
-    #[test]
-    fn scales_without_loss_of_order(rt: HostRuntime) -> Result<(), Fail> {
-        let mut order = ActivityOrder::new(rt.alloc(), 3)?;
-        order.bump(3);
-        for _ in 0..2000 {
-            order.decay();
-            order.bump(1);
-            order.bump(2);
-        }
-        order.bump(2);
-        assert_eq!(rt; order.pop(), Some(2));
-        assert_eq!(rt; order.pop(), Some(1));
-        assert_eq!(rt; order.pop(), Some(3));
-        Ok(())
-    }
 }

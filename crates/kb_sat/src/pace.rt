@@ -1,8 +1,8 @@
 //! When a search restarts, and when it reduces its clause database. Both are free: any time would do.
 use crate::parameters::{REDUCTION_FIRST, REDUCTION_GROWTH, RESTART_UNIT};
 
-/// After how many conflicts a search goes back to level 0: Luby's sequence, in hundreds (Luby, Sinclair and Zuckerman, 1993), by
-/// Knuth's reluctant doubling.
+/// After how many conflicts a search goes back to level 0: Luby's sequence, in hundreds (Luby, Sinclair and Zuckerman, 1993),
+/// by Knuth's reluctant doubling.
 #[derive(Clone, Copy, Drop)]
 pub(crate) struct Pace {
     left: u32,
@@ -41,15 +41,16 @@ impl Pace {
     }
 }
 
-/// After how many learned clauses some are let go: intervals that grow by the same number (as in Glucose: Audemard and Simon, 2009).
+/// After how many learned clauses some are let go: intervals that grow by the same number (as in Glucose: Audemard and Simon,
+/// 2009).
 #[derive(Clone, Copy, Drop)]
-pub(crate) struct Crowding {
+pub struct Crowding {
     left: u32,
     interval: u32,
 }
 
 impl Crowding {
-    pub(crate) fn new() -> Crowding {
+    pub fn new() -> Crowding {
         Crowding {
             left: REDUCTION_FIRST,
             interval: REDUCTION_FIRST,
@@ -57,7 +58,7 @@ impl Crowding {
     }
 
     /// Counts one learned clause, and says whether it is time to let some go.
-    pub(crate) fn is_due(&mut self) -> bool {
+    pub fn is_due(&mut self) -> bool {
         if self.left > 1 {
             self.left -= 1;
             return false;
@@ -65,23 +66,5 @@ impl Crowding {
         self.interval = self.interval.saturating_add(REDUCTION_GROWTH);
         self.left = self.interval;
         true
-    }
-}
-
-#[cfg(test)]
-mod tests {
-    use super::*;
-    use std::test::Fail;
-
-    #[test]
-    fn lets_go_at_growing_intervals(rt: HostRuntime) -> Result<(), Fail> {
-        let mut crowding = Crowding::new();
-        for interval in [1000u32, 1200, 1400] {
-            for _ in 1..interval {
-                assert!(rt; !crowding.is_due());
-            }
-            assert!(rt; crowding.is_due());
-        }
-        Ok(())
     }
 }

@@ -1,9 +1,9 @@
-//! The numbers by which the solver chooses. Any others would do as far as the proof is concerned: what they change is how long a
-//! search takes, and which answer of several it finds.
+//! The numbers by which the solver chooses. Any others would do as far as the proof is concerned: what they change is how long
+//! a search takes, and which answer of several it finds.
 use kb_eliminate::EliminationBounds;
 
-/// The greatest budget, in entries of the log, with which the only search is the one that keeps all clauses: what a first search
-/// would gain is less than it costs.
+/// The greatest budget, in entries of the log, with which the only search is the one that keeps all clauses: what a first
+/// search would gain is less than it costs.
 pub(crate) const SMALL_BUDGET: u32 = 4_000;
 
 /// The most clauses of a formula whose variables are eliminated.

@@ -1,5 +1,5 @@
-//! How much each learned clause is worth: on how many levels its literals stood (literal block distance: Audemard and Simon, 2009),
-//! and whether it was of use lately. Free.
+//! How much each learned clause is worth: on how many levels its literals stood (literal block distance: Audemard and Simon,
+//! 2009), and whether it was of use lately. Free.
 ghost use Rattle.std.specs.Prelude.{◌≡◌, ◌-◌, ◌<◌, ◌≤◌, true, length};
 ghost use Rattle.kb_chain.specs.Literal.{Literal, has, negated};
 ghost use Rattle.kb_eliminate.specs.Trail.{level_start};
@@ -11,11 +11,12 @@ use std::alloc::Global;
 
 /// What is known of a clause's use.
 #[derive(Clone, Copy, Drop)]
-pub(crate) struct Rank {
-    /// On how many levels its literals stood when it was learned (as Audemard and Simon, 2009, count); 0 for a clause that stays.
-    pub(crate) levels: u32,
+pub struct Rank {
+    /// On how many levels its literals stood when it was learned (as Audemard and Simon, 2009, count); 0 for a clause that
+    /// stays.
+    pub levels: u32,
     /// Whether a clause was learned by its help since clauses were let go last.
-    pub(crate) used: bool,
+    pub used: bool,
 }
 
 /// The rank of a clause that stays.
@@ -26,19 +27,19 @@ const STAYING: Rank = Rank {
 
 /// The ranks of clauses, by number.
 #[derive(Drop)]
-pub(crate) struct Ranks {
-    pub(crate) ranks: Vec<Rank>,
+pub struct Ranks {
+    pub ranks: Vec<Rank>,
 }
 
 impl Ranks {
-    pub(crate) fn new(alloc: Global) -> Ranks {
+    pub fn new(alloc: Global) -> Ranks {
         Ranks {
             ranks: Vec::new(alloc),
         }
     }
 
     /// Notes that the clauses of a chain were of help.
-    pub(crate) fn note(&mut self, chain: &Chain) {
+    pub fn note(&mut self, chain: &Chain) {
         self.note_clause(chain.start);
         for step in chain.steps.as_slice() {
             self.note_clause(step.1);
@@ -52,14 +53,14 @@ impl Ranks {
     }
 
     /// From now on no clause counts as used.
-    pub(crate) fn clear_uses(&mut self) {
+    pub fn clear_uses(&mut self) {
         for rank in self.ranks.iter_mut() {
             rank.used = false;
         }
     }
 
     /// The rank of the clause of this number, which was learned.
-    pub(crate) fn set(&mut self, number: u32, levels: u32) -> Result<(), NoMemory> {
+    pub fn set(&mut self, number: u32, levels: u32) -> Result<(), NoMemory> {
         let place = number as usize;
         if place >= self.ranks.len() {
             self.ranks.resize(place + 1, STAYING)?;
@@ -71,7 +72,7 @@ impl Ranks {
 
 /// On how many levels the literals of a learned clause stand. That of the last level stands first; the others are counted right
 /// where they are ordered from the latest to the earliest.
-pub(crate) fn levels_of(trail: &Trail, literals: &[Lit]) -> u32
+pub fn levels_of(trail: &Trail, literals: &[Lit]) -> u32
     requires { (l : Literal) → has literals.now l ≡ true → has trail.now.literals (negated l) ≡ true }
 {
     trail.facts();
@@ -101,53 +102,4 @@ fn start_before(trail: &Trail, position: usize) -> usize
         return 0;
     }
     trail.start(level - 1)
-}
-
-#[cfg(test)]
-mod tests {
-    use super::*;
-    use kb_chain::Row;
-    use std::test::Fail;
-
-    #[test]
-    fn notes_the_clauses_of_a_chain(rt: HostRuntime) -> Result<(), Fail> {
-        let alloc = rt.alloc();
-        let mut ranks = Ranks::new(alloc);
-        ranks.set(4, 3)?;
-        ranks.set(5, 7)?;
-        ranks.clear_uses();
-        let mut steps = Vec::new(alloc);
-        steps.push((1u32, 5u32))?;
-        steps.push((2u32, 9u32))?;
-        ranks.note(&Chain {
-            start: 0,
-            steps: Row::from_vec(steps),
-        });
-        let used = |number: usize| ranks.ranks.get(number).map(|rank| (rank.levels, rank.used));
-        assert_eq!(rt; used(0), Some((0, true)));
-        assert_eq!(rt; used(4), Some((3, false)));
-        assert_eq!(rt; used(5), Some((7, true)));
-        assert_eq!(rt; used(6), None);
-        Ok(())
-    }
-
-    #[test]
-    fn counts_levels(rt: HostRuntime) -> Result<(), Fail> {
-        let mut trail = Trail::new(rt.alloc(), 5)?;
-        trail.decide(Lit::new(1, true))?;
-        trail.decide(Lit::new(2, true))?;
-        trail.assign(Lit::new(3, true), 0);
-        trail.decide(Lit::new(4, true))?;
-        let last = Lit::new(4, false);
-        let three = [
-            last,
-            Lit::new(3, false),
-            Lit::new(2, false),
-            Lit::new(1, false),
-        ];
-        assert_eq!(rt; levels_of(&trail, &three), 3);
-        let one = [last];
-        assert_eq!(rt; levels_of(&trail, &one), 1);
-        Ok(())
-    }
 }

@@ -1,11 +1,11 @@
-//! The search (conflict-driven clause learning: Marques-Silva and Sakallah, 1999): propagate, decide, learn from a conflict, jump
-//! back. That it stays within what the log derives is under proof; which literals it tries is free.
+//! The search (conflict-driven clause learning: Marques-Silva and Sakallah, 1999): propagate, decide, learn from a conflict,
+//! jump back. That it stays within what the log derives is under proof; which literals it tries is free.
 ghost use Rattle.std.specs.Prelude.{◌≡◌, ℕ, ◌+◌, ◌*◌, ◌<◌, ◌≤◌, true, [], length, OnOk, IfOk, IfSome, IfNone};
 ghost use Rattle.kb_chain.specs.Literal.{Literal, has, place_of};
 ghost use Rattle.kb_eliminate.specs.Trail.{TrailGrows, level_start, cut_back};
 ghost use Rattle.kb_eliminate.specs.Watches.{IsAwake};
 ghost use Rattle.kb_eliminate.specs.Base.{Stands, IsReady, IsConflict, IsComplete, IsPropagated, IsDoomed};
-ghost use Rattle.kb_sat.specs.Solver.{Equipped, GoesOn, Keeps, StepIs};
+ghost use Rattle.kb_sat.specs.Solver.{Equipped, IsEquipped, GoesOn, Keeps, StepIs};
 
 use crate::analysis::{Marks, analyse};
 use crate::counts::Counts;
@@ -15,6 +15,7 @@ use crate::pick::pick;
 use crate::ranks::{Ranks, levels_of};
 use kb_chain::{Formula, Lit};
 use kb_eliminate::{Base, NoMemory, second_of, watch_pair};
+use kb_rows::Held;
 use std::alloc::Global;
 
 /// The state of a search.
@@ -35,7 +36,7 @@ impl<'a> Search<'a> {
     pub(crate) fn new(
         alloc: Global,
         formula: &'a Formula,
-    ) -> Result<(Search<'a>, Option<u32>), NoMemory>
+    ) -> Result<(Held<Search<'a>>, Option<u32>), NoMemory>
         ensures formula { IfOk result (λ begun. begun.0.base.formula.now ≡ formula.now) }
         ensures entries { IfOk result (λ begun. begun.0.base.entries ≡ []) }
         ensures stands { IfOk result (λ begun. IfNone begun.1 (Stands begun.0.base)) }
@@ -45,17 +46,17 @@ impl<'a> Search<'a> {
         ensures whole { IfOk result (λ begun. begun.0.base.whole ≡ true) }
         ensures level { IfOk result (λ begun. begun.0.base.trail.starts ≡ []) }
     {
-        let vars = formula.vars();
+        let (order, phases, marks) = tables(alloc, formula.vars())?;
         let (base, conflict) = Base::new(alloc, formula)?;
         let search = Search {
             base,
-            order: ActivityOrder::new(alloc, vars)?,
-            phases: vec![in alloc; FIRST_PHASE; vars as usize + 1]?,
-            marks: Marks::new(alloc, vars)?,
+            order,
+            phases,
+            marks,
             ranks: Ranks::new(alloc),
             counts: Counts::default(),
         };
-        Ok((search, conflict))
+        Ok((Held::new(alloc, search)?, conflict))
     }
 
     /// Decides until a clause is false, and answers its number; none where all variables have a value.
@@ -193,6 +194,16 @@ impl<'a> Search<'a> {
         self.base.head = start;
         Ok(())
     }
+}
+
+/// The tables of the heuristics for the variables up to `vars`.
+fn tables(alloc: Global, vars: u32) -> Result<(ActivityOrder, Vec<bool>, Marks), NoMemory>
+    ensures { IfOk result (λ tables. IsEquipped vars tables.0 tables.1.items tables.2) }
+{
+    let order = ActivityOrder::new(alloc, vars)?;
+    let phases = vec![in alloc; FIRST_PHASE; vars as usize + 1]?;
+    let marks = Marks::new(alloc, vars)?;
+    Ok((order, phases, marks))
 }
 
 /// Keeps the signs of literals that lose their values, and lets their variables be picked again.

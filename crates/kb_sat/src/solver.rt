@@ -1,5 +1,5 @@
-//! The call `solve`: which searches it makes, and what their ends say of the formula. Its answers are under proof; how many searches
-//! there are and what they let go is free.
+//! The call `solve`: which searches it makes, and what their ends say of the formula. Its answers are under proof; how many
+//! searches there are and what they let go is free.
 ghost use Rattle.std.specs.Prelude.{◌≡◌, ℕ, ◌+◌, ◌<◌, ◌≤◌, true, false, [], IsSome, length, IfOk, IfSome, OnOk};
 ghost use Rattle.kb_chain.specs.Clause.{Satisfies, assignment_of};
 ghost use Rattle.kb_chain.specs.Chains.{IsRefutation};
@@ -18,6 +18,7 @@ use crate::parameters::{ELIMINATION, ELIMINATION_CLAUSES, SMALL_BUDGET};
 use crate::search::Search;
 use kb_chain::{Formula, Log, Row};
 use kb_eliminate::{Eliminated, NoMemory, eliminate, model, restored};
+use kb_rows::Held;
 use std::alloc::Global;
 
 /// What became of a formula.
@@ -31,15 +32,15 @@ pub enum Solved {
     Undecided(Log),
 }
 
-/// Searches for a model of the formula with at most `budget` derived clauses, which are the entries of the log. Where a clause is
-/// false at level 0 and the log has room, the last entry is the empty clause.
+/// Searches for a model of the formula with at most `budget` derived clauses, which are the entries of the log. Where a clause
+/// is false at level 0 and the log has room, the last entry is the empty clause.
 ///
-/// Where the budget is more than a few thousand, a first attempt eliminates variables and lets clauses go, so that its log isn't
-/// fresh. Only where it decides nothing comes a second one that keeps all clauses, which takes longer.
+/// Where the budget is more than a few thousand, a first attempt eliminates variables and lets clauses go, so that its log
+/// isn't fresh. Only where it decides nothing comes a second one that keeps all clauses, which takes longer.
 ///
-/// A formula that is decided within a budget is decided within every greater one, and alike: that the answer is no other follows
-/// from the clauses, and that there is one holds by construction. Both attempts begin and go on without the budget, which only
-/// ends them, and a second one follows wherever the first decides nothing.
+/// A formula that is decided within a budget is decided within every greater one, and alike: that the answer is no other
+/// follows from the clauses, and that there is one holds by construction. Both attempts begin and go on without the budget,
+/// which only ends them, and a second one follows wherever the first decides nothing.
 pub fn solve(alloc: Global, formula: &Formula, budget: u32) -> Result<Solved, NoMemory>
     requires { 0 < budget }
     ensures sat { IfOk result (IfSat (λ bits. (length bits ≡ formula.now.vars) × Satisfies (assignment_of bits) formula.now.clauses)) }
@@ -78,8 +79,8 @@ pub fn solve_counted(
     }
 }
 
-/// One search with what it did; it may let clauses go if that is wanted. None comes only then: where the budget is spent, or where
-/// what was found is no model of the formula.
+/// One search with what it did; it may let clauses go if that is wanted. None comes only then: where the budget is spent, or
+/// where what was found is no model of the formula.
 pub(crate) fn attempt(
     alloc: Global,
     formula: &Formula,
@@ -92,7 +93,7 @@ pub(crate) fn attempt(
 {
     match begin(alloc, formula, lets_go)? {
         Begun::Doomed(search, number) => {
-            let counts = search.counts;
+            let counts = search.get().counts;
             let log = refutation(alloc, search, number)?;
             Ok((Some(Solved::Unsat(log)), counts))
         }
@@ -107,12 +108,12 @@ pub(crate) fn attempt(
 /// A search at its start.
 pub(crate) enum Begun<'a> {
     /// The clause of this number is false.
-    Doomed(Search<'a>, u32),
-    Ready(Search<'a>, Eliminated),
+    Doomed(Held<Search<'a>>, u32),
+    Ready(Held<Search<'a>>, Eliminated),
 }
 
-/// Begins a search; where clauses may be let go, with an elimination of variables, unless the formula is very long. What it does
-/// depends on the formula and not on the budget, so that an answer stays one with a greater budget.
+/// Begins a search; where clauses may be let go, with an elimination of variables, unless the formula is very long. What it
+/// does depends on the formula and not on the budget, so that an answer stays one with a greater budget.
 pub(crate) fn begin<'a>(
     alloc: Global,
     formula: &'a Formula,
@@ -127,14 +128,14 @@ pub(crate) fn begin<'a>(
     if !lets_go {
         return Ok(Begun::Ready(search, Eliminated::new(alloc)));
     }
-    if search.base.clauses.len() > ELIMINATION_CLAUSES {
+    if search.get().base.clauses.len() > ELIMINATION_CLAUSES {
         return Ok(Begun::Ready(search, Eliminated::new(alloc)));
     }
     prepare(alloc, search)
 }
 
 /// Makes true what the clauses force, and eliminates variables.
-fn prepare<'a>(alloc: Global, search: Search<'a>) -> Result<Begun<'a>, NoMemory>
+fn prepare<'a>(alloc: Global, search: Held<Search<'a>>) -> Result<Begun<'a>, NoMemory>
     requires stands { Stands search.base }
     requires equipped { Equipped search }
     requires ready { IsReady search.base }
@@ -143,12 +144,12 @@ fn prepare<'a>(alloc: Global, search: Search<'a>) -> Result<Begun<'a>, NoMemory>
     ensures { IfOk result (BegunIs search.entry.base.formula.now true) }
 {
     let mut search = search;
-    if let Some(number) = search.settle()? {
+    if let Some(number) = search.get_mut().settle()? {
         return Ok(Begun::Doomed(search, number));
     }
-    let eliminated = eliminate(alloc, &mut search.base, ELIMINATION)?;
-    prefer(&mut search.order, eliminated.left.as_slice());
-    search.base.whole = false;
+    let eliminated = eliminate(alloc, &mut search.get_mut().base, ELIMINATION)?;
+    prefer(&mut search.get_mut().order, eliminated.left.as_slice());
+    search.get_mut().base.whole = false;
     Ok(Begun::Ready(search, eliminated))
 }
 
@@ -166,25 +167,25 @@ fn prefer(order: &mut ActivityOrder, variables: &[u32])
 /// A search at its end.
 pub(crate) enum Ended<'a> {
     /// All variables have a value.
-    Complete(Search<'a>),
+    Complete(Held<Search<'a>>),
     /// The clause of this number is false at level 0.
-    Doomed(Search<'a>, u32),
+    Doomed(Held<Search<'a>>, u32),
     /// The log has as many entries as the budget allows, and the clause of this number is false.
-    Spent(Search<'a>, u32),
+    Spent(Held<Search<'a>>, u32),
 }
 
 fn counts_of(ended: &Ended<'_>) -> Counts {
     match ended {
-        Ended::Complete(search) => search.counts,
-        Ended::Doomed(search, _) => search.counts,
-        Ended::Spent(search, _) => search.counts,
+        Ended::Complete(search) => search.get().counts,
+        Ended::Doomed(search, _) => search.get().counts,
+        Ended::Spent(search, _) => search.get().counts,
     }
 }
 
 /// Searches until all variables have a value, a clause is false at level 0, or the budget is spent.
 fn search_on<'a>(
     alloc: Global,
-    search: Search<'a>,
+    search: Held<Search<'a>>,
     budget: u32,
     lets_go: bool,
 ) -> Result<Ended<'a>, NoMemory>
@@ -199,14 +200,14 @@ fn search_on<'a>(
     let mut search = search;
     let mut pace = Pace::new();
     let mut crowding = Crowding::new();
-    while search.base.entries.as_slice().len() < budget as usize {
-        match advance(alloc, &mut search, &mut pace)? {
+    while search.get().base.entries.as_slice().len() < budget as usize {
+        match advance(alloc, search.get_mut(), &mut pace)? {
             Progress::Complete => return Ok(Ended::Complete(search)),
             Progress::Doomed(number) => return Ok(Ended::Doomed(search, number)),
-            Progress::Learned => make_room(alloc, &mut search, &mut crowding, lets_go)?,
+            Progress::Learned => make_room(alloc, search.get_mut(), &mut crowding, lets_go)?,
         }
     }
-    match search.run()? {
+    match search.get_mut().run()? {
         None => Ok(Ended::Complete(search)),
         Some(number) => Ok(Ended::Spent(search, number)),
     }
@@ -239,8 +240,8 @@ fn make_room(
     Ok(())
 }
 
-/// What a search that ended says of its formula; nothing where clauses were let go and the budget is spent, or what was found is
-/// no model of the formula.
+/// What a search that ended says of its formula; nothing where clauses were let go and the budget is spent, or what was found
+/// is no model of the formula.
 fn conclude(
     alloc: Global,
     ended: Ended<'_>,
@@ -252,7 +253,7 @@ fn conclude(
     ensures undecided { IfOk result (λ found. IfSome found (IsOpenOnly ended.entry)) }
 {
     match ended {
-        Ended::Complete(search) => match model_of(alloc, &search, eliminated)? {
+        Ended::Complete(search) => match model_of(alloc, search.get(), eliminated)? {
             Some(bits) => Ok(Some(Solved::Sat(bits))),
             None => Ok(None),
         },
@@ -261,13 +262,10 @@ fn conclude(
             Ok(Some(Solved::Unsat(log)))
         }
         Ended::Spent(search, _) => {
-            let base = search.base;
-            if !base.whole {
+            if !search.get().base.whole {
                 return Ok(None);
             }
-            Ok(Some(Solved::Undecided(Log {
-                entries: base.entries,
-            })))
+            Ok(Some(Solved::Undecided(log_of(search))))
         }
     }
 }
@@ -328,12 +326,13 @@ fn model_of(
 }
 
 /// The refutation by a clause that is false at level 0.
-fn refutation(alloc: Global, search: Search<'_>, number: u32) -> Result<Log, NoMemory>
+fn refutation(alloc: Global, search: Held<Search<'_>>, number: u32) -> Result<Log, NoMemory>
     requires { IsDoomed search.base number }
     ensures refutes { IfOk result (λ log. IsRefutation search.entry.base.formula.now.clauses log.entries) }
     ensures length { IfOk result (λ log. length log.entries ≡ length search.entry.base.entries + 1) }
 {
-    let base = search.base;
+    let mut search = search;
+    let base = &search.get().base;
     let chain = refute(
         alloc,
         base.formula,
@@ -341,7 +340,15 @@ fn refutation(alloc: Global, search: Search<'_>, number: u32) -> Result<Log, NoM
         &base.trail,
         number,
     )?;
-    let mut entries = base.entries;
-    entries.push(chain)?;
-    Ok(Log { entries })
+    search.get_mut().base.entries.push(chain)?;
+    Ok(log_of(search))
+}
+
+/// The log of a search.
+fn log_of(search: Held<Search<'_>>) -> Log
+    ensures { result.entries ≡ search.entry.base.entries }
+{
+    Log {
+        entries: search.into_inner().base.entries,
+    }
 }

@@ -1,5 +1,5 @@
--- Where two readings give the same value to each symbolic value that names what is there, what stands for a configuration by one of them
--- does so by the other.
+-- Where two readings give the same value to each symbolic value that names what is there, what stands for a configuration by
+-- one of them does so by the other.
 use Rattle.std.proofs.Common.{◌≡◌, List, [], ◌∷◌, map, Option, Some, None, refl, sym, ap, ◌∙◌}
 use Rattle.std.specs.Option.{option_map}
 use Rattle.kb_heap.specs.declared.heap.Input.{Input}

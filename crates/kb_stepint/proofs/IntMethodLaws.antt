@@ -142,8 +142,8 @@ switches_rise world id info code linked info_is there at found e =
 
 -- ---- states
 
--- While arguments are read the next one is an int or a boolean; then the frame is the method's own, and each instruction of its code is
--- one of ints.
+-- While arguments are read the next one is an int or a boolean; then the frame is the method's own, and each instruction of its
+-- code is one of ints.
 pub ints_next : (world : World) (state : State) → IsReached world state → is_int_method world state.method ≡ true → next_is_int world state ≡ true
 ints_next world state reached ints = go state.stage reached.alone where
   h : HasIntInfo world state.method

@@ -1,5 +1,5 @@
--- An input meets conditions that were added exactly where each of them holds of the values of its sides; unless one was decided against
--- what is asked for, which is told before the first one is added.
+-- An input meets conditions that were added exactly where each of them holds of the values of its sides; unless one was decided
+-- against what is asked for, which is told before the first one is added.
 use Rattle.std.proofs.Common.{◌≡◌, ◌⊎◌, ℕ, zero, suc, ◌<◌, ◌==◌, ℤ, pos, Bool, true, false, not, List, [], ◌∷◌, ◌++◌, length, take, map, Option, Some, None, cond, refl, sym, ap, subst, ◌∙◌, inl, inr, if◌then◌else◌, is_some, true≢false, int_eq}
 use Rattle.std.specs.List.{list_all}
 use Rattle.std.proofs.lemmas.Bool.{and_parts, eqb-true}

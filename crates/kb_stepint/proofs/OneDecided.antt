@@ -1,5 +1,6 @@
--- What a state decides of conditions before they are added, and so which alternatives are refuted: where none of an alternative's is decided
--- against what is asked for, an input meets them exactly where they all hold, and where they all hold none is.
+-- What a state decides of conditions before they are added, and so which alternatives are refuted: where none of an
+-- alternative's is decided against what is asked for, an input meets them exactly where they all hold, and where they all hold
+-- none is.
 use Rattle.std.proofs.Common.{◌≡◌, ◌⊎◌, ℕ, ℤ, pos, Bool, true, false, not, List, [], ◌∷◌, length, take, Option, Some, None, refl, sym, ap, subst, ◌∙◌, inl, inr, true≢false, arith, int_eq, length-take}
 use Rattle.std.specs.Option.{option_and_then}
 use Rattle.std.proofs.lemmas.Bool.{or_from, or_parts}

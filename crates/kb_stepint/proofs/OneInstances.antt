@@ -25,7 +25,7 @@ use Rattle.kb_picture.specs.declared.picture.Picture.{Picture}
 use Rattle.kb_picture.specs.declared.picture.PlaceLists.{PlaceLists}
 use Rattle.kb_picture.specs.Instances.{variable_value, variable_values}
 use Rattle.kb_picture.specs.Places.{slot_value}
-use Rattle.kb_picture.specs.Shapes.{HasShape, HoldEach, Holds}
+use Rattle.kb_picture.specs.Shapes.{HasShape, HoldEach, HoldsSeen}
 use Rattle.kb_picture.specs.WellFormed.{variable_seen}
 use Rattle.kb_picture.proofs.PlaceLaws.{places_seen}
 use Rattle.kb_picture.proofs.ShapeLaws.{same_places}
@@ -69,13 +69,13 @@ module _ (picture : Picture) (nodes : List Node) (when : List (TermId × Bool)) 
 
 -- ---- with one argument more
 
-pub hold_more : (input : Input) (places : List ℕ) (seen : List (Origin × Seen)) (slot : Origin × Seen) → HoldEach input places seen → Holds input.heap places (slot_value input places slot.0) slot.1
+pub hold_more : (input : Input) (places : List ℕ) (seen : List (Origin × Seen)) (slot : Origin × Seen) → HoldEach input places seen → HoldsSeen input.heap places (slot_value input places slot.0) slot.1
     → HoldEach input places (seen ++ slot ∷ [])
 hold_more input places [] slot each here = (here, tt)
 hold_more input places (first ∷ seen) slot each here = (each.0, hold_more input places seen slot each.1 here)
 
 pub hold_last : (input : Input) (places : List ℕ) (seen : List (Origin × Seen)) (slot : Origin × Seen) → HoldEach input places (seen ++ slot ∷ [])
-    → Holds input.heap places (slot_value input places slot.0) slot.1
+    → HoldsSeen input.heap places (slot_value input places slot.0) slot.1
 hold_last input places [] slot each = each.0
 hold_last input places (first ∷ seen) slot each = hold_last input places seen slot each.1
 

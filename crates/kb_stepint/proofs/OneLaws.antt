@@ -1,4 +1,5 @@
--- Where a state stands for a configuration of an input's run, the input is an instance after the take of exactly one alternative.
+-- Where a state stands for a configuration of an input's run, the input is an instance after the take of exactly one
+-- alternative.
 use Rattle.std.proofs.Common.{◌≡◌, ℕ, ℤ, Bool, true, false, not, ◌||◌, List, [], ◌∷◌, filter, length, nat_le, slice_get, Option, Some, None, refl, sym, ap, subst, ◌∙◌, inl, inr, if◌then◌else◌, is_some}
 use Rattle.std.specs.Option.{option_map, option_map_or, option_and_then}
 use Rattle.std.proofs.lemmas.Bool.{not-true}

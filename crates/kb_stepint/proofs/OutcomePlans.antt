@@ -1,5 +1,5 @@
--- What an instruction does to a state is what it does to the configuration, with each symbolic value in the place of its value: one lemma
--- for each kind of effect.
+-- What an instruction does to a state is what it does to the configuration, with each symbolic value in the place of its value:
+-- one lemma for each kind of effect.
 use Rattle.std.proofs.Common.{◌≡◌, ◌⊎◌, ℕ, zero, suc, ◌+◌, ℤ, pos, Bool, true, false, List, [], ◌∷◌, ◌++◌, length, map, drop, nat_le, nat_lt, slice_get, slice_set, Option, Some, None, cond, refl, sym, ap, subst, ◌∙◌, inl, inr, if◌then◌else◌, is_some, true≢false, arith, int_eq}
 use Rattle.std.specs.List.{cons_option, filter_map}
 use Rattle.std.specs.Option.{option_map, option_map_or, option_and_then}

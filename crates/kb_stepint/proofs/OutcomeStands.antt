@@ -1,4 +1,5 @@
--- The frame with which a run goes on once its arguments are read stands for that of the configuration, whatever terms are added.
+-- The frame with which a run goes on once its arguments are read stands for that of the configuration, whatever terms are
+-- added.
 use Rattle.std.proofs.Common.{◌≡◌, ℕ, zero, suc, ◌-◌, ◌≤◌, List, [], ◌∷◌, ◌++◌, length, length-append, map, replicate, take, slice_get, Option, Some, None, refl, sym, ap, subst, ◌∙◌, arith}
 use Rattle.std.specs.Option.{option_map, option_and_then}
 use Rattle.std.proofs.lemmas.List.{length-map, length-replicate, map-append, take_all}

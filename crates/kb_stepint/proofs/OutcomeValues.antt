@@ -1,5 +1,5 @@
--- Symbolic values have the same values at an input as a state's terms and variables grow; so it keeps the frames and the heaps that it
--- stands for.
+-- Symbolic values have the same values at an input as a state's terms and variables grow; so it keeps the frames and the heaps
+-- that it stands for.
 use Rattle.std.proofs.Common.{◌≡◌, ℕ, zero, suc, ◌+◌, ◌<◌, List, [], ◌∷◌, length, map, drop, slice_get, Option, Some, refl, sym, ap, subst, ◌∙◌, arith}
 use Rattle.std.specs.List.{slice_index_or}
 use Rattle.std.proofs.lemmas.Option.{slice_get_within}

@@ -41,7 +41,7 @@ use Rattle.kb_stepint.specs.Effects.{plan_of}
 use Rattle.kb_stepint.specs.Laws.{IsAtInts}
 use Rattle.kb_stepint.specs.Operands.{one_int, two_ints}
 use Rattle.kb_stepint.specs.Reached.{IsReached}
-use Rattle.kb_stepint.specs.Simulation.{HasInput}
+use Rattle.kb_stepint.specs.Simulation.{HasInputOfState}
 use Rattle.kb_stepint.specs.Takes.{answered, taken, takes_next, takes_up}
 use Rattle.kb_stepint.specs.Ways.{Take, Way, Goes, Jumps, Leaves, Throws, Fails, carries_out, ill_typed, went}
 use Rattle.kb_stepint.proofs.GrowLaws.{Grows, all_asked_grows, if_has, option_has}
@@ -178,7 +178,7 @@ module _ (world : World) (bounds : Bounds) (choice : Choice) where
 
   -- ---- the picture
 
-  pub has_input : (old : State) → IsAtInts world old → HasInput world (taken world bounds old choice).state
+  pub has_input : (old : State) → IsAtInts world old → HasInputOfState world (taken world bounds old choice).state
   has_input old at = record { typed = (taken_sound old at).typed; receiver = go (argument_next world old.method old.stage) refl } where
     sound : Sound world old
     sound = sound_reached world old at.reached

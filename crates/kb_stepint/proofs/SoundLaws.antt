@@ -1,6 +1,6 @@
--- What holds of a state that is reached holds of the state that a change leaves: of terms that are made and conditions that are added, of
--- another frame, of an object that is made, of an argument that is read, and of the first frame. Its pool is left out, since no pool
--- grows for ever.
+-- What holds of a state that is reached holds of the state that a change leaves: of terms that are made and conditions that are
+-- added, of another frame, of an object that is made, of an argument that is read, and of the first frame. Its pool is left
+-- out, since no pool grows for ever.
 use Rattle.std.proofs.Common.{◌≡◌, ℕ, zero, suc, ◌+◌, ◌-◌, ◌<◌, ◌≤◌, inl, inr, pos, Bool, true, false, not, List, [], ◌∷◌, ◌++◌, length, map, replicate, Option, Some, None, slice_get, refl, sym, ap, subst, ◌∙◌, true≢false, is_some, if◌then◌else◌, arith, length-append}
 use Rattle.std.specs.List.{list_any}
 use Rattle.std.specs.Option.{option_map, option_map_or, option_and_then}

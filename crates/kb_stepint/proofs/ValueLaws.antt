@@ -1,5 +1,5 @@
--- The values of terms that are made, whether they are found, folded or new, in pools whose operations stand behind their operands; and
--- that the inputs behind those of the variables are none to a pool.
+-- The values of terms that are made, whether they are found, folded or new, in pools whose operations stand behind their
+-- operands; and that the inputs behind those of the variables are none to a pool.
 use Rattle.std.proofs.Common.{◌≡◌, ℕ, suc, ◌<◌, ◌≤◌, ℤ, pos, Bool, true, false, List, [], ◌∷◌, ◌++◌, length, take, fold, slice_get, Option, Some, None, refl, sym, ap, subst, ◌∙◌, inl, inr, arith, length-take}
 use Rattle.std.proofs.lemmas.List.{take-append-le}
 use Rattle.std.proofs.lemmas.Option.{slice_get_within}

@@ -1,6 +1,6 @@
--- Conditions that the alternatives of a choice ask for: comparisons of terms and numbers, each with the truth that it is to have (path
--- conditions: King, 1976). One whose two sides are numbers, or whose term stands among the conditions of the state, is decided: it adds
--- nothing.
+-- Conditions that the alternatives of a choice ask for: comparisons of terms and numbers, each with the truth that it is to
+-- have (path conditions: King, 1976). One whose two sides are numbers, or whose term stands among the conditions of the state,
+-- is decided: it adds nothing.
 use Rattle.std.specs.Prelude.{ℤ, Bool, false, not, List, fold, Option, Some, None, option_and_then}
 use Rattle.std.specs.List.{list_any}
 use Rattle.kb_code.specs.declared.instruction.Cond.{Cond}

@@ -1,5 +1,6 @@
--- The alternatives of an int step, in their order, and the conditions that each of them asks for. Which instruction chooses is told by
--- its comparison (JVMS 8 section 6.5: if<cond>, if_icmp<cond>, tableswitch, lookupswitch, idiv and irem); the order is an own rule.
+-- The alternatives of an int step, in their order, and the conditions that each of them asks for. Which instruction chooses is
+-- told by its comparison (JVMS 8 section 6.5: if<cond>, if_icmp<cond>, tableswitch, lookupswitch, idiv and irem); the order is
+-- an own rule.
 --
 --   an if on ints                 not taken; taken
 --   tableswitch, lookupswitch     each key in rising order; default

@@ -1,6 +1,6 @@
--- What the instructions on ints do to a state, by kinds of effect: which terms they make, and the way on. Each is the counterpart of the
--- machine's effect of the same instruction (JVMS 8 section 6.5), with terms in the place of ints. Where a choice was made, the way is
--- the alternative's.
+-- What the instructions on ints do to a state, by kinds of effect: which terms they make, and the way on. Each is the
+-- counterpart of the machine's effect of the same instruction (JVMS 8 section 6.5), with terms in the place of ints. Where a
+-- choice was made, the way is the alternative's.
 use Rattle.std.specs.Prelude.{ℕ, ℤ, pos, Bool, true, false, List, [], ◌∷◌, ◌++◌, length, drop, nat_lt, nat_le, Option, Some, None, cond, is_some, option_and_then, slice_get, slice_set, if◌then◌else◌}
 use Rattle.std.specs.List.{filter_map}
 use Rattle.std.specs.Option.{option_map_or}
@@ -90,8 +90,8 @@ increases world state k by = planned state (int_local world state k) (λ t. adds
 
 -- ---- the operand stack
 
--- The stack with those of its top values in the place of them: `picks` are their places among them, from the top down. None where it has
--- not so many.
+-- The stack with those of its top values in the place of them: `picks` are their places among them, from the top down. None
+-- where it has not so many.
 abbrev pub picked : {A : Type 0} → ℕ → List ℕ → List A → Option (List A)
 picked depth picks stack =
     if nat_le depth (length stack) then Some (filter_map (λ (place : ℕ). slice_get stack place) picks ++ drop depth stack) else None

@@ -1,5 +1,5 @@
--- The methods whose runs are of int steps alone: static, over ints and booleans, with code that has no handlers and uses only the
--- instructions on ints and the stack (JVMS 8 section 6.5).
+-- The methods whose runs are of int steps alone: static, over ints and booleans, with code that has no handlers and uses only
+-- the instructions on ints and the stack (JVMS 8 section 6.5).
 use Rattle.std.specs.Prelude.{ℕ, Bool, true, false, ◌&&◌, List, [], ◌∷◌, Option}
 use Rattle.std.specs.List.{list_all}
 use Rattle.std.specs.Option.{option_map_or}
@@ -35,7 +35,7 @@ abbrev pub is_int_info : World → MethodId → MethodInfo → Bool
 is_int_info world id info =
     is_static info.access && (list_all is_int_type info.kind.params && (is_none_or_int info.kind.result && option_map_or (is_int_code world id) info.code false))
 
--- The method takes ints and booleans and gives one or nothing; it has code, no handlers, and uses instructions on ints and the stack
--- alone.
+-- The method takes ints and booleans and gives one or nothing; it has code, no handlers, and uses instructions on ints and the
+-- stack alone.
 abbrev pub is_int_method : World → MethodId → Bool
 is_int_method world id = option_map_or (is_int_info world id) (info_of world id) false

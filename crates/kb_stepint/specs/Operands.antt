@@ -1,5 +1,5 @@
--- What instructions on ints take from the operand stack of a state (JVMS 8 section 6.5): each shape of operands once, None where one
--- is missing or is no int. The stack is the one from the top down.
+-- What instructions on ints take from the operand stack of a state (JVMS 8 section 6.5): each shape of operands once, None
+-- where one is missing or is no int. The stack is the one from the top down.
 use Rattle.std.specs.Prelude.{List, Option, Some, None, option_map, option_and_then, slice_get}
 use Rattle.kb_terms.specs.declared.node.TermId.{TermId}
 use Rattle.kb_frames.specs.declared.value.SymValue.{SymValue}

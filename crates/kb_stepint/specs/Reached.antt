@@ -1,5 +1,6 @@
--- What holds of every state to which `start` and later calls lead, beside what every state keeps: as far as the int steps need it, by now
--- for a method that calls none and has no handlers. Its types and its keys are those of a method that reach accepts.
+-- What holds of every state to which `start` and later calls lead, beside what every state keeps: as far as the int steps need
+-- it, for now for a method that calls none and has no handlers. Its types and its keys are those of a method that reach
+-- accepts.
 use Rattle.std.specs.Prelude.{◌≡◌, ℕ, false, [], ◌∷◌, Some}
 use Rattle.std.specs.List.{list_any}
 use Rattle.std.specs.Option.{option_map_or}

@@ -1,6 +1,6 @@
--- What it means that a step of states simulates the step of the machine (King, 1976; generalised symbolic execution: Khurshid, Păsăreanu
--- and Visser, TACAS 2003), in six parts. Nothing here speaks of ints: `choices` are the alternatives of a state, and `taken` is what a
--- take of each makes of it. An input is one that is type-correct for the state's method.
+-- What it means that a step of states simulates the step of the machine (King, 1976; generalised symbolic execution: Khurshid,
+-- Păsăreanu and Visser, TACAS 2003), in six parts. Nothing here speaks of ints: `choices` are the alternatives of a state, and
+-- `taken` is what a take of each makes of it. An input is one that is type-correct for the state's method.
 use Rattle.std.specs.Prelude.{◌≡◌, ◌≢◌, ◌⊎◌, ℕ, ◌+◌, ◌<◌, ◌≤◌, Bool, List, [], ◌∷◌, length, take, Option, Some, None, slice_get}
 use Rattle.kb_class.specs.Naming.{Has}
 use Rattle.kb_heap.specs.declared.bounds.Bounds.{Bounds}
@@ -47,7 +47,8 @@ abbrev pub ExactlyOneIs : {A : Type 0} → (A → Type 0) → List A → Type 0
 ExactlyOneIs P [] = ⊥
 ExactlyOneIs P (first ∷ others) = (P first × NoneIs P others) ⊎ ((P first → ⊥) × ExactlyOneIs P others)
 
--- Where the state stands for a configuration of an input's run, the input is an instance after the take of exactly one alternative.
+-- Where the state stands for a configuration of an input's run, the input is an instance after the take of exactly one
+-- alternative.
 abbrev pub TakesOneWay : World → Bounds → State → List Choice → (Choice → Take) → Type 0
 TakesOneWay world bounds state choices taken =
     (input : Input) (c : Config) → IsTypeCorrect world state.method input → StandsFor (setting_of world bounds) state input c
@@ -55,8 +56,9 @@ TakesOneWay world bounds state choices taken =
 
 -- ---- 2: the outcome
 
--- What an outcome says of a configuration c for which the state stood before: Asks stands for c still, Goes for the one behind c's step;
--- Ends is the ending of that step, and what the state knows of the heap is so of the heap that the ending leaves; a cut is licensed.
+-- What an outcome says of a configuration c for which the state stood before: Asks stands for c still, Goes for the one behind
+-- c's step; Ends is the ending of that step, and what the state knows of the heap is so of the heap that the ending leaves; a
+-- cut is licensed.
 abbrev pub IsOutcome : World → Bounds → Config → (state : State) (input : Input) → IsInstanceOf state input → Outcome → Type 0
 IsOutcome world bounds c state input instance_of Asks = StandsFor (setting_of world bounds) state input c
 IsOutcome world bounds c state input instance_of Goes =
@@ -85,7 +87,7 @@ pub record Keeps (old new : State) : Type 0 where
   pub shapes : (input : Input) → HasShape new.picture input → HasShape old.picture input
 
 -- An input can be made of the picture of a state: it keeps the types of its slots, and the receiver was read.
-pub record HasInput (world : World) (state : State) : Type 0 where
+pub record HasInputOfState (world : World) (state : State) : Type 0 where
   pub typed : IsWellTyped world state.method state.picture
   pub receiver : IsReceiverSeen world state.method state.picture
 

@@ -1,5 +1,6 @@
--- What an int step makes of a state when an alternative is taken: an argument is read, or the alternative's conditions are added and the
--- instruction is carried out. Each argument that is read is a choice of its own, so that the instruction comes behind an Asks.
+-- What an int step makes of a state when an alternative is taken: an argument is read, or the alternative's conditions are
+-- added and the instruction is carried out. Each argument that is read is a choice of its own, so that the instruction comes
+-- behind an Asks.
 use Rattle.std.specs.Prelude.{ℕ, Some, nat_le, if◌then◌else◌}
 use Rattle.std.specs.Option.{option_map_or}
 use Rattle.kb_names.specs.declared.types.JType.{JType}

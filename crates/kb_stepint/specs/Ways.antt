@@ -1,6 +1,6 @@
--- The ways in which a step of a state goes on or ends, each the counterpart of the machine's way of that name (JVMS 8 sections 2.6, 2.10
--- and 6.5; the bounds and what is ill-typed are own rules). By now no method calls another and none has a handler: a return and a throw
--- end the run.
+-- The ways in which a step of a state goes on or ends, each the counterpart of the machine's way of that name (JVMS 8 sections
+-- 2.6, 2.10 and 6.5; the bounds and what is ill-typed are own rules). For now no method calls another and none has a handler: a
+-- return and a throw end the run.
 use Rattle.std.specs.Prelude.{ℕ, List, length, Option, option_map, if◌then◌else◌}
 use Rattle.std.specs.Option.{option_map_or}
 use Rattle.kb_heap.specs.declared.bounds.Bound.TheVariants.{Loops}
@@ -26,8 +26,8 @@ pub record Take : Type 0 where
   pub state : State
   pub outcome : Outcome
 
--- A way on: at the next offset with these locals and this stack; at a target with this stack; out of the method, with a value or none; by
--- a new object of a class that is thrown; or none, since the instruction is ill-typed.
+-- A way on: at the next offset with these locals and this stack; at a target with this stack; out of the method, with a value
+-- or none; by a new object of a class that is thrown; or none, since the instruction is ill-typed.
 pub data Way : Type 0 where
   Goes : List (Option SymValue) → List SymValue → Way
   Jumps : ℕ → List SymValue → Way

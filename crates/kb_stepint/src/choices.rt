@@ -23,9 +23,9 @@ use kb_terms::TermId;
 use kb_world::World;
 use std::alloc::Global;
 
-/// The alternatives of the next step of a state, in their order. Whether a branch is taken: not, then taken. Of a switch each key in
-/// rising order, then the default. Of a division first that the divisor is 0. Of every other step the only way on. An alternative
-/// that asks for a condition which is decided as false is left out, and no other is.
+/// The alternatives of the next step of a state, in their order. Whether a branch is taken: not, then taken. Of a switch each
+/// key in rising order, then the default. Of a division first that the divisor is 0. Of every other step the only way on. An
+/// alternative that asks for a condition which is decided as false is left out, and no other is.
 ///
 /// The state is one to which `start` and later calls lead in this world, and whose next step is one of ints. It takes time in
 /// proportion to the alternatives before any is left out, whatever the state has met.

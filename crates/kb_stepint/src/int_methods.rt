@@ -14,8 +14,8 @@ use kb_world::World;
 /// ACC_STATIC (JVMS 8 table 4.6-A).
 const STATIC: u16 = 0x0008;
 
-/// Whether the method is one over ints: static, its parameters and its result ints and booleans, with code that has no handlers and
-/// uses instructions on ints and the stack alone. Then the steps of its states are steps of ints. It takes no memory.
+/// Whether the method is one over ints: static, its parameters and its result ints and booleans, with code that has no handlers
+/// and uses instructions on ints and the stack alone. Then the steps of its states are steps of ints. It takes no memory.
 pub fn is_int_method(world: &World, method: MethodId) -> bool
     ensures is { result ≡ is_int_method world.now method }
     ensures begins { result ≡ true → (init : Init) → IsReached world.now (start_state init method) }

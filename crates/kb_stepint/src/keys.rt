@@ -6,7 +6,8 @@ ghost use Rattle.kb_stepint.specs.Turns.{keys_of};
 
 use crate::NoMemory;
 
-/// The keys of a switch and their targets: those of a tableswitch from the lowest one on, or those of a lookupswitch in rising order.
+/// The keys of a switch and their targets: those of a tableswitch from the lowest one on, or those of a lookupswitch in rising
+/// order.
 #[derive(Clone, Copy)]
 pub(crate) enum Keys<'w> {
     Table(i32, &'w [u32]),
@@ -24,8 +25,8 @@ impl Keys<'_> {
         }
     }
 
-    /// The key of that place, and its target. A place where there is none, and a table whose keys are more than ints can be, which no
-    /// class file has, are refused.
+    /// The key of that place, and its target. A place where there is none, and a table whose keys are more than ints can be,
+    /// which no class file has, are refused.
     pub(crate) fn key_at(&self, place: usize) -> Result<(i32, u32), NoMemory>
         ensures key { IfOk result (λ key. slice_get (keys_of self.now) place ≡ Some key) }
         ensures range { IfOk result (λ key. FitsSigned w32 key.0) }

@@ -10,29 +10,29 @@ ghost use Rattle.kb_stepint.specs.Choices.{choices_of};
 ghost use Rattle.kb_stepint.specs.IntMethods.{is_int_method};
 ghost use Rattle.kb_stepint.specs.Reached.{IsReached};
 ghost use Rattle.kb_stepint.specs.Laws.{OfStates, OfTakes};
-ghost use Rattle.kb_stepint.specs.Simulation.{AddsComparisons, FollowsStep, GetsOn, HasInput, Keeps, ReadsWhatItSees, TakesOneWay};
+ghost use Rattle.kb_stepint.specs.Simulation.{AddsComparisons, FollowsStep, GetsOn, HasInputOfState, Keeps, ReadsWhatItSees, TakesOneWay};
 ghost use Rattle.kb_stepint.specs.Takes.{taken};
 
-/// A method that is one over ints begins with a state that is reached (`begins`), and each reached state of it comes to an int step
-/// next (`steps`).
+/// A method that is one over ints begins with a state that is reached (`begins`), and each reached state of it comes to an int
+/// step next (`steps`).
 pub fn int_methods_begin()
     ensures begins { (world : World) (init : Init) (method : MethodId) → IsLinked world → is_int_method world method ≡ true → IsReached world (start_state init method) }
     ensures steps { (world : World) (state : State) → IsReached world state → is_int_method world state.method ≡ true → next_is_int world state ≡ true }
 {}
 
-/// The int steps of a state simulate the step of the machine. Of each configuration that the state stands for exactly one alternative
-/// is taken (`one`), and the take goes where the machine's step goes (`outcome`).
+/// The int steps of a state simulate the step of the machine. Of each configuration that the state stands for exactly one
+/// alternative is taken (`one`), and the take goes where the machine's step goes (`outcome`).
 pub fn int_steps_simulate()
     ensures one { OfStates (λ world bounds state. TakesOneWay world bounds state (choices_of world state bounds) (taken world bounds state)) }
     ensures outcome { OfTakes (λ world bounds state take. FollowsStep world bounds state take) }
 {}
 
-/// What a take keeps, and what it adds: terms, conditions and shapes stay (`kept`), and an input can be made of the picture (`picture`); each
-/// condition that is added is on a comparison that the step makes (`compared`), and each slot that is added as seen is one that the step
-/// reads (`read`).
+/// What a take keeps, and what it adds: terms, conditions and shapes stay (`kept`), and an input can be made of the picture
+/// (`picture`); each condition that is added is on a comparison that the step makes (`compared`), and each slot that is added
+/// as seen is one that the step reads (`read`).
 pub fn int_steps_keep()
     ensures kept { OfTakes (λ world bounds state take. Keeps state take.state) }
-    ensures picture { OfTakes (λ world bounds state take. HasInput world take.state) }
+    ensures picture { OfTakes (λ world bounds state take. HasInputOfState world take.state) }
     ensures compared { OfTakes (λ world bounds state take. AddsComparisons world bounds state take.state) }
     ensures read { OfTakes (λ world bounds state take. ReadsWhatItSees world bounds state take.state) }
 {}

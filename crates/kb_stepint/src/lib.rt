@@ -1,7 +1,7 @@
 //! Symbolic steps of ints: the alternatives of the next step of a state, and what a state becomes when one is taken.
 //!
-//! `specs/Choices.antt` has the alternatives, `specs/Takes.antt` what a take makes of a state, `specs/Simulation.antt` what it means
-//! that this simulates the machine.
+//! `specs/Choices.antt` has the alternatives, `specs/Takes.antt` what a take makes of a state, `specs/Simulation.antt` what it
+//! means that this simulates the machine.
 #![tactic(auto)]
 
 mod arithmetic;
@@ -30,35 +30,7 @@ pub use laws::{int_methods_begin, int_steps_get_on, int_steps_keep, int_steps_si
 pub use locals::is_local;
 pub use place::place_of;
 pub use returns::{mask, result_of};
-use std::alloc::{AllocError, AllocFailed};
+pub use std::alloc::AllocError as NoMemory;
 pub use take::take_int;
 pub use turn::Turn;
 pub use ways::{carry_on, has_room, ill_typed, jumps, replaces, throws};
-
-/// Memory ran out.
-#[derive(Clone, Copy, Debug, PartialEq, Eq)]
-pub struct NoMemory;
-
-impl From<AllocError> for NoMemory {
-    fn from(_error: AllocError) -> NoMemory {
-        NoMemory
-    }
-}
-
-impl<T: Drop> From<AllocFailed<T>> for NoMemory {
-    fn from(_error: AllocFailed<T>) -> NoMemory {
-        NoMemory
-    }
-}
-
-impl From<kb_frames::NoMemory> for NoMemory {
-    fn from(_error: kb_frames::NoMemory) -> NoMemory {
-        NoMemory
-    }
-}
-
-impl From<kb_names::NoMemory> for NoMemory {
-    fn from(_error: kb_names::NoMemory) -> NoMemory {
-        NoMemory
-    }
-}

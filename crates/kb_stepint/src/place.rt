@@ -6,8 +6,8 @@ ghost use Rattle.kb_frames.specs.Next.{method_now, offset_now};
 use crate::NoMemory;
 use kb_class::MethodId;
 use kb_frames::SymState;
-use kb_heap::{Place, Row};
-use kb_names::{MethodType, Name, Target};
+use kb_heap::Place;
+use kb_names::{MethodType, Name, SharedRow, Target};
 use kb_world::World;
 use std::alloc::Global;
 
@@ -42,7 +42,7 @@ fn no_target(alloc: Global) -> Target
         class: Name::new(alloc),
         name: Name::new(alloc),
         kind: MethodType {
-            params: Row::new(alloc),
+            params: SharedRow::new(),
             result: None,
         },
     }

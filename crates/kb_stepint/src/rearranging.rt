@@ -1,4 +1,5 @@
-//! Instructions that rearrange the operand stack (JVMS 8 section 6.5). Values are named from the top down, and pushed from the bottom up.
+//! Instructions that rearrange the operand stack (JVMS 8 section 6.5). Values are named from the top down, and pushed from the
+//! bottom up.
 ghost use Rattle.std.specs.Prelude.{◌≡◌, ◌<◌, ◌∷◌, [], IfOk};
 ghost use Rattle.kb_stepint.specs.Effects.{rearranges};
 ghost use Rattle.kb_stepint.specs.Turns.{led_by, told};

@@ -1,4 +1,4 @@
-//! Returns (JVMS 8 section 6.5). By now no method calls another: the run ends.
+//! Returns (JVMS 8 section 6.5). For now no method calls another: the run ends.
 ghost use Rattle.std.specs.Prelude.{◌≡◌, pos, Some, IfOk, OnOk};
 ghost use Rattle.std.specs.Option.{option_copied};
 ghost use Rattle.kb_terms.specs.Terms.{IsTerm};

@@ -28,12 +28,12 @@ use kb_terms::TermId;
 use kb_world::World;
 use std::alloc::Global;
 
-/// Takes an alternative that [`crate::choices_int`] lists for the state. An argument that is read is a new variable, and the state
-/// asks for its next choice. Else the conditions of the alternative are added, as far as they are not decided, and the instruction is
-/// carried out: it goes on, the run ends, or it is cut at a bound.
+/// Takes an alternative that [`crate::choices_int`] lists for the state. An argument that is read is a new variable, and the
+/// state asks for its next choice. Else the conditions of the alternative are added, as far as they are not decided, and the
+/// instruction is carried out: it goes on, the run ends, or it is cut at a bound.
 ///
-/// After want of memory the state is only dropped or undone. It takes time in proportion to the conditions that are added, whatever
-/// the state has met.
+/// After want of memory the state is only dropped or undone. It takes time in proportion to the conditions that are added,
+/// whatever the state has met.
 pub fn take_int(
     alloc: Global,
     world: &World,

@@ -1,5 +1,5 @@
--- An answer that goes beyond a bound on inputs is one that every instance of it goes beyond: what is offered as beyond lies deeper than k, and
--- an array that is longer is longer than the bound.
+-- An answer that goes beyond a bound on inputs is one that every instance of it goes beyond: what is offered as beyond lies
+-- deeper than k, and an array that is longer is longer than the bound.
 use Rattle.std.proofs.Common.{◌≡◌, ℕ, suc, ◌<◌, inl, inr, Bool, true, false, cond, nat_lt, List, [], ◌∷◌, ◌++◌, length, map, filter, Some, None, refl, sym, ap, subst, ◌∙◌, if◌then◌else◌}
 use Rattle.std.specs.List.{flat_map}
 use Rattle.std.proofs.lemmas.Bool.{ltb-true}

@@ -1,5 +1,5 @@
--- The slots of a class begin with those of each class above it (JVMS 8 section 2.7), so a field that is resolved has its slot in each object
--- of the class that declares it, or of one below. A slot is of a type that slots have.
+-- The slots of a class begin with those of each class above it (JVMS 8 section 2.7), so a field that is resolved has its slot
+-- in each object of the class that declares it, or of one below. A slot is of a type that slots have.
 use Rattle.std.proofs.Common.{◌≡◌, ℕ, zero, suc, ◌+◌, ◌≤◌, ◌⊎◌, inl, inr, Bool, true, false, not, ◌||◌, cond, nat_eq, List, [], ◌∷◌, ◌++◌, length, map, filter, reverse, Option, Some, None, slice_get, refl, sym, ap, ◌∙◌, arith}
 use Rattle.std.specs.List.{AllByRecursion, flat_map, list_any}
 use Rattle.std.specs.Option.{option_map, option_map_or}

@@ -1,5 +1,5 @@
--- Where a slot of the input is seen for the first time, the earlier values of a state keep their values, since the places of the picture grow
--- at their end. What the cells say then is learned.
+-- Where a slot of the input is seen for the first time, the earlier values of a state keep their values, since the places of
+-- the picture grow at their end. What the cells say then is learned.
 use Rattle.std.proofs.Common.{◌≡◌, ℕ, ◌+◌, ◌<◌, ◌≤◌, inl, inr, List, [], ◌++◌, length, take, drop, take-append-drop, slice_get, Some, refl, sym, ap, subst, ◌∙◌, arith}
 use Rattle.std.specs.List.{slice_index_or}
 use Rattle.std.proofs.lemmas.Bool.Decides.{eqb_tells, leb_tells}

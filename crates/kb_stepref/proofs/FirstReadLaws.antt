@@ -1,4 +1,5 @@
--- What holds of the slot that a step on references asks for: it is there and was not read, and its declared type is that of the question.
+-- What holds of the slot that a step on references asks for: it is there and was not read, and its declared type is that of the
+-- question.
 use Rattle.std.proofs.Common.{◌≡◌, ◌↔◌, ℕ, Bool, true, false, true≢false, not, nat_eq, nat_le, List, length, Option, Some, None, slice_get, refl, sym, ap, subst, ◌∙◌, if◌then◌else◌}
 use Rattle.std.specs.Option.{option_and_then, option_map, option_map_or}
 use Rattle.std.proofs.lemmas.Bool.{and_from, and_parts, eqb-true, eq-eqb}

@@ -1,4 +1,5 @@
--- What a take keeps of a state: an instruction sees nothing and adds no condition, and the answer of a question adds one slot that is seen.
+-- What a take keeps of a state: an instruction sees nothing and adds no condition, and the answer of a question adds one slot
+-- that is seen.
 use Rattle.std.proofs.Common.{◌≡◌, ℕ, pos, List, [], ◌∷◌, ◌++◌, length, take, drop, nat_le, Bool, Option, Some, None, refl, sym, subst, ◌∙◌, option_and_then, cond, if◌then◌else◌}
 use Rattle.std.specs.Option.{option_map_or}
 use Rattle.kb_code.specs.declared.instruction.Instr.{Instr}

@@ -1,4 +1,5 @@
--- Under lazy initialisation no location is chosen: a picture of objects alone stays one, and where no bound is passed nothing is beyond.
+-- Under lazy initialisation no location is chosen: a picture of objects alone stays one, and where no bound is passed nothing
+-- is beyond.
 use Rattle.std.proofs.Common.{◌≡◌, ℕ, inl, inr, Bool, true, false, cond, List, [], ◌∷◌, ◌++◌, length, map, filter, nat_lt, suc, None, refl, ap, subst}
 use Rattle.std.specs.List.{AllByRecursion, flat_map}
 use Rattle.kb_class.proofs.Lists.{has_cases, has_either, has_none}

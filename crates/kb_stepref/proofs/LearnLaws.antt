@@ -1,5 +1,5 @@
--- A state that learns of a slot what it has held since the start of the run stands for the same heap, and for the same slots that the run
--- has written; so does one that finds a new object, of which it knows nothing yet.
+-- A state that learns of a slot what it has held since the start of the run stands for the same heap, and for the same slots
+-- that the run has written; so does one that finds a new object, of which it knows nothing yet.
 use Rattle.std.proofs.Common.{◌≡◌, ℕ, ◌+◌, ◌<◌, ◌⊎◌, inl, inr, List, drop, map, slice_get, Some, sym, ap, subst, ◌∙◌, option_and_then, arith}
 use Rattle.kb_heap.specs.declared.heap.Heap.{Heap}
 use Rattle.kb_heap.specs.declared.heap.Object.{Object}

@@ -1,5 +1,5 @@
--- A state that has more terms, objects and made objects: what a value named is there still. What holds of a state that is reached holds of one
--- of which the stage, the picture, the heap and the terms are others that hold together.
+-- A state that has more terms, objects and made objects: what a value named is there still. What holds of a state that is
+-- reached holds of one of which the stage, the picture, the heap and the terms are others that hold together.
 use Rattle.std.proofs.Common.{◌≡◌, ℕ, zero, suc, ◌<◌, ◌≤◌, List, [], ◌∷◌, ◌++◌, length, Option, Some, None, slice_get, sym, subst, arith}
 use Rattle.kb_blast.specs.Query.{kinds_of}
 use Rattle.kb_link.specs.World.{World}

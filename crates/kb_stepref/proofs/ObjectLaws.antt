@@ -1,5 +1,5 @@
--- What a symbolic reference leads to at an input: an object of the picture lies at its place, a literal behind the input's objects, and an
--- object that the run has made behind those. What a state keeps of their slots is what the heap has there.
+-- What a symbolic reference leads to at an input: an object of the picture lies at its place, a literal behind the input's
+-- objects, and an object that the run has made behind those. What a state keeps of their slots is what the heap has there.
 use Rattle.std.proofs.Common.{◌≡◌, ℕ, zero, suc, ◌+◌, ◌<◌, ◌≤◌, Bool, true, false, List, [], ◌∷◌, length, map, drop, replicate, nat_eq, slice_get, Option, Some, None, is_some, refl, sym, ap, subst, ◌∙◌, inl, inr, if◌then◌else◌, arith}
 use Rattle.std.specs.Option.{option_map, option_map_or, option_and_then}
 use Rattle.std.proofs.lemmas.Bool.{eq-eqb, ne_eqb}
@@ -33,7 +33,7 @@ use Rattle.kb_frames.specs.declared.value.Cell.{Cell}
 use Rattle.kb_frames.specs.declared.value.Cell.TheVariants.{Untouched, Read, Written}
 use Rattle.kb_frames.specs.declared.value.SymValue.{SymValue}
 use Rattle.kb_frames.specs.declared.value.SymValue.TheVariants.{Int, Null, Obj, Literal, New, Loc}
-use Rattle.kb_frames.specs.Heaps.{find_cell, value_in}
+use Rattle.kb_frames.specs.Heaps.{find_cell, value_of_cell}
 use Rattle.kb_frames.specs.StandsFor.{HeapStandsFor, IsLike, made_at, present_value, reading_at, value_of_sym, values_of_sym}
 use Rattle.kb_frames.specs.State.{State, cell_at}
 use Rattle.kb_frames.specs.States.{AreCells, HasCells, IsSymValue}
@@ -312,7 +312,7 @@ module _ (world : World) (state : State) (cells : AreCells world state) (known :
 
       -- where nothing is to be told
       by_cell : has_slot_of world state field (Obj number) ≡ true → (it : Option Cell) → find_cell state.cells number field.slot ≡ it → asks_cell number field it ≡ None
-          → slice_get p.object.values field.slot ≡ option_map (value_of_sym r) (option_and_then value_in it)
+          → slice_get p.object.values field.slot ≡ option_map (value_of_sym r) (option_and_then value_of_cell it)
       by_cell has None e told = is_none (slice_get p.object.values field.slot) (sym (cell_there has) ∙ ap is_some e)
       by_cell has (Some Untouched) e told = absurd cc
       by_cell has (Some (Read value)) e told = cell_is (Read value) e
@@ -321,7 +321,7 @@ module _ (world : World) (state : State) (cells : AreCells world state) (known :
       object_held : asks_cell number field (cell_of world state field number) ≡ None → field_of world p.object field ≡ option_map (value_of_sym r) (held world state field (Obj number))
       object_held told = ap (λ (b : Bool). if b then slice_get p.object.values field.slot else None) has_same ∙ go (has_slot_of world state field (Obj number)) refl told where
         go : (b : Bool) → has_slot_of world state field (Obj number) ≡ b → asks_cell number field (if b then find_cell state.cells number field.slot else None) ≡ None
-            → (if b then slice_get p.object.values field.slot else None) ≡ option_map (value_of_sym r) (option_and_then value_in (if b then find_cell state.cells number field.slot else None))
+            → (if b then slice_get p.object.values field.slot else None) ≡ option_map (value_of_sym r) (option_and_then value_of_cell (if b then find_cell state.cells number field.slot else None))
         go true e told = by_cell e (find_cell state.cells number field.slot) refl told
         go false e told = refl
 
@@ -368,7 +368,8 @@ module _ (world : World) (state : State) (cells : AreCells world state) (known :
       go true = refl
       go false = refl
 
-    -- Where nothing is to be told, the object to which a reference leads has in the slot of the field what the state keeps of it.
+    -- Where nothing is to be told, the object to which a reference leads has in the slot of the field what the state keeps of
+    -- it.
     pub field_held : (value : SymValue) (o : ℕ) → IsSymValue world state value → value_of_sym r value ≡ Ref o → asks_field world state field (Some value) ≡ None
         → option_and_then (λ (object : Object). field_of world object field) (object_at heap o) ≡ option_map (value_of_sym r) (held world state field value)
     unfolding reading_at

@@ -1,4 +1,5 @@
--- Where a state stands for a configuration of an input's run, the input is an instance after the take of exactly one alternative.
+-- Where a state stands for a configuration of an input's run, the input is an instance after the take of exactly one
+-- alternative.
 use Rattle.std.proofs.Common.{◌≡◌, Bool, true, false, List, [], ◌∷◌, Option, Some, None, refl, sym, subst, ◌∙◌, inl, inr, if◌then◌else◌}
 use Rattle.std.specs.Option.{option_map_or}
 use Rattle.kb_heap.specs.declared.bounds.Bounds.{Bounds}

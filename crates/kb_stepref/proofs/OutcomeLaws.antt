@@ -1,5 +1,6 @@
--- What the outcome of a step on references says of a configuration for which the state stood is so, where the step has been told all that
--- it must: of an instruction that is carried out, of code that has run off its end, and of a run that is cut by its steps.
+-- What the outcome of a step on references says of a configuration for which the state stood is so, where the step has been
+-- told all that it must: of an instruction that is carried out, of code that has run off its end, and of a run that is cut by
+-- its steps.
 use Rattle.std.proofs.Common.{◌≡◌, ℕ, Bool, true, false, List, [], nat_le, Option, Some, None, refl, sym, ap, subst, ◌∙◌, if◌then◌else◌, true≢false}
 use Rattle.std.specs.Option.{option_map, option_map_or, option_and_then}
 use Rattle.std.proofs.lemmas.Bool.{leb-true}

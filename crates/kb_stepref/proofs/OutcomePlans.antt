@@ -1,5 +1,5 @@
--- What an instruction on references does to a state is what it does to the configuration, with each symbolic value in the place of its
--- value: one lemma for each kind of effect that writes nothing into the heap.
+-- What an instruction on references does to a state is what it does to the configuration, with each symbolic value in the place
+-- of its value: one lemma for each kind of effect that writes nothing into the heap.
 use Rattle.std.proofs.Common.{◌≡◌, ℕ, Bool, true, false, List, [], ◌∷◌, map, drop, nat_lt, slice_get, Option, Some, None, cond, refl, sym, ap, ◌∙◌}
 use Rattle.std.specs.Option.{option_map, option_map_or, option_and_then}
 use Rattle.kb_class.specs.declared.ids.MethodId.{MethodId}

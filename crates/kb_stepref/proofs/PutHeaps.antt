@@ -1,5 +1,5 @@
--- A heap in which a slot was written stands for the state that keeps the new value there: of an object of the picture in its cell, of one
--- that the run has made among its values. And the state keeps as written what it kept, and that cell.
+-- A heap in which a slot was written stands for the state that keeps the new value there: of an object of the picture in its
+-- cell, of one that the run has made among its values. And the state keeps as written what it kept, and that cell.
 use Rattle.std.proofs.Common.{◌≡◌, ◌⊎◌, ◌↔◌, ℕ, ◌+◌, ◌<◌, List, length, map, drop, slice_get, slice_set, Option, Some, None, refl, sym, ap, subst, ◌∙◌, inl, inr, arith}
 use Rattle.std.specs.Option.{option_and_then}
 use Rattle.std.proofs.lemmas.Bool.Decides.{eqb_tells}

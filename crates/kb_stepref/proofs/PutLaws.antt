@@ -1,5 +1,5 @@
--- The outcome of putfield is that of the machine: null throws, and an object that has the field holds the value afterwards, in the state and
--- in the heap.
+-- The outcome of putfield is that of the machine: null throws, and an object that has the field holds the value afterwards, in
+-- the state and in the heap.
 use Rattle.std.proofs.Common.{◌≡◌, ◌⊎◌, ◌↔◌, ℕ, ◌+◌, ◌<◌, ℤ, pos, Bool, true, false, List, [], ◌∷◌, ◌++◌, length, drop, slice_get, slice_set, Option, Some, None, is_some, refl, sym, ap, subst, ◌∙◌, inl, inr, if◌then◌else◌}
 use Rattle.std.specs.Option.{option_map, option_map_or, option_and_then}
 use Rattle.std.proofs.lemmas.List.{length-map}

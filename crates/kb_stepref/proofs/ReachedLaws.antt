@@ -31,7 +31,7 @@ use Rattle.kb_frames.specs.State.{State}
 use Rattle.kb_stepint.specs.Laws.{IsAtInts}
 use Rattle.kb_stepint.specs.Needs.{CanStep}
 use Rattle.kb_stepint.specs.Reached.{IsReached}
-use Rattle.kb_stepint.specs.Simulation.{HasInput, Keeps}
+use Rattle.kb_stepint.specs.Simulation.{HasInputOfState, Keeps}
 use Rattle.kb_stepint.specs.Takes.{taken as int_taken, takes_next as int_takes_next}
 use Rattle.kb_stepint.specs.Ways.{Take}
 use Rattle.kb_stepint.proofs.KeepLaws.{kept as int_kept, takes_next_stays}
@@ -54,7 +54,7 @@ pub is_reached : OfTakes (λ world bounds state take. IsPool take.state.nodes �
 is_reached world bounds state choice range at has pool =
     reached_sound world (taken world bounds state choice).state (taken_sound world bounds state choice range at has).sound pool
 
-pub has_input : OfTakes (λ world bounds state take. HasInput world take.state)
+pub has_input : OfTakes (λ world bounds state take. HasInputOfState world take.state)
 has_input world bounds state choice range at has =
     let to = taken_sound world bounds state choice range at has in
     record {

@@ -1,5 +1,5 @@
--- What the variables of a picture are at an input once a slot more is seen, and so which inputs are instances of a state that was told what
--- the slot holds.
+-- What the variables of a picture are at an input once a slot more is seen, and so which inputs are instances of a state that
+-- was told what the slot holds.
 use Rattle.std.proofs.Common.{◌≡◌, ℕ, suc, ℤ, false, List, [], ◌∷◌, ◌++◌, length, take, drop, filter_map, Option, Some, None, slice_get, refl, sym, ap, subst, ◌∙◌}
 use Rattle.std.specs.List.{cons_option}
 use Rattle.std.proofs.lemmas.List.{append-nil, take-append-drop}

@@ -1,4 +1,5 @@
--- What instructions on references take from a stack of symbolic values is what the machine takes from the stack of their values.
+-- What instructions on references take from a stack of symbolic values is what the machine takes from the stack of their
+-- values.
 use Rattle.std.proofs.Common.{◌≡◌, pos, List, [], ◌∷◌, drop, slice_get, Option, Some, None, refl, ap, subst, ◌∙◌}
 use Rattle.std.specs.Option.{option_map, option_and_then}
 use Rattle.kb_arith.specs.Word.{word_and}

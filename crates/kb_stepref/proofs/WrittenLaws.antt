@@ -23,7 +23,7 @@ use Rattle.kb_frames.specs.declared.value.Cell.{Cell}
 use Rattle.kb_frames.specs.declared.value.Cell.TheVariants.{Untouched, Read, Written}
 use Rattle.kb_frames.specs.declared.value.SymValue.{SymValue}
 use Rattle.kb_frames.specs.declared.value.SymValue.TheVariants.{Int, Null, Obj, Literal, New, Loc}
-use Rattle.kb_frames.specs.Heaps.{find_cell, made_value, object_with, value_in, with_cell, with_made_value, wrote, wrote_made}
+use Rattle.kb_frames.specs.Heaps.{find_cell, made_value, object_with, value_of_cell, with_cell, with_made_value, wrote, wrote_made}
 use Rattle.kb_frames.specs.State.{State}
 use Rattle.kb_frames.specs.States.{Each, IsCell, IsMade, IsStage, IsSymValue, IsTouched}
 use Rattle.kb_stepint.specs.Asked.{interned_op}
@@ -41,7 +41,7 @@ use Rattle.kb_stepref.proofs.MoreLaws.{IsMore, changed, changed_sound, made_more
 -- ---- what a field holds
 
 module _ (world : World) (state : State) (sound : Sound world state) where
-  in_cell : (cell : Cell) → IsCell world state cell → (value : SymValue) → value_in cell ≡ Some value → IsSymValue world state value
+  in_cell : (cell : Cell) → IsCell world state cell → (value : SymValue) → value_of_cell cell ≡ Some value → IsSymValue world state value
   in_cell Untouched h value e = absurd (none-some value e)
   in_cell (Read v) h value e = subst (IsSymValue world state) (same_Some v value e) h
   in_cell (Written v) h value e = subst (IsSymValue world state) (same_Some v value e) h
@@ -56,7 +56,7 @@ module _ (world : World) (state : State) (sound : Sound world state) where
   -- it is a value of the state
   pub held_there : (field : FieldSlot) (object value : SymValue) → held world state field object ≡ Some value → IsSymValue world state value
   held_there field (Obj number) value e =
-      option_and_then_some value_in (cell_of world state field number) value e (λ cell there at.
+      option_and_then_some value_of_cell (cell_of world state field number) value e (λ cell there at.
       in_cell cell (cell_there number field.slot cell (where_so (has_slot_of world state field (Obj number)) (find_cell state.cells number field.slot) cell there).1) value at)
   held_there field (New number) value e =
       made_there number field.slot value (where_so (has_slot_of world state field (New number)) (made_value state.made number field.slot) value e).1

@@ -10,7 +10,7 @@ use Rattle.kb_world.specs.Lookup.{resolved_field}
 use Rattle.kb_frames.specs.declared.value.Cell.{Cell}
 use Rattle.kb_frames.specs.declared.value.SymValue.{SymValue}
 use Rattle.kb_frames.specs.declared.value.SymValue.TheVariants.{Int, Null, Obj, Literal, New, Loc}
-use Rattle.kb_frames.specs.Heaps.{exact_type_of, find_cell, made_value, value_in, wrote, wrote_made}
+use Rattle.kb_frames.specs.Heaps.{exact_type_of, find_cell, made_value, value_of_cell, wrote, wrote_made}
 use Rattle.kb_frames.specs.Next.{method_now}
 use Rattle.kb_frames.specs.State.{State}
 
@@ -36,7 +36,7 @@ made_value_of world state field number = if has_slot_of world state field (New n
 
 -- the value of the field, where the object has it, and it was read or written
 abbrev pub held : World → State → FieldSlot → SymValue → Option SymValue
-held world state field (Obj number) = option_and_then value_in (cell_of world state field number)
+held world state field (Obj number) = option_and_then value_of_cell (cell_of world state field number)
 held world state field (New number) = made_value_of world state field number
 held world state field (Int term) = None
 held world state field Null = None

@@ -1,4 +1,4 @@
--- What a step of a state must be told before it can be carried out, one thing at a time: by now what a slot holds that is read
+-- What a step of a state must be told before it can be carried out, one thing at a time: for now what a slot holds that is read
 -- for the first time, an argument or a field (lazy initialisation: Khurshid, Păsăreanu and Visser, TACAS 2003). That a run
 -- begins by reading its arguments is an own rule.
 use Rattle.std.specs.Prelude.{ℕ, nat_le, Option, Some, None, option_and_then, slice_get, if◌then◌else◌}
@@ -21,7 +21,7 @@ use Rattle.kb_frames.specs.State.{State}
 use Rattle.kb_stepref.specs.declared.questions.FirstRead.{FirstRead}
 use Rattle.kb_stepref.specs.Fields.{cell_of, field_named}
 
--- what is asked: by now what the slot of the declared type holds
+-- what is asked: for now what the slot of the declared type holds
 pub data Question : Type 0 where
   Reads : Origin → JType → Question
 

@@ -23,7 +23,7 @@ pub(crate) fn if_same(
 {
     match two_references(state) {
         Some((left, right)) => branch(turn, state, is_wanted(want, same(left, right)), target, 2),
-        None => Ok(ill_typed(turn, state)?),
+        None => ill_typed(turn, state),
     }
 }
 
@@ -39,7 +39,7 @@ pub(crate) fn if_null(
 {
     match one_reference(state) {
         Some(value) => branch(turn, state, is_wanted(want, is_null(value)), target, 1),
-        None => Ok(ill_typed(turn, state)?),
+        None => ill_typed(turn, state),
     }
 }
 
@@ -61,7 +61,7 @@ fn branch(
     ensures { IfOk result (λ outcome. told state.new outcome ≡ led turn.now state.old (branch_where state.old so target count)) }
 {
     if so {
-        return Ok(jumps(turn, state, count, target)?);
+        return jumps(turn, state, count, target);
     }
-    Ok(replaces(turn, state, count, &[])?)
+    replaces(turn, state, count, &[])
 }

@@ -93,11 +93,11 @@ pub(crate) fn get_field(
     ensures { IfOk result (λ outcome. told state.new outcome ≡ followed turn.now.world.now turn.now.bounds turn.now.next (gets turn.now.world.now state.old entry)) }
 {
     let Some(field) = field_named(turn.world, state, entry) else {
-        return Ok(ill_typed(turn, state)?);
+        return ill_typed(turn, state);
     };
     match one_reference(state) {
         Some(object) => get(turn, state, field, object),
-        None => Ok(ill_typed(turn, state)?),
+        None => ill_typed(turn, state),
     }
 }
 
@@ -111,11 +111,11 @@ fn get(
     ensures { IfOk result (λ outcome. told state.new outcome ≡ followed turn.now.world.now turn.now.bounds turn.now.next (got turn.now.world.now state.old field.now object)) }
 {
     if let SymValue::Null = object {
-        return Ok(throws(turn, state, NULL_POINTER)?);
+        return throws(turn, state, NULL_POINTER);
     }
     match held(turn.world, state, field, object) {
-        Some(value) => Ok(replaces(turn, state, 1, &[value])?),
-        None => Ok(ill_typed(turn, state)?),
+        Some(value) => replaces(turn, state, 1, &[value]),
+        None => ill_typed(turn, state),
     }
 }
 
@@ -145,11 +145,11 @@ pub(crate) fn put_field(
     ensures { IfOk result (λ outcome. told state.new outcome ≡ followed turn.now.world.now turn.now.bounds turn.now.next (puts turn.now.world.now state.old entry)) }
 {
     let Some(field) = field_named(turn.world, state, entry) else {
-        return Ok(ill_typed(turn, state)?);
+        return ill_typed(turn, state);
     };
     match object_and_value(state, &field.kind) {
         Some((object, value)) => put(turn, state, field, object, value),
-        None => Ok(ill_typed(turn, state)?),
+        None => ill_typed(turn, state),
     }
 }
 
@@ -165,7 +165,7 @@ fn put(
     ensures { IfOk result (λ outcome. told state.new outcome ≡ followed turn.now.world.now turn.now.bounds turn.now.next (put turn.now.world.now state.old field.now object value)) }
 {
     if let SymValue::Null = object {
-        return Ok(throws(turn, state, NULL_POINTER)?);
+        return throws(turn, state, NULL_POINTER);
     }
     put_on(turn, state, field, object, value)
 }
@@ -183,15 +183,16 @@ fn put_on(
     ensures { IfOk result (λ outcome. told state.new outcome ≡ followed turn.now.world.now turn.now.bounds turn.now.next (if has_place turn.now.world.now state.old field.now object then put_where turn.now.world.now state.old field.now object value else plain state.old Fails)) }
 {
     if !has_place(turn.world, state, field, object) {
-        return Ok(ill_typed(turn, state)?);
+        return ill_typed(turn, state);
     }
     let kept = state.height().saturating_sub(2);
     if !has_room(turn, state, kept, 0) {
-        return Ok(ill_typed(turn, state)?);
+        return ill_typed(turn, state);
     }
     let value = keep(state, &field.kind, value)?;
     put_in(state, object, field.slot, value);
-    Ok(replaces(turn, state, 2, &[])?)
+    let outcome = replaces(turn, state, 2, &[])?;
+    Ok(outcome)
 }
 
 // Whether the object has the field, and so a place for a value.

@@ -24,7 +24,7 @@ pub(crate) fn carry_out(
     ensures { IfOk result (λ outcome. told state.new outcome ≡ followed turn.now.world.now turn.now.bounds turn.now.next (plan_of turn.now.world.now state.old instr.now)) }
 {
     match instr {
-        Instr::PushNull => Ok(replaces(turn, state, 0, &[SymValue::Null])?),
+        Instr::PushNull => replaces(turn, state, 0, &[SymValue::Null]),
         Instr::LoadRef(local) => load(turn, state, *local),
         Instr::StoreRef(local) => store(turn, state, *local),
         Instr::IfSame(want, target) => if_same(turn, state, *want, *target),
@@ -32,21 +32,21 @@ pub(crate) fn carry_out(
         Instr::ReturnRef => return_reference(turn, state),
         Instr::GetField(entry) => get_field(turn, state, *entry),
         Instr::PutField(entry) => put_field(turn, state, *entry),
-        // Those on ints, and on arrays, new objects, calls and throws, are no instructions on references by now.
-        Instr::Nop | Instr::PushInt(_) | Instr::Ldc(_) => Ok(ill_typed(turn, state)?),
-        Instr::LoadInt(_) | Instr::StoreInt(_) | Instr::Inc(..) => Ok(ill_typed(turn, state)?),
-        Instr::Pop | Instr::Pop2 | Instr::Dup | Instr::DupX1 => Ok(ill_typed(turn, state)?),
-        Instr::DupX2 | Instr::Dup2 | Instr::Dup2X1 => Ok(ill_typed(turn, state)?),
-        Instr::Dup2X2 | Instr::Swap => Ok(ill_typed(turn, state)?),
-        Instr::Int2(_) | Instr::Neg | Instr::Narrow(_) => Ok(ill_typed(turn, state)?),
-        Instr::IfInt(..) | Instr::IfPair(..) | Instr::Goto(_) => Ok(ill_typed(turn, state)?),
-        Instr::Table(..) | Instr::Lookup(..) => Ok(ill_typed(turn, state)?),
-        Instr::ReturnInt | Instr::Return => Ok(ill_typed(turn, state)?),
-        Instr::LoadElem(_) | Instr::StoreElem(_) | Instr::Length => Ok(ill_typed(turn, state)?),
-        Instr::NewPrim(_) | Instr::NewRefs(_) | Instr::New(_) => Ok(ill_typed(turn, state)?),
-        Instr::Throw | Instr::Cast(_) | Instr::InstanceOf(_) => Ok(ill_typed(turn, state)?),
-        Instr::Virtual(_) | Instr::Special(_) => Ok(ill_typed(turn, state)?),
-        Instr::Static(_) | Instr::Interface(_) => Ok(ill_typed(turn, state)?),
-        Instr::Other(_) => Ok(ill_typed(turn, state)?),
+        // Those on ints, and on arrays, new objects, calls and throws, are not yet instructions on references.
+        Instr::Nop | Instr::PushInt(_) | Instr::Ldc(_) => ill_typed(turn, state),
+        Instr::LoadInt(_) | Instr::StoreInt(_) | Instr::Inc(..) => ill_typed(turn, state),
+        Instr::Pop | Instr::Pop2 | Instr::Dup | Instr::DupX1 => ill_typed(turn, state),
+        Instr::DupX2 | Instr::Dup2 | Instr::Dup2X1 => ill_typed(turn, state),
+        Instr::Dup2X2 | Instr::Swap => ill_typed(turn, state),
+        Instr::Int2(_) | Instr::Neg | Instr::Narrow(_) => ill_typed(turn, state),
+        Instr::IfInt(..) | Instr::IfPair(..) | Instr::Goto(_) => ill_typed(turn, state),
+        Instr::Table(..) | Instr::Lookup(..) => ill_typed(turn, state),
+        Instr::ReturnInt | Instr::Return => ill_typed(turn, state),
+        Instr::LoadElem(_) | Instr::StoreElem(_) | Instr::Length => ill_typed(turn, state),
+        Instr::NewPrim(_) | Instr::NewRefs(_) | Instr::New(_) => ill_typed(turn, state),
+        Instr::Throw | Instr::Cast(_) | Instr::InstanceOf(_) => ill_typed(turn, state),
+        Instr::Virtual(_) | Instr::Special(_) => ill_typed(turn, state),
+        Instr::Static(_) | Instr::Interface(_) => ill_typed(turn, state),
+        Instr::Other(_) => ill_typed(turn, state),
     }
 }

@@ -9,7 +9,7 @@ ghost use Rattle.kb_picture.specs.declared.choice.Choice.{Choice};
 ghost use Rattle.kb_picture.specs.declared.choice.Init.TheVariants.{Lazy};
 ghost use Rattle.kb_frames.specs.Next.{next_is_int};
 ghost use Rattle.kb_frames.specs.State.{State, start_state};
-ghost use Rattle.kb_stepint.specs.Simulation.{AddsComparisons, FollowsStep, GetsOn, HasInput, Keeps, ReadsWhatItSees, TakesOneWay};
+ghost use Rattle.kb_stepint.specs.Simulation.{AddsComparisons, FollowsStep, GetsOn, HasInputOfState, Keeps, ReadsWhatItSees, TakesOneWay};
 ghost use Rattle.kb_stepint.specs.Takes as int_takes;
 ghost use Rattle.kb_stepref.specs.Choices.{choices_of};
 ghost use Rattle.kb_stepref.specs.HeapMethods.{is_heap_method};
@@ -37,7 +37,7 @@ pub fn reference_steps_simulate()
 /// as seen is an argument, or is one that the step reads and that was not written before (`read`).
 pub fn reference_steps_keep()
     ensures kept { OfTakes (λ world bounds state take. Keeps state take.state) }
-    ensures picture { OfTakes (λ world bounds state take. HasInput world take.state) }
+    ensures picture { OfTakes (λ world bounds state take. HasInputOfState world take.state) }
     ensures compared { OfTakes (λ world bounds state take. AddsComparisons world bounds state take.state) }
     ensures read { OfTakes (λ world bounds state take. ReadsWhatItSees world bounds state take.state) }
 {}

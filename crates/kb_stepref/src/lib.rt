@@ -20,45 +20,5 @@ mod take;
 
 pub use choices::choices_ref;
 pub use heap_methods::is_heap_method;
-use std::alloc::{AllocError, AllocFailed};
+pub use std::alloc::AllocError as NoMemory;
 pub use take::take_ref;
-
-/// Memory ran out.
-#[derive(Clone, Copy, Debug, PartialEq, Eq)]
-pub struct NoMemory;
-
-impl From<AllocError> for NoMemory {
-    fn from(_error: AllocError) -> NoMemory {
-        NoMemory
-    }
-}
-
-impl<T: Drop> From<AllocFailed<T>> for NoMemory {
-    fn from(_error: AllocFailed<T>) -> NoMemory {
-        NoMemory
-    }
-}
-
-impl From<kb_frames::NoMemory> for NoMemory {
-    fn from(_error: kb_frames::NoMemory) -> NoMemory {
-        NoMemory
-    }
-}
-
-impl From<kb_lazy::NoMemory> for NoMemory {
-    fn from(_error: kb_lazy::NoMemory) -> NoMemory {
-        NoMemory
-    }
-}
-
-impl From<kb_names::NoMemory> for NoMemory {
-    fn from(_error: kb_names::NoMemory) -> NoMemory {
-        NoMemory
-    }
-}
-
-impl From<kb_stepint::NoMemory> for NoMemory {
-    fn from(_error: kb_stepint::NoMemory) -> NoMemory {
-        NoMemory
-    }
-}

@@ -17,8 +17,8 @@ pub(crate) fn load(turn: &Turn<'_>, state: &mut SymState, local: u16) -> Result<
     ensures { IfOk result (λ outcome. told state.new outcome ≡ followed turn.now.world.now turn.now.bounds turn.now.next (loads turn.now.world.now state.old local)) }
 {
     match local_at(turn, state, local) {
-        Some(value) => Ok(replaces(turn, state, 0, &[value])?),
-        None => Ok(ill_typed(turn, state)?),
+        Some(value) => replaces(turn, state, 0, &[value]),
+        None => ill_typed(turn, state),
     }
 }
 
@@ -29,7 +29,7 @@ pub(crate) fn store(turn: &Turn<'_>, state: &mut SymState, local: u16) -> Result
 {
     match one_reference(state) {
         Some(value) => set(turn, state, local, value),
-        None => Ok(ill_typed(turn, state)?),
+        None => ill_typed(turn, state),
     }
 }
 
@@ -54,11 +54,11 @@ fn set(
     ensures { IfOk result (λ outcome. told state.new outcome ≡ led turn.now state.old (in_local turn.now.world.now state.old local value (drop 1 (stack_of state.old.stage)))) }
 {
     if !is_local(turn, state, local) {
-        return Ok(ill_typed(turn, state)?);
+        return ill_typed(turn, state);
     }
     let kept = state.height().saturating_sub(1);
     if !has_room(turn, state, kept, 0) {
-        return Ok(ill_typed(turn, state)?);
+        return ill_typed(turn, state);
     }
     state.store(local, value);
     state.pop(1);

@@ -1,4 +1,4 @@
-//! The return of a reference (JVMS 8 section 6.5). By now no method calls another: the run ends.
+//! The return of a reference (JVMS 8 section 6.5). For now no method calls another: the run ends.
 ghost use Rattle.std.specs.Prelude.{◌≡◌, Some, IfOk};
 ghost use Rattle.kb_picture.specs.declared.path.SymEnding.TheVariants.{Returned};
 ghost use Rattle.kb_frames.specs.StandsFor.{out_of};
@@ -19,12 +19,12 @@ pub(crate) fn return_reference(turn: &Turn<'_>, state: &SymState) -> Result<Outc
     ensures { IfOk result (λ outcome. told state.now outcome ≡ followed turn.now.world.now turn.now.bounds turn.now.next (returns_reference turn.now.world.now state.now)) }
 {
     let Some(value) = one_reference(state) else {
-        return Ok(ill_typed(turn, state)?);
+        return ill_typed(turn, state);
     };
     let (method, _) = state.stands_at();
     match result_of(turn.world, method) {
         Some(JType::Class(_)) | Some(JType::Array(_)) => Ok(returned(value)),
-        _ => Ok(ill_typed(turn, state)?),
+        _ => ill_typed(turn, state),
     }
 }
 

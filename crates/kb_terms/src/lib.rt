@@ -11,7 +11,5 @@ pub use listing::{Operand, Term};
 pub use node::{Node, TermId, VarKind};
 pub use numbering::Numbering;
 pub use op::Op;
-pub use pool::{NoMemory, Pool};
-
-#[cfg(test)]
-mod tests;
+pub use pool::Pool;
+pub use std::alloc::AllocError as NoMemory;

@@ -5,8 +5,9 @@ ghost use Rattle.kb_terms.specs.Numbering.{numbering, visit, place_of, IsNumberi
 ghost use Rattle.kb_terms.specs.declared.numbering.Task.TheVariants.{Enter};
 ghost use Rattle.kb_terms.specs.Walk.{task_term, tasks_left, terms_after};
 
+use crate::NoMemory;
 use crate::node::{Node, TermId};
-use crate::pool::{NoMemory, Pool, node_of};
+use crate::pool::{Pool, node_of};
 use indexmap::IndexSet;
 use std::alloc::Global;
 use std::marker::Model;

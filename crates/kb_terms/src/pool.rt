@@ -5,27 +5,12 @@ ghost use Rattle.kb_terms.specs.declared.node.Node.TheVariants.{Const, Var};
 ghost use Rattle.kb_terms.specs.Op.{op_value};
 ghost use Rattle.kb_terms.specs.Terms.{IsTerm, node_at, is_variable, variables_of, AreOperands, constant_at, second_constant, int_at, made_node, NodeFits, IsPool, Extends, HasNode, term_with, value_of, operand_value, values, node_value, CanCompute};
 
+use crate::NoMemory;
 use crate::node::{Node, TermId, VarKind};
 use crate::op::Op;
 use indexmap::IndexSet;
-use std::alloc::{AllocError, AllocFailed, Global};
+use std::alloc::Global;
 use std::marker::Model;
-
-/// Want of memory, or of numbers: a pool has fewer than 2^32 terms.
-#[derive(Clone, Copy, Debug, PartialEq, Eq)]
-pub struct NoMemory;
-
-impl From<AllocError> for NoMemory {
-    fn from(_error: AllocError) -> NoMemory {
-        NoMemory
-    }
-}
-
-impl<T: Drop> From<AllocFailed<T>> for NoMemory {
-    fn from(_error: AllocFailed<T>) -> NoMemory {
-        NoMemory
-    }
-}
 
 /// A list of terms, each numbered by its place. Contracts see the list of their nodes.
 ///

@@ -6,6 +6,7 @@ ghost use Rattle.kb_test.specs.Tests.{string_object, literal_objects};
 use crate::NoMemory;
 use kb_heap::{Heap, Object, Row};
 use kb_names::{ExactType, Name};
+use kb_rows::Held;
 use std::alloc::Global;
 use std::marker::Model;
 
@@ -29,11 +30,11 @@ impl Objects for Heap {
 
 /// A heap of input objects, literals and objects of the run. The literals are one object and a count of them, so that a test
 /// takes no more room where the world has many.
-#[derive(Debug, Drop)]
+#[derive(Drop)]
 pub struct FinalHeap {
     inputs: Row<Object>,
     literals: usize,
-    literal: Object,
+    literal: Held<Object>,
     made: Row<Object>,
 }
 
@@ -46,14 +47,17 @@ impl Model for FinalHeap {
     ghost view = { λ heap. record { objects = heap.inputs ++ (replicate heap.literals heap.literal ++ heap.made) } };
 }
 
-fn string_object(alloc: Global) -> Result<Object, NoMemory>
+fn string_object(alloc: Global) -> Result<Held<Object>, NoMemory>
     ensures { IfOk result (λ object. object ≡ string_object) }
 {
     let name = Name::from_slice(alloc, b"java/lang/String")?;
-    Ok(Object {
-        kind: ExactType::Class(name),
-        values: Row::new(alloc),
-    })
+    Held::new(
+        alloc,
+        Object {
+            kind: ExactType::Class(name),
+            values: Row::new(alloc),
+        },
+    )
 }
 
 impl FinalHeap {
@@ -105,7 +109,7 @@ impl Objects for FinalHeap {
         }
         let behind = number - inputs.len();
         if behind < self.literals {
-            return Some(&self.literal);
+            return Some(self.literal.get());
         }
         self.made.as_slice().get(behind - self.literals)
     }

@@ -1,7 +1,8 @@
 //! Where a reader of tests stands after some lines.
-ghost use Rattle.std.specs.Prelude.{◌≡◌, [], ◌∷◌, ◌++◌, IfOk};
+ghost use Rattle.std.specs.Prelude.{◌≡◌, [], ◌∷◌, ◌++◌, length, IfOk};
 ghost use Rattle.kb_test.specs.Tests.{test_of};
-ghost use Rattle.kb_test.specs.Fronts.{between_step, named_step, begun_step, ended_step, step, may_have_arg, may_have_input, may_have_out, may_have_new, may_be_whole, open_limits, ended_limits, with_outcome, with_out, with_new, with_open, if_may, may_end_so};
+ghost use Rattle.kb_test.specs.Scripts.{script_below};
+ghost use Rattle.kb_test.specs.Fronts.{between_step, named_step, begun_step, ended_step, step, may_have_arg, may_have_input, may_end_so, may_have_out, may_have_new, may_be_whole, open_limits, ended_limits, with_arg, with_input, with_outcome, with_out, with_new, with_open, if_may};
 
 use crate::lines::{Line, Listed};
 use crate::outcomes::Outcome;
@@ -9,8 +10,9 @@ use crate::script::{Begun, Script};
 use crate::settling::settled;
 use crate::words::{Limits, Word};
 use crate::{NoMemory, Test};
-use kb_heap::Row;
+use kb_heap::{Row, RunBounds};
 use kb_names::Target;
+use kb_rows::Held;
 use std::alloc::Global;
 
 // How far a test is read.
@@ -18,11 +20,11 @@ use std::alloc::Global;
 pub(crate) enum Open {
     Between,
     // Behind the line that names the method.
-    Named(Target),
+    Named(Held<Target>),
     // Behind the bounds, and some arguments and input objects.
-    Started(Begun),
+    Started(Held<Begun>),
     // Behind the ending.
-    Ended(Script),
+    Ended(Held<Script>),
 }
 
 // The tests that are read, and how far the next one is.
@@ -67,18 +69,28 @@ fn after_tests(line: Line) -> Option<Open>
     }
 }
 
-#[tactic(auto, unfolding(crate::specs::Fronts::named_step))]
-fn after_target(alloc: Global, target: Target, line: Line) -> Option<Open>
-    ensures { result ≡ named_step target line }
+// Nothing is read behind the bounds.
+fn begun(alloc: Global, target: Held<Target>, bounds: RunBounds) -> Result<Held<Begun>, NoMemory>
+    ensures { IfOk result (λ begun. begun ≡ record { target = target; bounds = bounds; args = []; inputs = [] }) }
 {
-    match line {
-        Line::Limit(bounds) => Some(Open::Started(Begun {
+    Held::new(
+        alloc,
+        Begun {
             target,
             bounds,
             args: Row::new(alloc),
             inputs: Row::new(alloc),
-        })),
-        _ => None,
+        },
+    )
+}
+
+#[tactic(auto, unfolding(crate::specs::Fronts::named_step))]
+fn after_target(alloc: Global, target: Held<Target>, line: Line) -> Result<Option<Open>, NoMemory>
+    ensures { IfOk result (λ next. next ≡ named_step target line) }
+{
+    match line {
+        Line::Limit(bounds) => Ok(Some(Open::Started(begun(alloc, target, bounds)?))),
+        _ => Ok(None),
     }
 }
 
@@ -95,11 +107,38 @@ fn may_have_input(literals: u32, begun: &Begun, number: u32, listed: &Listed) ->
         && open_limits(literals).has_words(listed.values.as_slice())
 }
 
-// The test with nothing behind its ending, if all input objects are there that it names.
-fn ended_so(alloc: Global, literals: u32, begun: Begun, outcome: Outcome) -> Option<Open>
-    ensures { result ≡ if_may (may_end_so literals begun outcome) (Open.Ended (with_outcome begun outcome)) }
+fn take_arg(literals: u32, begun: Held<Begun>, word: Word) -> Result<Option<Open>, NoMemory>
+    ensures { IfOk result (λ next. next ≡ if_may (may_have_arg literals begun word) (Open.Started (with_arg begun word))) }
 {
-    let script = Script {
+    if !may_have_arg(literals, begun.get(), word) {
+        return Ok(None);
+    }
+    let mut begun = begun;
+    begun.get_mut().args.push(word)?;
+    Ok(Some(Open::Started(begun)))
+}
+
+fn take_input(
+    literals: u32,
+    begun: Held<Begun>,
+    number: u32,
+    listed: Held<Listed>,
+) -> Result<Option<Open>, NoMemory>
+    ensures { IfOk result (λ next. next ≡ if_may (may_have_input literals begun number listed) (Open.Started (with_input begun listed))) }
+{
+    if !may_have_input(literals, begun.get(), number, listed.get()) {
+        return Ok(None);
+    }
+    let mut begun = begun;
+    begun.get_mut().inputs.push(listed.into_inner())?;
+    Ok(Some(Open::Started(begun)))
+}
+
+// Nothing is read behind the ending.
+fn script_of(alloc: Global, begun: Begun, outcome: Outcome) -> Script
+    ensures { result ≡ with_outcome begun outcome }
+{
+    Script {
         target: begun.target,
         bounds: begun.bounds,
         args: begun.args,
@@ -107,40 +146,45 @@ fn ended_so(alloc: Global, literals: u32, begun: Begun, outcome: Outcome) -> Opt
         outcome,
         outs: Row::new(alloc),
         news: Row::new(alloc),
-    };
-    let limits = ended_limits(literals, script.inputs.as_slice().len());
-    if !script.is_within(limits) {
-        return None;
     }
-    Some(Open::Ended(script))
+}
+
+// The test with nothing behind its ending, if all input objects are there that it names.
+fn take_ending(
+    alloc: Global,
+    literals: u32,
+    begun: Held<Begun>,
+    outcome: Outcome,
+) -> Result<Option<Open>, NoMemory>
+    ensures { IfOk result (λ next. next ≡ if_may (may_end_so literals begun outcome) (Open.Ended (with_outcome begun outcome))) }
+{
+    let script = Held::new(alloc, script_of(alloc, begun.into_inner(), outcome))?;
+    if !may_end_so(literals, script.get()) {
+        return Ok(None);
+    }
+    Ok(Some(Open::Ended(script)))
+}
+
+// Whether all input objects are there that the test names.
+fn may_end_so(literals: u32, script: &Script) -> bool
+    ensures { result ≡ script_below (ended_limits literals (length script.now.inputs)) script.now }
+{
+    script.is_within(ended_limits(literals, script.inputs.as_slice().len()))
 }
 
 #[tactic(auto, unfolding(crate::specs::Fronts::begun_step))]
 fn after_bounds(
     alloc: Global,
     literals: u32,
-    begun: Begun,
+    begun: Held<Begun>,
     line: Line,
 ) -> Result<Option<Open>, NoMemory>
     ensures { IfOk result (λ next. next ≡ begun_step literals begun line) }
 {
-    let mut begun = begun;
     match line {
-        Line::Arg(word) => {
-            if !may_have_arg(literals, &begun, word) {
-                return Ok(None);
-            }
-            begun.args.push(word)?;
-            Ok(Some(Open::Started(begun)))
-        }
-        Line::In(number, listed) => {
-            if !may_have_input(literals, &begun, number, &listed) {
-                return Ok(None);
-            }
-            begun.inputs.push(listed)?;
-            Ok(Some(Open::Started(begun)))
-        }
-        Line::Ends(outcome) => Ok(ended_so(alloc, literals, begun, outcome)),
+        Line::Arg(word) => take_arg(literals, begun, word),
+        Line::In(number, listed) => take_input(literals, begun, number, listed),
+        Line::Ends(outcome) => take_ending(alloc, literals, begun, outcome),
         _ => Ok(None),
     }
 }
@@ -170,7 +214,7 @@ fn may_be_whole(literals: u32, script: &Script) -> bool
         && script.is_within(script.limits(literals))
 }
 
-fn ended_front(tests: Row<Test>, script: Script) -> Front
+fn ended_front(tests: Row<Test>, script: Held<Script>) -> Front
     ensures { result ≡ record { tests = tests; open_test = Open.Ended script } }
 {
     Front {
@@ -182,51 +226,62 @@ fn ended_front(tests: Row<Test>, script: Script) -> Front
 fn take_out(
     literals: u32,
     tests: Row<Test>,
-    script: Script,
+    script: Held<Script>,
     number: u32,
     words: Row<Word>,
 ) -> Result<Option<Front>, NoMemory>
     ensures { IfOk result (λ next. next ≡ if_may (may_have_out literals script number words) (record { tests = tests; open_test = Open.Ended (with_out script words) })) }
 {
-    if !may_have_out(literals, &script, number, words.as_slice()) {
+    if !may_have_out(literals, script.get(), number, words.as_slice()) {
         return Ok(None);
     }
     let mut script = script;
-    script.outs.push(words)?;
+    script.get_mut().outs.push(words)?;
     Ok(Some(ended_front(tests, script)))
 }
 
 fn take_new(
     literals: u32,
     tests: Row<Test>,
-    script: Script,
+    script: Held<Script>,
     number: u32,
-    listed: Listed,
+    listed: Held<Listed>,
 ) -> Result<Option<Front>, NoMemory>
     ensures { IfOk result (λ next. next ≡ if_may (may_have_new literals script number listed) (record { tests = tests; open_test = Open.Ended (with_new script listed) })) }
 {
-    if !may_have_new(literals, &script, number, &listed) {
+    if !may_have_new(literals, script.get(), number, listed.get()) {
         return Ok(None);
     }
     let mut script = script;
-    script.news.push(listed)?;
+    script.get_mut().news.push(listed.into_inner())?;
     Ok(Some(ended_front(tests, script)))
+}
+
+// The tests with that one behind them.
+fn with_test(
+    alloc: Global,
+    literals: u32,
+    tests: Row<Test>,
+    script: &Script,
+) -> Result<Row<Test>, NoMemory>
+    ensures { IfOk result (λ all. all ≡ tests ++ test_of literals script.now ∷ []) }
+{
+    let test = settled(alloc, literals, script)?;
+    tests.with(test)
 }
 
 fn take_end(
     alloc: Global,
     literals: u32,
     tests: Row<Test>,
-    script: Script,
+    script: &Script,
 ) -> Result<Option<Front>, NoMemory>
-    ensures { IfOk result (λ next. next ≡ if_may (may_be_whole literals script) (record { tests = tests ++ test_of literals script ∷ []; open_test = Open.Between })) }
+    ensures { IfOk result (λ next. next ≡ if_may (may_be_whole literals script.now) (record { tests = tests ++ test_of literals script.now ∷ []; open_test = Open.Between })) }
 {
-    if !may_be_whole(literals, &script) {
+    if !may_be_whole(literals, script) {
         return Ok(None);
     }
-    let mut tests = tests;
-    let test = settled(alloc, literals, &script)?;
-    tests.push(test)?;
+    let tests = with_test(alloc, literals, tests, script)?;
     Ok(Some(Front {
         tests,
         open_test: Open::Between,
@@ -238,7 +293,7 @@ fn after_ending(
     alloc: Global,
     literals: u32,
     tests: Row<Test>,
-    script: Script,
+    script: Held<Script>,
     line: Line,
 ) -> Result<Option<Front>, NoMemory>
     ensures { IfOk result (λ next. next ≡ ended_step literals tests script line) }
@@ -246,7 +301,7 @@ fn after_ending(
     match line {
         Line::Out(number, words) => take_out(literals, tests, script, number, words),
         Line::New(number, listed) => take_new(literals, tests, script, number, listed),
-        Line::End => take_end(alloc, literals, tests, script),
+        Line::End => take_end(alloc, literals, tests, script.get()),
         _ => Ok(None),
     }
 }
@@ -273,7 +328,10 @@ pub(crate) fn with_line(
     let Front { tests, open_test } = front;
     match open_test {
         Open::Between => Ok(with_open(tests, after_tests(line))),
-        Open::Named(target) => Ok(with_open(tests, after_target(alloc, target, line))),
+        Open::Named(target) => {
+            let next = after_target(alloc, target, line)?;
+            Ok(with_open(tests, next))
+        }
         Open::Started(begun) => {
             let next = after_bounds(alloc, literals, begun, line)?;
             Ok(with_open(tests, next))

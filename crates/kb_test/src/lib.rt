@@ -4,7 +4,6 @@
 mod final_heap;
 mod fronts;
 mod lines;
-mod memory;
 mod outcomes;
 mod reading;
 mod script;
@@ -14,7 +13,7 @@ mod words;
 mod writing;
 
 pub use final_heap::{FinalHeap, Objects};
-pub use memory::NoMemory;
 pub use reading::{TestRefusal, read_tests};
+pub use std::alloc::AllocError as NoMemory;
 pub use test_case::Test;
 pub use writing::{tests_have_one_text, write_run, write_test};

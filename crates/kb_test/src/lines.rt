@@ -12,28 +12,29 @@ use kb_names::{
     ExactType, JType, NameRefusal, NameTextRefusal, Spelling, Target, TargetRefusal, read_name,
     read_target, read_type_as,
 };
+use kb_rows::Held;
 use std::alloc::Global;
 
 // An object as a line lists it: what it is, and the value of each slot or element.
-#[derive(Debug, Drop)]
+#[derive(Drop)]
 pub(crate) struct Listed {
     pub kind: ExactType,
     pub values: Row<Word>,
 }
 
 // What a line of a test says.
-#[derive(Debug, Drop)]
+#[derive(Drop)]
 pub(crate) enum Line {
-    Method(Target),
+    Method(Held<Target>),
     Limit(RunBounds),
     Arg(Word),
     // An input object, by its number.
-    In(u32, Listed),
+    In(u32, Held<Listed>),
     Ends(Outcome),
     // The last values of an input object.
     Out(u32, Row<Word>),
     // An object that the run has made.
-    New(u32, Listed),
+    New(u32, Held<Listed>),
     End,
 }
 
@@ -76,7 +77,7 @@ fn read_exact(alloc: Global, word: &[u8]) -> Result<Option<ExactType>, NoMemory>
 }
 
 // An object: its exact type and its values.
-fn read_listed(alloc: Global, text: &[u8]) -> Result<Option<Listed>, NoMemory>
+fn read_listed(alloc: Global, text: &[u8]) -> Result<Option<Held<Listed>>, NoMemory>
     ensures { IfOk result (IsRead SpellsListed text.now) }
 {
     let (word, rest) = first_word(text);
@@ -84,20 +85,20 @@ fn read_listed(alloc: Global, text: &[u8]) -> Result<Option<Listed>, NoMemory>
         return Ok(None);
     };
     match read_words(alloc, rest)? {
-        Some(values) => Ok(Some(Listed { kind, values })),
+        Some(values) => Ok(Some(Held::new(alloc, Listed { kind, values })?)),
         None => Ok(None),
     }
 }
 
 #[tactic(auto, unfolding(crate::specs::Lines::line_text))]
-fn read_method_line(alloc: Global, line: &[u8]) -> Result<Option<Target>, NoMemory>
+fn read_method_line(alloc: Global, line: &[u8]) -> Result<Option<Held<Target>>, NoMemory>
     ensures { IfOk result (IsRead SpellsMethodLine line.now) }
 {
     let Some(word) = behind(line, b"test ") else {
         return Ok(None);
     };
     match read_target(alloc, word) {
-        Ok(target) => Ok(Some(target)),
+        Ok(target) => Ok(Some(Held::new(alloc, target)?)),
         Err(TargetRefusal::BadTarget(_)) => Ok(None),
         Err(TargetRefusal::NoMemory) => Err(NoMemory),
     }
@@ -153,7 +154,7 @@ fn read_object_line(
     alloc: Global,
     line: &[u8],
     front: &[u8],
-) -> Result<Option<(u32, Listed)>, NoMemory>
+) -> Result<Option<(u32, Held<Listed>)>, NoMemory>
     ensures { IfOk result (IsRead (SpellsObjectLine front.now) line.now) }
 {
     let Some((number, text)) = number_behind(line, front) else {

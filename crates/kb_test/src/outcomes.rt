@@ -9,10 +9,11 @@ use crate::words::{Limits, Reference, Word, read_reference, word_behind};
 use kb_grammar::{behind, cut, is_line, read_number};
 use kb_heap::Place;
 use kb_names::{TargetRefusal, read_target};
+use kb_rows::Held;
 use std::alloc::Global;
 
 // A bound of a run.
-#[derive(Clone, Copy, Debug, PartialEq, Eq)]
+#[derive(Clone, Copy)]
 pub(crate) enum RunBound {
     Alloc,
     Loops,
@@ -21,11 +22,11 @@ pub(crate) enum RunBound {
 }
 
 // How a run ends.
-#[derive(Debug, Drop)]
+#[derive(Drop)]
 pub(crate) enum Outcome {
     Returns(Option<Word>),
     Throws(Reference),
-    IllTyped(Place),
+    IllTyped(Held<Place>),
     Past(RunBound),
 }
 
@@ -42,7 +43,7 @@ impl Limits {
 }
 
 // A method and an offset behind it.
-fn read_place(alloc: Global, text: &[u8]) -> Result<Option<Place>, NoMemory>
+fn read_place(alloc: Global, text: &[u8]) -> Result<Option<Held<Place>>, NoMemory>
     ensures { IfOk result (IsRead SpellsPlace text.now) }
 {
     let Some((word, digits)) = cut(text, b' ') else {
@@ -52,13 +53,13 @@ fn read_place(alloc: Global, text: &[u8]) -> Result<Option<Place>, NoMemory>
         return Ok(None);
     };
     match read_target(alloc, word) {
-        Ok(method) => Ok(Some(Place { method, at })),
+        Ok(method) => Ok(Some(Held::new(alloc, Place { method, at })?)),
         Err(TargetRefusal::BadTarget(_)) => Ok(None),
         Err(TargetRefusal::NoMemory) => Err(NoMemory),
     }
 }
 
-fn read_place_line(alloc: Global, line: &[u8]) -> Result<Option<Place>, NoMemory>
+fn read_place_line(alloc: Global, line: &[u8]) -> Result<Option<Held<Place>>, NoMemory>
     ensures { IfOk result (IsRead SpellsPlaceLine line.now) }
 {
     match behind(line, b"illtyped ") {

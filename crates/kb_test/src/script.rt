@@ -10,20 +10,21 @@ use crate::outcomes::Outcome;
 use crate::words::{Limits, Word};
 use kb_heap::{Row, RunBounds};
 use kb_names::Target;
+use kb_rows::Held;
 
 // What is read of a test before its ending.
-#[derive(Debug, Drop)]
+#[derive(Drop)]
 pub(crate) struct Begun {
-    pub target: Target,
+    pub target: Held<Target>,
     pub bounds: RunBounds,
     pub args: Row<Word>,
     pub inputs: Row<Listed>,
 }
 
 // What is read of a test from its ending on.
-#[derive(Debug, Drop)]
+#[derive(Drop)]
 pub(crate) struct Script {
-    pub target: Target,
+    pub target: Held<Target>,
     pub bounds: RunBounds,
     pub args: Row<Word>,
     pub inputs: Row<Listed>,

@@ -7,7 +7,9 @@ use crate::outcomes::{Outcome, RunBound};
 use crate::script::Script;
 use crate::words::{Reference, Word};
 use crate::{FinalHeap, NoMemory, Test};
-use kb_heap::{Bound, Ending, Heap, Input, Object, Row, Value};
+use kb_heap::{Bound, Ending, Heap, Input, Object, Row, RunBounds, Value};
+use kb_names::Target;
+use kb_rows::Held;
 use std::alloc::Global;
 
 // How many input objects and how many literals stand in the heap before the objects of the run.
@@ -96,7 +98,7 @@ impl Numbering {
             Outcome::Returns(None) => Ok(Ending::Returned(None)),
             Outcome::Returns(Some(word)) => Ok(Ending::Returned(Some(self.value(*word)?))),
             Outcome::Throws(reference) => Ok(Ending::Threw(self.number(*reference)?)),
-            Outcome::IllTyped(place) => Ok(Ending::IllTyped(place.copied(self.alloc)?)),
+            Outcome::IllTyped(place) => Ok(Ending::IllTyped(place.get().copied(self.alloc)?)),
             Outcome::Past(bound) => Ok(Ending::Past(bound_of(*bound))),
         }
     }
@@ -118,6 +120,48 @@ impl Numbering {
         let last = self.last_objects(script.inputs.as_slice(), script.outs.as_slice())?;
         let made = self.objects(script.news.as_slice())?;
         FinalHeap::new(self.alloc, last, self.literals, made)
+    }
+
+    fn target(self, script: &Script) -> Result<Held<Target>, NoMemory>
+        ensures { IfOk result (λ target. target ≡ script.now.target) }
+    {
+        let target = script.target.get().copied(self.alloc)?;
+        Held::new(self.alloc, target)
+    }
+
+    fn held_ending(self, outcome: &Outcome) -> Result<Held<Ending>, NoMemory>
+        ensures { IfOk result (λ ending. ending ≡ ending_of self.inputs self.literals outcome.now) }
+    {
+        let ending = self.ending(outcome)?;
+        Held::new(self.alloc, ending)
+    }
+
+    fn test(self, script: &Script) -> Result<Test, NoMemory>
+        ensures { IfOk result (λ test. test ≡ test_with self.inputs self.literals script.now) }
+    {
+        let target = self.target(script)?;
+        let ending = self.held_ending(&script.outcome)?;
+        let input = self.input(script)?;
+        let heap = self.final_heap(script)?;
+        Ok(test_of_parts(target, script.bounds, input, ending, heap))
+    }
+}
+
+fn test_of_parts(
+    target: Held<Target>,
+    bounds: RunBounds,
+    input: Input,
+    ending: Held<Ending>,
+    heap: FinalHeap,
+) -> Test
+    ensures { result ≡ record { target = target; bounds = bounds; input = input; ending = ending; heap = heap } }
+{
+    Test {
+        target: target.into_inner(),
+        bounds,
+        input,
+        ending: ending.into_inner(),
+        heap,
     }
 }
 
@@ -144,15 +188,5 @@ pub(crate) fn settled(alloc: Global, literals: u32, script: &Script) -> Result<T
         inputs,
         literals,
     };
-    let input = numbering.input(script)?;
-    let heap = numbering.final_heap(script)?;
-    let ending = numbering.ending(&script.outcome)?;
-    let target = script.target.copied(alloc)?;
-    Ok(Test {
-        target,
-        bounds: script.bounds,
-        input,
-        ending,
-        heap,
-    })
+    numbering.test(script)
 }

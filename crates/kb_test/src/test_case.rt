@@ -4,7 +4,7 @@ use kb_heap::{Ending, Input, RunBounds};
 use kb_names::Target;
 
 /// A run of a method that is to end so.
-#[derive(Debug, Drop)]
+#[derive(Drop)]
 pub struct Test {
     pub target: Target,
     pub bounds: RunBounds,

@@ -9,7 +9,7 @@ use kb_heap::Row;
 use std::alloc::Global;
 
 // An object by its kind and its number among its kind.
-#[derive(Clone, Copy, Debug, PartialEq, Eq)]
+#[derive(Clone, Copy)]
 pub(crate) enum Reference {
     Input(u32),
     Literal(u32),
@@ -18,7 +18,7 @@ pub(crate) enum Reference {
 }
 
 // A value as a text writes it.
-#[derive(Clone, Copy, Debug, PartialEq, Eq)]
+#[derive(Clone, Copy)]
 pub(crate) enum Word {
     Int(i32),
     Null,
@@ -26,7 +26,7 @@ pub(crate) enum Word {
 }
 
 // Above the numbers that objects of each kind may have.
-#[derive(Clone, Copy, Debug, PartialEq, Eq)]
+#[derive(Clone, Copy)]
 pub(crate) struct Limits {
     pub inputs: usize,
     pub literals: usize,

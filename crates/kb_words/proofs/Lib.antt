@@ -1,3 +1,4 @@
+pub mod NumberLaws
 pub mod OneOrder
 pub mod OrderLaws
 pub mod SettingLaws

@@ -1,8 +1,8 @@
 -- The options of the commands, and the values that they may have. A word is a list of bytes.
-use Rattle.std.specs.Prelude.{ℕ, ◌≤◌, Bool, true, false, ◌&&◌, ◌||◌, ◌==◌, nat_eq, nat_le, Option, Some, None, List, [], ◌∷◌, length, codes, if◌then◌else◌, option_and_then}
+use Rattle.std.specs.Prelude.{ℕ, zero, suc, ◌≤◌, Bool, true, false, ◌&&◌, ◌||◌, ◌==◌, nat_eq, nat_le, Option, Some, None, List, [], ◌∷◌, length, codes, if◌then◌else◌, option_and_then}
+use Rattle.std.specs.Fmt.{decimal}
 use Rattle.std.specs.List.{list_all, starts_with}
 use Rattle.std.specs.Str.{bytes_eq}
-use Rattle.kb_grammar.specs.Numbers.{with_digits}
 use Rattle.kb_picture.specs.declared.choice.Init.{Init}
 use Rattle.kb_picture.specs.declared.choice.Init.TheVariants.{Lazy, Lazier}
 use Rattle.kb_words.specs.declared.options.OptionName.{OptionName}
@@ -76,10 +76,11 @@ range_of options.Method = record { low = 0; high = 0 }
 range_of options.Init = record { low = 0; high = 0 }
 range_of options.Tests = record { low = 0; high = 0 }
 
--- the number that the digits of a word are, where it is not above that one
-abbrev pub number_up_to : ℕ → List ℕ → Option ℕ
-number_up_to high word = with_digits high 0 word
+-- the number up to that one which the word spells: the word is its decimal text
+unfoldable pub spelled_up_to : ℕ → List ℕ → Option ℕ
+spelled_up_to zero word = if bytes_eq word (decimal 0) then Some 0 else None
+spelled_up_to (suc most) word = if bytes_eq word (decimal (suc most)) then Some (suc most) else spelled_up_to most word
 
--- and where it lies in the range
+-- the number of the range that the word spells
 abbrev pub number_within : Range → List ℕ → Option ℕ
-number_within range word = option_and_then (λ number. if nat_le range.low number then Some number else None) (number_up_to range.high word)
+number_within range word = option_and_then (λ number. if nat_le range.low number then Some number else None) (spelled_up_to range.high word)

@@ -1,25 +1,24 @@
 //! The options, and the values that they may have.
-ghost use Rattle.std.specs.Prelude.{◌≡◌, ◌<◌, ◌≤◌, ◌^◌, IfSome};
+ghost use Rattle.std.specs.Prelude.{◌≡◌, ◌≤◌, IfSome};
 ghost use Rattle.std.specs.List.{list_all};
-ghost use Rattle.kb_grammar.specs.Numbers.{with_digit};
-ghost use Rattle.kb_words.specs.Options.{is_digit, is_number, is_option, init_named, number_up_to, number_within, option_named, range_of};
+ghost use Rattle.kb_words.specs.Options.{is_digit, is_number, is_option, init_named, number_within, option_named, range_of};
 
 use kb_picture::Init;
 
 /// An option.
-#[derive(Clone, Copy, Debug, PartialEq, Eq)]
+#[derive(Clone, Copy, PartialEq, Eq)]
 pub enum OptionName {
     /// The method that is explored.
     Method,
     /// When it is chosen which object a reference is.
     Init,
-    /// The greatest number of references from an argument to an input object.
+    /// How deep input objects are followed; one that an argument holds has depth 1.
     K,
     /// The greatest length of an input array.
     Array,
     /// The greatest length of an array that a run makes.
     Alloc,
-    /// How often a frame may jump to one place.
+    /// The most transfers of an activation to offsets not above their own.
     Loops,
     /// The most frames.
     Depth,
@@ -27,14 +26,14 @@ pub enum OptionName {
     Steps,
     /// The most paths that are not open.
     Paths,
-    /// The most conflicts of one question to the solver.
+    /// The most clauses that the solver derives for one question, resolvents of eliminations among them.
     Budget,
     /// The file of the tests that are run.
     Tests,
 }
 
 /// The numbers that an option may have as its value.
-#[derive(Clone, Copy, Debug, PartialEq, Eq)]
+#[derive(Clone, Copy, PartialEq, Eq)]
 pub struct Range {
     pub low: u32,
     pub high: u32,
@@ -123,46 +122,17 @@ fn is_digit(byte: &u8) -> bool
     48 <= *byte && *byte <= 57
 }
 
-/// The number that the digits of a word are, where it lies in the range.
+/// The number of the range that the word spells.
+#[tactic(auto, using(crate::proofs::NumberLaws::read_spelled))]
 pub(crate) fn number_within(range: Range, word: &[u8]) -> Option<u32>
-    requires { range.high < 2 ^ 28 }
     ensures number { result ≡ number_within range word.now }
     ensures low { IfSome result (λ number. range.low ≤ number) }
     ensures high { IfSome result (λ number. number ≤ range.high) }
 {
-    let number = number_up_to(range.high, word)?;
+    let number = kb_grammar::number_within(word, range.high)?;
     if range.low <= number {
         Some(number)
     } else {
         None
     }
-}
-
-/// The number that the digits of a word are, where it is not above that one.
-fn number_up_to(high: u32, word: &[u8]) -> Option<u32>
-    requires { high < 2 ^ 28 }
-    ensures number { result ≡ number_up_to high word.now }
-    ensures high { IfSome result (λ number. number ≤ high) }
-{
-    let mut number: u32 = 0;
-    let mut rest = word;
-    while let [byte, others @ ..] = rest {
-        number = with_digit(high, number, *byte)?;
-        rest = others;
-    }
-    Some(number)
-}
-
-/// The number with one digit more behind it, where the byte is a digit and the number is then not above that one.
-fn with_digit(high: u32, number: u32, byte: u8) -> Option<u32>
-    requires high { high < 2 ^ 28 }
-    requires number { number < 2 ^ 28 }
-    ensures number { result ≡ with_digit high number byte }
-    ensures high { IfSome result (λ longer. longer ≤ high) }
-{
-    if !is_digit(&byte) {
-        return None;
-    }
-    let longer = number * 10 + (byte - 48) as u32;
-    if longer <= high { Some(longer) } else { None }
 }

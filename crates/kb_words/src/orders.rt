@@ -16,14 +16,14 @@ use kb_picture::Init;
 use kb_rows::Row;
 use std::alloc::{AllocError, Global};
 
-/// The most conflicts of a whole exploration.
+/// The most that the paths times the budget may be.
 const MOST_CONFLICTS: u64 = 2_000_000;
 
 /// The numbers of branches that a sample may have.
 const SAMPLE_RANGE: Range = Range { low: 0, high: 64 };
 
 /// A command.
-#[derive(Clone, Copy, Debug, PartialEq, Eq)]
+#[derive(Clone, Copy, PartialEq, Eq)]
 pub enum Command {
     Explore,
     Tests,
@@ -34,20 +34,20 @@ pub enum Command {
 }
 
 /// A method that is to be explored, in the world of which class files, and how far.
-#[derive(Debug, Drop)]
+#[derive(Drop)]
 pub struct Job {
     pub target: Target,
     pub init: Init,
     pub bounds: Bounds,
     /// The most paths that are listed and not open.
     pub paths: u32,
-    /// The most conflicts of a call of the solver.
+    /// The most clauses that the solver derives for one question, resolvents of eliminations among them.
     pub budget: u32,
     pub files: Row<Word>,
 }
 
 /// What the words order.
-#[derive(Debug, Drop)]
+#[derive(Drop)]
 pub enum Order {
     /// To write the report of the paths.
     Explore(Job),
@@ -64,7 +64,7 @@ pub enum Order {
 }
 
 /// Why words order nothing. Words are numbered from 0, the command.
-#[derive(Clone, Copy, Debug, PartialEq, Eq)]
+#[derive(Clone, Copy, PartialEq, Eq)]
 pub enum WordFault {
     /// There are no words.
     NoCommand,
@@ -86,7 +86,7 @@ pub enum WordFault {
     NoTests,
     /// No class file is named.
     NoFiles,
-    /// The paths times the budget are too many conflicts.
+    /// The paths times the budget are too many.
     TooMuch,
     NoMemory,
 }
@@ -230,7 +230,20 @@ fn job_on(
     if files.is_empty() {
         return Err(WordFault::NoFiles);
     }
-    let job = job_with(settings, words_of(alloc, files)?, target);
+    if_enough(job_with(settings, words_of(alloc, files)?, target))
+}
+
+/// The job, where it asks for no more than may be asked for.
+fn if_enough(job: Job) -> Result<Job, WordFault>
+    requires target { IsTarget job.target }
+    requires bounds { AreBounds job.bounds }
+    requires some_paths { 1 ≤ job.paths }
+    requires paths { job.paths ≤ 100000 }
+    requires some_budget { 1 ≤ job.budget }
+    requires budget { job.budget ≤ 100000 }
+    ensures job { Gives (λ told. told) result (if_enough job) }
+    ensures ranges { IfOk result IsJob }
+{
     if job.paths as u64 * job.budget as u64 > MOST_CONFLICTS {
         return Err(WordFault::TooMuch);
     }

@@ -11,7 +11,7 @@ use kb_rows::Row;
 use std::alloc::Global;
 
 /// An option, and the word that was given to it.
-#[derive(Debug, Drop)]
+#[derive(Drop)]
 pub struct Setting {
     pub option: OptionName,
     pub value: Word,

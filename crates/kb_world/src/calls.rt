@@ -12,6 +12,7 @@ use crate::faults::{Fault, has_left_out};
 use crate::methods::{OBJECT, is_open};
 use crate::world::World;
 use kb_class::{ClassId, MemberKind, MethodId, MethodInfo, ReferenceKind};
+use kb_classfile::STATIC;
 use kb_link::What;
 use kb_names::ExactType;
 
@@ -23,9 +24,6 @@ pub(crate) enum Call {
     Special,
     Static,
 }
-
-/// ACC_STATIC (JVMS 8 table 4.6-A).
-const STATIC: u16 = 0x0008;
 
 impl World {
     /// What is wrong with a call of the entry, in code of the class.

@@ -3,13 +3,12 @@ ghost use Rattle.std.specs.Prelude.{◌≡◌, ◌<◌, length, nat_le, option_m
 ghost use Rattle.std.specs.List.{list_any};
 ghost use Rattle.std.specs.Option.{option_copied};
 ghost use Rattle.kb_names.specs.Types.{shape_of};
-ghost use Rattle.kb_link.specs.Universe.{is_concrete};
 ghost use Rattle.kb_world.specs.Lookup.{resolved_field_class, resolved_field};
 ghost use Rattle.kb_world.specs.Faults.{told, is_left_out, has_left_out, name_of_base, class_in_type, missing_class, entry_at, constant_fault, fault_of_slot, field_fault, cast_fault, fault_of_initialiser, fault_of_object, fault_of_new_type, new_fault, is_deepest, array_fault, component_of_code, primitive_fault};
 
 use crate::world::World;
-use kb_class::{ClassId, LoadedClass, ReferenceKind};
-use kb_link::What;
+use kb_class::{ClassId, ReferenceKind};
+use kb_link::{What, is_concrete};
 use kb_names::{ExactType, JType, MethodType, Name};
 
 /// What is wrong with an instruction.
@@ -24,9 +23,6 @@ pub(crate) enum Fault<'a> {
     /// A class that code initialises.
     Initialiser(&'a Name),
 }
-
-/// ACC_INTERFACE and ACC_ABSTRACT (JVMS 8 table 4.1-A).
-const NOT_CONCRETE: u16 = 0x0600;
 
 /// T_BOOLEAN (JVMS 8 table 6.5.newarray-A).
 const BOOLEANS: u8 = 4;
@@ -247,13 +243,6 @@ fn element_class(of: &JType) -> Option<&Name>
         JType::Class(name) => Some(name),
         _ => None,
     }
-}
-
-// Whether the class is neither an interface nor abstract.
-fn is_concrete(class: &LoadedClass) -> bool
-    ensures { result ≡ is_concrete class.now }
-{
-    class.access() & NOT_CONCRETE == 0
 }
 
 // Whether no type has more dimensions.

@@ -8,14 +8,14 @@ ghost use Rattle.kb_class.specs.Class.{Class};
 ghost use Rattle.kb_class.specs.References.{sought_of};
 ghost use Rattle.kb_link.specs.Placing.{place_in};
 ghost use Rattle.kb_link.specs.Slots.{slots_of};
-ghost use Rattle.kb_link.specs.Subtypes.{fits, is_above_arrays, is_below, type_of_exact};
+ghost use Rattle.kb_link.specs.Subtypes.{fits, type_of_exact};
 ghost use Rattle.kb_link.specs.World.{chain_of, method_at, number_in, type_entry_of, int_entry_of};
 ghost use Rattle.kb_world.specs.Calls.{is_without_file, selected_on};
 ghost use Rattle.kb_world.specs.Lookup.{resolved_field, resolved_method, selected_special, sought_at};
 
 use crate::world::World;
 use kb_class::{ClassId, MethodCode, MethodId, MethodInfo, Reference};
-use kb_link::FieldSlot;
+use kb_link::{FieldSlot, is_above_arrays};
 use kb_names::{ExactType, Name};
 
 impl World {
@@ -159,25 +159,9 @@ impl World {
         ensures { result ≡ fits self.now kind.now (types.Class name.now) }
     {
         match kind {
-            ExactType::Class(low) => self.is_below(low.as_slice(), name),
+            ExactType::Class(low) => self.linked().is_below(low.as_slice(), name),
             ExactType::Array(_) => is_above_arrays(name),
         }
-    }
-
-    // Whether the first class or interface is the second one, or below it.
-    fn is_below(&self, low: &[u8], high: &[u8]) -> bool
-        ensures { result ≡ is_below self.now low.now high.now }
-    {
-        if low == high {
-            return true;
-        }
-        let Some(below) = self.linked().class_of_text(low) else {
-            return false;
-        };
-        let Some(above) = self.linked().class_of_text(high) else {
-            return false;
-        };
-        self.linked().is_above(below, above)
     }
 
     /// The slots of the objects of the class of that name: none where there is no such class.
@@ -199,17 +183,4 @@ impl World {
             None => false,
         }
     }
-}
-
-// Whether the class is one that every array is a subtype of.
-fn is_above_arrays(name: &[u8]) -> bool
-    ensures { result ≡ is_above_arrays name.now }
-{
-    if name == b"java/lang/Object".as_slice() {
-        return true;
-    }
-    if name == b"java/lang/Cloneable".as_slice() {
-        return true;
-    }
-    name == b"java/io/Serializable".as_slice()
 }

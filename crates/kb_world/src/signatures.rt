@@ -54,7 +54,7 @@ fn key_of(alloc: Global, method: &MethodInfo) -> Result<Name, NoMemory>
 {
     let mut text = method.name.as_slice().to_vec(alloc)?;
     write_method_type(&method.kind, Spelling::Raw, &mut text)?;
-    Ok(Name::from_vec(text))
+    Name::from_vec(text)
 }
 
 // The number of the first method of the name and type of that method.

@@ -2,11 +2,12 @@
 ghost use Rattle.std.specs.Prelude.{◌≡◌, ◌<◌};
 
 use crate::answers::{unknown, write_exact, write_kind, write_none, write_text};
-use crate::worlds::{contents, given_class};
+use crate::worlds::contents;
 use kb_class::{
     ClassId, FieldInfo, LoadedClass, MethodInfo, PLATFORM_CLASSES, Reference, ReferenceKind,
 };
 use kb_format::format_fault;
+use kb_load::given_class;
 use kb_names::{MethodType, Spelling, write_method_type};
 use kb_outside::Shelf;
 use std::alloc::Global;

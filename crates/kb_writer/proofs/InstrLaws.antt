@@ -18,10 +18,11 @@ use Rattle.kb_code.specs.declared.form.Loose.TheVariants as looses
 use Rattle.kb_code.specs.Forms.{form_of, wide_form_of, branch_instr, constant_form, math_form, control_form, reference_form, extended_form}
 use Rattle.kb_code.specs.Listing.{IsU1, IsU2, IsByte, IsInt, IsNear, IsFar, IsPadding, AreBytes, SpellsOperands, SpellsForm, SpellsLoose, SpellsWide, SpellsWideForm, SpellsPair, SpellsInstr, IsAbove, IsIncreasing, whole_pair}
 use Rattle.kb_code.specs.Reading.{padding_at}
+use Rattle.kb_code.specs.Switches.{key_of, are_above, are_rising, is_table}
 use Rattle.kb_writer.specs.declared.written.Written.{Written}
 use Rattle.kb_writer.specs.declared.written.Written.TheVariants as ways
 use Rattle.kb_writer.specs.Numbers.{u2, byte, short, int}
-use Rattle.kb_writer.specs.Instructions.{Writes, is_sound, is_table, is_near, is_far, reaches, are_above, are_rising, near, far, padding, pair_bytes, bounds, switch_head, table_bytes, lookup_bytes, bytes_of, size_of, HaveInts, HasNumbers}
+use Rattle.kb_writer.specs.Instructions.{Writes, is_sound, is_near, is_far, reaches, near, far, padding, pair_bytes, bounds, switch_head, table_bytes, lookup_bytes, bytes_of, size_of, HaveInts, HasNumbers}
 use Rattle.kb_writer.proofs.Bytes.{u1_spells, u2_spells, byte_spells, short_spells, int_spells, joined}
 
 -- ---- how many bytes
@@ -130,13 +131,13 @@ pairs_spell from (pair ∷ pairs) at h ints_fit =
     (joined (IsInt pair.0) (IsFar from (pos pair.1)) at (int pair.0) (far from pair.1) (int_spells pair.0 at ints_fit.0) (far_spells from pair.1 (at + length (int pair.0)) b.0))
     (pairs_spell from pairs (at + length (pair_bytes from pair)) b.1 ints_fit.1)
 
-above_is : (low : ℤ) (pairs : List (ℤ × ℕ)) → are_above low pairs ≡ true → IsAbove low (map whole_pair pairs)
+above_is : (low : ℤ) (pairs : List (ℤ × ℕ)) → are_above key_of low pairs ≡ true → IsAbove low (map whole_pair pairs)
 above_is low [] h = tt
 above_is low (pair ∷ pairs) h =
-    let b = and_parts (int_lt low pair.0) (are_above pair.0 pairs) h in
+    let b = and_parts (int_lt low pair.0) (are_above key_of pair.0 pairs) h in
     (grind (arith, ints, b.0), above_is pair.0 pairs b.1)
 
-increasing_is : (pairs : List (ℤ × ℕ)) → are_rising pairs ≡ true → IsIncreasing (map whole_pair pairs)
+increasing_is : (pairs : List (ℤ × ℕ)) → are_rising key_of pairs ≡ true → IsIncreasing (map whole_pair pairs)
 increasing_is [] h = tt
 increasing_is (pair ∷ pairs) h = above_is pair.0 pairs h
 
@@ -180,7 +181,7 @@ table_form from low default targets fits sound near_default reached =
           (low, pos default, map pos targets, refl, record { some = omega (arith, some, many); items = subst Items (regrouped p d l h t) all });
     }
 
-lookup_form : (from : ℕ) (default : ℕ) (pairs : List (ℤ × ℕ)) → HaveInts pairs → length pairs < 2 ^ 31 → are_rising pairs ≡ true → is_far from default ≡ true
+lookup_form : (from : ℕ) (default : ℕ) (pairs : List (ℤ × ℕ)) → HaveInts pairs → length pairs < 2 ^ 31 → are_rising key_of pairs ≡ true → is_far from default ≡ true
     → list_all (λ pair. is_far from pair.1) pairs ≡ true → SpellsInstr (instrs.Lookup default pairs) from (lookup_bytes from default pairs)
 unfolding form_of control_form switch_head
 lookup_form from default pairs fit few rising near_default reached =
@@ -253,7 +254,7 @@ spells (ways.Table low default targets) at fit sound reached instr w =
     subst (λ (i : Instr). SpellsInstr i at (table_bytes at low default targets)) (sym w) (table_form at low default targets fit sound b.0 b.1)
 spells (ways.Lookup default pairs) at fit sound reached instr w =
     let b = and_parts (is_far at default) (list_all (λ (pair : ℤ × ℕ). is_far at pair.1) pairs) reached in
-    let s = and_parts (nat_lt (length pairs) (2 ^ 31)) (are_rising pairs) sound in
+    let s = and_parts (nat_lt (length pairs) (2 ^ 31)) (are_rising key_of pairs) sound in
     let few : length pairs < 2 ^ 31 = ltb-true (length pairs) (2 ^ 31) s.0 in
     subst (λ (i : Instr). SpellsInstr i at (lookup_bytes at default pairs)) (sym w) (lookup_form at default pairs fit few s.1 b.0 b.1)
 

@@ -1,4 +1,3 @@
 pub mod Bytes
 pub mod InstrLaws
 pub mod FileLaws
-pub mod SampleLaws

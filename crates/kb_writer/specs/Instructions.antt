@@ -1,6 +1,6 @@
 -- The bytes of an instruction, in the form that is asked for (The Java Virtual Machine Specification, Java SE 8 Edition,
 -- section 6.5). Offsets are counted from the start of the code.
-use Rattle.std.specs.Prelude.{◌≡◌, ℕ, ◌+◌, ◌*◌, ◌^◌, ◌<◌, ℤ, pos, ◌+ℤ◌, ◌-ℤ◌, int_lt, Bool, true, List, [], ◌∷◌, ◌++◌, length, Some, nat_le, nat_lt, ◌&&◌, if◌then◌else◌}
+use Rattle.std.specs.Prelude.{◌≡◌, ℕ, ◌+◌, ◌*◌, ◌^◌, ◌<◌, ℤ, pos, ◌+ℤ◌, ◌-ℤ◌, Bool, true, List, [], ◌∷◌, ◌++◌, length, Some, nat_le, nat_lt, ◌&&◌, if◌then◌else◌}
 use Rattle.std.specs.Int.{w8, w16, w32}
 use Rattle.std.specs.Int.RustNames.{FitsSigned}
 use Rattle.std.specs.List.{AllByRecursion, flat_map, list_all, repeat}
@@ -13,6 +13,7 @@ use Rattle.kb_code.specs.declared.form.Form.TheVariants as forms
 use Rattle.kb_code.specs.declared.form.WideForm.TheVariants as wides
 use Rattle.kb_code.specs.Forms.{form_of, wide_form_of, local_instr, entry_instr, branch_instr}
 use Rattle.kb_code.specs.Reading.{padding_at}
+use Rattle.kb_code.specs.Switches.{key_of, are_rising, is_table}
 use Rattle.kb_writer.specs.declared.written.Written.{Written}
 use Rattle.kb_writer.specs.declared.written.Written.TheVariants as ways
 use Rattle.kb_writer.specs.Numbers.{u2, byte, short, int}
@@ -38,24 +39,11 @@ Writes (ways.Lookup default pairs) instr = instr ≡ instrs.Lookup default pairs
 
 -- ---- what can be written
 
--- whether each int is above the one before it
-abbrev pub are_above : ℤ → List (ℤ × ℕ) → Bool
-are_above low [] = true
-are_above low (pair ∷ others) = int_lt low pair.0 && are_above pair.0 others
-
-abbrev pub are_rising : List (ℤ × ℕ) → Bool
-are_rising [] = true
-are_rising (pair ∷ others) = are_above pair.0 others
-
--- whether the targets from the lowest int on are some, and the highest int is an int
-abbrev pub is_table : ℤ → ℕ → Bool
-is_table low count = nat_le 1 count && int_lt (low +ℤ pos count -ℤ pos 1) (pos (2 ^ 31))
-
 -- Whether a switch is one: a tableswitch has a target at least, and its highest int is an int; the ints of a lookupswitch
 -- rise, and their count is an int.
 abbrev pub is_sound : Written → Bool
 is_sound (ways.Table low default targets) = is_table low (length targets)
-is_sound (ways.Lookup default pairs) = nat_lt (length pairs) (2 ^ 31) && are_rising pairs
+is_sound (ways.Lookup default pairs) = nat_lt (length pairs) (2 ^ 31) && are_rising key_of pairs
 is_sound _ = true
 
 -- whether the distance from one offset to another is a signed number of two bytes, or of four

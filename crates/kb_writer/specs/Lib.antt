@@ -2,4 +2,3 @@ pub mod Numbers
 pub mod Pieces
 pub mod Instructions
 pub mod Files
-pub mod Sample

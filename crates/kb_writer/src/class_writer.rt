@@ -6,8 +6,8 @@ ghost use Rattle.kb_classfile.specs.Spelling.{Spells};
 ghost use Rattle.kb_writer.specs.Numbers.{u2};
 ghost use Rattle.kb_writer.specs.Files.{HasSizes, IfCode, IsWritable, FitsIndex, FitsField, FitsMethod, Fits, table, field_bytes, method_bytes, head_bytes, class_bytes};
 
+use crate::NoMemory;
 use crate::code_writer::push_method_code;
-use crate::memory::NoMemory;
 use crate::numbers::{push_count, push_u2, push_u4};
 use crate::pool_writer::push_pool;
 use kb_classfile::{ClassFile, Field, Method};

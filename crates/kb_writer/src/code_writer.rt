@@ -4,7 +4,7 @@ ghost use Rattle.std.specs.Prelude.{◌≡◌, ◌<◌, ◌^◌, ◌++◌, Some,
 ghost use Rattle.std.specs.List.{AllByRecursion, flat_map};
 ghost use Rattle.kb_writer.specs.Files.{HasSizes, IfCode, FitsHandler, FitsCode, table, sized, handler_bytes, content_bytes, code_bytes};
 
-use crate::memory::NoMemory;
+use crate::NoMemory;
 use crate::numbers::{push_count, push_run, push_u2, push_u4};
 use kb_classfile::{Code, Handler};
 

@@ -6,10 +6,11 @@ ghost use Rattle.kb_code.specs.declared.instruction.Instr.{Instr};
 ghost use Rattle.kb_code.specs.Listing.{SpellsInstr};
 ghost use Rattle.kb_writer.specs.Instructions.{Writes, HasNumbers, is_sound, is_near, is_far, reaches, near, far, bytes_of, size_of};
 
-use crate::memory::NoMemory;
+use crate::NoMemory;
 use crate::numbers::{push_u1, push_u2};
 use crate::switch_writer::{push_far, push_lookup, push_near, push_table};
 use crate::written::Written;
+use kb_code::{INVOKEINTERFACE, LDC};
 
 /// An opcode, and a number in two bytes.
 fn push_entry(code: &mut Vec<u8>, op: u8, entry: u16) -> Result<(), NoMemory>
@@ -51,7 +52,7 @@ fn push_increment(code: &mut Vec<u8>, local: u8, constant: i8) -> Result<(), NoM
 fn push_interface(code: &mut Vec<u8>, entry: u16, words: u8) -> Result<(), NoMemory>
     ensures { OnOk result (code.new.items ≡ code.old.items ++ 0xb9 ∷ (u2 entry ++ words ∷ 0 ∷ [])) }
 {
-    push_entry(code, 0xb9, entry)?;
+    push_entry(code, INVOKEINTERFACE, entry)?;
     push_small(code, words, 0)
 }
 
@@ -85,7 +86,7 @@ fn push_instr(code: &mut Vec<u8>, written: &Written, at: u32) -> Result<(), NoMe
         Written::Alone(op) => push_u1(code, *op),
         Written::PushByte(z) => push_small(code, 0x10, z.cast_unsigned()),
         Written::PushShort(z) => push_entry(code, 0x11, z.cast_unsigned()),
-        Written::Constant(entry) => push_small(code, 0x12, *entry),
+        Written::Constant(entry) => push_small(code, LDC, *entry),
         Written::Local(op, local) => push_local(code, *op, *local, at),
         Written::Increment(local, constant) => push_increment(code, *local, *constant),
         Written::Entry(op, entry) => push_entry(code, *op, *entry),

@@ -3,7 +3,7 @@
 ghost use Rattle.std.specs.Prelude.{◌≡◌, ◌<◌, ◌^◌, [], ◌∷◌, ◌++◌, OnOk};
 ghost use Rattle.kb_writer.specs.Numbers.{u2, u4};
 
-use crate::memory::NoMemory;
+use crate::NoMemory;
 
 /// A number in one byte.
 pub fn push_u1(into: &mut Vec<u8>, n: u8) -> Result<(), NoMemory>

@@ -5,7 +5,7 @@ ghost use Rattle.std.specs.List.{AllByRecursion, flat_map};
 ghost use Rattle.kb_writer.specs.Numbers.{u2, int};
 ghost use Rattle.kb_writer.specs.Files.{IsWritten, IsWritablePool, FitsEntry, entry_bytes, pool_bytes};
 
-use crate::memory::NoMemory;
+use crate::NoMemory;
 use crate::numbers::{push_count, push_run, push_u1, push_u2, push_u4};
 use kb_classfile::PoolEntry;
 

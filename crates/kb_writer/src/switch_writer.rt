@@ -2,10 +2,11 @@
 
 ghost use Rattle.std.specs.Prelude.{◌≡◌, ◌<◌, ◌^◌, ◌++◌, pos, ◌+ℤ◌, ◌-ℤ◌, length, IsTrue, OnOk};
 ghost use Rattle.std.specs.List.{flat_map, list_all};
+ghost use Rattle.kb_code.specs.Switches.{is_table};
 ghost use Rattle.kb_writer.specs.Numbers.{int};
-ghost use Rattle.kb_writer.specs.Instructions.{HaveInts, is_near, is_far, is_table, near, far, padding, pair_bytes, bounds, switch_head, table_bytes, lookup_bytes};
+ghost use Rattle.kb_writer.specs.Instructions.{HaveInts, is_near, is_far, near, far, padding, pair_bytes, bounds, switch_head, table_bytes, lookup_bytes};
 
-use crate::memory::NoMemory;
+use crate::NoMemory;
 use crate::numbers::{push_run, push_u1, push_u2, push_u4};
 use crate::written::padding_behind;
 

@@ -1,16 +1,17 @@
 //! An instruction in the form in which it is written.
 
-ghost use Rattle.std.specs.Prelude.{◌≡◌, ◌+◌, ◌<◌, length};
+ghost use Rattle.std.specs.Prelude.{◌≡◌, ◌+◌, ◌<◌};
 ghost use Rattle.std.specs.List.{list_all};
-ghost use Rattle.kb_writer.specs.Instructions.{is_table, is_near, is_far, are_rising};
+ghost use Rattle.kb_writer.specs.Instructions.{is_near, is_far};
 ghost use Rattle.kb_code.specs.Reading.{padding_at};
 
+use kb_code::{are_rising, is_table};
 use kb_rows::Row;
 
 /// An instruction with its opcode and operands (JVMS 8 section 6.5), which decide its bytes.
 ///
 /// Targets are offsets into the code.
-#[derive(Debug, Drop)]
+#[derive(Drop)]
 pub enum Written {
     /// An opcode without operands, or any other byte that stands alone.
     Alone(u8),
@@ -56,33 +57,6 @@ fn is_far(from: u32, to: u32) -> bool
     -0x8000_0000 <= distance && distance < 0x8000_0000
 }
 
-/// Whether a tableswitch has a target at least, and its highest int is an int.
-fn is_table(low: i32, targets: &[u32]) -> bool
-    ensures { result ≡ is_table low (length targets.now) }
-{
-    let most = i64::from(i32::MAX) - i64::from(low) + 1;
-    1 <= targets.len() && targets.len() as u64 <= most as u64
-}
-
-/// Whether each int is above the one before it.
-fn are_rising(pairs: &[(i32, u32)]) -> bool
-    ensures { result ≡ are_rising pairs.now }
-{
-    let [first, others @ ..] = pairs else {
-        return true;
-    };
-    let mut low = first.0;
-    let mut rest = others;
-    while let [next, later @ ..] = rest {
-        if next.0 <= low {
-            return false;
-        }
-        low = next.0;
-        rest = later;
-    }
-    true
-}
-
 /// Whether each target is in reach of the instruction at `from`.
 fn reach(from: u32, targets: &[u32]) -> bool
     ensures { result ≡ list_all (is_far from) targets.now }
@@ -115,7 +89,7 @@ impl Written {
         ensures { result ≡ is_sound self.now }
     {
         match self {
-            Written::Table(low, _, targets) => is_table(*low, targets.as_slice()),
+            Written::Table(low, _, targets) => is_table(*low, targets.as_slice().len()),
             Written::Lookup(_, pairs) => {
                 pairs.as_slice().len() < 0x8000_0000 && are_rising(pairs.as_slice())
             }

@@ -30,7 +30,7 @@ use Rattle.kb_test.specs.Lines.{IsExact, IsRunBounds}
 use Rattle.kb_test.specs.Tests.{AreObjects, AreValues, IsEnding, IsTest, IsValue, kinds_of, literal_objects}
 use Rattle.kb_test_laws.specs.Texts.{EndHasTexts, EndingHasText}
 use Rattle.kiasan.specs.Exploring.{IsCarried, test_of}
-use Rattle.kiasan.specs.Spelled.{EndingHasRange, HasRange, HasRanges, HaveRanges}
+use Rattle.kiasan.specs.Ranges.{EndingHasRange, HasRange, HasRanges, HaveRanges}
 use Rattle.kiasan.specs.Tests.{literals_in}
 
 -- ---- fronts of lists

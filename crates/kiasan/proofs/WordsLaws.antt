@@ -29,7 +29,7 @@ words_stop words faults.NoFiles Passes is = inl (faults.NoFiles, is, refl)
 words_stop words faults.TooMuch Passes is = inl (faults.TooMuch, is, refl)
 words_stop words faults.NoMemory Passes is = tt
 
--- the mode that is built by now is one alone
+-- the mode that is built for now is one alone
 lazy_is : (init : Init) → is_lazy init ≡ true → init ≡ Lazy
 lazy_is Lazy built = refl
 lazy_is Lazier built = cc

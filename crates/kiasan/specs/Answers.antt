@@ -107,7 +107,7 @@ pub record EndsReplay (world : World) (tests : List Test) (status : Status) (tex
   pub status_is : status ≡ replay_status verdicts
   pub text_is : text ≡ replay_text (literals_in world) tests verdicts
 
--- a job, behind its classes' world: reach, and the exploration; what is reached is built by now
+-- a job, behind its classes' world: reach, and the exploration; the exploration of what passes is built
 unfoldable pub RepliesJob : TextOf → World → Job → Reply → Type 0
 RepliesJob IsTextOf world job =
     Stage (TargetRefuses world job.target) (IsBuiltTarget world job.target) (λ id.

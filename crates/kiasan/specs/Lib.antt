@@ -2,9 +2,9 @@ pub mod Answers
 pub mod CodeFaults
 pub mod Exploring
 pub mod Orders
+pub mod Ranges
 pub mod Reach
 pub mod Refusals
-pub mod Spelled
 pub mod StatusNumber
 pub mod Tests
 pub mod Texts

@@ -1,4 +1,4 @@
--- Which orders are built by now, and the files that an order reads.
+-- Which orders are built for now, and the files that an order reads.
 use Rattle.std.specs.Prelude.{◌≡◌, ℕ, Bool, true, false, List, [], ◌∷◌, ◌++◌, Ok}
 use Rattle.kb_picture.specs.declared.choice.Init.{Init}
 use Rattle.kb_picture.specs.declared.choice.Init.TheVariants.{Lazy, Lazier}
@@ -7,12 +7,12 @@ use Rattle.kb_words.specs.declared.orders.Order.{Order}
 use Rattle.kb_words.specs.declared.orders.Order.TheVariants.{Explore, Tests, Diagrams, Replay, Assemble, Sample}
 use Rattle.kb_words.specs.Orders.{IsJob, Orders}
 
--- whether the mode is built by now
+-- whether the mode is built for now
 abbrev pub is_lazy : Init → Bool
 is_lazy Lazy = true
 is_lazy Lazier = false
 
--- whether what is ordered is built by now
+-- whether what is ordered is built for now
 abbrev pub is_built : Order → Bool
 is_built (Explore job) = is_lazy job.init
 is_built (Tests job) = is_lazy job.init

@@ -1,4 +1,4 @@
--- What is not built by now, and is refused by 50 until it is.
+-- What is not built yet, and is refused by 50 until it is.
 use Rattle.std.specs.Prelude.{◌≡◌, true, List, [], ◌∷◌, ℕ, codes}
 use Rattle.kb_class.specs.declared.ids.MethodId.{MethodId}
 use Rattle.kb_names.specs.declared.types.Target.{Target}

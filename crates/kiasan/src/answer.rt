@@ -11,9 +11,9 @@ use crate::assembly::answer_assembly;
 use crate::classes::{link_classes, read_classes};
 use crate::methods::{answer_report, answer_tests};
 use crate::orders::{classes_of, read_order, texts_of};
+use crate::ranges::look_at_files;
 use crate::refusals::{Answer, Stop, answer_refusal};
 use crate::replay::replay;
-use crate::spelled::look_at_files;
 use kb_outside::{Shelf, ShelfStop};
 use kb_rows::Row;
 use kb_test_laws::worlds_have_names;
@@ -59,7 +59,7 @@ fn carry_out<S: Shelf>(alloc: Global, words: &[String], shelf: &mut S) -> Result
     ensures { Carries (Rose (S.faults shelf.old) (S.faults shelf.new) × SomeUnsound (map string_bytes words.now) (S.sound shelf.old)) (Replies (map string_bytes words.now) (S.holds shelf.old)) result }
 {
     let order = read_order(alloc, words)?;
-    carry_out_order(alloc, &order, shelf)
+    carry_out_order(alloc, order.get(), shelf)
 }
 
 /// Does what an order says.
@@ -138,7 +138,7 @@ fn answer_on(alloc: Global, order: &Order, contents: &Contents) -> Result<Answer
     worlds_have_names();
     let given = read_classes(alloc, classes)?;
     let world = link_classes(alloc, given)?;
-    answer_in(alloc, order, contents.texts.as_slice(), &world)
+    answer_in(alloc, order, contents.texts.as_slice(), world.get())
 }
 
 /// What the program answers to an order on these texts and the world of its classes.

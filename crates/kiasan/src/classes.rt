@@ -12,7 +12,7 @@ use crate::refusals::{Stop, class_refusal, code_refusal};
 use kb_class::{GivenClass, handlers_of};
 use kb_classfile::{ClassFile, Method, read_class};
 use kb_code::{Listing, decode};
-use kb_rows::Row;
+use kb_rows::{Held, Row};
 use kb_world::{World, link};
 use std::alloc::Global;
 
@@ -33,20 +33,20 @@ fn read_one(alloc: Global, number: usize, bytes: &[u8]) -> Result<GivenClass, St
     ensures { Gives ⊥ (ClassRefuses number bytes.now) (λ class. IsClassOf bytes.now class) result }
 {
     let file = read_file(alloc, number, bytes)?;
-    let listings = list_methods(alloc, number, file.methods.as_slice())?;
+    let listings = list_methods(alloc, number, file.get().methods.as_slice())?;
     Ok(GivenClass {
-        file,
+        file: file.into_inner(),
         listings: Row::from_vec(listings),
     })
 }
 
 /// The class file of that number.
 #[tactic(auto, using(crate::proofs::ClassLaws::class_stops))]
-fn read_file(alloc: Global, number: usize, bytes: &[u8]) -> Result<ClassFile, Stop>
+fn read_file(alloc: Global, number: usize, bytes: &[u8]) -> Result<Held<ClassFile>, Stop>
     ensures { Gives ⊥ (FileRefuses number bytes.now) (λ file. IsClassFile file bytes.now) result }
 {
     match read_class(alloc, bytes) {
-        Ok(file) => Ok(file),
+        Ok(file) => Ok(Held::new(alloc, file)?),
         Err(refusal) => Err(class_refusal(number, &refusal)),
     }
 }
@@ -92,9 +92,9 @@ fn listing_of(
 
 /// The world of classes.
 #[tactic(auto, using(crate::proofs::ClassLaws::link_stops))]
-pub fn link_classes(alloc: Global, given: Vec<GivenClass>) -> Result<World, Stop>
+pub fn link_classes(alloc: Global, given: Vec<GivenClass>) -> Result<Held<World>, Stop>
     requires { AreGiven given.items }
     ensures { Gives ⊥ (WorldRefuses given.items) (Links given.items) result }
 {
-    Ok(link(alloc, given)?)
+    Ok(Held::new(alloc, link(alloc, given)?)?)
 }

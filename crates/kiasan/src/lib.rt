@@ -7,13 +7,12 @@
 mod answer;
 mod assembly;
 mod classes;
-mod memory;
 mod methods;
 mod orders;
+mod ranges;
 mod refusals;
 mod replay;
 mod reports;
-mod spelled;
 mod status;
 mod tests_text;
 mod top;
@@ -21,4 +20,5 @@ mod unbuilt;
 mod verdicts;
 
 pub use status::Status;
-pub use top::kiasan;
+pub use std::alloc::AllocError as NoMemory;
+pub use top::{kiasan, words_have_one_reply};

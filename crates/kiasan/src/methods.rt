@@ -1,20 +1,29 @@
 //! What the program tells of the paths of a job's method: their report, or their tests.
 
-ghost use Rattle.std.specs.Prelude.{◌≡◌};
+ghost use Rattle.std.specs.Prelude.{◌≡◌, IfOk};
+ghost use Rattle.kb_class.specs.declared.ids.MethodId.{MethodId};
+ghost use Rattle.kb_drive.specs.Covers.{EachPath};
 ghost use Rattle.kb_link.specs.Links.{IsLinked};
+ghost use Rattle.kb_names.specs.Targets.{IsTarget};
+ghost use Rattle.kb_report.specs.Report.{report_text};
+ghost use Rattle.kb_test.specs.Lines.{IsRunBounds};
+ghost use Rattle.kb_test.specs.Tests.{SpellsTests};
 ghost use Rattle.kb_test_laws.specs.Texts.{NamesHaveTexts};
 ghost use Rattle.kiasan.specs.Answers.{Carries, IsReportText, IsTestsTextOf, RepliesJob};
-ghost use Rattle.kiasan.specs.Exploring.{IsBuiltReport, is_unsettled, status_of};
+ghost use Rattle.kiasan.specs.Exploring.{IsBuiltReport, IsCarried, is_unsettled, status_of, tests_of};
 ghost use Rattle.kiasan.specs.Orders.{IsBuiltJob};
 ghost use Rattle.kiasan.specs.Reach.{TargetRefuses};
 ghost use Rattle.kiasan.specs.Refusals.{Gives};
+ghost use Rattle.kiasan.specs.Tests.{literals_in};
 
+use crate::NoMemory;
 use crate::refusals::{Answer, Stop};
 use crate::status::Status;
 use crate::tests_text::tests_text;
 use crate::unbuilt::built_report;
 use kb_picture::{Leaf, Path};
 use kb_report::{Report, report_text};
+use kb_rows::Held;
 use kb_test_laws::runs_have_names;
 use kb_words::Job;
 use kb_world::World;
@@ -26,7 +35,16 @@ pub fn answer_report(alloc: Global, world: &World, job: &Job) -> Result<Answer, 
     ensures { Carries ⊥ (RepliesJob IsReportText world.now job.now) result }
 {
     let report = explore_job(alloc, world, job)?;
-    let text = report_text(alloc, world, &report)?;
+    let answer = report_answer(alloc, world, report.get())?;
+    Ok(answer)
+}
+
+/// The answer that tells a report.
+fn report_answer(alloc: Global, world: &World, report: &Report) -> Result<Answer, NoMemory>
+    ensures status { IfOk result (λ answer. answer.status ≡ status_of report.now.leaves) }
+    ensures text { IfOk result (λ answer. answer.text.items ≡ report_text world.now report.now) }
+{
+    let text = report_text(alloc, world, report)?;
     Ok(Answer {
         status: status_of(report.leaves.as_slice()),
         text,
@@ -42,7 +60,19 @@ pub fn answer_tests(alloc: Global, world: &World, job: &Job) -> Result<Answer, S
 {
     runs_have_names();
     let report = explore_job(alloc, world, job)?;
-    let text = tests_text(alloc, world, &report)?;
+    let answer = tests_answer(alloc, world, report.get())?;
+    Ok(answer)
+}
+
+/// The answer that tells the tests of a report.
+fn tests_answer(alloc: Global, world: &World, report: &Report) -> Result<Answer, NoMemory>
+    requires target { IsTarget report.now.target }
+    requires bounds { IsRunBounds report.now.bounds.run }
+    requires carried { (id : MethodId) × EachPath (IsCarried world.now id) report.now.leaves }
+    ensures status { IfOk result (λ answer. answer.status ≡ status_of report.now.leaves) }
+    ensures text { IfOk result (λ answer. SpellsTests (literals_in world.now) (tests_of world.now report.now) answer.text.items) }
+{
+    let text = tests_text(alloc, world, report)?;
     Ok(Answer {
         status: status_of(report.leaves.as_slice()),
         text,
@@ -51,7 +81,7 @@ pub fn answer_tests(alloc: Global, world: &World, job: &Job) -> Result<Answer, S
 
 /// The report of a job.
 #[tactic(auto, using(crate::proofs::JobLaws::reach_stops))]
-fn explore_job(alloc: Global, world: &World, job: &Job) -> Result<Report, Stop>
+fn explore_job(alloc: Global, world: &World, job: &Job) -> Result<Held<Report>, Stop>
     requires { IsBuiltJob job.now }
     ensures { Gives ⊥ (TargetRefuses world.now job.now.target) (IsBuiltReport world.now job.now) result }
 {

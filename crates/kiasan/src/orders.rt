@@ -1,26 +1,39 @@
 //! The orders that are built, and the files that an order reads.
 ghost use Rattle.std.specs.Prelude.{◌≡◌, IfOk, map, string_bytes};
+ghost use Rattle.kb_words.specs.Orders.{AreOrdered, IsOrder};
 ghost use Rattle.kiasan.specs.Answers.{WordsRefuse};
 ghost use Rattle.kiasan.specs.Orders.{IsBuiltOrder, OrdersBuilt, classes_of, is_built, is_lazy, texts_of};
 ghost use Rattle.kiasan.specs.Refusals.{Gives};
 
 use crate::refusals::{Refusal, Stop};
 use kb_picture::Init;
-use kb_words::{Order, Word, read_words};
+use kb_rows::Held;
+use kb_words::{Order, Word, WordFault, read_words};
 use std::alloc::Global;
 use std::slice;
 
 /// What the words order, where it is built.
 #[tactic(auto, using(crate::proofs::WordsLaws::words_stop, crate::proofs::WordsLaws::not_built, crate::proofs::WordsLaws::built_order))]
-pub fn read_order(alloc: Global, words: &[String]) -> Result<Order, Stop>
+pub fn read_order(alloc: Global, words: &[String]) -> Result<Held<Order>, Stop>
     ensures order { Gives ⊥ (WordsRefuse (map string_bytes words.now)) (OrdersBuilt (map string_bytes words.now)) result }
     ensures built { IfOk result IsBuiltOrder }
 {
-    let order = read_words(alloc, words)?;
-    if !is_built(&order) {
+    let order = held_order(alloc, words)?;
+    if !is_built(order.get()) {
         return Err(Stop::Refused(Refusal::Unbuilt));
     }
     Ok(order)
+}
+
+/// What the words order, in a box of its own.
+fn held_order(alloc: Global, words: &[String]) -> Result<Held<Order>, WordFault>
+    ensures order { AreOrdered (map string_bytes words.now) result }
+    ensures ranges { IfOk result IsOrder }
+{
+    match read_words(alloc, words) {
+        Ok(order) => Ok(Held::new(alloc, order)?),
+        Err(fault) => Err(fault),
+    }
 }
 
 fn is_built(order: &Order) -> bool

@@ -5,7 +5,7 @@ ghost use Rattle.std.specs.Fmt.{digit_glyph};
 ghost use Rattle.kb_names.specs.Targets.{target_text};
 ghost use Rattle.kiasan.specs.Refusals.{class_refusal, refusal_line, code_refusal, refusal_status, file_line, offset_line, entry_line, code_line, opcode_front, opcode_line, target_line, handler_line, pool_line, class_front, class_line, method_line, instruction_front, what_text, word_line, hexadecimal};
 
-use crate::memory::NoMemory;
+use crate::NoMemory;
 use crate::status::Status;
 use crate::unbuilt::{UNBUILT_LINE, UNBUILT_STATUS};
 use kb_classfile::ClassRefusal;
@@ -14,11 +14,11 @@ use kb_names::{Name, Target, write_name, write_target};
 use kb_test::TestRefusal;
 use kb_words::WordFault;
 use kb_world::{LinkRefusal, What};
-use std::alloc::{AllocError, AllocFailed, Global};
+use std::alloc::{AllocFailed, Global};
 
 /// Why what the words order is not done. Files, methods, handlers, tests and words are numbered from 0, lines from 1. Offsets
 /// count the bytes of a class file from its front, those of instructions and targets the bytes of a method's code.
-#[derive(Debug, Drop)]
+#[derive(Drop)]
 pub enum Refusal {
     /// The class file of that number does not begin as one.
     Magic(usize),
@@ -58,7 +58,7 @@ pub enum Refusal {
     BadDescriptor(u32, u16),
     /// Two classes have the name, or one has that of a platform class.
     Twice(Name),
-    /// No class has the name of a superclass or interface.
+    /// No class has the name of a superclass or interface, or the one that a new, anewarray, checkcast or instanceof names.
     Missing(Name),
     /// The class is one of its own superclasses and interfaces.
     Circle(Name),
@@ -113,7 +113,7 @@ pub enum Refusal {
 }
 
 /// Why there is no text to write, or why it is that of a refusal.
-#[derive(Debug, Drop)]
+#[derive(Drop)]
 pub enum Stop {
     Refused(Refusal),
     /// A file could not be read.
@@ -137,26 +137,6 @@ impl From<NoMemory> for Stop {
     ghost from_gives = { λ _ e. e ≡ NoMemory };
 
     fn from(_refusal: NoMemory) -> Stop {
-        Stop::NoMemory
-    }
-}
-
-impl From<kb_report::NoMemory> for Stop {
-    ghost use Rattle.kiasan.specs.declared.refusals.Stop.TheVariants.{NoMemory};
-
-    ghost from_gives = { λ _ e. e ≡ NoMemory };
-
-    fn from(_refusal: kb_report::NoMemory) -> Stop {
-        Stop::NoMemory
-    }
-}
-
-impl From<AllocError> for Stop {
-    ghost use Rattle.kiasan.specs.declared.refusals.Stop.TheVariants.{NoMemory};
-
-    ghost from_gives = { λ _ e. e ≡ NoMemory };
-
-    fn from(_error: AllocError) -> Stop {
         Stop::NoMemory
     }
 }

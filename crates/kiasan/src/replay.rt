@@ -32,16 +32,6 @@ impl From<BadTest> for Stop {
     }
 }
 
-impl From<kb_replay::NoMemory> for Stop {
-    ghost use Rattle.kiasan.specs.declared.refusals.Stop.TheVariants.{NoMemory};
-
-    ghost from_gives = { λ _ e. e ≡ NoMemory };
-
-    fn from(_refusal: kb_replay::NoMemory) -> Stop {
-        Stop::NoMemory
-    }
-}
-
 /// What the program answers about the tests of a file, where these are its bytes. All of them are looked at before the first is
 /// run.
 #[tactic(auto, unfolding(crate::specs::Answers::RepliesReplay))]

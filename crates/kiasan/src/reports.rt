@@ -7,21 +7,26 @@ ghost use Rattle.kiasan.specs.Exploring.{AreListed, HasHead, IsBuiltReport};
 ghost use Rattle.kiasan.specs.Orders.{IsBuiltJob};
 ghost use Rattle.kiasan.specs.Unbuilt.{IsBuiltFor};
 
-use crate::memory::NoMemory;
+use crate::NoMemory;
 use kb_class::MethodId;
 use kb_drive::{DriveStop, explore_from};
 use kb_frames::start;
 use kb_oracle::SolverOracle;
 use kb_picture::Path;
 use kb_report::Report;
-use kb_rows::Row;
+use kb_rows::{Held, Row};
 use kb_words::Job;
 use kb_world::World;
 use std::alloc::Global;
 
 /// The report of the job's method, whose exploration is built. Refused for want of memory alone.
 #[tactic(auto, using(crate::proofs::JobLaws::built_report))]
-pub fn report_of(alloc: Global, world: &World, job: &Job, id: MethodId) -> Result<Report, NoMemory>
+pub fn report_of(
+    alloc: Global,
+    world: &World,
+    job: &Job,
+    id: MethodId,
+) -> Result<Held<Report>, NoMemory>
     requires found { IsTargetOf world.now job.now.target id }
     requires accepted { IsAccepted world.now id }
     requires built { IsBuiltFor world.now id }
@@ -34,18 +39,21 @@ pub fn report_of(alloc: Global, world: &World, job: &Job, id: MethodId) -> Resul
 }
 
 /// The report of these paths, with what the job asks for as its head.
-fn report_with(alloc: Global, job: &Job, leaves: Row<Path>) -> Result<Report, NoMemory>
+fn report_with(alloc: Global, job: &Job, leaves: Row<Path>) -> Result<Held<Report>, NoMemory>
     ensures head { IfOk result (HasHead job.now) }
     ensures leaves { IfOk result (λ report. report.leaves ≡ leaves) }
 {
-    Ok(Report {
-        target: job.target.copied(alloc)?,
+    let target = job.target.copied(alloc)?;
+    let report = Report {
+        target,
         init: job.init,
         bounds: job.bounds,
         paths: job.paths,
         budget: job.budget,
         leaves,
-    })
+    };
+    let held = Held::new(alloc, report)?;
+    Ok(held)
 }
 
 /// The paths of the job's method. Each question to the solver has the budget that the job asks for.

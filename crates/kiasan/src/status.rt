@@ -14,9 +14,9 @@ pub enum Status {
     Words,
     /// A class file was refused.
     Class,
-    /// Class files are not linked, or a method is not there.
+    /// Class files are not linked, or a method, a field or a class that is reached is not there.
     Link,
-    /// Something that is not built was met.
+    /// An instruction that is reached cannot be carried out, a class is initialised by code, or something is not built yet.
     Outside,
     /// A file could not be read.
     ReadFault,

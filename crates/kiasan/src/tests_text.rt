@@ -11,12 +11,12 @@ ghost use Rattle.kb_test.specs.Tests.{IsTest, SpellsTests, literal_objects};
 ghost use Rattle.kiasan.specs.Exploring.{IsCarried, path_tests, test_of, tests_of};
 ghost use Rattle.kiasan.specs.Tests.{literals_in};
 
-use crate::memory::NoMemory;
-use crate::spelled::look_at_numbers;
-use kb_heap::{Heap, Object};
+use crate::NoMemory;
+use crate::ranges::look_at_numbers;
+use kb_heap::{Ending, Heap, Input, Object};
 use kb_picture::{Ended, Leaf, Path, ending_at, final_heaps_are_whole, places};
 use kb_report::Report;
-use kb_rows::Row;
+use kb_rows::{Held, Row};
 use kb_test::{FinalHeap, Test, write_test};
 use kb_world::World;
 use std::alloc::Global;
@@ -54,7 +54,7 @@ fn write_path_tests(
         return Ok(());
     };
     let test = test_of(alloc, world, report, path, ended)?;
-    write_test(alloc, &test, world.literals(), text)?;
+    write_test(alloc, test.get(), world.literals(), text)?;
     Ok(())
 }
 
@@ -65,7 +65,7 @@ fn test_of(
     report: &Report,
     path: &Path,
     ended: &Ended,
-) -> Result<Test, NoMemory>
+) -> Result<Held<Test>, NoMemory>
     requires target { IsTarget report.now.target }
     requires bounds { IsRunBounds report.now.bounds.run }
     requires leaf { path.now.leaf ≡ EndedLeaf ended.now }
@@ -79,14 +79,33 @@ fn test_of(
     };
     let (ending, heap) = ending_at(alloc, world, path, &ended.input, &places)?;
     look_at_numbers(&ended.input, &ending, &heap);
-    let inputs = ended.input.heap.objects.as_slice().len();
-    Ok(Test {
+    let test = test_with(alloc, report, &ended.input, ending, &heap, world.literals())?;
+    Ok(test)
+}
+
+/// The test that ends so, in a box of its own. The first objects of its heap are those of the input, and the next so many literals.
+fn test_with(
+    alloc: Global,
+    report: &Report,
+    input: &Input,
+    ending: Ending,
+    heap: &Heap,
+    literals: u32,
+) -> Result<Held<Test>, NoMemory>
+    requires room { length input.now.heap.objects + literals ≤ length heap.now.objects }
+    requires parts { heap.now.objects ≡ take (length input.now.heap.objects) heap.now.objects ++ (literal_objects literals ++ drop (length input.now.heap.objects + literals) heap.now.objects) }
+    ensures { IfOk result (λ test. test ≡ record { target = report.now.target; bounds = report.now.bounds.run; input = input.now; ending = ending; heap = heap.now }) }
+{
+    let inputs = input.heap.objects.as_slice().len();
+    let test = Test {
         target: report.target.copied(alloc)?,
         bounds: report.bounds.run,
-        input: ended.input.copied(alloc)?,
+        input: input.copied(alloc)?,
         ending,
-        heap: final_heap(alloc, &heap, inputs, world.literals())?,
-    })
+        heap: final_heap(alloc, heap, inputs, literals)?,
+    };
+    let held = Held::new(alloc, test)?;
+    Ok(held)
 }
 
 /// The heap of a test, whose first objects are so many of the input, and the next so many literals.
@@ -103,7 +122,7 @@ fn final_heap(
     let objects = heap.objects.as_slice();
     let first = copied_objects(alloc, &objects[..inputs])?;
     let made = copied_objects(alloc, &objects[inputs + literals as usize..])?;
-    Ok(FinalHeap::new(alloc, first, literals, made)?)
+    FinalHeap::new(alloc, first, literals, made)
 }
 
 fn copied_objects(alloc: Global, objects: &[Object]) -> Result<Row<Object>, NoMemory>

@@ -1,4 +1,4 @@
-//! What is not built by now, and is refused by 50 until it is.
+//! What is not built yet, and is refused by 50 until it is.
 
 ghost use Rattle.kb_link.specs.Targets.{IsTargetOf};
 ghost use Rattle.kb_world.specs.Reach.{IsAccepted};
@@ -12,6 +12,7 @@ use crate::reports::report_of;
 use crate::status::Status;
 use kb_class::MethodId;
 use kb_report::Report;
+use kb_rows::Held;
 use kb_stepref::is_heap_method;
 use kb_words::Job;
 use kb_world::World;
@@ -23,7 +24,12 @@ pub const UNBUILT_LINE: &str = "refused 50\n";
 
 /// The report of a job's method, where its exploration is built.
 #[tactic(auto, using(crate::proofs::JobLaws::unbuilt_target))]
-pub fn built_report(alloc: Global, world: &World, job: &Job, id: MethodId) -> Result<Report, Stop>
+pub fn built_report(
+    alloc: Global,
+    world: &World,
+    job: &Job,
+    id: MethodId,
+) -> Result<Held<Report>, Stop>
     requires found { IsTargetOf world.now job.now.target id }
     requires accepted { IsAccepted world.now id }
     requires job { IsBuiltJob job.now }

@@ -3,7 +3,7 @@
 ghost use Rattle.std.specs.Prelude.{◌≡◌, ◌++◌, IfOk, OnOk};
 ghost use Rattle.kiasan.specs.Verdicts.{verdict_text, verdicts_text, replay_total, replay_text};
 
-use crate::memory::NoMemory;
+use crate::NoMemory;
 use crate::replay::count_differs;
 use kb_replay::Replayed;
 use kb_test::{Test, write_run};

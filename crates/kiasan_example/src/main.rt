@@ -10,7 +10,7 @@ mod tests;
 use kb_outside::{MemoryShelf, MemorySink};
 use kb_samples::CLASS_A;
 use kiasan::{Status, kiasan};
-use std::alloc::Global;
+use std::alloc::{AllocError, Global};
 use std::io::{self, Write};
 use std::process::ExitCode;
 
@@ -28,15 +28,33 @@ fn main(rt: HostRuntime) -> io::Result<ExitCode> {
 
 /// The status and the text of the top call on class A.
 fn explored(alloc: Global) -> io::Result<(Status, Vec<u8>)> {
+    let words = words(alloc)?;
+    let mut shelf = shelf_with_class(alloc)?;
+    answered(alloc, words.as_slice(), &mut shelf)
+}
+
+fn words(alloc: Global) -> Result<Vec<String>, AllocError> {
     let mut words = Vec::new(alloc);
     for word in WORDS {
         words.push(String::from_str(alloc, word)?)?;
     }
+    Ok(words)
+}
+
+fn shelf_with_class(alloc: Global) -> Result<MemoryShelf, AllocError> {
     let file = (String::from_str(alloc, "A.class")?, CLASS_A.to_vec(alloc)?);
-    let mut shelf = MemoryShelf::new(vec![in alloc; file]?, Vec::new(alloc));
+    Ok(MemoryShelf::new(vec![in alloc; file]?, Vec::new(alloc)))
+}
+
+/// The status and the text of the top call on these words.
+fn answered(
+    alloc: Global,
+    words: &[String],
+    shelf: &mut MemoryShelf,
+) -> io::Result<(Status, Vec<u8>)> {
     let Ok(mut sink) = MemorySink::new(alloc, ROOM, Vec::new(alloc)).with_room(ROOM) else {
         return Ok((Status::Memory, Vec::new(alloc)));
     };
-    let status = kiasan(alloc, words.as_slice(), &mut shelf, &mut sink);
+    let status = kiasan(alloc, words, shelf, &mut sink);
     Ok((status, sink.bytes().to_vec(alloc)?))
 }

@@ -2,15 +2,11 @@
 #![tactic(auto)]
 
 mod program;
-#[cfg(test)]
-mod tests;
-mod words;
 
-use kb_outside::{FileShelf, OutSink};
+use kb_outside::{FileShelf, OutSink, command_words};
 use program::run;
 use std::io;
 use std::process::ExitCode;
-use words::command_words;
 
 /// Runs the program on the words of the command line.
 fn main(rt: HostRuntime) -> ExitCode {

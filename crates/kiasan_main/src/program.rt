@@ -4,20 +4,16 @@ ghost use Rattle.std.specs.Prelude.{◌≡◌, map, string_bytes, IfOk, IsErr, I
 ghost use Rattle.std.specs.Process.{exit_status};
 ghost use Rattle.kiasan.specs.StatusNumber.{status_number};
 ghost use Rattle.kiasan.specs.declared.status.Status.{Status};
+ghost use Rattle.kb_outside.specs.declared.words.WordsStop.{WordsStop};
 ghost use Rattle.kiasan_main.specs.Program.{EndsWith, not_utf8};
-ghost use Rattle.kiasan_main.specs.declared.words.WordsStop.{WordsStop};
 
-use crate::words::WordsStop;
-use kb_outside::{Shelf, Sink};
+use kb_outside::{Shelf, Sink, WordsStop};
 use kiasan::{Status, kiasan};
 use std::alloc::Global;
 use std::process::ExitCode;
 
-/// The exit code where a word is not UTF-8. It is no status.
-const NOT_UTF8: u8 = 71;
-
 /// Does what the words ask for, and ends with the number of the status. Where there are no words to go by, nothing is
-/// read or written.
+/// written.
 pub fn run<S: Shelf, K: Sink>(
     alloc: Global,
     words: Result<Vec<String>, WordsStop>,
@@ -31,8 +27,7 @@ pub fn run<S: Shelf, K: Sink>(
 {
     match words {
         Ok(words) => exit_code(kiasan(alloc, words.as_slice(), shelf, out)),
-        Err(WordsStop::NotUtf8) => ExitCode::from(NOT_UTF8),
-        Err(WordsStop::NoMemory) => exit_code(Status::Memory),
+        Err(stop) => ExitCode::from(stop.code()),
     }
 }
 

@@ -17,6 +17,7 @@ use kb_heap::{Ending, Heap};
 use kb_load::world_of;
 use kb_machine::{fits_types, run};
 use kb_outside::{FileShelf, OutSink, Shelf, Sink, send_all};
+use kb_rows::Held;
 use kb_world::World;
 use rows::{TableRow, read_row};
 use std::alloc::Global;
@@ -30,20 +31,51 @@ const ROOM: usize = 65_536;
 fn main(rt: HostRuntime) -> io::Result<ExitCode> {
     let mut shelf = FileShelf::new(&rt);
     let mut out = OutSink::new(io::writer(&rt));
-    let Ok(table) = String::from_utf8(read_file(rt.alloc(), "rows", &mut shelf)?) else {
-        return Err(Error::from(ErrorKind::InvalidData));
-    };
-    let mut world = None;
-    for line in table.as_str().lines() {
-        if line.is_empty() || line.starts_with("#") {
-            continue;
-        }
-        match line.strip_prefix("files ") {
-            Some(names) => world = Some(read_world(rt.alloc(), names, &mut shelf)?),
-            None => write_row(rt.alloc(), line, world.as_ref(), &mut out)?,
-        }
-    }
+    let table = read_table(rt.alloc(), &mut shelf)?;
+    write_rows(rt.alloc(), table.as_str(), &mut shelf, &mut out)?;
     Ok(ExitCode::from(0))
+}
+
+/// The text of the table.
+fn read_table<S: Shelf>(alloc: Global, shelf: &mut S) -> io::Result<String> {
+    match String::from_utf8(read_file(alloc, "rows", shelf)?) {
+        Ok(table) => Ok(table),
+        Err(_) => Err(Error::from(ErrorKind::InvalidData)),
+    }
+}
+
+/// Writes how each row of the table ends.
+fn write_rows<S: Shelf, W: Sink>(
+    alloc: Global,
+    table: &str,
+    shelf: &mut S,
+    out: &mut W,
+) -> io::Result<()> {
+    let mut world = None;
+    for line in table.lines() {
+        take_line(alloc, line, &mut world, shelf, out)?;
+    }
+    Ok(())
+}
+
+/// Reads the class files of the rows that follow, or writes a row.
+fn take_line<S: Shelf, W: Sink>(
+    alloc: Global,
+    line: &str,
+    world: &mut Option<Held<World>>,
+    shelf: &mut S,
+    out: &mut W,
+) -> io::Result<()> {
+    if line.is_empty() || line.starts_with("#") {
+        return Ok(());
+    }
+    match line.strip_prefix("files ") {
+        Some(names) => {
+            *world = Some(read_world(alloc, names, shelf)?);
+            Ok(())
+        }
+        None => write_row(alloc, line, world.as_ref(), out),
+    }
 }
 
 fn read_file<S: Shelf>(alloc: Global, name: &str, shelf: &mut S) -> io::Result<Vec<u8>> {
@@ -55,13 +87,13 @@ fn read_file<S: Shelf>(alloc: Global, name: &str, shelf: &mut S) -> io::Result<V
 }
 
 /// The world of the class files of these names.
-fn read_world<S: Shelf>(alloc: Global, names: &str, shelf: &mut S) -> io::Result<World> {
+fn read_world<S: Shelf>(alloc: Global, names: &str, shelf: &mut S) -> io::Result<Held<World>> {
     let mut files = Vec::new(alloc);
     for name in names.split(' ') {
         files.push(read_file(alloc, name, shelf)?)?;
     }
     match world_of(alloc, files.as_slice()) {
-        Some(world) => Ok(world),
+        Some(world) => Ok(Held::new(alloc, world)?),
         None => Err(Error::from(ErrorKind::InvalidData)),
     }
 }
@@ -70,16 +102,16 @@ fn read_world<S: Shelf>(alloc: Global, names: &str, shelf: &mut S) -> io::Result
 fn write_row<W: Sink>(
     alloc: Global,
     line: &str,
-    world: Option<&World>,
+    world: Option<&Held<World>>,
     out: &mut W,
 ) -> io::Result<()> {
     let Some(world) = world else {
         return Err(Error::from(ErrorKind::InvalidData));
     };
-    let row = read_row(alloc, line)?;
+    let text = row_text(alloc, world.get(), line)?;
     send(out, line.as_bytes())?;
     send(out, b": ")?;
-    send(out, row_text(alloc, world, &row)?.as_slice())?;
+    send(out, text.as_slice())?;
     send(out, b"\n")
 }
 
@@ -90,9 +122,14 @@ fn send<W: Sink>(out: &mut W, text: &[u8]) -> io::Result<()> {
     }
 }
 
-/// How the run of a row ends, or why there is none.
-fn row_text(alloc: Global, world: &World, row: &TableRow) -> io::Result<Vec<u8>> {
-    let Ok(method) = world.reach(alloc, &row.target) else {
+/// How the run of the row of a line ends, or why there is none.
+fn row_text(alloc: Global, world: &World, line: &str) -> io::Result<Vec<u8>> {
+    let row = read_row(alloc, line)?;
+    text_of(alloc, world, &row)
+}
+
+fn text_of(alloc: Global, world: &World, row: &TableRow) -> io::Result<Vec<u8>> {
+    let Ok(method) = world.reach(alloc, row.target.get()) else {
         return Ok(b"cannot be run".to_vec(alloc)?);
     };
     if !fits_types(world, method, &row.input) {

@@ -2,13 +2,14 @@
 
 use kb_heap::{Heap, Input, Row, RunBounds, Value};
 use kb_names::{Target, read_target};
+use kb_rows::Held;
 use std::alloc::Global;
 use std::io::{self, Error, ErrorKind};
 
 /// A row: a method, what it is run on, within which bounds, and how often.
-#[derive(Debug, Drop)]
+#[derive(Drop)]
 pub struct TableRow {
-    pub target: Target,
+    pub target: Held<Target>,
     pub input: Input,
     pub bounds: RunBounds,
     pub times: u32,
@@ -29,11 +30,8 @@ pub fn read_row(alloc: Global, line: &str) -> io::Result<TableRow> {
     let Some(target) = words.next() else {
         return Err(malformed());
     };
-    let Ok(target) = read_target(alloc, target.as_bytes()) else {
-        return Err(malformed());
-    };
     let mut row = TableRow {
-        target,
+        target: target_of(alloc, target)?,
         input: Input {
             heap: Heap::new(alloc),
             args: Row::new(alloc),
@@ -45,6 +43,13 @@ pub fn read_row(alloc: Global, line: &str) -> io::Result<TableRow> {
         add_word(&mut row, word)?;
     }
     Ok(row)
+}
+
+fn target_of(alloc: Global, word: &str) -> io::Result<Held<Target>> {
+    match read_target(alloc, word.as_bytes()) {
+        Ok(target) => Ok(Held::new(alloc, target)?),
+        Err(_) => Err(malformed()),
+    }
 }
 
 /// An argument, or a bound.

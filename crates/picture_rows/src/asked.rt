@@ -49,8 +49,9 @@ fn add_lines(
     Ok(())
 }
 
-/// A line `ask` asks of the path and the input before it, `choices` of the picture alone, and `emit` makes the input that the path
-/// carries; a line `#` speaks to the reader alone, and the lines with the names of paths and inputs are written as they are.
+/// A line `ask` asks of the path and the input before it, `choices` of the picture alone, and `emit` makes the input that the
+/// path carries; a line `#` speaks to the reader alone, and the lines with the names of paths and inputs are written as they
+/// are.
 fn add_line(
     alloc: Global,
     world: &World,

@@ -139,7 +139,7 @@ pub fn read_op(word: &str) -> io::Result<Op> {
 pub fn read_exact(alloc: Global, word: &str) -> io::Result<ExactType> {
     match word.strip_prefix("[") {
         Some(component) => read_array(alloc, component),
-        None => Ok(ExactType::Class(Name::from_vec(word.as_bytes().to_vec(alloc)?))),
+        None => Ok(ExactType::Class(Name::from_vec(word.as_bytes().to_vec(alloc)?)?)),
     }
 }
 

@@ -1,6 +1,6 @@
 //! Arrays, by their lengths; and settings that are told apart.
 
-use crate::parts::{array, path, push_two, report, target};
+use crate::parts::{array, path, push, push_found, push_object, push_two, report, target};
 use kb_heap::{Bound, Bounds, Heap, Input, Object, RunBounds, Value};
 use kb_names::{ExactType, JType};
 use kb_picture::{
@@ -8,7 +8,7 @@ use kb_picture::{
     Write,
 };
 use kb_report::Report;
-use kb_rows::Row;
+use kb_rows::{Held, Row};
 use std::alloc::Global;
 use std::io;
 
@@ -25,18 +25,24 @@ const BOUNDS: Bounds = Bounds {
 };
 
 /// An array whose elements are written, and one that is longer than the bound.
-pub fn arrays(alloc: Global) -> io::Result<Report> {
-    let target = target(alloc, b"A.swap([I)V")?;
+pub fn arrays(alloc: Global) -> io::Result<Held<Report>> {
     let mut leaves = Vec::new(alloc);
     push_two(short(alloc), long(alloc), &mut leaves)?;
-    Ok(Report {
+    settings_apart(alloc, leaves)
+}
+
+/// A report on these paths, whose settings are numbers of their own.
+fn settings_apart(alloc: Global, leaves: Vec<Path>) -> io::Result<Held<Report>> {
+    let target = target(alloc, b"A.swap([I)V")?;
+    let report = Report {
         target,
         init: Init::Lazy,
         bounds: BOUNDS,
         paths: 8,
         budget: 9,
         leaves: Row::from_vec(leaves),
-    })
+    };
+    Ok(Held::new(alloc, report)?)
 }
 
 fn short(alloc: Global) -> io::Result<Path> {
@@ -107,11 +113,17 @@ fn one_array(alloc: Global, elements: &[i32]) -> io::Result<Input> {
 }
 
 /// An array in an array, and longer than the bound.
-pub fn nested(alloc: Global) -> io::Result<Report> {
-    let cut = Leaf::Cut(Bound::Array, two_arrays(alloc)?);
-    let long = path(alloc, vec![in alloc; 3, 1, 5]?, nested_seen(alloc)?, cut);
-    let leaves = vec![in alloc; long]?;
+pub fn nested(alloc: Global) -> io::Result<Held<Report>> {
+    let mut leaves = Vec::new(alloc);
+    push(longer(alloc), &mut leaves)?;
     report(alloc, b"A.first([[I)I", Init::Lazy, leaves)
+}
+
+fn longer(alloc: Global) -> io::Result<Path> {
+    let decisions = vec![in alloc; 3, 1, 5]?;
+    let picture = nested_seen(alloc)?;
+    let input = two_arrays(alloc)?;
+    Ok(path(alloc, decisions, picture, Leaf::Cut(Bound::Array, input)))
 }
 
 fn nested_seen(alloc: Global) -> io::Result<Picture> {
@@ -121,41 +133,38 @@ fn nested_seen(alloc: Global) -> io::Result<Picture> {
         (inner, Seen::Obj(1)),
         (Origin::Element(1, 0), Seen::Int(0)),
     ]?;
-    let objects = vec![in alloc;
-        PicObject {
-            kind: array(alloc, b"[I")?,
-            length: Length::Is(2),
-            origin: Origin::Arg(0)
-        },
-        PicObject {
-            kind: ExactType::Array(JType::Int),
-            length: Length::Above(3),
-            origin: inner
-        },
-    ]?;
+    let mut objects = Row::new(alloc);
+    push_found(
+        array(alloc, b"[I"),
+        Length::Is(2),
+        Origin::Arg(0),
+        &mut objects,
+    )?;
+    let kind = ExactType::Array(JType::Int);
+    push_found(Ok(kind), Length::Above(3), inner, &mut objects)?;
     Ok(Picture {
         seen: Row::from_vec(seen),
         locs: Row::new(alloc),
-        objects: Row::from_vec(objects),
+        objects,
     })
 }
 
 fn two_arrays(alloc: Global) -> io::Result<Input> {
-    let zeros = vec![in alloc; Value::Int(0), Value::Int(0), Value::Int(0), Value::Int(0)]?;
-    let objects = vec![in alloc;
-        Object {
-            kind: array(alloc, b"[I")?,
-            values: Row::from_vec(vec![in alloc; Value::Null, Value::Ref(1)]?)
-        },
-        Object {
-            kind: ExactType::Array(JType::Int),
-            values: Row::from_vec(zeros)
-        },
-    ]?;
+    let mut objects = Row::new(alloc);
+    push_arrays(alloc, &mut objects)?;
     Ok(Input {
-        heap: Heap {
-            objects: Row::from_vec(objects),
-        },
+        heap: Heap { objects },
         args: Row::from_vec(vec![in alloc; Value::Ref(0)]?),
     })
+}
+
+fn push_arrays(alloc: Global, objects: &mut Row<Object>) -> io::Result<()> {
+    let arrays = vec![in alloc; Value::Null, Value::Ref(1)]?;
+    push_object(array(alloc, b"[I"), Row::from_vec(arrays), objects)?;
+    let zeros = vec![in alloc; Value::Int(0), Value::Int(0), Value::Int(0), Value::Int(0)]?;
+    push_object(
+        Ok(ExactType::Array(JType::Int)),
+        Row::from_vec(zeros),
+        objects,
+    )
 }

@@ -3,7 +3,7 @@
 use crate::parts::{class, ended, ints, ints_seen, push, report, report_of_two, returns};
 use kb_picture::{Init, Leaf, Made, Operand, Out, Path, SymEnding, Term};
 use kb_report::Report;
-use kb_rows::Row;
+use kb_rows::{Held, Row};
 use kb_terms::Op;
 use std::alloc::Global;
 use std::io;
@@ -13,7 +13,7 @@ fn term(op: Op, left: Operand, right: Option<Operand>) -> Term {
 }
 
 /// `static int abs(int x) { return x < 0 ? -x : x; }`
-pub fn abs(alloc: Global) -> io::Result<Report> {
+pub fn abs(alloc: Global) -> io::Result<Held<Report>> {
     report_of_two(alloc, b"B.abs(I)I", Init::Lazy, same(alloc), negated(alloc))
 }
 
@@ -57,7 +57,7 @@ fn path_of_ints(
 }
 
 /// `static int div(int x, int y) { return x / y; }`
-pub fn div(alloc: Global) -> io::Result<Report> {
+pub fn div(alloc: Global) -> io::Result<Held<Report>> {
     report_of_two(
         alloc,
         b"D.div(II)I",
@@ -120,7 +120,7 @@ const OPERATIONS: [Op; 18] = [
 ];
 
 /// A path with a term for each operation.
-pub fn operations(alloc: Global) -> io::Result<Report> {
+pub fn operations(alloc: Global) -> io::Result<Held<Report>> {
     let mut paths = Vec::new(alloc);
     push(all_operations(alloc), &mut paths)?;
     report(alloc, b"O.f(I)I", Init::Lazy, paths)

@@ -6,12 +6,12 @@ use kb_heap::{Bound, Place};
 use kb_names::{ExactType, JType};
 use kb_picture::{Init, Leaf, Made, Operand, Out, Path, SymEnding};
 use kb_report::Report;
-use kb_rows::Row;
+use kb_rows::{Held, Row};
 use std::alloc::Global;
 use std::io;
 
 /// A path for each leaf, and one for each bound on arrays and runs.
-pub fn leaves(alloc: Global) -> io::Result<Report> {
+pub fn leaves(alloc: Global) -> io::Result<Held<Report>> {
     let mut paths = Vec::new(alloc);
     push_paths(alloc, &mut paths)?;
     report(alloc, b"A.f([I)V", Init::Lazy, paths)

@@ -1,18 +1,18 @@
 //! References that are locations until they are looked into.
 
-use crate::parts::{class, path, plain, report_of_two};
+use crate::parts::{class, path, push_found, push_object, report_of_two};
 use kb_heap::{Bound, Heap, Input, Object, Value};
 use kb_picture::{
-    Ended, Init, Leaf, Operand, Origin, Out, Path, PicLoc, Picture, Seen, Standing, SymEnding,
-    Write,
+    Ended, Init, Leaf, Length, Operand, Origin, Out, Path, PicLoc, Picture, Seen, Standing,
+    SymEnding, Write,
 };
 use kb_report::Report;
-use kb_rows::Row;
+use kb_rows::{Held, Row};
 use std::alloc::Global;
-use std::io::{self, Error, ErrorKind};
+use std::io;
 
 /// Two nodes, of which the second one's next is not looked into, and the first one's is made null; and a node beyond the bound.
-pub fn locations(alloc: Global) -> io::Result<Report> {
+pub fn locations(alloc: Global) -> io::Result<Held<Report>> {
     let method = b"Node.m(LNode;LNode;)I";
     report_of_two(alloc, method, Init::Lazier, looked(alloc), beyond(alloc))
 }
@@ -47,42 +47,34 @@ fn beyond(alloc: Global) -> io::Result<Path> {
     Ok(path(alloc, decisions, picture, Leaf::Cut(Bound::K, input)))
 }
 
-fn node(alloc: Global, next: Value) -> io::Result<Object> {
-    Ok(Object {
-        kind: class(alloc, b"Node")?,
-        values: Row::from_vec(vec![in alloc; Value::Int(0), next]?),
-    })
+fn push_node(alloc: Global, next: Value, objects: &mut Row<Object>) -> io::Result<()> {
+    let values = vec![in alloc; Value::Int(0), next]?;
+    push_object(class(alloc, b"Node"), Row::from_vec(values), objects)
 }
 
 fn two_nodes(alloc: Global) -> io::Result<Input> {
-    let objects = vec![in alloc;
-        node(alloc, Value::Null)?,
-        node(alloc, Value::Ref(2))?,
-        node(alloc, Value::Null)?,
-    ]?;
+    let mut objects = Row::new(alloc);
+    push_node(alloc, Value::Null, &mut objects)?;
+    push_node(alloc, Value::Ref(2), &mut objects)?;
+    push_node(alloc, Value::Null, &mut objects)?;
     Ok(Input {
-        heap: Heap {
-            objects: Row::from_vec(objects),
-        },
+        heap: Heap { objects },
         args: Row::from_vec(vec![in alloc; Value::Ref(0), Value::Ref(1)]?),
     })
 }
 
 fn one_node(alloc: Global) -> io::Result<Input> {
+    let mut objects = Row::new(alloc);
+    push_node(alloc, Value::Null, &mut objects)?;
     Ok(Input {
-        heap: Heap {
-            objects: Row::from_vec(vec![in alloc; node(alloc, Value::Null)?]?),
-        },
+        heap: Heap { objects },
         args: Row::from_vec(vec![in alloc; Value::Ref(0), Value::Null]?),
     })
 }
 
 /// A copy, so that a report shows that it equals its source.
 fn copied(alloc: Global, picture: &Picture) -> io::Result<Picture> {
-    match picture.copied(alloc) {
-        Ok(copy) => Ok(copy),
-        Err(_) => Err(Error::from(ErrorKind::OutOfMemory)),
-    }
+    Ok(picture.copied(alloc)?)
 }
 
 fn bound_to(origin: Origin, standing: Standing) -> PicLoc {
@@ -102,14 +94,23 @@ fn three_locations(alloc: Global) -> io::Result<Picture> {
         bound_to(Origin::Arg(1), Standing::Obj(1)),
         bound_to(next, Standing::Open),
     ]?;
-    let objects = vec![in alloc;
-        plain(alloc, b"Node", Origin::Arg(0))?,
-        plain(alloc, b"Node", Origin::Arg(1))?,
-    ]?;
+    let mut objects = Row::new(alloc);
+    push_found(
+        class(alloc, b"Node"),
+        Length::Plain,
+        Origin::Arg(0),
+        &mut objects,
+    )?;
+    push_found(
+        class(alloc, b"Node"),
+        Length::Plain,
+        Origin::Arg(1),
+        &mut objects,
+    )?;
     Ok(Picture {
         seen: Row::from_vec(seen),
         locs: Row::from_vec(locs),
-        objects: Row::from_vec(objects),
+        objects,
     })
 }
 

@@ -16,6 +16,7 @@ mod worlds;
 
 use kb_outside::{OutSink, Sink, send_all};
 use kb_report::{Report, report_text};
+use kb_rows::Held;
 use kb_world::World;
 use std::alloc::Global;
 use std::io::{self, Error, ErrorKind};
@@ -50,13 +51,11 @@ fn write_texts<W: Sink>(alloc: Global, world: &World, out: &mut W) -> io::Result
 fn write_text<W: Sink>(
     alloc: Global,
     world: &World,
-    report: io::Result<Report>,
+    report: io::Result<Held<Report>>,
     out: &mut W,
 ) -> io::Result<()> {
     let report = report?;
-    let Ok(text) = report_text(alloc, world, &report) else {
-        return Err(Error::from(ErrorKind::OutOfMemory));
-    };
+    let text = report_text(alloc, world, report.get())?;
     match send_all(out, text.as_slice()) {
         Ok(()) => Ok(()),
         Err(_) => Err(Error::from(ErrorKind::Other)),

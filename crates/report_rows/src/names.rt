@@ -1,19 +1,19 @@
 //! Names that are escaped, and fields of one name.
 
-use crate::parts::{class, ints, path, plain, push, report};
-use kb_heap::{Bound, Heap, Input, Object, Value};
+use crate::parts::{class, ints, path, plain, push, push_object, report};
+use kb_heap::{Bound, Heap, Input, Value};
 use kb_names::{ExactType, JType, Name};
 use kb_picture::{
     Ended, Init, Leaf, Length, Made, Operand, Origin, Out, Path, PicObject, Picture, Seen,
     SymEnding, Write,
 };
 use kb_report::Report;
-use kb_rows::Row;
+use kb_rows::{Held, Row};
 use std::alloc::Global;
 use std::io;
 
 /// Two fields of one name, told apart by their descriptors.
-pub fn names(alloc: Global) -> io::Result<Report> {
+pub fn names(alloc: Global) -> io::Result<Held<Report>> {
     let mut paths = Vec::new(alloc);
     push(namesakes(alloc), &mut paths)?;
     report(alloc, b"a%20b.f%2Eg(La%20b;[[Z)[I", Init::Lazy, paths)
@@ -36,7 +36,7 @@ fn array_seen(alloc: Global) -> io::Result<Picture> {
         (Origin::Arg(1), Seen::Null),
     ]?;
     let array = PicObject {
-        kind: ExactType::Array(JType::Class(Name::from_vec(b"a b".to_vec(alloc)?))),
+        kind: ExactType::Array(JType::Class(Name::from_vec(b"a b".to_vec(alloc)?)?)),
         length: Length::Is(3),
         origin: field,
     };
@@ -50,7 +50,7 @@ fn array_seen(alloc: Global) -> io::Result<Picture> {
 
 /// Fields of one name in two classes, beside one without a slot, and beside a static one; names with other bytes; objects
 /// without slots.
-pub fn fields(alloc: Global) -> io::Result<Report> {
+pub fn fields(alloc: Global) -> io::Result<Held<Report>> {
     let mut paths = Vec::new(alloc);
     push(all_fields(alloc), &mut paths)?;
     report(alloc, b"Low.<f>(I)V", Init::Lazy, paths)
@@ -64,7 +64,7 @@ fn all_fields(alloc: Global) -> io::Result<Path> {
 }
 
 /// A report without paths.
-pub fn nothing(alloc: Global) -> io::Result<Report> {
+pub fn nothing(alloc: Global) -> io::Result<Held<Report>> {
     report(alloc, b"Low.g-$_()V", Init::Lazier, Vec::new(alloc))
 }
 
@@ -104,7 +104,7 @@ fn thrown(alloc: Global) -> io::Result<Leaf> {
             values: Row::new(alloc)
         },
         Made {
-            kind: ExactType::Array(JType::Class(Name::from_vec(b"a;b".to_vec(alloc)?))),
+            kind: ExactType::Array(JType::Class(Name::from_vec(b"a;b".to_vec(alloc)?)?)),
             values: Row::from_vec(vec![in alloc; Out::Literal(0), Out::New(0)]?)
         },
     ]?;
@@ -125,24 +125,20 @@ fn low_and_others(alloc: Global) -> io::Result<Input> {
         Value::Int(3),
         Value::Int(0),
     ]?;
-    let objects = vec![in alloc;
-        Object {
-            kind: class(alloc, b"Low")?,
-            values: Row::from_vec(values)
-        },
-        Object {
-            kind: class(alloc, b"java/lang/Object")?,
-            values: Row::new(alloc)
-        },
-        Object {
-            kind: ExactType::Array(JType::Bool),
-            values: Row::new(alloc)
-        },
-    ]?;
+    let mut objects = Row::new(alloc);
+    push_object(class(alloc, b"Low"), Row::from_vec(values), &mut objects)?;
+    push_object(
+        class(alloc, b"java/lang/Object"),
+        Row::new(alloc),
+        &mut objects,
+    )?;
+    push_object(
+        Ok(ExactType::Array(JType::Bool)),
+        Row::new(alloc),
+        &mut objects,
+    )?;
     Ok(Input {
-        heap: Heap {
-            objects: Row::from_vec(objects),
-        },
+        heap: Heap { objects },
         args: Row::from_vec(vec![in alloc; Value::Ref(0), Value::Int(4)]?),
     })
 }

@@ -1,12 +1,12 @@
 //! Parts of reports.
 
-use kb_heap::{Bounds, Heap, Input, RunBounds, Value};
+use kb_heap::{Bounds, Heap, Input, Object, RunBounds, Value};
 use kb_names::{ExactType, Name, Target, read_target, read_type};
 use kb_picture::{
     Ended, Init, Leaf, Length, Made, Origin, Out, Path, PicObject, Picture, Seen, SymEnding,
 };
 use kb_report::Report;
-use kb_rows::Row;
+use kb_rows::{Held, Row};
 use std::alloc::Global;
 use std::io::{self, Error, ErrorKind};
 
@@ -23,15 +23,22 @@ const DEFAULTS: Bounds = Bounds {
 };
 
 /// A report with the settings that hold when none is given.
-pub fn report(alloc: Global, method: &[u8], init: Init, leaves: Vec<Path>) -> io::Result<Report> {
-    Ok(Report {
-        target: target(alloc, method)?,
+pub fn report(
+    alloc: Global,
+    method: &[u8],
+    init: Init,
+    leaves: Vec<Path>,
+) -> io::Result<Held<Report>> {
+    let target = target(alloc, method)?;
+    let report = Report {
+        target,
         init,
         bounds: DEFAULTS,
         paths: 1000,
         budget: 2000,
         leaves: Row::from_vec(leaves),
-    })
+    };
+    Ok(Held::new(alloc, report)?)
 }
 
 pub fn target(alloc: Global, text: &[u8]) -> io::Result<Target> {
@@ -42,7 +49,7 @@ pub fn target(alloc: Global, text: &[u8]) -> io::Result<Target> {
 }
 
 pub fn class(alloc: Global, name: &[u8]) -> io::Result<ExactType> {
-    Ok(ExactType::Class(Name::from_vec(name.to_vec(alloc)?)))
+    Ok(ExactType::Class(Name::from_vec(name.to_vec(alloc)?)?))
 }
 
 /// The type of arrays with that component.
@@ -60,6 +67,33 @@ pub fn plain(alloc: Global, name: &[u8], origin: Origin) -> io::Result<PicObject
         length: Length::Plain,
         origin,
     })
+}
+
+/// Pushes an object of a picture, if its exact type could be made.
+pub fn push_found(
+    kind: io::Result<ExactType>,
+    length: Length,
+    origin: Origin,
+    objects: &mut Row<PicObject>,
+) -> io::Result<()> {
+    let kind = kind?;
+    objects.push(PicObject {
+        kind,
+        length,
+        origin,
+    })?;
+    Ok(())
+}
+
+/// Pushes an object of an input, if its exact type could be made.
+pub fn push_object(
+    kind: io::Result<ExactType>,
+    values: Row<Value>,
+    objects: &mut Row<Object>,
+) -> io::Result<()> {
+    let kind = kind?;
+    objects.push(Object { kind, values })?;
+    Ok(())
 }
 
 /// A picture of ints alone: arguments from 0 on, each with its own variable.
@@ -121,7 +155,7 @@ pub fn report_of_two(
     init: Init,
     first: io::Result<Path>,
     second: io::Result<Path>,
-) -> io::Result<Report> {
+) -> io::Result<Held<Report>> {
     let mut paths = Vec::new(alloc);
     push_two(first, second, &mut paths)?;
     report(alloc, method, init, paths)

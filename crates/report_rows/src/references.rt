@@ -1,18 +1,18 @@
 //! References: nulls, and objects of all sorts that are found in slots of others.
 
-use crate::parts::{array, class, path, plain, report_of_two, returns};
+use crate::parts::{array, class, path, push_found, push_object, report_of_two, returns};
 use kb_heap::{Heap, Input, Object, Value};
 use kb_picture::{
     Ended, Init, Leaf, Length, Made, Operand, Origin, Out, Path, PicObject, Picture, Seen,
     SymEnding, Write,
 };
 use kb_report::Report;
-use kb_rows::Row;
+use kb_rows::{Held, Row};
 use std::alloc::Global;
 use std::io;
 
 /// Nulls alone; and an array of two objects, of which one is an empty array, with two nodes.
-pub fn references(alloc: Global) -> io::Result<Report> {
+pub fn references(alloc: Global) -> io::Result<Held<Report>> {
     let method = b"R.f([Ljava/lang/Object;LNode;)Ljava/lang/Object;";
     report_of_two(alloc, method, Init::Lazy, nulls(alloc), held(alloc))
 }
@@ -50,26 +50,33 @@ fn five_objects(alloc: Global) -> io::Result<Picture> {
         (Origin::Element(0, 1), Seen::Obj(3)),
         (NEXT, Seen::Obj(4)),
     ]?;
-    let objects = vec![in alloc;
-        PicObject {
-            kind: array(alloc, b"Ljava/lang/Object;")?,
-            length: Length::Is(2),
-            origin: Origin::Arg(0)
-        },
-        plain(alloc, b"Node", Origin::Arg(1))?,
-        plain(alloc, b"java/lang/Object", Origin::Element(0, 0))?,
-        PicObject {
-            kind: array(alloc, b"[I")?,
-            length: Length::Is(0),
-            origin: Origin::Element(0, 1)
-        },
-        plain(alloc, b"Node", NEXT)?,
-    ]?;
+    let mut objects = Row::new(alloc);
+    push_five_found(alloc, &mut objects)?;
     Ok(Picture {
         seen: Row::from_vec(seen),
         locs: Row::new(alloc),
-        objects: Row::from_vec(objects),
+        objects,
     })
+}
+
+fn push_five_found(alloc: Global, objects: &mut Row<PicObject>) -> io::Result<()> {
+    let all = array(alloc, b"Ljava/lang/Object;");
+    push_found(all, Length::Is(2), Origin::Arg(0), objects)?;
+    push_found(
+        class(alloc, b"Node"),
+        Length::Plain,
+        Origin::Arg(1),
+        objects,
+    )?;
+    let object = class(alloc, b"java/lang/Object");
+    push_found(object, Length::Plain, Origin::Element(0, 0), objects)?;
+    push_found(
+        array(alloc, b"[I"),
+        Length::Is(0),
+        Origin::Element(0, 1),
+        objects,
+    )?;
+    push_found(class(alloc, b"Node"), Length::Plain, NEXT, objects)
 }
 
 /// An element and a field are written, the field with a node that the run made; an object of the picture is returned.
@@ -102,36 +109,27 @@ fn made_node(alloc: Global) -> io::Result<Made> {
     })
 }
 
-fn node(alloc: Global, next: Value) -> io::Result<Object> {
-    Ok(Object {
-        kind: class(alloc, b"Node")?,
-        values: Row::from_vec(vec![in alloc; Value::Int(0), next]?),
-    })
+fn push_node(alloc: Global, next: Value, objects: &mut Row<Object>) -> io::Result<()> {
+    let values = vec![in alloc; Value::Int(0), next]?;
+    push_object(class(alloc, b"Node"), Row::from_vec(values), objects)
 }
 
 fn five_held(alloc: Global) -> io::Result<Input> {
+    let mut objects = Row::new(alloc);
+    push_five_held(alloc, &mut objects)?;
     let args = vec![in alloc; Value::Ref(0), Value::Ref(1)]?;
-    let elements = vec![in alloc; Value::Ref(2), Value::Ref(3)]?;
-    let objects = vec![in alloc;
-        Object {
-            kind: array(alloc, b"Ljava/lang/Object;")?,
-            values: Row::from_vec(elements)
-        },
-        node(alloc, Value::Ref(4))?,
-        Object {
-            kind: class(alloc, b"java/lang/Object")?,
-            values: Row::new(alloc)
-        },
-        Object {
-            kind: array(alloc, b"[I")?,
-            values: Row::new(alloc)
-        },
-        node(alloc, Value::Null)?,
-    ]?;
     Ok(Input {
-        heap: Heap {
-            objects: Row::from_vec(objects),
-        },
+        heap: Heap { objects },
         args: Row::from_vec(args),
     })
+}
+
+fn push_five_held(alloc: Global, objects: &mut Row<Object>) -> io::Result<()> {
+    let elements = vec![in alloc; Value::Ref(2), Value::Ref(3)]?;
+    let all = array(alloc, b"Ljava/lang/Object;");
+    push_object(all, Row::from_vec(elements), objects)?;
+    push_node(alloc, Value::Ref(4), objects)?;
+    push_object(class(alloc, b"java/lang/Object"), Row::new(alloc), objects)?;
+    push_object(array(alloc, b"[I"), Row::new(alloc), objects)?;
+    push_node(alloc, Value::Null, objects)
 }

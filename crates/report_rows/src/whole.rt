@@ -7,13 +7,13 @@ use kb_picture::{
     SymEnding, Term, Write,
 };
 use kb_report::Report;
-use kb_rows::Row;
+use kb_rows::{Held, Row};
 use kb_terms::Op;
 use std::alloc::Global;
 use std::io;
 
 /// A node that is looked into: both its slots are written, one of them with a node that the run makes and returns.
-pub fn whole(alloc: Global) -> io::Result<Report> {
+pub fn whole(alloc: Global) -> io::Result<Held<Report>> {
     let mut paths = Vec::new(alloc);
     push(every_section(alloc), &mut paths)?;
     report(alloc, b"Node.w(LNode;I)LNode;", Init::Lazier, paths)

@@ -41,7 +41,7 @@ pub fn read_log(alloc: Global, text: &str) -> io::Result<Log> {
     Ok(Log { entries })
 }
 
-fn read_chain(alloc: Global, text: &str) -> io::Result<Chain> {
+pub fn read_chain(alloc: Global, text: &str) -> io::Result<Chain> {
     let numbers = read_numbers(alloc, text)?;
     let [start, others @ ..] = numbers.as_slice() else {
         return Err(malformed());

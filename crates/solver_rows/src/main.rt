@@ -6,9 +6,13 @@
 #![tactic(auto)]
 
 mod asking;
+mod dimacs_texts;
 mod formulas;
+mod heuristics;
+mod log_lines;
 mod numbers;
 mod outcomes;
+mod pools;
 mod questions;
 mod searches;
 mod subjects;

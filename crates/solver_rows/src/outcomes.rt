@@ -9,7 +9,7 @@ use std::alloc::Global;
 use std::io;
 
 /// What a search comes to.
-#[derive(Clone, Copy, Debug, PartialEq, Eq, Drop)]
+#[derive(Clone, Copy, PartialEq, Eq, Drop)]
 pub enum Outcome {
     /// A model that meets what is asked.
     Model,

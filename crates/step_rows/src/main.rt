@@ -15,6 +15,7 @@ mod walk;
 
 use kb_load::world_of;
 use kb_outside::{FileShelf, OutSink, Shelf, Sink, send_all};
+use kb_rows::Held;
 use kb_world::World;
 use rows::{malformed, read_row};
 use std::alloc::Global;
@@ -54,13 +55,13 @@ fn read_file<S: Shelf>(alloc: Global, name: &str, shelf: &mut S) -> io::Result<V
 }
 
 /// The world of the class files of these names.
-fn read_world<S: Shelf>(alloc: Global, names: &str, shelf: &mut S) -> io::Result<World> {
+fn read_world<S: Shelf>(alloc: Global, names: &str, shelf: &mut S) -> io::Result<Held<World>> {
     let mut files = Vec::new(alloc);
     for name in names.split(' ') {
         files.push(read_file(alloc, name, shelf)?)?;
     }
     match world_of(alloc, files.as_slice()) {
-        Some(world) => Ok(world),
+        Some(world) => Ok(Held::new(alloc, world)?),
         None => Err(malformed()),
     }
 }
@@ -69,14 +70,14 @@ fn read_world<S: Shelf>(alloc: Global, names: &str, shelf: &mut S) -> io::Result
 fn write_row<W: Sink>(
     alloc: Global,
     line: &str,
-    world: Option<&World>,
+    world: Option<&Held<World>>,
     out: &mut W,
 ) -> io::Result<()> {
     let Some(world) = world else {
         return Err(malformed());
     };
     let row = read_row(alloc, line)?;
-    let text = walk_text(alloc, world, line, &row)?;
+    let text = walk_text(alloc, world.get(), line, &row)?;
     match send_all(out, text.as_slice()) {
         Ok(()) => Ok(()),
         Err(_) => Err(Error::from(ErrorKind::Other)),

@@ -20,6 +20,7 @@ use kb_class::MethodId;
 use kb_frames::{Outcome, SymState, start};
 use kb_heap::Bounds;
 use kb_picture::{Choice, Init};
+use kb_rows::Held;
 use kb_stepint::{choices_int, is_int_method, take_int};
 use kb_stepref::laws::heap_methods_stay;
 use kb_stepref::{choices_ref, is_heap_method, take_ref};
@@ -57,8 +58,8 @@ fn walk(
         return Ok(());
     }
     let mut state = begin(alloc, world, method)?;
-    follow(alloc, world, row, &mut state, into)?;
-    append_met(alloc, world, row, &state, into)
+    follow(alloc, world, row, state.get_mut(), into)?;
+    append_met(alloc, world, row, state.get(), into)
 }
 
 /// Whether an int can count the elements of an array within the bound, and one more.
@@ -68,8 +69,16 @@ fn is_in_range(bounds: &Bounds) -> bool
     bounds.array < i32::MAX as u32
 }
 
-/// The state before the first step.
-fn begin(alloc: Global, world: &World, method: MethodId) -> io::Result<SymState>
+/// The state before the first step, in a box.
+fn begin(alloc: Global, world: &World, method: MethodId) -> io::Result<Held<SymState>>
+    requires { is_heap_method world.now method ≡ true }
+    ensures { IfOk result (IsHeapReached world.now) }
+{
+    let state = first_state(alloc, world, method)?;
+    Ok(Held::new(alloc, state)?)
+}
+
+fn first_state(alloc: Global, world: &World, method: MethodId) -> io::Result<SymState>
     requires { is_heap_method world.now method ≡ true }
     ensures { IfOk result (IsHeapReached world.now) }
 {

@@ -3,8 +3,8 @@
 ghost use Rattle.kb_test.specs.Tests.{AreTests};
 
 use crate::heaps::append_numbers;
-use crate::malformed;
 use crate::texts::append_text;
+use kb_table::malformed;
 use kb_test::{Test, TestRefusal, read_tests, write_run, write_test};
 use std::alloc::Global;
 use std::io;

@@ -1,7 +1,7 @@
 use Rattle.std.proofs.Common.{◌≡◌, ℕ, ℤ, false, List, ◌∷◌, length, sym, ◌∙◌, ap, to_z, of_z}
 use Rattle.std.proofs.lemmas.Int.{to_z-of_z}
 use mir.Syntax.{w32}
-use Rattle.kb_asm_text.specs.Lines.{is_table}
+use Rattle.kb_code.specs.Switches.{is_table}
 use Rattle.kb_asm_text.proofs.SwitchLaws.{table_refuted}
 use Rattle.kb_asm_text.proofs.switches.table_operand.Goals as goal
 

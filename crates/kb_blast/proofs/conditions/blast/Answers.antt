@@ -6,11 +6,11 @@ use Rattle.kb_blast.specs.Query.{listed, kinds_of, numbered_conditions, query_of
 use Rattle.kb_blast.specs.Conditions.{Words, occurring, with_kinds, blasted}
 use Rattle.kb_blast.specs.Meaning.{IsRising, MeetsInPool, SaysExactly, AreReadable}
 use Rattle.kb_blast.specs.Listing.{numbers_of}
-use Rattle.kb_blast.proofs.Loops.{blasted_is}
 use Rattle.kb_blast.proofs.Listed.{occurring-rising}
 use Rattle.kb_blast.proofs.Saying.{numbers-with_kinds}
 use Rattle.kb_blast.proofs.Pooled.{all-any, are-terms, pool-meets, pool-says, pool-readable}
 use Rattle.kb_blast.proofs.conditions.blast.Goals as goal
+use Rattle.kb_blast.proofs.conditions.blast.Goals.{After-drop-roots-2}
 
 pub numbering-requires : goal.numbering-requires
 numbering-requires c =
@@ -20,39 +20,34 @@ numbering-requires c =
 pub listed-requires : goal.listed-requires
 listed-requires c = all-any c.args.pool.now c.in_ok-numbering.numbering c.in_ok-numbering.ensures.numbered.operation
 
-pub variable_words-requires : goal.variable_words-requires
-variable_words-requires c =
+pub built-requires : goal.built-requires
+built-requires c =
     let terms = c.in_ok-listing.listing.terms.items in
     subst (λ kinds. IsRising (numbers_of kinds)) (sym c.in_ok-listing.ensures.kinds)
     (subst IsRising (sym (numbers-with_kinds (kinds_of c.args.pool.now) (occurring terms))) (occurring-rising terms))
 
-whole : (c : goal.After-drop-roots-2) → (c.in_ok-vars.vars.entries, c.finish.result) ≡ blasted (query_of c.args.pool.now c.args.when.now)
+whole : (c : After-drop-roots-2) → (c.in_ok-blasted.blasted.vars, c.in_ok-blasted.blasted.formula) ≡ blasted (query_of c.args.pool.now c.args.when.now)
 whole c =
     let nodes = c.args.pool.now in
     let when = c.args.when.now in
     let order : c.in_ok-numbering.numbering ≡ numbering nodes (roots_of when) =
     c.in_ok-numbering.ensures.order ∙ ap (numbering nodes) (c.deref.ensures.value ∙ c.in_ok-roots.ensures) in
-    blasted_is (query_of nodes when) c.in_ok-listing.listing.kinds.entries c.deref-2.result.now c.in_ok-vars.vars.entries c.in_ok-words.words.items c.deref-3.result.now
-    (numbered_conditions c.in_ok-numbering.numbering when) c.in_ok-builder.builder c.variable_words.new.builder c.term_words.new.builder c.finish.result
-    c.in_ok-builder.ensures.formula
-    (c.in_ok-listing.ensures.kinds ∙ ap (λ ts. with_kinds (kinds_of nodes) (occurring ts)) (c.in_ok-listing.ensures.terms ∙ ap (λ m. listed nodes m m) order))
-    c.in_ok-vars.ensures.built
-    (c.deref-2.ensures.value ∙ c.in_ok-listing.ensures.terms ∙ ap (λ m. listed nodes m m) order)
-    c.in_ok-words.ensures.built
-    c.deref-3.ensures.value
+    let terms : c.in_ok-listing.listing.terms.items ≡ listed nodes (numbering nodes (roots_of when)) (numbering nodes (roots_of when)) =
+    c.in_ok-listing.ensures.terms ∙ ap (λ m. listed nodes m m) order in
+    c.in_ok-blasted.ensures (query_of nodes when)
+    (c.in_ok-listing.ensures.kinds ∙ ap (λ ts. with_kinds (kinds_of nodes) (occurring ts)) terms) terms
     (ap (λ m. numbered_conditions m when) order)
-    (c.finish.ensures ∙ c.in_ok-add_conditions.ensures)
 
-formula-is : (c : goal.After-drop-roots-2) → c.finish.result ≡ (blasted (query_of c.args.pool.now c.args.when.now)).1
+formula-is : (c : After-drop-roots-2) → c.in_ok-blasted.blasted.formula ≡ (blasted (query_of c.args.pool.now c.args.when.now)).1
 formula-is c = ap (λ (r : Words × Cnf). r.1) (whole c)
 
-vars-are : (c : goal.After-drop-roots-2) → c.in_ok-vars-2.vars ≡ (blasted (query_of c.args.pool.now c.args.when.now)).0
-vars-are c = c.in_ok-vars-2.ensures ∙ ap (λ (r : Words × Cnf). r.0) (whole c)
+vars-are : (c : After-drop-roots-2) → c.in_ok-blasted.blasted.vars ≡ (blasted (query_of c.args.pool.now c.args.when.now)).0
+vars-are c = ap (λ (r : Words × Cnf). r.0) (whole c)
 
-formed-pool : (c : goal.After-drop-roots-2) → IsPool c.args.pool.now
+formed-pool : (c : After-drop-roots-2) → IsPool c.args.pool.now
 formed-pool c = subst IsPool c.nodes-nodes.ensures.nodes c.nodes-nodes.ensures.formed
 
-is-numbering : (c : goal.After-drop-roots-2) → IsNumbering c.args.pool.now (roots_of c.args.when.now) (numbering c.args.pool.now (roots_of c.args.when.now))
+is-numbering : (c : After-drop-roots-2) → IsNumbering c.args.pool.now (roots_of c.args.when.now) (numbering c.args.pool.now (roots_of c.args.when.now))
 is-numbering c =
     let nodes = c.args.pool.now in
     let roots : c.deref.result.now ≡ roots_of c.args.when.now = c.deref.ensures.value ∙ c.in_ok-roots.ensures in
@@ -68,7 +63,7 @@ pub returns-clause-law : goal.returns-clause-law
 returns-clause-law c =
     let nodes = c.args.pool.now in
     let when = c.args.when.now in
-    subst (λ vars. SaysExactly vars c.finish.result (MeetsInPool nodes when)) (sym (vars-are c))
+    subst (λ vars. SaysExactly vars c.in_ok-blasted.blasted.formula (MeetsInPool nodes when)) (sym (vars-are c))
     (subst (λ f. SaysExactly (blasted (query_of nodes when)).0 f (MeetsInPool nodes when)) (sym (formula-is c))
     (pool-says nodes when (formed-pool c) c.requires (is-numbering c)))
 
@@ -79,6 +74,6 @@ pub returns-clause-readable : goal.returns-clause-readable
 returns-clause-readable c =
     let nodes = c.args.pool.now in
     let when = c.args.when.now in
-    subst (AreReadable c.finish.result.vars (variables_of nodes)) (sym (vars-are c))
+    subst (AreReadable c.in_ok-blasted.blasted.formula.vars (variables_of nodes)) (sym (vars-are c))
     (subst (λ f. AreReadable f.vars (variables_of nodes) (blasted (query_of nodes when)).0) (sym (formula-is c))
     (pool-readable nodes when (formed-pool c) c.requires (is-numbering c)))

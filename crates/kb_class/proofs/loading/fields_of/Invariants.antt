@@ -7,7 +7,7 @@ use Rattle.kb_class.proofs.loading.fields_of.Given as goal
 
 abbrev pub invariant-loop-rest : goal.invariant-loop-rest
 invariant-loop-rest l = record {
-  told : AllByRecursion (IsFieldTold l.file l.table) l.rest;
+  told : AllByRecursion (IsFieldTold l.file l.names l.kinds) l.rest;
   made : (more : List FieldInfo) → AllZip (IsFieldOf l.file) l.rest more → AllZip (IsFieldOf l.file) l.file.fields (l.infos ++ more);
 }
 

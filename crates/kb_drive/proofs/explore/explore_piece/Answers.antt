@@ -13,8 +13,8 @@ pub loop-walk-init : goal.loop-walk-init
 loop-walk-init g c =
     let none : c.new-walk.result ≡ no_walk c.args.piece.state.method c.args.paths = c.new-walk.ensures ∙ ap (λ m. no_walk m c.args.paths) c.method.ensures in
     let same : c.add.new.self ≡ begun c.args.world.now c.args.bounds.now c.args.paths (g.O.Oracle.budget c.args.oracle.now) c.args.piece =
-    c.in_ok-add.ensures ∙ ap (λ (walk : Walk). walk_with walk c.in_ok-wait.field-0) none
-    ∙ ap (walk_with (no_walk c.args.piece.state.method c.args.paths)) c.in_ok-wait.ensures in
+    c.in_ok-add.ensures ∙ ap (λ (walk : Walk). walk_with walk c.in_ok-begin.field-0) none
+    ∙ ap (walk_with (no_walk c.args.piece.state.method c.args.paths)) c.in_ok-begin.ensures in
     let first : Explores c.args.world.now c.args.bounds.now c.args.paths (g.O.Oracle.budget c.args.oracle.now) c.args.piece c.add.new.self =
     subst (Explores c.args.world.now c.args.bounds.now c.args.paths (g.O.Oracle.budget c.args.oracle.now) c.args.piece) (sym same) (begins c.args.world.now c.args.bounds.now c.args.paths (g.O.Oracle.budget c.args.oracle.now) c.args.piece c.requires.piece c.requires.explorable) in
     record {

@@ -4,6 +4,9 @@ use Rattle.kb_link.specs.Slots.{slots_along}
 use Rattle.kb_link.specs.Links.{IsLinked}
 use Rattle.kb_link.proofs.linked.tables_of.Goals as goal
 
+pub method_tables-requires : goal.method_tables-requires
+method_tables-requires c = c.requires.2.methods
+
 pub invariant_of-result : goal.invariant_of-result
 invariant_of-result c = (
   record {
@@ -14,15 +17,15 @@ invariant_of-result c = (
     good_supers = c.requires.5;
     chains = c.requires.6;
     no_split = c.requires.7;
-    supers = c.in_ok-supers.ensures;
-    universe = c.in_ok-universe.ensures;
-    literals = c.in_ok-literals.ensures;
+    supers = c.in_ok-of_classes.ensures.supers;
+    universe = c.in_ok-of_classes.ensures.universe;
+    literals = c.in_ok-of_classes.ensures.literals;
   },
-  c.in_ok-slots.ensures ∙ ap (map (slots_along c.args.classes)) c.as_slice.ensures.value,
-  c.in_ok-places.ensures,
+  c.in_ok-of_classes.ensures.slots ∙ ap (map (slots_along c.args.classes)) c.as_slice.ensures.value,
+  c.in_ok-of_methods.ensures.places,
   c.requires.8,
-  c.in_ok-initialised.ensures ∙ ap (map (has_initialiser c.args.classes)) c.as_slice-2.ensures.value,
-  c.in_ok-placings.ensures,
+  c.in_ok-of_methods.ensures.initialised ∙ ap (map (has_initialiser c.args.classes)) c.as_slice-2.ensures.value,
+  c.in_ok-of_methods.ensures.placings,
 )
 
 pub returns-clause-linked : goal.returns-clause-linked
@@ -35,7 +38,7 @@ returns-clause-linked c =
       good_supers = c.requires.5;
       chains = c.requires.6;
       no_split = c.requires.7;
-      supers = c.in_ok-supers.ensures;
-      universe = c.in_ok-universe.ensures;
-      literals = c.in_ok-literals.ensures;
+      supers = c.in_ok-of_classes.ensures.supers;
+      universe = c.in_ok-of_classes.ensures.universe;
+      literals = c.in_ok-of_classes.ensures.literals;
     }

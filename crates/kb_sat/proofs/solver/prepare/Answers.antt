@@ -1,11 +1,12 @@
-use Rattle.std.proofs.Common.{◌≡◌, ◌∙◌, sym, subst, length, arith}
+use Rattle.std.proofs.Common.{◌≡◌, ◌∙◌, ap, sym, subst, length, arith}
 use Rattle.std.proofs.lemmas.List.{take_all}
 use Rattle.kb_chain.specs.Literal.{has}
 use Rattle.kb_eliminate.specs.Base.{IsConflict}
-use Rattle.kb_eliminate.specs.Base.{IsPropagated}
+use Rattle.kb_eliminate.specs.Base.{IsPropagated, IsReady}
 use Rattle.kb_eliminate.specs.Watches.{IsAwake, Quiet}
 use Rattle.kb_eliminate.proofs.BaseLaws.{doomed_from}
 use Rattle.kb_eliminate.proofs.WatchLaws.{at_none, at_some}
+use Rattle.kb_sat.specs.declared.search.Search.{Search}
 use Rattle.kb_sat.proofs.solver.prepare.Goals as goal
 
 pub returns-in-Some : goal.returns-in-Some
@@ -16,14 +17,14 @@ returns-in-Some c =
     (at_some c.in_ok-number.field-0 c.in-Some.number (λ n. IsConflict s.clauses s.trail n × IsAwake s.watches.pairs.items n) c.in-Some.is c.in_ok-number.ensures.conflict).0 in
     let d = doomed_from s.formula.now s.entries s.clauses s.watches.pairs.items s.watches.lists.items s.trail s.whole c.in-Some.number h conflict in (
       record {
-        level = c.in_ok-number.ensures.grows.starts ∙ c.requires.level;
+        level = c.in_ok-number.ensures.grows.starts ∙ (ap (λ (z : Search). z.base.trail.starts) c.get_mut.ensures.value ∙ c.requires.level);
         clauses = h.clauses;
         derives = h.derives;
         reasons = d.0;
         conflict = d.1;
       },
-      c.in_ok-number.ensures.keeps.formula,
-      c.in_ok-number.ensures.keeps.entries ∙ c.requires.entries,
+      c.in_ok-number.ensures.keeps.formula ∙ ap (λ (z : Search). z.base.formula.now) c.get_mut.ensures.value,
+      c.in_ok-number.ensures.keeps.entries ∙ (ap (λ (z : Search). z.base.entries) c.get_mut.ensures.value ∙ c.requires.entries),
     )
 
 pub eliminate-requires-clause-ready : goal.eliminate-requires-clause-ready
@@ -31,7 +32,8 @@ eliminate-requires-clause-ready c =
     let s = c.settle.new.self.base in
     let settled = at_none c.in_ok-number.field-0 (IsPropagated s) c.in_default.is c.in_ok-number.ensures.settled in
     let at : s.head ≡ length s.trail.literals = settled.head in
-    record {
+    let ready : IsReady s = record {
       head = omega (arith, at);
       quiet = subst (λ z. Quiet s.clauses s.watches.pairs.items (has z) (has s.trail.literals)) (sym (take_all s.head s.trail.literals (omega (arith, at)))) settled.quiet;
-    }
+    } in
+    subst (λ (z : Search). IsReady z.base) (sym c.get_mut-2.ensures.value) ready

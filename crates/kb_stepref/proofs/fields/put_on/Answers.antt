@@ -22,7 +22,7 @@ returns c =
     omega (arith, c.height.ensures, c.saturating_sub-kept.ensures, length-drop 2 (stack_of c.args.state.now.stage)) in
     let room : has_room c.args.turn.now.world.now (method_now c.args.state.now.method c.args.state.now.stage) (length (drop 2 (stack_of c.args.state.now.stage))) ≡ true =
     ap (has_room c.args.turn.now.world.now (method_now c.args.state.now.method c.args.state.now.stage)) (sym count) ∙ (sym c.has_room.ensures ∙ c.if-not-has_room.false) in
-    c.in_ok-replaces.ensures
+    c.in_ok-outcome.ensures
     ∙ ap (λ (s : State). went c.args.turn.now.world.now c.args.turn.now.bounds c.args.turn.now.next s (Goes (locals_of s.stage) (drop 2 (stack_of s.stage)))) new
     ∙ put_goes c.args.turn.now.world.now c.args.turn.now.bounds c.args.turn.now.next c.args.state.now c.args.field.now c.args.object c.args.value room
     ∙ rw place refl

@@ -2,6 +2,7 @@ use Rattle.std.proofs.Common.{List, ℕ, Vec, Global, Err, subst}
 use Rattle.std.proofs.lemmas.Result.{err_from_is_err_and}
 use Rattle.kb_class.specs.declared.given.GivenClass.{GivenClass}
 use Rattle.kb_link.specs.Links.{Links}
+use Rattle.kb_link.specs.World.{World}
 use Rattle.kiasan.specs.Answers.{AreClasses, Carries, RefusesClasses, RepliesIn}
 use Rattle.kiasan.specs.Refusals.{Gives}
 use Rattle.kiasan.proofs.AnswerLaws.{classes_stop, world_stops, world_goes}
@@ -12,12 +13,12 @@ pub link_classes-requires : goal.link_classes-requires
 link_classes-requires c = are_given _ c.in_ok-given.given.items c.in_ok-given.ensures
 
 pub answer_in-requires-clause-linked : goal.answer_in-requires-clause-linked
-answer_in-requires-clause-linked c = c.in_ok-world.ensures.linked
+answer_in-requires-clause-linked c = rw c.get.ensures c.in_ok-world.ensures.linked
 
 pub answer_in-requires-clause-names : goal.answer_in-requires-clause-names
 answer_in-requires-clause-names c =
     let given = c.in_ok-given.given.items in
-    c.worlds_have_names.ensures given c.in_ok-world.world (are_of_bytes _ given c.in_ok-given.ensures c.look_at_files.ensures) c.in_ok-world.ensures
+    rw c.get.ensures (c.worlds_have_names.ensures given c.in_ok-world.world (are_of_bytes _ given c.in_ok-given.ensures c.look_at_files.ensures) c.in_ok-world.ensures)
 
 pub returns-in_err-given : goal.returns-in_err-given
 returns-in_err-given c =
@@ -41,4 +42,5 @@ returns c =
     world_goes c.args.order.now c.args.contents.now given world c.answer_in.result
     (subst (λ (classes : List (List ℕ)). AreClasses classes given) c.as_slice-classes.ensures c.in_ok-given.ensures)
     c.in_ok-world.ensures
-    (subst (λ (texts : List (List ℕ)). Carries ⊥ (RepliesIn c.args.order.now texts world) c.answer_in.result) c.as_slice.ensures c.answer_in.ensures)
+    (subst (λ (w : World). Carries ⊥ (RepliesIn c.args.order.now c.args.contents.now.texts w) c.answer_in.result) c.get.ensures
+    (subst (λ (texts : List (List ℕ)). Carries ⊥ (RepliesIn c.args.order.now texts c.get.result.now) c.answer_in.result) c.as_slice.ensures c.answer_in.ensures))

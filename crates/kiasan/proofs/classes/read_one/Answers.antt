@@ -1,4 +1,4 @@
-use Rattle.std.proofs.Common.{Vec, Global, List, Option, Err, subst}
+use Rattle.std.proofs.Common.{Vec, Global, List, Option, Err, ◌∙◌, ap, subst}
 use Rattle.std.proofs.lemmas.Result.{err_from_is_err_and}
 use Rattle.kb_classfile.specs.declared.file.ClassFile.{ClassFile}
 use Rattle.kb_classfile.specs.declared.file.Method.{Method}
@@ -23,4 +23,4 @@ returns-in_err-listings c =
     (methods_stop c.args.number c.args.bytes.now c.in_ok-file.file c.in_err-listings.field-0.0
     (λ (listings : Vec (Option Listing) Global). AreListings c.in_ok-file.file.methods listings.items) (IsClassOf c.args.bytes.now) c.in_ok-file.ensures
     (subst (λ (ms : List Method). Gives {A = Vec (Option Listing) Global} ⊥ (MethodsRefuse c.args.number ms) (λ listings. AreListings ms listings.items) (Err c.in_err-listings.field-0.0))
-    c.as_slice.ensures c.in_err-listings.ensures))
+    (c.as_slice.ensures ∙ ap (λ (file : ClassFile). file.methods) c.get.ensures) c.in_err-listings.ensures))

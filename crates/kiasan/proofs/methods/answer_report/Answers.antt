@@ -1,5 +1,7 @@
 use Rattle.std.proofs.Common.{◌∙◌, ap}
 use Rattle.std.proofs.lemmas.Result.{err_from_is_err_and}
+use Rattle.kb_report.specs.declared.report.Report.{Report}
+use Rattle.kb_report.specs.Report.{report_text}
 use Rattle.kiasan.specs.Answers.{IsReportText}
 use Rattle.kiasan.specs.Exploring.{status_of}
 use Rattle.kiasan.proofs.JobLaws.{job_stops, job_ends}
@@ -12,4 +14,6 @@ returns-in_err-report c =
 
 pub returns : goal.returns
 returns c =
-    job_ends IsReportText c.args.world.now c.args.job.now c.in_ok-report.report _ c.in_ok-text.text.items c.in_ok-report.ensures (c.status_of.ensures ∙ ap status_of c.as_slice.ensures) c.in_ok-text.ensures.text
+    job_ends IsReportText c.args.world.now c.args.job.now c.in_ok-report.report _ c.in_ok-answer.answer.text.items c.in_ok-report.ensures
+    (c.in_ok-answer.ensures.status ∙ ap (λ (report : Report). status_of report.leaves) c.get.ensures)
+    (c.in_ok-answer.ensures.text ∙ ap (report_text c.args.world.now) c.get.ensures)

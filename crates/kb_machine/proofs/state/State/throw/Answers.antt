@@ -10,7 +10,7 @@ use Rattle.kb_semantics.specs.Instructions.{throw, with}
 use Rattle.kb_semantics.specs.Operands.{a_reference}
 use Rattle.kb_semantics.specs.Ways.{ill_typed, null_pointer, throws, throws_object}
 use Rattle.kb_machine.specs.Turns.{as_taken, config_of, setting_of, told}
-use Rattle.kb_machine.specs.declared.NoMemory.{NoMemory}
+use Rattle.std.specs.declared.alloc.AllocError.{AllocError as NoMemory}
 use Rattle.kb_machine.specs.declared.state.State.{State}
 use Rattle.kb_machine.specs.declared.turn.Step.{Step}
 use Rattle.kb_machine.specs.declared.turn.Turn.{Turn}

@@ -1,0 +1,55 @@
+//! Questions to the lines of a text.
+
+use crate::texts::malformed;
+use kb_asm_text::{BodyLine, Constant, Line, Operand, read_front, read_line};
+use std::alloc::Global;
+use std::io;
+
+/// Whether the text spells a line.
+pub fn line_answer(alloc: Global, text: &[u8]) -> io::Result<String> {
+    let line = read_line(alloc, text)?;
+    let told = if line.is_some() { "a line" } else { "no line" };
+    Ok(String::from_str(alloc, told)?)
+}
+
+/// The opcode and the int of a line that pushes a constant.
+pub fn int_answer(alloc: Global, text: &[u8]) -> io::Result<String> {
+    match pushed_int(alloc, text)? {
+        Some((op, number)) => Ok(format!(in alloc; "{op:02x} {number}")?),
+        None => Err(malformed()),
+    }
+}
+
+// The opcode and the int of the line, if it pushes one.
+fn pushed_int(alloc: Global, text: &[u8]) -> io::Result<Option<(u8, i32)>> {
+    let line = read_line(alloc, text)?;
+    Ok(int_of(&line))
+}
+
+fn int_of(line: &Option<Line>) -> Option<(u8, i32)> {
+    match line {
+        Some(Line::Body(body)) => int_in(body),
+        _ => None,
+    }
+}
+
+fn int_in(body: &BodyLine) -> Option<(u8, i32)> {
+    match body {
+        BodyLine::Instr(op, Operand::Constant(constant)) => Some((*op, int_at(constant)?)),
+        _ => None,
+    }
+}
+
+fn int_at(constant: &Constant) -> Option<i32> {
+    match constant {
+        Constant::Int(number) => Some(*number),
+        _ => None,
+    }
+}
+
+/// How many lines of the text fit, where they lead, and whether nothing stands behind them.
+pub fn front_answer(alloc: Global, text: &[u8]) -> io::Result<String> {
+    let front = read_front(alloc, text)?;
+    let told = (front.lines.as_slice().len(), front.place, front.ended);
+    Ok(format!(in alloc; "{told:?}")?)
+}

@@ -1,5 +1,0 @@
-use Rattle.kb_dimacs.proofs.FrontLaws.{finished}
-use Rattle.kb_dimacs.proofs.front.Front.finish.Goals as goal
-
-pub returns-in-Behind : goal.returns-in-Behind
-returns-in-Behind c = let h = c.in-Behind.is in rw h (finished c.in-Behind.body c.whole.result c.whole.ensures.some c.whole.ensures.none)

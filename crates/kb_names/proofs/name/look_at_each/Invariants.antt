@@ -1,6 +1,0 @@
-use Rattle.std.proofs.Common.{take}
-use Rattle.kb_names.specs.Bytes.{AreBytes}
-use Rattle.kb_names.proofs.name.look_at_each.Given as goal
-
-abbrev pub invariant-loop-byte : goal.invariant-loop-byte
-invariant-loop-byte l = AreBytes (take l.byte-index l.bytes)

@@ -1,4 +1,0 @@
-use Rattle.kb_world_rows.proofs.worlds.given_class.Goals as goal
-
-pub returns : goal.returns
-returns c = record { bytes = c.args.bytes.now; spelled = c.in-Ok.ensures.found.spelled; listed = rw c.from_vec.ensures c.in-Ok-listings_of.ensures }

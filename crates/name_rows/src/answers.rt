@@ -1,0 +1,130 @@
+//! What a text comes to.
+
+use crate::texts::{append_text, malformed};
+use kb_names::{
+    JType, Name, NameRefusal, NameTextRefusal, Spelling, Target, TargetRefusal, read_method_type,
+    read_name, read_target, read_type, write_method_type, write_name, write_target, write_type,
+};
+use std::alloc::Global;
+use std::io::{self, Error, ErrorKind};
+
+/// Appends the answer to a question about the text:
+///
+/// - `write`: the spelling of the name that has these bytes;
+/// - `name`: the bytes of the name that is spelled so, or where the text goes wrong;
+/// - `descriptor`: the descriptor of a type, or of a method where it begins with a parenthesis, as it is written again, or where
+///   the text goes wrong;
+/// - `cut`: where each front of a descriptor goes wrong, the whole last;
+/// - `component`: the descriptor of the component of a copy of the array type, with names spelled as in texts;
+/// - `target`: the target as it is written again, or where the text goes wrong;
+/// - `same`: of two targets, with a space between them, whether the one is the other, and the other the one.
+pub fn append_answer(
+    alloc: Global,
+    question: &str,
+    text: &[u8],
+    into: &mut Vec<u8>,
+) -> io::Result<()> {
+    match question {
+        "write" => Ok(write_name(&Name::from_slice(alloc, text)?, into)?),
+        "name" => append_name(alloc, text, into),
+        "descriptor" => append_descriptor(alloc, text, into),
+        "cut" => append_cuts(alloc, text, into),
+        "component" => append_component(alloc, text, into),
+        "target" => append_target(alloc, text, into),
+        "same" => append_same(alloc, text, into),
+        _ => Err(malformed()),
+    }
+}
+
+fn append_name(alloc: Global, text: &[u8], into: &mut Vec<u8>) -> io::Result<()> {
+    match read_name(alloc, text) {
+        Ok(name) => {
+            if name.is_empty() {
+                into.extend_from_slice(b"empty")?;
+            }
+            append_text(name.as_slice(), into)
+        }
+        Err(NameTextRefusal::BadName(at)) => append_bad(alloc, at, into),
+        Err(NameTextRefusal::NoMemory) => Err(no_memory()),
+    }
+}
+
+fn append_descriptor(alloc: Global, text: &[u8], into: &mut Vec<u8>) -> io::Result<()> {
+    match append_again(alloc, text, into) {
+        Ok(()) => Ok(()),
+        Err(NameRefusal::BadDescriptor(at)) => append_bad(alloc, at, into),
+        Err(NameRefusal::NoMemory) => Err(no_memory()),
+    }
+}
+
+/// Appends the descriptor as it is written again.
+fn append_again(alloc: Global, text: &[u8], into: &mut Vec<u8>) -> Result<(), NameRefusal> {
+    let written = match text {
+        [b'(', ..] => write_method_type(&read_method_type(alloc, text)?, Spelling::Raw, into),
+        _ => write_type(&read_type(alloc, text)?, Spelling::Raw, into),
+    };
+    match written {
+        Ok(()) => Ok(()),
+        Err(_) => Err(NameRefusal::NoMemory),
+    }
+}
+
+fn append_cuts(alloc: Global, text: &[u8], into: &mut Vec<u8>) -> io::Result<()> {
+    for (end, _) in text.iter().enumerate() {
+        append_descriptor(alloc, &text[..end], into)?;
+        into.extend_from_slice(b", ")?;
+    }
+    append_descriptor(alloc, text, into)
+}
+
+fn append_component(alloc: Global, text: &[u8], into: &mut Vec<u8>) -> io::Result<()> {
+    let Ok(of) = read_type(alloc, text) else {
+        return Err(malformed());
+    };
+    let copy = of.copied(alloc)?;
+    match &copy {
+        JType::Array(component) => Ok(write_type(component.get(), Spelling::Escaped, into)?),
+        _ => Err(malformed()),
+    }
+}
+
+fn append_target(alloc: Global, text: &[u8], into: &mut Vec<u8>) -> io::Result<()> {
+    match read_target(alloc, text) {
+        Ok(target) => Ok(write_target(&target, into)?),
+        Err(TargetRefusal::BadTarget(at)) => append_bad(alloc, at, into),
+        Err(TargetRefusal::NoMemory) => Err(no_memory()),
+    }
+}
+
+fn append_same(alloc: Global, text: &[u8], into: &mut Vec<u8>) -> io::Result<()> {
+    let Some(at) = text.iter().position(|byte| *byte == b' ') else {
+        return Err(malformed());
+    };
+    let one = target_of(alloc, &text[..at])?;
+    let other = target_of(alloc, &text[at + 1..])?;
+    append_whether(one.is_same(&other), into)?;
+    into.push(b' ')?;
+    append_whether(other.is_same(&one), into)
+}
+
+fn target_of(alloc: Global, text: &[u8]) -> io::Result<Target> {
+    match read_target(alloc, text) {
+        Ok(target) => Ok(target),
+        Err(_) => Err(malformed()),
+    }
+}
+
+fn append_whether(is_so: bool, into: &mut Vec<u8>) -> io::Result<()> {
+    let told = if is_so { b"same".as_slice() } else { b"other" };
+    into.extend_from_slice(told)?;
+    Ok(())
+}
+
+fn append_bad(alloc: Global, at: usize, into: &mut Vec<u8>) -> io::Result<()> {
+    into.extend_from_slice(format!(in alloc; "bad at {at}")?.as_bytes())?;
+    Ok(())
+}
+
+fn no_memory() -> Error {
+    Error::from(ErrorKind::OutOfMemory)
+}

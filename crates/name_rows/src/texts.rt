@@ -1,0 +1,61 @@
+//! Any bytes as a text of one line.
+ghost use Rattle.std.specs.Prelude.{◌<◌, IfOk};
+
+use std::alloc::Global;
+use std::io::{self, Error, ErrorKind};
+
+/// The bytes that are spelled so: `\` and two digits in base 16, in lower case, are one byte.
+pub fn read_text(alloc: Global, spelled: &str) -> io::Result<Vec<u8>> {
+    let mut text = Vec::new(alloc);
+    let mut rest = spelled.as_bytes();
+    while let [first, others @ ..] = rest {
+        rest = match (*first, others) {
+            (b'\\', [high, low, behind @ ..]) => {
+                text.push(digit_value(*high)? * 16 + digit_value(*low)?)?;
+                behind
+            }
+            (byte, _) => {
+                text.push(byte)?;
+                others
+            }
+        };
+    }
+    Ok(text)
+}
+
+fn digit_value(letter: u8) -> io::Result<u8>
+    ensures { IfOk result (λ digit. digit < 16) }
+{
+    match letter {
+        b'0'..=b'9' => Ok(letter - b'0'),
+        b'a'..=b'f' => Ok(letter - b'a' + 10),
+        _ => Err(malformed()),
+    }
+}
+
+/// Appends the bytes as one line: `\` and two digits for each that is no letter of ASCII, no digit and no sign.
+pub fn append_text(text: &[u8], into: &mut Vec<u8>) -> io::Result<()> {
+    for byte in text {
+        if (0x20..0x7f).contains(byte) {
+            into.push(*byte)?;
+        } else {
+            into.extend_from_slice(&[b'\\', digit(*byte / 16), digit(*byte % 16)])?;
+        }
+    }
+    Ok(())
+}
+
+fn digit(value: u8) -> u8
+    requires { value < 16 }
+{
+    if value < 10 {
+        b'0' + value
+    } else {
+        b'a' - 10 + value
+    }
+}
+
+/// The fault of a row that asks for nothing.
+pub fn malformed() -> Error {
+    Error::from(ErrorKind::InvalidData)
+}

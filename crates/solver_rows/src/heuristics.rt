@@ -1,0 +1,234 @@
+//! Questions about what the search is free to do: which variable it tries, and which clauses it lets go.
+ghost use Rattle.std.specs.Prelude.{◌≡◌, ◌<◌, ◌≤◌, ◌+◌, ◌*◌, false, IfOk};
+ghost use Rattle.kb_chain.specs.Literal.{has, negated, place_of};
+ghost use Rattle.kb_chain.specs.Propagation.{all_negated};
+
+use crate::formulas::read_chain;
+use crate::numbers::{kept, malformed, read_i32, read_numbers, read_u32};
+use kb_chain::Lit;
+use kb_eliminate::Trail;
+use kb_sat::{ActivityOrder, Crowding, Ranks, levels_of};
+use std::alloc::Global;
+use std::io;
+
+/// Which variables come out of an order: how many it has, and then what is done with it, as `bump2`, `put2`, `decay` and `pop`,
+/// with `, ` between two pieces; a piece may begin with a number of times.
+pub fn order_text(alloc: Global, text: &str) -> io::Result<String> {
+    let Some((variables, pieces)) = text.split_once(' ') else {
+        return Err(malformed());
+    };
+    let mut order = kept(ActivityOrder::new(alloc, read_u32(variables)?))?;
+    let mut text = String::new(alloc);
+    for piece in pieces.split(", ") {
+        take_piece(alloc, &mut order, piece, &mut text)?;
+    }
+    Ok(text)
+}
+
+fn take_piece(
+    alloc: Global,
+    order: &mut ActivityOrder,
+    piece: &str,
+    text: &mut String,
+) -> io::Result<()> {
+    let Some((times, steps)) = piece.split_once(" times ") else {
+        return take_steps(alloc, order, piece, text);
+    };
+    for _ in 0..read_u32(times)? {
+        take_steps(alloc, order, steps, text)?;
+    }
+    Ok(())
+}
+
+fn take_steps(
+    alloc: Global,
+    order: &mut ActivityOrder,
+    steps: &str,
+    text: &mut String,
+) -> io::Result<()> {
+    for step in steps.split(' ') {
+        take_step(alloc, order, step, text)?;
+    }
+    Ok(())
+}
+
+fn take_step(
+    alloc: Global,
+    order: &mut ActivityOrder,
+    step: &str,
+    text: &mut String,
+) -> io::Result<()> {
+    if step == "decay" {
+        order.decay();
+        return Ok(());
+    }
+    if step == "pop" {
+        return append_popped(alloc, order, text);
+    }
+    if let Some(variable) = step.strip_prefix("bump") {
+        order.bump(variable_of(order, variable)?);
+        return Ok(());
+    }
+    if let Some(variable) = step.strip_prefix("put") {
+        let variable = variable_of(order, variable)?;
+        return kept(order.insert(variable));
+    }
+    Err(malformed())
+}
+
+fn append_popped(alloc: Global, order: &mut ActivityOrder, text: &mut String) -> io::Result<()> {
+    match order.pop() {
+        Some(variable) => Ok(text.push_str(format!(in alloc; "{variable} ")?.as_str())?),
+        None => Ok(text.push_str("none ")?),
+    }
+}
+
+/// A variable of an order.
+fn variable_of(order: &ActivityOrder, word: &str) -> io::Result<u32>
+    ensures above { IfOk result (λ variable. 0 < variable) }
+    ensures below { IfOk result (λ variable. variable ≤ order.now) }
+{
+    let variable = read_u32(word)?;
+    if variable == 0 || variable > order.vars() {
+        return Err(malformed());
+    }
+    Ok(variable)
+}
+
+/// More learned clauses than there are up to a time at which some are let go.
+const MANY_CLAUSES: u32 = 100_000;
+
+/// After how many learned clauses some are let go, so many times.
+pub fn intervals_text(alloc: Global, times: &str) -> io::Result<String> {
+    let mut crowding = Crowding::new();
+    let mut text = String::new(alloc);
+    for _ in 0..read_u32(times)? {
+        let interval = next_interval(&mut crowding);
+        text.push_str(format!(in alloc; "{interval} ")?.as_str())?;
+    }
+    Ok(text)
+}
+
+fn next_interval(crowding: &mut Crowding) -> u32 {
+    for count in 1..MANY_CLAUSES {
+        if crowding.is_due() {
+            return count;
+        }
+    }
+    MANY_CLAUSES
+}
+
+/// On how many levels learned clauses stood, and whether they were used: the clauses and their levels, as `4:3`, none of which
+/// counts as used; then a chain; and then the clauses that are asked about.
+pub fn ranks_text(alloc: Global, text: &str) -> io::Result<String> {
+    let Some((learned, others)) = text.split_once(", ") else {
+        return Err(malformed());
+    };
+    let Some((chain, asked)) = others.split_once(", ") else {
+        return Err(malformed());
+    };
+    let mut ranks = read_ranks(alloc, learned)?;
+    ranks.clear_uses();
+    ranks.note(&read_chain(alloc, chain)?);
+    let mut text = String::new(alloc);
+    for number in read_numbers(alloc, asked)?.as_slice() {
+        append_rank(alloc, &ranks, *number, &mut text)?;
+    }
+    Ok(text)
+}
+
+fn read_ranks(alloc: Global, text: &str) -> io::Result<Ranks> {
+    let mut ranks = Ranks::new(alloc);
+    for word in text.split(' ') {
+        let Some((number, levels)) = word.split_once(':') else {
+            return Err(malformed());
+        };
+        kept(ranks.set(read_u32(number)?, read_u32(levels)?))?;
+    }
+    Ok(ranks)
+}
+
+fn append_rank(alloc: Global, ranks: &Ranks, number: u32, text: &mut String) -> io::Result<()> {
+    let Some(rank) = ranks.ranks.get(number as usize) else {
+        return Ok(text.push_str("none ")?);
+    };
+    let (levels, used) = (rank.levels, rank.used);
+    Ok(text.push_str(format!(in alloc; "{levels} {used} ")?.as_str())?)
+}
+
+/// On how many levels the literals of a clause stand: how many variables there are, and the literals that become true, those
+/// that begin a level with `d` in front; and then, behind `of`, the literals of the clause.
+pub fn levels_text(alloc: Global, text: &str) -> io::Result<String> {
+    let Some((trail, clause)) = text.split_once(" of ") else {
+        return Err(malformed());
+    };
+    let trail = read_trail(alloc, trail)?;
+    let mut literals = Vec::new(alloc);
+    for word in clause.split(' ') {
+        literals.push(read_literal(word)?)?;
+    }
+    let levels = levels_behind(&trail, literals.as_slice())?;
+    Ok(format!(in alloc; "{levels}")?)
+}
+
+fn read_trail(alloc: Global, text: &str) -> io::Result<Trail> {
+    let Some((variables, words)) = text.split_once(' ') else {
+        return Err(malformed());
+    };
+    let mut trail = kept(Trail::new(alloc, read_u32(variables)?))?;
+    for word in words.split(' ') {
+        take_literal(&mut trail, word)?;
+    }
+    Ok(trail)
+}
+
+fn take_literal(trail: &mut Trail, word: &str) -> io::Result<()> {
+    if let Some(number) = word.strip_prefix("d") {
+        let literal = free_literal(trail, number)?;
+        return kept(trail.decide(literal));
+    }
+    let literal = free_literal(trail, word)?;
+    trail.assign(literal, 0);
+    Ok(())
+}
+
+/// A literal whose variable has a place and no value.
+fn free_literal(trail: &Trail, word: &str) -> io::Result<Lit>
+    ensures place { IfOk result (λ literal. place_of literal < 2 * trail.now.vars + 2) }
+    ensures unassigned { IfOk result (λ literal. has trail.now.literals literal ≡ false) }
+    ensures possible { IfOk result (λ literal. has trail.now.literals (negated literal) ≡ false) }
+{
+    let literal = read_literal(word)?;
+    if literal.place() >= 2 * trail.vars() as usize + 2 {
+        return Err(malformed());
+    }
+    if trail.is_true(literal) {
+        return Err(malformed());
+    }
+    if trail.is_false(literal) {
+        return Err(malformed());
+    }
+    Ok(literal)
+}
+
+fn read_literal(word: &str) -> io::Result<Lit> {
+    match Lit::from_number(read_i32(word)?) {
+        Some(literal) => Ok(literal),
+        None => Err(malformed()),
+    }
+}
+
+/// On how many levels literals stand, if all are false.
+fn levels_behind(trail: &Trail, literals: &[Lit]) -> io::Result<u32> {
+    let known = are_false(trail, literals);
+    if !known {
+        return Err(malformed());
+    }
+    Ok(levels_of(trail, literals))
+}
+
+fn are_false(trail: &Trail, literals: &[Lit]) -> bool
+    ensures { result ≡ all_negated (has trail.now.literals) literals.now }
+{
+    literals.iter().all(|literal| trail.is_false(*literal))
+}
