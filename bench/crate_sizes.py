@@ -13,7 +13,7 @@ from pathlib import Path
 ROOT = Path(__file__).resolve().parent.parent
 FUNCTION = re.compile(r"^ *(?:pub(?:\([a-z]+\))? )?(?:const |unsafe )*fn \w", re.M)
 MOST = {"code": 1500, "functions": 100, "edits": 12}
-HAVE_TESTS = {"kb_outside", "kiasan_example", "kiasan_main"}
+HAVE_TESTS = {"kb_outside", "kiasan_example"}
 
 
 def text_of(paths):
