@@ -1,30 +1,39 @@
 //! Questions to the lines of a text.
 
-use crate::texts::malformed;
 use kb_asm_text::{BodyLine, Constant, Line, Operand, read_front, read_line};
+use kb_rows::Held;
+use kb_table::{RowResult, RowStop};
 use std::alloc::Global;
-use std::io;
 
 /// Whether the text spells a line.
-pub fn line_answer(alloc: Global, text: &[u8]) -> io::Result<String> {
-    let line = read_line(alloc, text)?;
-    let told = if line.is_some() { "a line" } else { "no line" };
+pub fn line_answer(alloc: Global, text: &[u8]) -> RowResult<String> {
+    let line = line_of(alloc, text)?;
+    let told = if line.get().is_some() {
+        "a line"
+    } else {
+        "no line"
+    };
     Ok(String::from_str(alloc, told)?)
 }
 
 /// The opcode and the int of a line that pushes a constant.
-pub fn int_answer(alloc: Global, text: &[u8]) -> io::Result<String> {
-    match pushed_int(alloc, text)? {
+pub fn int_answer(alloc: Global, text: &[u8]) -> RowResult<String> {
+    let line = line_of(alloc, text)?;
+    match int_of(line.get()) {
         Some((op, number)) => Ok(format!(in alloc; "{op:02x} {number}")?),
-        None => Err(malformed()),
+        None => Err(RowStop::Malformed),
+    }
+}
+
+/// The line that the text spells, if it spells one.
+fn line_of(alloc: Global, text: &[u8]) -> RowResult<Held<Option<Line>>> {
+    match read_line(alloc, text) {
+        Ok(line) => Ok(Held::new(alloc, line)?),
+        Err(_) => Err(RowStop::NoMemory),
     }
 }
 
 // The opcode and the int of the line, if it pushes one.
-fn pushed_int(alloc: Global, text: &[u8]) -> io::Result<Option<(u8, i32)>> {
-    let line = read_line(alloc, text)?;
-    Ok(int_of(&line))
-}
 
 fn int_of(line: &Option<Line>) -> Option<(u8, i32)> {
     match line {
@@ -48,7 +57,7 @@ fn int_at(constant: &Constant) -> Option<i32> {
 }
 
 /// How many lines of the text fit, where they lead, and whether nothing stands behind them.
-pub fn front_answer(alloc: Global, text: &[u8]) -> io::Result<String> {
+pub fn front_answer(alloc: Global, text: &[u8]) -> RowResult<String> {
     let front = read_front(alloc, text)?;
     let told = (front.lines.as_slice().len(), front.place, front.ended);
     Ok(format!(in alloc; "{told:?}")?)

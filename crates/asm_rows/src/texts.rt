@@ -1,23 +1,17 @@
 //! Assembler texts from their spellings.
 
 use kb_outside::Shelf;
+use kb_table::{RowResult, RowStop, read_file, read_number};
 use std::alloc::Global;
-use std::io::{self, Error, ErrorKind};
-
-/// More bytes than a text of a file has.
-const ROOM: usize = 1_048_576;
 
 /// The text of a spelling: that of a file, `@` and its name; or lines with `|` behind each, what stands behind the last one being
 /// a line that is cut short. A line that ends with `*9` stands for nine lines, `#` in a word of a line for the number of the line
 /// among these, from 0, and `~9~` in a word for nine letters.
-pub fn read_text<S: Shelf>(alloc: Global, spelled: &str, shelf: &mut S) -> io::Result<Vec<u8>> {
-    let mut text = Vec::new(alloc);
+pub fn read_text<S: Shelf>(alloc: Global, spelled: &str, shelf: &mut S) -> RowResult<Vec<u8>> {
     if let Some(name) = spelled.strip_prefix("@") {
-        return match shelf.read(name, ROOM, &mut text) {
-            Ok(()) => Ok(text),
-            Err(_) => Err(Error::from(ErrorKind::NotFound)),
-        };
+        return read_file(alloc, name, shelf);
     }
+    let mut text = Vec::new(alloc);
     let last = match spelled.rsplit_once('|') {
         Some((lines, last)) => {
             for line in lines.split('|') {
@@ -32,9 +26,9 @@ pub fn read_text<S: Shelf>(alloc: Global, spelled: &str, shelf: &mut S) -> io::R
 }
 
 /// The lines that a line with or without a count stands for, each with a line feed behind it.
-fn append_lines(alloc: Global, spelled: &str, text: &mut Vec<u8>) -> io::Result<()> {
+fn append_lines(alloc: Global, spelled: &str, text: &mut Vec<u8>) -> RowResult<()> {
     let (line, times) = match spelled.split_once('*') {
-        Some((line, times)) => (line, number(times)?),
+        Some((line, times)) => (line, read_number(times)?),
         None => (spelled, 1),
     };
     for count in 0..times {
@@ -44,7 +38,7 @@ fn append_lines(alloc: Global, spelled: &str, text: &mut Vec<u8>) -> io::Result<
     Ok(())
 }
 
-fn append_line(alloc: Global, line: &str, count: u32, text: &mut Vec<u8>) -> io::Result<()> {
+fn append_line(alloc: Global, line: &str, count: u32, text: &mut Vec<u8>) -> RowResult<()> {
     let mut is_first = true;
     for word in line.split(' ') {
         if !is_first {
@@ -56,7 +50,7 @@ fn append_line(alloc: Global, line: &str, count: u32, text: &mut Vec<u8>) -> io:
     Ok(())
 }
 
-fn append_word(alloc: Global, word: &str, count: u32, text: &mut Vec<u8>) -> io::Result<()> {
+fn append_word(alloc: Global, word: &str, count: u32, text: &mut Vec<u8>) -> RowResult<()> {
     if let Some((front, others)) = word.split_once('~') {
         return append_letters(front, others, text);
     }
@@ -70,26 +64,14 @@ fn append_word(alloc: Global, word: &str, count: u32, text: &mut Vec<u8>) -> io:
 }
 
 /// A word of which the front is given, and the count of letters behind it with `~` and the back.
-fn append_letters(front: &str, others: &str, text: &mut Vec<u8>) -> io::Result<()> {
+fn append_letters(front: &str, others: &str, text: &mut Vec<u8>) -> RowResult<()> {
     let Some((letters, back)) = others.split_once('~') else {
-        return Err(malformed());
+        return Err(RowStop::Malformed);
     };
     text.extend_from_slice(front.as_bytes())?;
-    for _ in 0..number(letters)? {
+    for _ in 0..read_number(letters)? {
         text.push(b'a')?;
     }
     text.extend_from_slice(back.as_bytes())?;
     Ok(())
-}
-
-fn number(word: &str) -> io::Result<u32> {
-    match word.parse::<u32>() {
-        Ok(number) => Ok(number),
-        Err(_) => Err(malformed()),
-    }
-}
-
-/// The fault of a row that asks for nothing.
-pub fn malformed() -> Error {
-    Error::from(ErrorKind::InvalidData)
 }

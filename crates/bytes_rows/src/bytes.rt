@@ -1,13 +1,12 @@
 //! Bytes from their text.
 
 use kb_outside::Shelf;
-use kb_table::{malformed, read_file};
+use kb_table::{RowResult, RowStop, read_file, read_number};
 use std::alloc::Global;
-use std::io;
 
 /// The bytes of a text: those of a file, `@` and its name; or pieces with `.` between two, each in hexadecimal, where `00*9`
 /// stands for a piece nine times. `-` stands for no bytes.
-pub fn read_bytes<S: Shelf>(alloc: Global, text: &str, shelf: &mut S) -> io::Result<Vec<u8>> {
+pub fn read_bytes<S: Shelf>(alloc: Global, text: &str, shelf: &mut S) -> RowResult<Vec<u8>> {
     if let Some(name) = text.strip_prefix("@") {
         return read_file(alloc, name, shelf);
     }
@@ -21,9 +20,9 @@ pub fn read_bytes<S: Shelf>(alloc: Global, text: &str, shelf: &mut S) -> io::Res
     Ok(bytes)
 }
 
-fn append_piece(alloc: Global, piece: &str, bytes: &mut Vec<u8>) -> io::Result<()> {
+fn append_piece(alloc: Global, piece: &str, bytes: &mut Vec<u8>) -> RowResult<()> {
     let (digits, times) = match piece.split_once('*') {
-        Some((digits, times)) => (digits, number(times)?),
+        Some((digits, times)) => (digits, read_number(times)?),
         None => (piece, 1),
     };
     let once = hexadecimal(alloc, digits.as_bytes())?;
@@ -33,7 +32,7 @@ fn append_piece(alloc: Global, piece: &str, bytes: &mut Vec<u8>) -> io::Result<(
     Ok(())
 }
 
-fn hexadecimal(alloc: Global, digits: &[u8]) -> io::Result<Vec<u8>> {
+fn hexadecimal(alloc: Global, digits: &[u8]) -> RowResult<Vec<u8>> {
     let mut bytes = Vec::new(alloc);
     for pair in digits.chunks_exact(2) {
         if let [high, low] = pair {
@@ -43,17 +42,10 @@ fn hexadecimal(alloc: Global, digits: &[u8]) -> io::Result<Vec<u8>> {
     Ok(bytes)
 }
 
-fn digit(byte: u8) -> io::Result<u8> {
+fn digit(byte: u8) -> RowResult<u8> {
     match byte {
         b'0'..=b'9' => Ok(byte - b'0'),
         b'a'..=b'f' => Ok(byte - b'a' + 10),
-        _ => Err(malformed()),
-    }
-}
-
-pub fn number(word: &str) -> io::Result<u32> {
-    match word.parse::<u32>() {
-        Ok(number) => Ok(number),
-        Err(_) => Err(malformed()),
+        _ => Err(RowStop::Malformed),
     }
 }

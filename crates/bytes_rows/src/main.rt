@@ -13,7 +13,7 @@ use bytes::read_bytes;
 use classes::class_answer;
 use codes::code_answer;
 use kb_outside::{FileShelf, OutSink, Shelf, Sink};
-use kb_table::{Rows, malformed, send, write_rows};
+use kb_table::{RowResult, RowStop, Rows, send, write_rows};
 use std::alloc::Global;
 use std::io;
 use std::process::ExitCode;
@@ -29,12 +29,12 @@ impl Rows for ByteRows {
         row: &str,
         shelf: &mut S,
         out: &mut W,
-    ) -> io::Result<()> {
+    ) -> RowResult<()> {
         let Some((name, asked)) = row.split_once(": ") else {
-            return Err(malformed());
+            return Err(RowStop::Malformed);
         };
         let Some((question, words)) = asked.split_once(' ') else {
-            return Err(malformed());
+            return Err(RowStop::Malformed);
         };
         let (spelled, detail) = match words.split_once(' ') {
             Some(parts) => parts,

@@ -4,15 +4,15 @@ ghost use Rattle.std.specs.Prelude.{◌≡◌, Some};
 ghost use Rattle.kb_picture.specs.Places.{places_of};
 ghost use Rattle.kb_world.specs.Reach.{IsAccepted};
 
-use crate::rows::{TableRow, no_memory};
+use crate::rows::TableRow;
 use kb_class::MethodId;
 use kb_heap::{Ending, Heap, Input};
 use kb_machine::{fits_types, run};
 use kb_picture::{Leaf, Path, PlaceLists, ending_at, is_instance, places};
 use kb_report::Report;
+use kb_table::{RowResult, RowStop};
 use kb_world::World;
 use std::alloc::Global;
-use std::io;
 
 /// Appends a line that says for each path whether the input that it carries is as it says: an input of the method, an instance
 /// of the path, and one whose run ends with the ending and the heap that the path states, or goes beyond the bound by which it
@@ -24,7 +24,7 @@ pub fn append_inputs(
     row: &TableRow,
     report: &Report,
     into: &mut Vec<u8>,
-) -> io::Result<()>
+) -> RowResult<()>
     requires { IsAccepted world.now method }
 {
     let mut front: &[u8] = b"inputs: ";
@@ -44,7 +44,7 @@ fn verdict(
     method: MethodId,
     row: &TableRow,
     path: &Path,
-) -> io::Result<&'static str>
+) -> RowResult<&'static str>
     requires { IsAccepted world.now method }
 {
     let input = match &path.leaf {
@@ -58,7 +58,7 @@ fn verdict(
     match places(alloc, path, input) {
         Ok(Some(lists)) => judged(alloc, world, method, row, path, input, &lists),
         Ok(None) => Ok("without places"),
-        Err(_) => Err(no_memory()),
+        Err(_) => Err(RowStop::NoMemory),
     }
 }
 
@@ -71,18 +71,18 @@ fn judged(
     path: &Path,
     input: &Input,
     lists: &PlaceLists,
-) -> io::Result<&'static str>
+) -> RowResult<&'static str>
     requires accepted { IsAccepted world.now method }
     requires placed { places_of path.now.picture input.now ≡ Some lists.now }
 {
     match is_instance(alloc, world, path, input, lists) {
         Ok(true) => {}
         Ok(false) => return Ok("no instance"),
-        Err(_) => return Err(no_memory()),
+        Err(_) => return Err(RowStop::NoMemory),
     }
     match run(alloc, world, method, input, &row.bounds.run) {
         Ok(end) => compared(alloc, world, path, input, lists, &end),
-        Err(_) => Err(no_memory()),
+        Err(_) => Err(RowStop::NoMemory),
     }
 }
 
@@ -94,13 +94,13 @@ fn compared(
     input: &Input,
     lists: &PlaceLists,
     end: &(Ending, Heap),
-) -> io::Result<&'static str>
+) -> RowResult<&'static str>
     requires { places_of path.now.picture input.now ≡ Some lists.now }
 {
     match &path.leaf {
         Leaf::Ended(_) => match ending_at(alloc, world, path, input, lists) {
             Ok(stated) => Ok(verdict_of(are_same(end, &stated))),
-            Err(_) => Err(no_memory()),
+            Err(_) => Err(RowStop::NoMemory),
         },
         Leaf::Cut(bound, _) => Ok(verdict_of(end.0.is_same(&Ending::Past(*bound)))),
         Leaf::Undecided(_) | Leaf::Open => Ok("none"),

@@ -1,29 +1,27 @@
 //! Paths, a line each.
 
-use crate::rows::{TableRow, malformed, no_memory};
-use kb_picture::{Init, Path};
+use crate::rows::TableRow;
+use kb_picture::Init;
 use kb_report::{Report, report_text};
-use kb_rows::Row;
+use kb_rows::{Held, Row};
+use kb_table::{RowResult, RowStop, kept};
 use kb_world::World;
 use std::alloc::Global;
-use std::io;
 
 /// Lines that stand before the block of the first path.
 const HEAD: usize = 3;
 
-/// The report of a row's paths.
-pub fn report_of(alloc: Global, row: &TableRow, leaves: Row<Path>) -> io::Result<Report> {
-    let Ok(target) = row.target.copied(alloc) else {
-        return Err(no_memory());
-    };
-    Ok(Report {
-        target,
+/// The report of a row, without paths.
+pub fn report_of(alloc: Global, row: &TableRow) -> RowResult<Held<Report>> {
+    let report = Report {
+        target: kept(row.target.copied(alloc))?,
         init: Init::Lazy,
         bounds: row.bounds,
         paths: row.paths,
         budget: row.budget,
-        leaves,
-    })
+        leaves: Row::new(alloc),
+    };
+    Ok(Held::new(alloc, report)?)
 }
 
 /// Appends the block of each path of the report as one line, without the slots that are seen, and with the arguments where the
@@ -34,18 +32,16 @@ pub fn append_paths(
     row: &TableRow,
     report: &Report,
     into: &mut Vec<u8>,
-) -> io::Result<()> {
-    let Ok(text) = report_text(alloc, world, report) else {
-        return Err(no_memory());
-    };
-    let Ok(text) = String::from_utf8(text) else {
-        return Err(malformed());
-    };
-    append_lines(row, text.as_str(), into)
+) -> RowResult<()> {
+    let text = kept(report_text(alloc, world, report))?;
+    match String::from_utf8(text) {
+        Ok(text) => append_lines(row, text.as_str(), into),
+        Err(_) => Err(RowStop::Malformed),
+    }
 }
 
 /// Appends the lines of a report behind its head, those of one block in one line.
-fn append_lines(row: &TableRow, text: &str, into: &mut Vec<u8>) -> io::Result<()> {
+fn append_lines(row: &TableRow, text: &str, into: &mut Vec<u8>) -> RowResult<()> {
     let mut front: &[u8] = b"";
     let mut next: u32 = 0;
     let mut shown = false;
@@ -77,7 +73,7 @@ fn is_written(line: &str, shown: bool) -> bool {
     shown || !line.starts_with("arg ")
 }
 
-fn append_line(line: &str, into: &mut Vec<u8>) -> io::Result<()> {
+fn append_line(line: &str, into: &mut Vec<u8>) -> RowResult<()> {
     if !line.starts_with("path ") {
         into.extend_from_slice(b" | ")?;
     }

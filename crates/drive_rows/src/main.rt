@@ -14,16 +14,31 @@ mod rows;
 mod telling;
 
 use exploring::append_row;
-use kb_load::world_of;
-use kb_outside::{FileShelf, OutSink, Shelf, Sink, send_all};
+use kb_load::{InWorlds, WorldRows, read_world};
+use kb_outside::{FileShelf, OutSink, Shelf, Sink};
+use kb_table::{RowResult, read_words, send, write_rows};
 use kb_world::World;
-use rows::malformed;
 use std::alloc::Global;
-use std::io::{self, Error, ErrorKind};
+use std::io;
 use std::process::ExitCode;
 
-/// More bytes than the table has, and than the class file.
-const ROOM: usize = 65_536;
+/// Each row is an exploration of its own.
+#[derive(Drop)]
+struct Explorations;
+
+impl WorldRows for Explorations {
+    fn write_in_world<W: Sink>(
+        &mut self,
+        alloc: Global,
+        world: &World,
+        row: &str,
+        out: &mut W,
+    ) -> RowResult<()> {
+        let mut text = Vec::new(alloc);
+        append_row(alloc, world, row, &mut text)?;
+        send(out, text.as_slice())
+    }
+}
 
 /// Writes what each row comes to.
 fn main(rt: HostRuntime) -> io::Result<ExitCode> {
@@ -33,52 +48,12 @@ fn main(rt: HostRuntime) -> io::Result<ExitCode> {
     Ok(ExitCode::from(0))
 }
 
-fn write_table<S: Shelf, W: Sink>(alloc: Global, shelf: &mut S, out: &mut W) -> io::Result<()> {
-    let table = read_table(alloc, shelf)?;
-    let world = read_world(alloc, shelf)?;
-    write_rows(alloc, &world, table.as_str(), out)
-}
-
-fn write_rows<W: Sink>(alloc: Global, world: &World, table: &str, out: &mut W) -> io::Result<()> {
-    for line in table.lines() {
-        write_row(alloc, world, line, out)?;
-    }
-    Ok(())
-}
-
-fn read_table<S: Shelf>(alloc: Global, shelf: &mut S) -> io::Result<String> {
-    match String::from_utf8(read_file(alloc, "rows", shelf)?) {
-        Ok(table) => Ok(table),
-        Err(_) => Err(malformed()),
-    }
-}
-
-fn read_file<S: Shelf>(alloc: Global, name: &str, shelf: &mut S) -> io::Result<Vec<u8>> {
-    let mut bytes = Vec::new(alloc);
-    match shelf.read(name, ROOM, &mut bytes) {
-        Ok(()) => Ok(bytes),
-        Err(_) => Err(Error::from(ErrorKind::NotFound)),
-    }
-}
-
-fn read_world<S: Shelf>(alloc: Global, shelf: &mut S) -> io::Result<World> {
-    let mut files = Vec::new(alloc);
-    files.push(read_file(alloc, "Paths.class", shelf)?)?;
-    match world_of(alloc, files.as_slice()) {
-        Some(world) => Ok(world),
-        None => Err(malformed()),
-    }
-}
-
-/// Writes what a row comes to; a comment and an empty line are left out.
-fn write_row<W: Sink>(alloc: Global, world: &World, line: &str, out: &mut W) -> io::Result<()> {
-    if line.is_empty() || line.starts_with("#") {
-        return Ok(());
-    }
-    let mut text = Vec::new(alloc);
-    append_row(alloc, world, line, &mut text)?;
-    match send_all(out, text.as_slice()) {
-        Ok(()) => Ok(()),
-        Err(_) => Err(Error::from(ErrorKind::Other)),
-    }
+fn write_table<S: Shelf, W: Sink>(alloc: Global, shelf: &mut S, out: &mut W) -> RowResult<()> {
+    let names = read_words(alloc, "Paths.class", ' ')?;
+    let world = read_world(alloc, names.as_slice(), shelf)?;
+    let mut rows = InWorlds {
+        rows: Explorations,
+        world: Some(world),
+    };
+    write_rows(alloc, "rows", &mut rows, shelf, out)
 }

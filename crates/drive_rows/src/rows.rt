@@ -1,11 +1,10 @@
 //! The rows of the table.
 
-use crate::telling::read_told;
 use kb_heap::{Bounds, RunBounds};
 use kb_names::{Target, read_target};
-use kb_oracle::{Told, ToldOracle};
+use kb_rows::Held;
+use kb_table::{RowResult, RowStop, read_number};
 use std::alloc::Global;
-use std::io::{self, Error, ErrorKind};
 
 /// A row: a method, its bounds, how many paths are listed, the budget of its oracle, and the numbers of the listed paths whose
 /// arguments are written.
@@ -30,70 +29,48 @@ const BOUNDS: Bounds = Bounds {
     },
 };
 
-/// The row of a line, and its oracle: a target, numbers, as in `loops=3`, and what the oracle is told, as in `0:bad7`.
-pub fn read_row(alloc: Global, line: &str) -> io::Result<(TableRow, ToldOracle)> {
-    let mut words = line.split(' ');
-    let Some(target) = words.next() else {
-        return Err(malformed());
+/// The row of a line: a target, and numbers, as in `loops=3`. What the oracle is told stands in other words.
+pub fn read_row(alloc: Global, line: &str) -> RowResult<Held<TableRow>> {
+    let mut row = row_of(alloc, line)?;
+    for word in line.split(' ').skip(1) {
+        if let Some((name, number)) = word.split_once('=') {
+            set(row.get_mut(), name, read_number(number)?)?;
+        }
+    }
+    Ok(row)
+}
+
+/// The row of the target of a line alone.
+fn row_of(alloc: Global, line: &str) -> RowResult<Held<TableRow>> {
+    let target = match line.split_once(' ') {
+        Some((target, _)) => target,
+        None => line,
     };
-    let mut row = row_of(alloc, target)?;
-    let mut told = Vec::new(alloc);
-    for word in words {
-        add_word(alloc, word, &mut row, &mut told)?;
-    }
-    let oracle = ToldOracle::new(alloc, row.budget, told);
-    Ok((row, oracle))
-}
-
-/// The row of a target alone.
-fn row_of(alloc: Global, target: &str) -> io::Result<TableRow> {
     match read_target(alloc, target.as_bytes()) {
-        Ok(target) => Ok(TableRow {
-            target,
-            bounds: BOUNDS,
-            paths: 1000,
-            budget: 2000,
-            shown: Vec::new(alloc),
-        }),
-        Err(_) => Err(malformed()),
+        Ok(target) => without_numbers(alloc, target),
+        Err(_) => Err(RowStop::Malformed),
     }
 }
 
-fn add_word(
-    alloc: Global,
-    word: &str,
-    row: &mut TableRow,
-    told: &mut Vec<(u64, Told)>,
-) -> io::Result<()> {
-    match word.split_once('=') {
-        Some((name, number)) => set(row, name, number_of(number)?),
-        None => Ok(told.push(read_told(alloc, word)?)?),
-    }
+fn without_numbers(alloc: Global, target: Target) -> RowResult<Held<TableRow>> {
+    let row = TableRow {
+        target,
+        bounds: BOUNDS,
+        paths: 1000,
+        budget: 2000,
+        shown: Vec::new(alloc),
+    };
+    Ok(Held::new(alloc, row)?)
 }
 
-fn set(row: &mut TableRow, name: &str, number: u32) -> io::Result<()> {
+fn set(row: &mut TableRow, name: &str, number: u32) -> RowResult<()> {
     match name.as_bytes() {
         b"loops" => row.bounds.run.loops = number,
         b"steps" => row.bounds.run.steps = number,
         b"paths" => row.paths = number,
         b"budget" => row.budget = number,
         b"args" => row.shown.push(number)?,
-        _ => return Err(malformed()),
+        _ => return Err(RowStop::Malformed),
     }
     Ok(())
-}
-
-pub fn number_of(word: &str) -> io::Result<u32> {
-    match word.parse::<u32>() {
-        Ok(number) => Ok(number),
-        Err(_) => Err(malformed()),
-    }
-}
-
-pub fn malformed() -> Error {
-    Error::from(ErrorKind::InvalidData)
-}
-
-pub fn no_memory() -> Error {
-    Error::from(ErrorKind::OutOfMemory)
 }

@@ -1,12 +1,16 @@
 -- What the program answers.
-use Rattle.std.specs.Io.KnownBytes.{Appends}
-use Rattle.std.specs.Prelude.{◌≡◌, ℕ, ◌<◌, ◌^◌, ◌⊎◌, Bool, true, false, List, ◌++◌, length, Option, Some, None}
+use Rattle.std.specs.Prelude.{◌≡◌, ℕ, ◌<◌, ◌^◌, ◌⊎◌, Bool, true, false, List, ◌++◌, length, Option, Some, None, Result, Ok, Err}
+use Rattle.std.specs.declared.vec.Vec.{Vec}
+use Rattle.std.specs.declared.alloc.Global.{Global}
 use Rattle.kb_chain.specs.Literal.{Literal}
 use Rattle.kb_chain.specs.Cnf.{Cnf}
 use Rattle.kb_chain.specs.Chains.{IsRefutation}
 use Rattle.kb_chain.specs.Propagation.{IsFresh}
 use Rattle.kb_chain.specs.declared.log.Verdict.{Verdict}
 use Rattle.kb_chain.specs.declared.log.Verdict.TheVariants.{Good}
+use Rattle.kb_outside.specs.Outside.{Rose, Grows, GrowsByPart}
+use Rattle.kb_outside.specs.declared.shelves.ShelfStop.{ShelfStop}
+use Rattle.kb_outside.specs.declared.shelves.ShelfStop.TheVariants as stops
 use Rattle.kb_sat.specs.Answer.{Solves}
 use Rattle.kb_sat.specs.declared.counts.Counts.{Counts}
 use Rattle.kb_sat.specs.declared.solver.Solved.{Solved}
@@ -15,7 +19,6 @@ use Rattle.kb_dimacs_text.specs.Dimacs.{IsDimacs}
 use Rattle.kb_dimacs_text.specs.Refusals.{RefusesText}
 use Rattle.kb_dimacs_text.specs.Requests.{AsksFor}
 use Rattle.kb_dimacs_text.specs.Texts.{counts_text, satisfiable_text, unsatisfiable_text, unknown_text, usage_text, refusal_text, read_fault_text, memory_text}
-use Rattle.kb_dimacs_text.specs.StatusNumber.{exit_code}
 use Rattle.kb_dimacs_text.specs.declared.request.Request.{Request}
 use Rattle.kb_dimacs_text.specs.declared.refusal.Cause.{Cause}
 use Rattle.kb_dimacs_text.specs.declared.refusal.Refusal.TheVariants.{Line}
@@ -63,18 +66,36 @@ AnswersWords words input status text =
     (((request : Request) → AsksFor words request → ⊥) × (status ≡ Refused) × (text ≡ usage_text))
     ⊎ ((request : Request) × AsksFor words request × AnswersInput request input status text)
 
--- what the program says of its words and of what was read: none, where the input could not be read. Want of memory may
--- always be said
-abbrev pub Ends : List (List ℕ) → Option (List ℕ) → Status → List ℕ → Type 0
-Ends words None status text = (status ≡ ReadFault) × (text ≡ read_fault_text)
-Ends words (Some input) status text = AnswersWords words input status text ⊎ ((status ≡ Memory) × (text ≡ memory_text))
+-- want of memory
+abbrev pub IsWant : Status → List ℕ → Type 0
+IsWant status text = (status ≡ Memory) × (text ≡ memory_text)
 
--- the whole text was written and the exit code is that of the status, or it is that of a failed write
-abbrev pub Sends : Status → List ℕ → Option (List ℕ) → Option (List ℕ) → ℕ → Type 0
-Sends status text old new code =
-    ((code ≡ exit_code status) × Appends old new text) ⊎ (code ≡ exit_code WriteFault)
+-- what the program says of its words and its input; want of memory may always be said
+abbrev pub SaysOf : List (List ℕ) → List ℕ → Status → List ℕ → Type 0
+SaysOf words input status text = AnswersWords words input status text ⊎ IsWant status text
 
--- what a run of the program writes, and its exit code
-abbrev pub Runs : List (List ℕ) → Option (List ℕ) → Option (List ℕ) → Option (List ℕ) → ℕ → Type 0
-Runs words input old new code =
-    (status : Status) × (text : List ℕ) × Ends words input status text × Sends status text old new code
+-- what the program says of an input of which there is nothing, by what stopped its reading
+abbrev pub SaysOfStop : ShelfStop → Status → List ℕ → Type 0
+SaysOfStop stops.Failed status text = (status ≡ ReadFault) × (text ≡ read_fault_text)
+SaysOfStop stops.NoMemory status text = IsWant status text
+
+-- what the program says of its words and of what came of reading its input
+abbrev pub Says : List (List ℕ) → Result (Vec ℕ Global) ShelfStop → Status → List ℕ → Type 0
+Says words (Ok input) status text = SaysOf words input.items status text
+Says words (Err stop) status text = SaysOfStop stop status text
+
+-- What a call that has this to say owes over a sink: how the sink's bytes and its count of faults went (before, now), and the
+-- status that the call ends with.
+pub record Owes (IsSaid : Status → List ℕ → Type 0) (written : Option (List ℕ) × Option (List ℕ)) (faults : ℕ × ℕ) (status : Status) : Type 0 where
+  -- Unless writing failed, the text that comes with the status was written, all of it and nothing else.
+  pub whole : (status ≡ WriteFault → ⊥) → (text : List ℕ) × IsSaid status text × Grows written.0 written.1 text
+  -- Writing failed only where the sink counted it. Then a front of such a text was written, and not the whole.
+  pub counted : status ≡ WriteFault → Rose faults.0 faults.1
+  pub part : status ≡ WriteFault → (other : Status) × (text : List ℕ) × IsSaid other text × GrowsByPart written.0 written.1 text
+
+-- the status is the one that was to be told, and the whole text was written; or the sink failed, which it counted, and has a
+-- front of it
+abbrev pub Sends : Status → List ℕ → Option (List ℕ) × Option (List ℕ) → ℕ × ℕ → Status → Type 0
+Sends told text written faults status =
+    ((status ≡ told) × Grows written.0 written.1 text)
+    ⊎ ((status ≡ WriteFault) × Rose faults.0 faults.1 × GrowsByPart written.0 written.1 text)

@@ -1,34 +1,56 @@
-//! The program, over the words of its command line, what was read of its input, and any writer.
+//! The program, over the words of its command line, what came of reading its input, and any sink.
 ghost use Rattle.std.specs.Prelude.{map, string_bytes};
-ghost use Rattle.std.specs.Option.{option_copied};
-ghost use Rattle.kb_dimacs_text.specs.Answers.{Runs, Sends};
+ghost use Rattle.kb_dimacs_text.specs.Answers.{Owes, Says, SaysOf, SaysOfStop, Sends};
 
 use crate::NoMemory;
 use crate::answering::dimacs;
 use crate::status::Status;
+use kb_outside::{ShelfStop, Sink, send_all};
 use std::alloc::Global;
-use std::io::Write;
 
-/// Writes the whole answer, and gives the program's exit code. No input means that it could not be read.
-#[tactic(auto, unfolding(crate::specs::Texts::read_fault_text, crate::specs::Texts::memory_text))]
-pub fn run<W: Write>(alloc: Global, words: &[String], input: Option<&[u8]>, out: &mut W) -> u8
-    ensures { Runs (map string_bytes words.now) (option_copied input.entry) (W.contents out.old) (W.contents out.new) result }
+/// Writes the whole answer, and says how the program ends. The input is what was read, or why there is nothing of it.
+pub fn run<K: Sink>(
+    alloc: Global,
+    words: &[String],
+    input: Result<Vec<u8>, ShelfStop>,
+    out: &mut K,
+) -> Status
+    ensures { Owes (Says (map string_bytes words.now) input) (K.written out.old, K.written out.new) (K.faults out.old, K.faults out.new) result }
 {
-    let Some(input) = input else {
-        return send(out, Status::ReadFault, "c the input could not be read\n");
-    };
+    match input {
+        Ok(input) => answer(alloc, words, input.as_slice(), out),
+        Err(stop) => tell(stop, out),
+    }
+}
+
+/// Writes what there is to say where nothing was read.
+#[tactic(auto, using(crate::proofs::AnswerLaws::owes_fault, crate::proofs::AnswerLaws::owes_no_room))]
+fn tell<K: Sink>(stop: ShelfStop, out: &mut K) -> Status
+    ensures { Owes (SaysOfStop stop) (K.written out.old, K.written out.new) (K.faults out.old, K.faults out.new) result }
+{
+    match stop {
+        ShelfStop::Failed => send(out, Status::ReadFault, "c the input could not be read\n"),
+        ShelfStop::NoMemory => send(out, Status::Memory, "c out of memory\n"),
+    }
+}
+
+/// Writes what there is to say of an input that was read.
+#[tactic(auto, using(crate::proofs::AnswerLaws::owes_want))]
+fn answer<K: Sink>(alloc: Global, words: &[String], input: &[u8], out: &mut K) -> Status
+    ensures { Owes (SaysOf (map string_bytes words.now) input.now) (K.written out.old, K.written out.new) (K.faults out.old, K.faults out.new) result }
+{
     match dimacs(alloc, words, input) {
         Ok(answer) => send(out, answer.status, answer.text.as_str()),
         Err(NoMemory) => send(out, Status::Memory, "c out of memory\n"),
     }
 }
 
-/// Writes the whole text, and gives the exit code of the status, or that of a failed write.
-fn send<W: Write>(out: &mut W, status: Status, text: &str) -> u8
-    ensures { Sends status text.now (W.contents out.old) (W.contents out.new) result }
+/// Writes the whole text, and gives its status, or that of a failed write.
+fn send<K: Sink>(out: &mut K, status: Status, text: &str) -> Status
+    ensures { Sends status text.now (K.written out.old, K.written out.new) (K.faults out.old, K.faults out.new) result }
 {
-    match out.write_all(text.as_bytes()) {
-        Ok(()) => status.number(),
-        Err(_) => Status::WriteFault.number(),
+    match send_all(out, text.as_bytes()) {
+        Ok(()) => status,
+        Err(_) => Status::WriteFault,
     }
 }

@@ -1,8 +1,9 @@
 -- The world of the bytes of class files (JVMS 8 chapters 4 and 5).
-use Rattle.std.specs.Prelude.{◌≡◌, ℕ, List, [], ◌∷◌, ◌++◌, map}
+use Rattle.std.specs.Prelude.{◌≡◌, ℕ, List, [], ◌∷◌, ◌++◌, map, Option}
 use Rattle.std.specs.declared.vec.Vec.{Vec}
 use Rattle.std.specs.declared.alloc.Global.{Global}
 use Rattle.kb_classfile.specs.Spelling.{IsClassFile}
+use Rattle.kb_table.specs.Files.{AreWhole}
 use Rattle.kb_class.specs.declared.given.GivenClass.{GivenClass}
 use Rattle.kb_class.specs.Given.{AreListings}
 use Rattle.kb_link.specs.Links.{Links}
@@ -33,3 +34,9 @@ pub record IsWorldOf (files : List (List ℕ)) (world : World) : Type 0 where
   pub given : List GivenClass
   pub spelled : AreClasses files given
   pub links : Links given world
+
+-- the world is that of the files of these names, which are whole where it is told what they hold
+pub record IsWorldIn (holds : List ℕ → Option (List ℕ)) (names : List (List ℕ)) (world : World) : Type 0 where
+  pub files : List (List ℕ)
+  pub whole : AreWhole holds names files
+  pub is : IsWorldOf files world

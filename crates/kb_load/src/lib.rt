@@ -2,6 +2,8 @@
 //! from tables of rows. `specs/Worlds.antt` says what the world of these bytes is.
 #![tactic(auto)]
 
+mod worlds;
+
 ghost use Rattle.std.specs.Prelude.{[], ◌∷◌, IfOk, IfSome};
 ghost use Rattle.kb_class.specs.Given.{AreListings, IsGiven};
 ghost use Rattle.kb_load.specs.Worlds.{AddsClass, AreClasses, IsClassOf, IsWorldOf, contents_of};
@@ -12,6 +14,7 @@ use kb_code::{CodeRefusal, Listing, decode};
 use kb_rows::Row;
 use kb_world::{World, link};
 use std::alloc::Global;
+pub use worlds::{InWorlds, WorldRows, read_world};
 
 /// The world of the classes that these bytes spell, in order; None where some bytes are no class file, code that cannot be decoded
 /// is among them, the classes cannot be linked, or memory runs out.

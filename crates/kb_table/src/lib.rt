@@ -2,8 +2,12 @@
 //! comes to; the gate compares what it writes with `stdout`, so that a row costs no proof.
 #![tactic(auto)]
 
+mod faults;
 mod files;
 mod rows;
+mod words;
 
-pub use files::{malformed, read_file, read_table};
+pub use faults::{RowResult, RowStop, kept};
+pub use files::{read_file, read_files, read_table};
 pub use rows::{Rows, send, write_rows};
+pub use words::{read_int, read_number, read_words};

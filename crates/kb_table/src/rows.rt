@@ -2,10 +2,10 @@
 ghost use Rattle.std.specs.Prelude.{◌≡◌, OnOk};
 ghost use Rattle.kb_outside.specs.Outside.{Grows};
 
+use crate::faults::{RowResult, RowStop};
 use crate::files::read_table;
 use kb_outside::{Shelf, Sink, send_all};
 use std::alloc::Global;
-use std::io::{self, Error, ErrorKind};
 
 /// What a program makes of the rows of a table, one after the other.
 pub trait Rows {
@@ -16,7 +16,7 @@ pub trait Rows {
         row: &str,
         shelf: &mut S,
         out: &mut W,
-    ) -> io::Result<()>;
+    ) -> RowResult<()>;
 }
 
 /// Writes what each row of the table of that name comes to. Empty lines and those that begin with `#` are no rows.
@@ -26,7 +26,7 @@ pub fn write_rows<R: Rows, S: Shelf, W: Sink>(
     rows: &mut R,
     shelf: &mut S,
     out: &mut W,
-) -> io::Result<()> {
+) -> RowResult<()> {
     let table = read_table(alloc, name, shelf)?;
     for row in table.as_str().lines() {
         if !row.is_empty() && !row.starts_with("#") {
@@ -37,11 +37,11 @@ pub fn write_rows<R: Rows, S: Shelf, W: Sink>(
 }
 
 /// Writes the whole text.
-pub fn send<W: Sink>(out: &mut W, text: &[u8]) -> io::Result<()>
+pub fn send<W: Sink>(out: &mut W, text: &[u8]) -> RowResult<()>
     ensures { OnOk result (Grows (W.written out.old) (W.written out.new) text.now) }
 {
     match send_all(out, text) {
         Ok(()) => Ok(()),
-        Err(_) => Err(Error::from(ErrorKind::Other)),
+        Err(_) => Err(RowStop::NotSent),
     }
 }

@@ -5,9 +5,9 @@ ghost use Rattle.kb_link.specs.World.{methods_in};
 
 use kb_class::{ClassId, MethodId};
 use kb_names::{ExactType, JType, Name, Spelling, read_target, read_type, write_name, write_type};
+use kb_table::{RowResult, RowStop, kept};
 use kb_world::{FieldSlot, World};
 use std::alloc::Global;
-use std::io::{self, Error, ErrorKind};
 
 /// Writes the answer to a question, which is the first of the three words, about the other two.
 pub fn write_answer(
@@ -15,7 +15,7 @@ pub fn write_answer(
     world: &World,
     words: (&str, &str, &str),
     text: &mut Vec<u8>,
-) -> io::Result<()> {
+) -> RowResult<()> {
     let (question, first, second) = words;
     match question {
         "subtype" => write_subtype(alloc, world, first, second, text),
@@ -26,7 +26,7 @@ pub fn write_answer(
         "entry" => write_entry(alloc, world, first, second, text),
         "method" => write_method(alloc, world, first, text),
         "place" => write_place(alloc, world, first, second, text),
-        _ => Err(unknown()),
+        _ => Err(RowStop::Malformed),
     }
 }
 
@@ -37,19 +37,19 @@ fn write_subtype(
     low: &str,
     high: &str,
     text: &mut Vec<u8>,
-) -> io::Result<()> {
+) -> RowResult<()> {
     let Some(low) = exact_type(alloc, low.as_bytes()) else {
-        return Err(unknown());
+        return Err(RowStop::Malformed);
     };
     let Ok(high) = read_type(alloc, high.as_bytes()) else {
-        return Err(unknown());
+        return Err(RowStop::Malformed);
     };
     let answer = world.subtype(&low, &high);
     Ok(text.extend_from_slice(format!(in alloc; "{answer}\n")?.as_bytes())?)
 }
 
 /// The types of the universe, each on a line.
-fn write_universe(world: &World, text: &mut Vec<u8>) -> io::Result<()> {
+fn write_universe(world: &World, text: &mut Vec<u8>) -> RowResult<()> {
     for of in world.universe() {
         write_exact(of, text)?;
         text.push(b'\n')?;
@@ -58,7 +58,7 @@ fn write_universe(world: &World, text: &mut Vec<u8>) -> io::Result<()> {
 }
 
 /// The number of the class, its name, and whether a file gives it.
-fn write_class(alloc: Global, world: &World, name: &str, text: &mut Vec<u8>) -> io::Result<()> {
+fn write_class(alloc: Global, world: &World, name: &str, text: &mut Vec<u8>) -> RowResult<()> {
     let Some(class) = class_of(alloc, world, name) else {
         return write_none(text);
     };
@@ -72,7 +72,7 @@ fn write_class(alloc: Global, world: &World, name: &str, text: &mut Vec<u8>) -> 
 }
 
 /// The slots of the objects of the class, each on a line.
-fn write_slots(alloc: Global, world: &World, name: &str, text: &mut Vec<u8>) -> io::Result<()> {
+fn write_slots(alloc: Global, world: &World, name: &str, text: &mut Vec<u8>) -> RowResult<()> {
     let Some(class) = class_of(alloc, world, name) else {
         return write_none(text);
     };
@@ -83,7 +83,7 @@ fn write_slots(alloc: Global, world: &World, name: &str, text: &mut Vec<u8>) -> 
 }
 
 /// The number of the slot, that of the class that declares it, its name and its type.
-fn write_slot(alloc: Global, field: &FieldSlot, text: &mut Vec<u8>) -> io::Result<()> {
+fn write_slot(alloc: Global, field: &FieldSlot, text: &mut Vec<u8>) -> RowResult<()> {
     let numbers = format!(in alloc; "{} of class {}: ", field.slot, field.class.0)?;
     text.extend_from_slice(numbers.as_bytes())?;
     write_text(&field.name, text)?;
@@ -99,12 +99,12 @@ fn write_entry(
     name: &str,
     entry: &str,
     text: &mut Vec<u8>,
-) -> io::Result<()> {
+) -> RowResult<()> {
     let Some(class) = class_of(alloc, world, name) else {
         return write_none(text);
     };
     let Ok(entry) = entry.parse::<u16>() else {
-        return Err(unknown());
+        return Err(RowStop::Malformed);
     };
     if let Some(of) = world.type_entry(class, entry) {
         text.extend_from_slice(b"type ")?;
@@ -123,7 +123,7 @@ fn write_entry(
 }
 
 /// The name of the method, the number of its class, and its access flags.
-fn write_method(alloc: Global, world: &World, target: &str, text: &mut Vec<u8>) -> io::Result<()> {
+fn write_method(alloc: Global, world: &World, target: &str, text: &mut Vec<u8>) -> RowResult<()> {
     let Some(id) = method_of(alloc, world, target) else {
         return write_none(text);
     };
@@ -143,12 +143,12 @@ fn write_place(
     target: &str,
     at: &str,
     text: &mut Vec<u8>,
-) -> io::Result<()> {
+) -> RowResult<()> {
     let Some(id) = method_of(alloc, world, target) else {
         return write_none(text);
     };
     let Ok(at) = at.parse::<u32>() else {
-        return Err(unknown());
+        return Err(RowStop::Malformed);
     };
     match world.place_at(id, at) {
         Some(place) => write_number(alloc, place, text),
@@ -185,7 +185,7 @@ fn exact_type(alloc: Global, text: &[u8]) -> Option<ExactType> {
     }
 }
 
-pub fn write_exact(of: &ExactType, text: &mut Vec<u8>) -> io::Result<()> {
+pub fn write_exact(of: &ExactType, text: &mut Vec<u8>) -> RowResult<()> {
     match of {
         ExactType::Class(name) => write_text(name, text),
         ExactType::Array(component) => {
@@ -195,29 +195,18 @@ pub fn write_exact(of: &ExactType, text: &mut Vec<u8>) -> io::Result<()> {
     }
 }
 
-pub fn write_kind(kind: &JType, text: &mut Vec<u8>) -> io::Result<()> {
-    match write_type(kind, Spelling::Escaped, text) {
-        Ok(()) => Ok(()),
-        Err(_) => Err(Error::from(ErrorKind::OutOfMemory)),
-    }
+pub fn write_kind(kind: &JType, text: &mut Vec<u8>) -> RowResult<()> {
+    kept(write_type(kind, Spelling::Escaped, text))
 }
 
-pub fn write_text(name: &Name, text: &mut Vec<u8>) -> io::Result<()> {
-    match write_name(name, text) {
-        Ok(()) => Ok(()),
-        Err(_) => Err(Error::from(ErrorKind::OutOfMemory)),
-    }
+pub fn write_text(name: &Name, text: &mut Vec<u8>) -> RowResult<()> {
+    kept(write_name(name, text))
 }
 
-fn write_number(alloc: Global, number: u32, text: &mut Vec<u8>) -> io::Result<()> {
+fn write_number(alloc: Global, number: u32, text: &mut Vec<u8>) -> RowResult<()> {
     Ok(text.extend_from_slice(format!(in alloc; "{number}\n")?.as_bytes())?)
 }
 
-pub fn write_none(text: &mut Vec<u8>) -> io::Result<()> {
+pub fn write_none(text: &mut Vec<u8>) -> RowResult<()> {
     Ok(text.extend_from_slice(b"none\n")?)
-}
-
-/// The fault of a row that asks for nothing.
-pub fn unknown() -> Error {
-    Error::from(ErrorKind::InvalidData)
 }

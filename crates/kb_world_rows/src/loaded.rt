@@ -1,17 +1,19 @@
 //! What a class is once it is loaded, from a file or of the platform.
 ghost use Rattle.std.specs.Prelude.{◌≡◌, ◌<◌};
+ghost use Rattle.kb_class.specs.Given.{IsGiven};
 
-use crate::answers::{unknown, write_exact, write_kind, write_none, write_text};
-use crate::worlds::contents;
+use crate::answers::{write_exact, write_kind, write_none, write_text};
 use kb_class::{
-    ClassId, FieldInfo, LoadedClass, MethodInfo, PLATFORM_CLASSES, Reference, ReferenceKind,
+    ClassId, FieldInfo, GivenClass, LoadedClass, MethodInfo, PLATFORM_CLASSES, Reference,
+    ReferenceKind,
 };
 use kb_format::format_fault;
 use kb_load::given_class;
 use kb_names::{MethodType, Spelling, write_method_type};
 use kb_outside::Shelf;
+use kb_rows::Held;
+use kb_table::{RowResult, RowStop, kept, read_file};
 use std::alloc::Global;
-use std::io::{self, Error, ErrorKind};
 
 /// The number that the class gets. Nothing that is asked here goes by it.
 const NUMBER: ClassId = ClassId(3);
@@ -23,46 +25,66 @@ pub fn write_loaded<S: Shelf>(
     words: (&str, &str, &str),
     shelf: &mut S,
     text: &mut Vec<u8>,
-) -> io::Result<()> {
+) -> RowResult<()> {
     let (question, number, file) = words;
     let found = match file.parse::<usize>() {
         Ok(place) => platform_class(alloc, place),
         Err(_) => class_of_file(alloc, file, shelf),
     };
-    let Some(class) = found else {
-        return write_none(text);
-    };
+    match found {
+        Some(class) => write_of_class(alloc, class.get(), question, number, text),
+        None => write_none(text),
+    }
+}
+
+fn write_of_class(
+    alloc: Global,
+    class: &LoadedClass,
+    question: &str,
+    number: &str,
+    text: &mut Vec<u8>,
+) -> RowResult<()> {
     match question {
-        "head" => write_head(alloc, &class, text),
+        "head" => write_head(alloc, class, text),
         "fields" => write_fields(alloc, class.fields(), text),
         "methods" => write_methods(alloc, class.methods(), text),
-        "entry" => write_entry(alloc, &class, number, text),
-        "named" => write_named(alloc, &class, text),
-        _ => Err(unknown()),
+        "entry" => write_entry(alloc, class, number, text),
+        "named" => write_named(alloc, class, text),
+        _ => Err(RowStop::Malformed),
     }
 }
 
 /// The class of a file, loaded.
-fn class_of_file<S: Shelf>(alloc: Global, file: &str, shelf: &mut S) -> Option<LoadedClass> {
-    let bytes = contents(alloc, file, shelf)?;
+fn class_of_file<S: Shelf>(alloc: Global, file: &str, shelf: &mut S) -> Option<Held<LoadedClass>> {
+    let bytes = read_file(alloc, file, shelf).ok()?;
     let class = given_class(alloc, bytes.as_slice())?;
+    loaded(alloc, class)
+}
+
+fn loaded(alloc: Global, class: GivenClass) -> Option<Held<LoadedClass>>
+    requires { IsGiven class }
+{
     let Ok(None) = format_fault(alloc, &class.file) else {
         return None;
     };
-    LoadedClass::load(alloc, NUMBER, class).ok()
+    held(alloc, LoadedClass::load(alloc, NUMBER, class).ok()?)
+}
+
+fn held(alloc: Global, class: LoadedClass) -> Option<Held<LoadedClass>> {
+    Held::new(alloc, class).ok()
 }
 
 /// The class at that place of the platform's table.
 #[tactic(auto, using(kb_class::proofs::PlatformLaws::table_size))]
-fn platform_class(alloc: Global, place: usize) -> Option<LoadedClass> {
+fn platform_class(alloc: Global, place: usize) -> Option<Held<LoadedClass>> {
     if place >= PLATFORM_CLASSES {
         return None;
     }
-    LoadedClass::platform(alloc, NUMBER, place).ok()
+    held(alloc, LoadedClass::platform(alloc, NUMBER, place).ok()?)
 }
 
 /// Its name, its flags, its superclass and its interfaces, and whether it has a file.
-fn write_head(alloc: Global, class: &LoadedClass, text: &mut Vec<u8>) -> io::Result<()> {
+fn write_head(alloc: Global, class: &LoadedClass, text: &mut Vec<u8>) -> RowResult<()> {
     write_text(class.name(), text)?;
     let access = class.access();
     text.extend_from_slice(format!(in alloc; " {access:#06x}")?.as_bytes())?;
@@ -83,7 +105,7 @@ fn write_head(alloc: Global, class: &LoadedClass, text: &mut Vec<u8>) -> io::Res
     Ok(text.extend_from_slice(from.as_bytes())?)
 }
 
-fn write_fields(alloc: Global, fields: &[FieldInfo], text: &mut Vec<u8>) -> io::Result<()> {
+fn write_fields(alloc: Global, fields: &[FieldInfo], text: &mut Vec<u8>) -> RowResult<()> {
     for field in fields {
         let access = field.access;
         text.extend_from_slice(format!(in alloc; "{access:#06x} ")?.as_bytes())?;
@@ -95,7 +117,7 @@ fn write_fields(alloc: Global, fields: &[FieldInfo], text: &mut Vec<u8>) -> io::
     Ok(())
 }
 
-fn write_methods(alloc: Global, methods: &[MethodInfo], text: &mut Vec<u8>) -> io::Result<()> {
+fn write_methods(alloc: Global, methods: &[MethodInfo], text: &mut Vec<u8>) -> RowResult<()> {
     for method in methods {
         let access = method.access;
         text.extend_from_slice(format!(in alloc; "{access:#06x} ")?.as_bytes())?;
@@ -109,7 +131,7 @@ fn write_methods(alloc: Global, methods: &[MethodInfo], text: &mut Vec<u8>) -> i
 }
 
 /// The largest stack, the number of locals, the size, and how many instructions and handlers there are.
-fn write_code(alloc: Global, method: &MethodInfo, text: &mut Vec<u8>) -> io::Result<()> {
+fn write_code(alloc: Global, method: &MethodInfo, text: &mut Vec<u8>) -> RowResult<()> {
     let Some(code) = &method.code else {
         return Ok(());
     };
@@ -128,9 +150,9 @@ fn write_entry(
     class: &LoadedClass,
     number: &str,
     text: &mut Vec<u8>,
-) -> io::Result<()> {
+) -> RowResult<()> {
     let Ok(number) = number.parse::<u16>() else {
-        return Err(unknown());
+        return Err(RowStop::Malformed);
     };
     if let Some(of) = class.type_entry(number) {
         text.extend_from_slice(b"type ")?;
@@ -151,7 +173,7 @@ fn write_entry(
     }
 }
 
-fn write_reference(reference: &Reference<'_>, text: &mut Vec<u8>) -> io::Result<()> {
+fn write_reference(reference: &Reference<'_>, text: &mut Vec<u8>) -> RowResult<()> {
     let what: &[u8] = match reference.what {
         ReferenceKind::Field => b"field ",
         ReferenceKind::Method => b"method ",
@@ -165,7 +187,7 @@ fn write_reference(reference: &Reference<'_>, text: &mut Vec<u8>) -> io::Result<
 }
 
 /// How many types its Class entries name, and how many different descriptors it has.
-fn write_named(alloc: Global, class: &LoadedClass, text: &mut Vec<u8>) -> io::Result<()> {
+fn write_named(alloc: Global, class: &LoadedClass, text: &mut Vec<u8>) -> RowResult<()> {
     let types = class
         .named_types()
         .iter()
@@ -180,9 +202,6 @@ fn write_named(alloc: Global, class: &LoadedClass, text: &mut Vec<u8>) -> io::Re
     Ok(text.extend_from_slice(counts.as_bytes())?)
 }
 
-fn write_type_of(kind: &MethodType, text: &mut Vec<u8>) -> io::Result<()> {
-    match write_method_type(kind, Spelling::Escaped, text) {
-        Ok(()) => Ok(()),
-        Err(_) => Err(Error::from(ErrorKind::OutOfMemory)),
-    }
+fn write_type_of(kind: &MethodType, text: &mut Vec<u8>) -> RowResult<()> {
+    kept(write_method_type(kind, Spelling::Escaped, text))
 }

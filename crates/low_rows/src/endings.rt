@@ -2,28 +2,22 @@
 
 use crate::steps::read_value;
 use crate::told::append_bool;
-use crate::words::{read_number, read_numbers, read_words};
+use crate::words::read_numbers;
 use kb_heap::{Bound, Bounds, Ending, Place, RunBounds};
 use kb_names::read_target;
-use kb_table::malformed;
+use kb_table::{RowResult, RowStop, read_number, read_words};
 use std::alloc::Global;
-use std::io;
 
 /// Appends whether a copy of an ending is the same as another.
-pub fn append_ending(alloc: Global, asked: &[String], into: &mut Vec<u8>) -> io::Result<()> {
+pub fn append_ending(alloc: Global, asked: &[String], into: &mut Vec<u8>) -> RowResult<()> {
     let [first, second] = asked else {
-        return Err(malformed());
+        return Err(RowStop::Malformed);
     };
     let ending = read_ending(alloc, first.as_str())?;
     append_beside(alloc, &ending, second.as_str(), into)
 }
 
-fn append_beside(
-    alloc: Global,
-    ending: &Ending,
-    other: &str,
-    into: &mut Vec<u8>,
-) -> io::Result<()> {
+fn append_beside(alloc: Global, ending: &Ending, other: &str, into: &mut Vec<u8>) -> RowResult<()> {
     let other = read_ending(alloc, other)?;
     append_same(alloc, ending, &other, into)
 }
@@ -33,39 +27,39 @@ fn append_same(
     ending: &Ending,
     other: &Ending,
     into: &mut Vec<u8>,
-) -> io::Result<()> {
+) -> RowResult<()> {
     let copy = ending.copied(alloc)?;
     append_bool(copy.is_same(other), into)
 }
 
-fn read_ending(alloc: Global, spelled: &str) -> io::Result<Ending> {
+fn read_ending(alloc: Global, spelled: &str) -> RowResult<Ending> {
     let words = read_words(alloc, spelled, ':')?;
     match words.as_slice() {
         [way] if way.as_str() == "returned" => Ok(Ending::Returned(None)),
         [way, of] => ending_of(way.as_str(), of.as_str()),
         [_, method, at] => read_place(alloc, method.as_str(), at.as_str()),
-        _ => Err(malformed()),
+        _ => Err(RowStop::Malformed),
     }
 }
 
-fn ending_of(way: &str, of: &str) -> io::Result<Ending> {
+fn ending_of(way: &str, of: &str) -> RowResult<Ending> {
     match way {
         "returned" => Ok(Ending::Returned(Some(read_value(of)?))),
         "threw" => Ok(Ending::Threw(read_number(of)?)),
         "past" => Ok(Ending::Past(read_bound(of)?)),
-        _ => Err(malformed()),
+        _ => Err(RowStop::Malformed),
     }
 }
 
-fn read_place(alloc: Global, method: &str, at: &str) -> io::Result<Ending> {
+fn read_place(alloc: Global, method: &str, at: &str) -> RowResult<Ending> {
     let Ok(method) = read_target(alloc, method.as_bytes()) else {
-        return Err(malformed());
+        return Err(RowStop::Malformed);
     };
     let at = read_number(at)?;
     Ok(Ending::IllTyped(Place { method, at }))
 }
 
-fn read_bound(word: &str) -> io::Result<Bound> {
+fn read_bound(word: &str) -> RowResult<Bound> {
     match word {
         "k" => Ok(Bound::K),
         "array" => Ok(Bound::Array),
@@ -73,14 +67,14 @@ fn read_bound(word: &str) -> io::Result<Bound> {
         "loops" => Ok(Bound::Loops),
         "depth" => Ok(Bound::Depth),
         "steps" => Ok(Bound::Steps),
-        _ => Err(malformed()),
+        _ => Err(RowStop::Malformed),
     }
 }
 
 /// Appends whether two bounds are the same, and whether those of their runs are.
-pub fn append_bounds(alloc: Global, asked: &[String], into: &mut Vec<u8>) -> io::Result<()> {
+pub fn append_bounds(alloc: Global, asked: &[String], into: &mut Vec<u8>) -> RowResult<()> {
     let [first, second] = asked else {
-        return Err(malformed());
+        return Err(RowStop::Malformed);
     };
     let first = read_bounds(alloc, first.as_str())?;
     let second = read_bounds(alloc, second.as_str())?;
@@ -89,7 +83,7 @@ pub fn append_bounds(alloc: Global, asked: &[String], into: &mut Vec<u8>) -> io:
 }
 
 /// The bounds of an exploration in the order in which they stand there.
-fn read_bounds(alloc: Global, spelled: &str) -> io::Result<Bounds> {
+fn read_bounds(alloc: Global, spelled: &str) -> RowResult<Bounds> {
     let numbers = read_numbers(alloc, spelled)?;
     match numbers.as_slice() {
         [k, array, alloc, loops, depth, steps] => Ok(Bounds {
@@ -102,6 +96,6 @@ fn read_bounds(alloc: Global, spelled: &str) -> io::Result<Bounds> {
                 steps: *steps,
             },
         }),
-        _ => Err(malformed()),
+        _ => Err(RowStop::Malformed),
     }
 }

@@ -2,14 +2,12 @@
 
 use crate::steps::{append_value, read_object, read_value, read_values};
 use crate::told::{append_bool, append_number, append_word};
-use crate::words::{read_number, read_words};
 use kb_heap::{Heap, Input, Object, Value};
-use kb_table::malformed;
+use kb_table::{RowResult, RowStop, read_number, read_words};
 use std::alloc::Global;
-use std::io;
 
 /// Appends what each step gives that is done to a heap, from the heap without objects on.
-pub fn append_heap(alloc: Global, steps: &[String], into: &mut Vec<u8>) -> io::Result<()> {
+pub fn append_heap(alloc: Global, steps: &[String], into: &mut Vec<u8>) -> RowResult<()> {
     let mut heap = Heap::new(alloc);
     for step in steps {
         append_step(alloc, step.as_str(), &mut heap, into)?;
@@ -17,7 +15,7 @@ pub fn append_heap(alloc: Global, steps: &[String], into: &mut Vec<u8>) -> io::R
     Ok(())
 }
 
-fn append_step(alloc: Global, step: &str, heap: &mut Heap, into: &mut Vec<u8>) -> io::Result<()> {
+fn append_step(alloc: Global, step: &str, heap: &mut Heap, into: &mut Vec<u8>) -> RowResult<()> {
     match step.strip_prefix("add:") {
         Some(spelled) => {
             let number = add_object(alloc, spelled, heap)?;
@@ -28,15 +26,15 @@ fn append_step(alloc: Global, step: &str, heap: &mut Heap, into: &mut Vec<u8>) -
 }
 
 /// Adds the object of a word, and gives its number.
-fn add_object(alloc: Global, spelled: &str, heap: &mut Heap) -> io::Result<u32> {
+fn add_object(alloc: Global, spelled: &str, heap: &mut Heap) -> RowResult<u32> {
     match heap.add(read_spelled(alloc, spelled)?) {
         Ok(number) => Ok(number),
-        Err(_) => Err(malformed()),
+        Err(_) => Err(RowStop::Malformed),
     }
 }
 
 /// Gets the value at a place, or puts one there.
-fn append_at(alloc: Global, step: &str, heap: &mut Heap, into: &mut Vec<u8>) -> io::Result<()> {
+fn append_at(alloc: Global, step: &str, heap: &mut Heap, into: &mut Vec<u8>) -> RowResult<()> {
     let words = read_words(alloc, step, ':')?;
     match words.as_slice() {
         [object, slot] => {
@@ -50,15 +48,15 @@ fn append_at(alloc: Global, step: &str, heap: &mut Heap, into: &mut Vec<u8>) -> 
             let value = read_value(value.as_str())?;
             append_put(heap, object, slot, value, into)
         }
-        _ => Err(malformed()),
+        _ => Err(RowStop::Malformed),
     }
 }
 
 /// The object of a word: its class and its values, with a colon between them.
-fn read_spelled(alloc: Global, spelled: &str) -> io::Result<Object> {
+fn read_spelled(alloc: Global, spelled: &str) -> RowResult<Object> {
     match spelled.split_once(':') {
         Some((kind, values)) => read_object(alloc, kind, values),
-        None => Err(malformed()),
+        None => Err(RowStop::Malformed),
     }
 }
 
@@ -74,7 +72,7 @@ fn append_put(
     slot: u32,
     value: Value,
     into: &mut Vec<u8>,
-) -> io::Result<()> {
+) -> RowResult<()> {
     if heap.find(object, slot).is_some() {
         heap.put(object, slot, value);
         return append_word("put", into);
@@ -83,15 +81,15 @@ fn append_put(
 }
 
 /// Appends whether an input and its heap are the same as those of a copy, which may be changed at a place.
-pub fn append_input(alloc: Global, asked: &[String], into: &mut Vec<u8>) -> io::Result<()> {
+pub fn append_input(alloc: Global, asked: &[String], into: &mut Vec<u8>) -> RowResult<()> {
     let [object, args, changes @ ..] = asked else {
-        return Err(malformed());
+        return Err(RowStop::Malformed);
     };
     let input = read_input(alloc, object.as_str(), args.as_str())?;
     append_beside_copy(alloc, &input, changes, into)
 }
 
-fn read_input(alloc: Global, object: &str, args: &str) -> io::Result<Input> {
+fn read_input(alloc: Global, object: &str, args: &str) -> RowResult<Input> {
     let args = read_values(alloc, args)?;
     let mut heap = Heap::new(alloc);
     add_object(alloc, object, &mut heap)?;
@@ -103,13 +101,13 @@ fn append_beside_copy(
     input: &Input,
     changes: &[String],
     into: &mut Vec<u8>,
-) -> io::Result<()> {
+) -> RowResult<()> {
     let mut copy = input.copied(alloc)?;
     change(alloc, changes, &mut copy.heap)?;
     append_both(input, &copy, into)
 }
 
-fn change(alloc: Global, changes: &[String], heap: &mut Heap) -> io::Result<()> {
+fn change(alloc: Global, changes: &[String], heap: &mut Heap) -> RowResult<()> {
     let mut told = Vec::new(alloc);
     for step in changes {
         append_step(alloc, step.as_str(), heap, &mut told)?;
@@ -117,15 +115,15 @@ fn change(alloc: Global, changes: &[String], heap: &mut Heap) -> io::Result<()> 
     Ok(())
 }
 
-fn append_both(input: &Input, copy: &Input, into: &mut Vec<u8>) -> io::Result<()> {
+fn append_both(input: &Input, copy: &Input, into: &mut Vec<u8>) -> RowResult<()> {
     append_bool(input.is_same(copy), into)?;
     append_bool(input.heap.is_same(&copy.heap), into)
 }
 
 /// Appends whether two objects are the same.
-pub fn append_objects(alloc: Global, asked: &[String], into: &mut Vec<u8>) -> io::Result<()> {
+pub fn append_objects(alloc: Global, asked: &[String], into: &mut Vec<u8>) -> RowResult<()> {
     let [first, second] = asked else {
-        return Err(malformed());
+        return Err(RowStop::Malformed);
     };
     let first = read_spelled(alloc, first.as_str())?;
     let second = read_spelled(alloc, second.as_str())?;

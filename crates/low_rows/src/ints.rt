@@ -1,17 +1,15 @@
 //! Operations on ints.
 
 use crate::told::append_signed;
-use crate::words::read_int;
 use kb_arith::{
     add, and, div, eq, lt, mul, neg, or, rem, shl, shr, sub, to_byte, to_char, to_short, ult, ushr,
     xor,
 };
-use kb_table::malformed;
+use kb_table::{RowResult, RowStop, read_int};
 use std::alloc::Global;
-use std::io;
 
 /// Appends what the operation makes of its ints.
-pub fn append_int(alloc: Global, asked: &[String], into: &mut Vec<u8>) -> io::Result<()> {
+pub fn append_int(alloc: Global, asked: &[String], into: &mut Vec<u8>) -> RowResult<()> {
     let made = match asked {
         [operation, value] => of_one(operation.as_str(), read_int(value.as_str())?)?,
         [operation, left, right] => {
@@ -19,22 +17,22 @@ pub fn append_int(alloc: Global, asked: &[String], into: &mut Vec<u8>) -> io::Re
             let right = read_int(right.as_str())?;
             of_two(operation.as_str(), left, right)?
         }
-        _ => return Err(malformed()),
+        _ => return Err(RowStop::Malformed),
     };
     append_signed(alloc, Some(made), into)
 }
 
-fn of_one(operation: &str, value: i32) -> io::Result<i32> {
+fn of_one(operation: &str, value: i32) -> RowResult<i32> {
     match operation {
         "neg" => Ok(neg(value)),
         "to_byte" => Ok(to_byte(value)),
         "to_char" => Ok(to_char(value)),
         "to_short" => Ok(to_short(value)),
-        _ => Err(malformed()),
+        _ => Err(RowStop::Malformed),
     }
 }
 
-fn of_two(operation: &str, left: i32, right: i32) -> io::Result<i32> {
+fn of_two(operation: &str, left: i32, right: i32) -> RowResult<i32> {
     match operation {
         "add" => Ok(add(left, right)),
         "sub" => Ok(sub(left, right)),
@@ -49,7 +47,7 @@ fn of_two(operation: &str, left: i32, right: i32) -> io::Result<i32> {
 }
 
 /// Bit by bit, or a comparison.
-fn of_bits(operation: &str, left: i32, right: i32) -> io::Result<i32> {
+fn of_bits(operation: &str, left: i32, right: i32) -> RowResult<i32> {
     match operation {
         "and" => Ok(and(left, right)),
         "or" => Ok(or(left, right)),
@@ -57,6 +55,6 @@ fn of_bits(operation: &str, left: i32, right: i32) -> io::Result<i32> {
         "eq" => Ok(eq(left, right)),
         "lt" => Ok(lt(left, right)),
         "ult" => Ok(ult(left, right)),
-        _ => Err(malformed()),
+        _ => Err(RowStop::Malformed),
     }
 }

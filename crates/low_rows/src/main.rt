@@ -20,14 +20,13 @@ use endings::{append_bounds, append_ending};
 use heaps::{append_heap, append_input, append_objects};
 use ints::append_int;
 use kb_outside::{FileShelf, OutSink, Shelf, Sink};
-use kb_table::{Rows, malformed, send, write_rows};
+use kb_table::{RowResult, RowStop, Rows, read_words, send, write_rows};
 use lists::{append_held, append_list};
 use orders::{append_order, append_texts};
 use readers::append_reading;
 use std::alloc::Global;
 use std::io;
 use std::process::ExitCode;
-use words::read_words;
 
 /// Each row is answered by itself.
 #[derive(Drop)]
@@ -40,7 +39,7 @@ impl Rows for Questions {
         row: &str,
         _shelf: &mut S,
         out: &mut W,
-    ) -> io::Result<()> {
+    ) -> RowResult<()> {
         let mut text = row.as_bytes().to_vec(alloc)?;
         text.extend_from_slice(b":")?;
         append_answer(alloc, row, &mut text)?;
@@ -58,10 +57,10 @@ fn main(rt: HostRuntime) -> io::Result<ExitCode> {
 }
 
 /// Appends the answer, each word of it behind a space.
-fn append_answer(alloc: Global, row: &str, into: &mut Vec<u8>) -> io::Result<()> {
+fn append_answer(alloc: Global, row: &str, into: &mut Vec<u8>) -> RowResult<()> {
     let words = read_words(alloc, row, ' ')?;
     let [subject, asked @ ..] = words.as_slice() else {
-        return Err(malformed());
+        return Err(RowStop::Malformed);
     };
     match subject.as_str() {
         "int" => append_int(alloc, asked, into),
@@ -75,6 +74,6 @@ fn append_answer(alloc: Global, row: &str, into: &mut Vec<u8>) -> io::Result<()>
         "bounds" => append_bounds(alloc, asked, into),
         "row" => append_list(alloc, asked, into),
         "held" => append_held(alloc, asked, into),
-        _ => Err(malformed()),
+        _ => Err(RowStop::Malformed),
     }
 }

@@ -1,17 +1,16 @@
 //! Orders of numbers, and sets of texts.
 
 use crate::told::{append_bool, append_number, append_text};
-use crate::words::{read_number, read_numbers, read_text, read_texts};
+use crate::words::{read_numbers, read_text, read_texts};
 use kb_order::{Order, is_complete, order_of, ordered_set};
 use kb_rows::Row;
-use kb_table::malformed;
+use kb_table::{RowResult, RowStop, read_number};
 use std::alloc::Global;
-use std::io;
 
 /// Appends what is asked of the order in which these numbers stand directly above 0, 1 and so on.
-pub fn append_order(alloc: Global, asked: &[String], into: &mut Vec<u8>) -> io::Result<()> {
+pub fn append_order(alloc: Global, asked: &[String], into: &mut Vec<u8>) -> RowResult<()> {
     let [question, lists, numbers @ ..] = asked else {
-        return Err(malformed());
+        return Err(RowStop::Malformed);
     };
     match question.as_str() {
         "is_complete" => append_complete(alloc, lists.as_str(), into),
@@ -22,21 +21,21 @@ pub fn append_order(alloc: Global, asked: &[String], into: &mut Vec<u8>) -> io::
     }
 }
 
-fn append_complete(alloc: Global, lists: &str, into: &mut Vec<u8>) -> io::Result<()> {
+fn append_complete(alloc: Global, lists: &str, into: &mut Vec<u8>) -> RowResult<()> {
     let direct = read_lists(alloc, lists)?;
     append_bool(is_complete(direct.as_slice()), into)
 }
 
-fn read_order(alloc: Global, lists: &str) -> io::Result<Order> {
+fn read_order(alloc: Global, lists: &str) -> RowResult<Order> {
     let direct = read_lists(alloc, lists)?;
     if !is_complete(direct.as_slice()) {
-        return Err(malformed());
+        return Err(RowStop::Malformed);
     }
     Ok(order_of(alloc, direct)?)
 }
 
 /// The lists between slashes.
-fn read_lists(alloc: Global, spelled: &str) -> io::Result<Vec<Row<u32>>> {
+fn read_lists(alloc: Global, spelled: &str) -> RowResult<Vec<Row<u32>>> {
     let mut lists = Vec::new(alloc);
     for list in spelled.split('/') {
         lists.push(Row::from_vec(read_numbers(alloc, list)?))?;
@@ -50,7 +49,7 @@ fn append_asked(
     order: &Order,
     numbers: &[String],
     into: &mut Vec<u8>,
-) -> io::Result<()> {
+) -> RowResult<()> {
     match numbers {
         [] => append_of_order(alloc, question, order, into),
         [low] => {
@@ -62,7 +61,7 @@ fn append_asked(
             let high = read_number(high.as_str())?;
             append_of_two(question, order, low, high, into)
         }
-        _ => Err(malformed()),
+        _ => Err(RowStop::Malformed),
     }
 }
 
@@ -71,11 +70,11 @@ fn append_of_order(
     question: &str,
     order: &Order,
     into: &mut Vec<u8>,
-) -> io::Result<()> {
+) -> RowResult<()> {
     match question {
         "len" => append_number(alloc, Some(order.len() as u32), into),
         "first_on_circle" => append_number(alloc, order.first_on_circle(), into),
-        _ => Err(malformed()),
+        _ => Err(RowStop::Malformed),
     }
 }
 
@@ -85,18 +84,18 @@ fn append_of_one(
     order: &Order,
     low: u32,
     into: &mut Vec<u8>,
-) -> io::Result<()> {
+) -> RowResult<()> {
     if low as usize >= order.len() {
-        return Err(malformed());
+        return Err(RowStop::Malformed);
     }
     match question {
         "rank" => append_number(alloc, Some(order.rank(low)), into),
         "marks_above" => append_marks(order.marks_above(low), into),
-        _ => Err(malformed()),
+        _ => Err(RowStop::Malformed),
     }
 }
 
-fn append_marks(marks: &[bool], into: &mut Vec<u8>) -> io::Result<()> {
+fn append_marks(marks: &[bool], into: &mut Vec<u8>) -> RowResult<()> {
     for mark in marks {
         append_bool(*mark, into)?;
     }
@@ -109,24 +108,24 @@ fn append_of_two(
     low: u32,
     high: u32,
     into: &mut Vec<u8>,
-) -> io::Result<()> {
+) -> RowResult<()> {
     match question {
         "is_above" => append_bool(order.is_above(low, high), into),
         "is_strictly_above" => append_bool(order.is_strictly_above(low, high), into),
-        _ => Err(malformed()),
+        _ => Err(RowStop::Malformed),
     }
 }
 
 /// Appends the texts in order, each once, or the place of one.
-pub fn append_texts(alloc: Global, asked: &[String], into: &mut Vec<u8>) -> io::Result<()> {
+pub fn append_texts(alloc: Global, asked: &[String], into: &mut Vec<u8>) -> RowResult<()> {
     match asked {
         [texts] => append_all(alloc, texts.as_str(), into),
         [texts, wanted] => append_place(alloc, texts.as_str(), wanted.as_str(), into),
-        _ => Err(malformed()),
+        _ => Err(RowStop::Malformed),
     }
 }
 
-fn append_all(alloc: Global, texts: &str, into: &mut Vec<u8>) -> io::Result<()> {
+fn append_all(alloc: Global, texts: &str, into: &mut Vec<u8>) -> RowResult<()> {
     let set = ordered_set(alloc, read_texts(alloc, texts)?)?;
     for text in set.as_slice() {
         append_text(text.as_slice(), into)?;
@@ -134,7 +133,7 @@ fn append_all(alloc: Global, texts: &str, into: &mut Vec<u8>) -> io::Result<()> 
     Ok(())
 }
 
-fn append_place(alloc: Global, texts: &str, wanted: &str, into: &mut Vec<u8>) -> io::Result<()> {
+fn append_place(alloc: Global, texts: &str, wanted: &str, into: &mut Vec<u8>) -> RowResult<()> {
     let wanted = read_text(alloc, wanted)?;
     let set = ordered_set(alloc, read_texts(alloc, texts)?)?;
     append_number(alloc, set.place_of(wanted.as_slice()), into)

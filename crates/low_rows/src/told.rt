@@ -1,17 +1,17 @@
 //! The words of answers, each behind a space.
 
+use kb_table::RowResult;
 use std::alloc::Global;
-use std::io;
 
 /// Appends that word.
-pub fn append_word(word: &str, into: &mut Vec<u8>) -> io::Result<()> {
+pub fn append_word(word: &str, into: &mut Vec<u8>) -> RowResult<()> {
     into.push(b' ')?;
     into.extend_from_slice(word.as_bytes())?;
     Ok(())
 }
 
 /// Appends `true` or `false`.
-pub fn append_bool(holds: bool, into: &mut Vec<u8>) -> io::Result<()> {
+pub fn append_bool(holds: bool, into: &mut Vec<u8>) -> RowResult<()> {
     match holds {
         true => append_word("true", into),
         false => append_word("false", into),
@@ -19,7 +19,7 @@ pub fn append_bool(holds: bool, into: &mut Vec<u8>) -> io::Result<()> {
 }
 
 /// Appends the number, or `none`.
-pub fn append_number(alloc: Global, number: Option<u32>, into: &mut Vec<u8>) -> io::Result<()> {
+pub fn append_number(alloc: Global, number: Option<u32>, into: &mut Vec<u8>) -> RowResult<()> {
     match number {
         Some(number) => append_word(format!(in alloc; "{number}")?.as_str(), into),
         None => append_word("none", into),
@@ -27,7 +27,7 @@ pub fn append_number(alloc: Global, number: Option<u32>, into: &mut Vec<u8>) -> 
 }
 
 /// Appends the int, or `none`.
-pub fn append_signed(alloc: Global, number: Option<i32>, into: &mut Vec<u8>) -> io::Result<()> {
+pub fn append_signed(alloc: Global, number: Option<i32>, into: &mut Vec<u8>) -> RowResult<()> {
     match number {
         Some(number) => append_word(format!(in alloc; "{number}")?.as_str(), into),
         None => append_word("none", into),
@@ -35,7 +35,7 @@ pub fn append_signed(alloc: Global, number: Option<i32>, into: &mut Vec<u8>) -> 
 }
 
 /// Appends the numbers with commas between them; `-` where there are none.
-pub fn append_numbers(alloc: Global, numbers: &[u32], into: &mut Vec<u8>) -> io::Result<()> {
+pub fn append_numbers(alloc: Global, numbers: &[u32], into: &mut Vec<u8>) -> RowResult<()> {
     let [first, others @ ..] = numbers else {
         return append_word("-", into);
     };
@@ -47,7 +47,7 @@ pub fn append_numbers(alloc: Global, numbers: &[u32], into: &mut Vec<u8>) -> io:
 }
 
 /// Appends the text as a word spells it.
-pub fn append_text(text: &[u8], into: &mut Vec<u8>) -> io::Result<()> {
+pub fn append_text(text: &[u8], into: &mut Vec<u8>) -> RowResult<()> {
     if text.is_empty() {
         return append_word(".", into);
     }

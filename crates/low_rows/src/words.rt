@@ -1,37 +1,11 @@
 //! What the words of a question spell.
 
 use kb_rows::Row;
-use kb_table::malformed;
+use kb_table::{RowResult, read_number};
 use std::alloc::Global;
-use std::io;
-
-/// The words between such characters.
-pub fn read_words(alloc: Global, text: &str, between: char) -> io::Result<Vec<String>> {
-    let mut words = Vec::new(alloc);
-    for word in text.split(between) {
-        words.push(String::from_str(alloc, word)?)?;
-    }
-    Ok(words)
-}
-
-/// The int that a word spells.
-pub fn read_int(word: &str) -> io::Result<i32> {
-    match word.parse::<i32>() {
-        Ok(number) => Ok(number),
-        Err(_) => Err(malformed()),
-    }
-}
-
-/// The number that a word spells.
-pub fn read_number(word: &str) -> io::Result<u32> {
-    match word.parse::<u32>() {
-        Ok(number) => Ok(number),
-        Err(_) => Err(malformed()),
-    }
-}
 
 /// The numbers between commas; `-` alone is none.
-pub fn read_numbers(alloc: Global, spelled: &str) -> io::Result<Vec<u32>> {
+pub fn read_numbers(alloc: Global, spelled: &str) -> RowResult<Vec<u32>> {
     let mut numbers = Vec::new(alloc);
     if spelled == "-" {
         return Ok(numbers);
@@ -43,7 +17,7 @@ pub fn read_numbers(alloc: Global, spelled: &str) -> io::Result<Vec<u32>> {
 }
 
 /// The text that a word spells: `_` is a space, `~` the byte 255, and `.` alone the empty text.
-pub fn read_text(alloc: Global, word: &str) -> io::Result<Vec<u8>> {
+pub fn read_text(alloc: Global, word: &str) -> RowResult<Vec<u8>> {
     let mut text = Vec::new(alloc);
     if word == "." {
         return Ok(text);
@@ -59,7 +33,7 @@ pub fn read_text(alloc: Global, word: &str) -> io::Result<Vec<u8>> {
 }
 
 /// The texts between commas; `-` alone is none.
-pub fn read_texts(alloc: Global, spelled: &str) -> io::Result<Vec<Row<u8>>> {
+pub fn read_texts(alloc: Global, spelled: &str) -> RowResult<Vec<Row<u8>>> {
     let mut texts = Vec::new(alloc);
     if spelled == "-" {
         return Ok(texts);

@@ -1,37 +1,41 @@
 //! How runs end, as texts.
 
 use kb_heap::{Bound, Ending, Heap, Value};
-use kb_names::{ExactType, NoMemory, Spelling, write_name, write_target, write_type};
+use kb_names::{ExactType, Spelling, write_name, write_target, write_type};
+use kb_table::{RowResult, RowStop, kept};
 use std::alloc::Global;
-use std::io::{self, Error, ErrorKind};
 
-/// The text of an ending. An object of the heap is told by its class.
-pub fn ending_text(alloc: Global, ending: &Ending, heap: &Heap) -> io::Result<Vec<u8>> {
-    let mut text = Vec::new(alloc);
+/// Appends an ending. An object of the heap is told by its class.
+pub fn append_ending(
+    alloc: Global,
+    ending: &Ending,
+    heap: &Heap,
+    into: &mut Vec<u8>,
+) -> RowResult<()> {
     match ending {
-        Ending::Returned(None) => text.extend_from_slice(b"returns")?,
+        Ending::Returned(None) => into.extend_from_slice(b"returns")?,
         Ending::Returned(Some(value)) => {
-            text.extend_from_slice(b"returns ")?;
-            append_value(alloc, value, heap, &mut text)?;
+            into.extend_from_slice(b"returns ")?;
+            append_value(alloc, value, heap, into)?;
         }
         Ending::Threw(object) => {
-            text.extend_from_slice(b"throws ")?;
-            append_class(*object, heap, &mut text)?;
+            into.extend_from_slice(b"throws ")?;
+            append_class(*object, heap, into)?;
         }
         Ending::IllTyped(place) => {
-            text.extend_from_slice(b"illtyped ")?;
-            told(write_target(&place.method, &mut text))?;
-            text.extend_from_slice(format!(in alloc; " {}", place.at)?.as_bytes())?;
+            into.extend_from_slice(b"illtyped ")?;
+            kept(write_target(&place.method, into))?;
+            into.extend_from_slice(format!(in alloc; " {}", place.at)?.as_bytes())?;
         }
         Ending::Past(bound) => {
-            text.extend_from_slice(b"past ")?;
-            text.extend_from_slice(bound_text(*bound).as_bytes())?;
+            into.extend_from_slice(b"past ")?;
+            into.extend_from_slice(bound_text(*bound).as_bytes())?;
         }
     }
-    Ok(text)
+    Ok(())
 }
 
-fn append_value(alloc: Global, value: &Value, heap: &Heap, into: &mut Vec<u8>) -> io::Result<()> {
+fn append_value(alloc: Global, value: &Value, heap: &Heap, into: &mut Vec<u8>) -> RowResult<()> {
     match value {
         Value::Int(number) => into.extend_from_slice(format!(in alloc; "{number}")?.as_bytes())?,
         Value::Null => into.extend_from_slice(b"null")?,
@@ -41,15 +45,15 @@ fn append_value(alloc: Global, value: &Value, heap: &Heap, into: &mut Vec<u8>) -
 }
 
 /// Appends the name of the class of that object, or the descriptor of an array.
-fn append_class(object: u32, heap: &Heap, into: &mut Vec<u8>) -> io::Result<()> {
+fn append_class(object: u32, heap: &Heap, into: &mut Vec<u8>) -> RowResult<()> {
     let Some(object) = heap.objects.as_slice().get(object as usize) else {
-        return Err(Error::from(ErrorKind::InvalidData));
+        return Err(RowStop::Malformed);
     };
     match &object.kind {
-        ExactType::Class(name) => told(write_name(name, into)),
+        ExactType::Class(name) => kept(write_name(name, into)),
         ExactType::Array(component) => {
             into.push(b'[')?;
-            told(write_type(component, Spelling::Escaped, into))
+            kept(write_type(component, Spelling::Escaped, into))
         }
     }
 }
@@ -62,12 +66,5 @@ fn bound_text(bound: Bound) -> &'static str {
         Bound::Loops => "loops",
         Bound::Depth => "depth",
         Bound::Steps => "steps",
-    }
-}
-
-fn told(written: Result<(), NoMemory>) -> io::Result<()> {
-    match written {
-        Ok(()) => Ok(()),
-        Err(NoMemory) => Err(Error::from(ErrorKind::OutOfMemory)),
     }
 }

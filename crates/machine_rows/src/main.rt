@@ -11,159 +11,94 @@ mod rows;
 
 ghost use Rattle.kb_world.specs.Reach.{IsAccepted};
 
-use endings::ending_text;
+use endings::append_ending;
 use kb_class::MethodId;
-use kb_heap::{Ending, Heap};
-use kb_load::world_of;
+use kb_load::{InWorlds, WorldRows};
 use kb_machine::{fits_types, run};
-use kb_outside::{FileShelf, OutSink, Shelf, Sink, send_all};
-use kb_rows::Held;
+use kb_outside::{FileShelf, OutSink, Sink};
+use kb_table::{RowResult, RowStop, send, write_rows};
 use kb_world::World;
 use rows::{TableRow, read_row};
 use std::alloc::Global;
-use std::io::{self, Error, ErrorKind};
+use std::io;
 use std::process::ExitCode;
 
-/// More bytes than the table has, and than a class file.
-const ROOM: usize = 65_536;
+/// Each run is made by itself.
+#[derive(Drop)]
+struct Runs;
+
+impl WorldRows for Runs {
+    fn write_in_world<W: Sink>(
+        &mut self,
+        alloc: Global,
+        world: &World,
+        row: &str,
+        out: &mut W,
+    ) -> RowResult<()> {
+        let mut text = format!(in alloc; "{row}: ")?.into_bytes();
+        append_run(alloc, world, row, &mut text)?;
+        text.push(b'\n')?;
+        send(out, text.as_slice())
+    }
+}
 
 /// Writes how each row ends.
 fn main(rt: HostRuntime) -> io::Result<ExitCode> {
     let mut shelf = FileShelf::new(&rt);
     let mut out = OutSink::new(io::writer(&rt));
-    let table = read_table(rt.alloc(), &mut shelf)?;
-    write_rows(rt.alloc(), table.as_str(), &mut shelf, &mut out)?;
+    let mut rows = InWorlds {
+        rows: Runs,
+        world: None,
+    };
+    write_rows(rt.alloc(), "rows", &mut rows, &mut shelf, &mut out)?;
     Ok(ExitCode::from(0))
 }
 
-/// The text of the table.
-fn read_table<S: Shelf>(alloc: Global, shelf: &mut S) -> io::Result<String> {
-    match String::from_utf8(read_file(alloc, "rows", shelf)?) {
-        Ok(table) => Ok(table),
-        Err(_) => Err(Error::from(ErrorKind::InvalidData)),
-    }
-}
-
-/// Writes how each row of the table ends.
-fn write_rows<S: Shelf, W: Sink>(
-    alloc: Global,
-    table: &str,
-    shelf: &mut S,
-    out: &mut W,
-) -> io::Result<()> {
-    let mut world = None;
-    for line in table.lines() {
-        take_line(alloc, line, &mut world, shelf, out)?;
-    }
-    Ok(())
-}
-
-/// Reads the class files of the rows that follow, or writes a row.
-fn take_line<S: Shelf, W: Sink>(
-    alloc: Global,
-    line: &str,
-    world: &mut Option<Held<World>>,
-    shelf: &mut S,
-    out: &mut W,
-) -> io::Result<()> {
-    if line.is_empty() || line.starts_with("#") {
-        return Ok(());
-    }
-    match line.strip_prefix("files ") {
-        Some(names) => {
-            *world = Some(read_world(alloc, names, shelf)?);
-            Ok(())
-        }
-        None => write_row(alloc, line, world.as_ref(), out),
-    }
-}
-
-fn read_file<S: Shelf>(alloc: Global, name: &str, shelf: &mut S) -> io::Result<Vec<u8>> {
-    let mut bytes = Vec::new(alloc);
-    match shelf.read(name, ROOM, &mut bytes) {
-        Ok(()) => Ok(bytes),
-        Err(_) => Err(Error::from(ErrorKind::NotFound)),
-    }
-}
-
-/// The world of the class files of these names.
-fn read_world<S: Shelf>(alloc: Global, names: &str, shelf: &mut S) -> io::Result<Held<World>> {
-    let mut files = Vec::new(alloc);
-    for name in names.split(' ') {
-        files.push(read_file(alloc, name, shelf)?)?;
-    }
-    match world_of(alloc, files.as_slice()) {
-        Some(world) => Ok(Held::new(alloc, world)?),
-        None => Err(Error::from(ErrorKind::InvalidData)),
-    }
-}
-
-/// Writes a row and how it ends.
-fn write_row<W: Sink>(
-    alloc: Global,
-    line: &str,
-    world: Option<&Held<World>>,
-    out: &mut W,
-) -> io::Result<()> {
-    let Some(world) = world else {
-        return Err(Error::from(ErrorKind::InvalidData));
-    };
-    let text = row_text(alloc, world.get(), line)?;
-    send(out, line.as_bytes())?;
-    send(out, b": ")?;
-    send(out, text.as_slice())?;
-    send(out, b"\n")
-}
-
-fn send<W: Sink>(out: &mut W, text: &[u8]) -> io::Result<()> {
-    match send_all(out, text) {
-        Ok(()) => Ok(()),
-        Err(_) => Err(Error::from(ErrorKind::Other)),
-    }
-}
-
-/// How the run of the row of a line ends, or why there is none.
-fn row_text(alloc: Global, world: &World, line: &str) -> io::Result<Vec<u8>> {
+/// Appends how the run of the row of a line ends, or why there is none.
+fn append_run(alloc: Global, world: &World, line: &str, into: &mut Vec<u8>) -> RowResult<()> {
     let row = read_row(alloc, line)?;
-    text_of(alloc, world, &row)
+    append_run_of(alloc, world, row.get(), into)
 }
 
-fn text_of(alloc: Global, world: &World, row: &TableRow) -> io::Result<Vec<u8>> {
-    let Ok(method) = world.reach(alloc, row.target.get()) else {
-        return Ok(b"cannot be run".to_vec(alloc)?);
-    };
-    if !fits_types(world, method, &row.input) {
-        return Ok(b"does not take these arguments".to_vec(alloc)?);
-    }
-    let (ending, heap) = run_row(alloc, world, method, row)?;
-    ending_text(alloc, &ending, &heap)
-}
-
-/// The last of the runs of a row.
-fn run_row(
+fn append_run_of(
     alloc: Global,
     world: &World,
-    method: MethodId,
     row: &TableRow,
-) -> io::Result<(Ending, Heap)>
-    requires { IsAccepted world.now method }
-{
+    into: &mut Vec<u8>,
+) -> RowResult<()> {
+    let Ok(method) = world.reach(alloc, &row.target) else {
+        return Ok(into.extend_from_slice(b"cannot be run")?);
+    };
+    if !fits_types(world, method, &row.input) {
+        return Ok(into.extend_from_slice(b"does not take these arguments")?);
+    }
     for _ in 1..row.times {
         run_once(alloc, world, method, row)?;
     }
-    run_once(alloc, world, method, row)
+    append_last(alloc, world, method, row, into)
 }
 
-fn run_once(
+fn run_once(alloc: Global, world: &World, method: MethodId, row: &TableRow) -> RowResult<()>
+    requires { IsAccepted world.now method }
+{
+    match run(alloc, world, method, &row.input, &row.bounds) {
+        Ok(_) => Ok(()),
+        Err(_) => Err(RowStop::NoMemory),
+    }
+}
+
+/// Appends how the last of the runs of a row ends.
+fn append_last(
     alloc: Global,
     world: &World,
     method: MethodId,
     row: &TableRow,
-) -> io::Result<(Ending, Heap)>
+    into: &mut Vec<u8>,
+) -> RowResult<()>
     requires { IsAccepted world.now method }
 {
     match run(alloc, world, method, &row.input, &row.bounds) {
-        Ok(ended) => Ok(ended),
-        Err(_) => Err(Error::from(ErrorKind::OutOfMemory)),
+        Ok(ended) => append_ending(alloc, &ended.0, &ended.1, into),
+        Err(_) => Err(RowStop::NoMemory),
     }
 }

@@ -1,12 +1,12 @@
 //! What a text comes to.
 
-use crate::texts::{append_text, malformed};
+use crate::texts::append_text;
 use kb_names::{
     JType, Name, NameRefusal, NameTextRefusal, Spelling, Target, TargetRefusal, read_method_type,
     read_name, read_target, read_type, write_method_type, write_name, write_target, write_type,
 };
+use kb_table::{RowResult, RowStop};
 use std::alloc::Global;
-use std::io::{self, Error, ErrorKind};
 
 /// Appends the answer to a question about the text:
 ///
@@ -23,7 +23,7 @@ pub fn append_answer(
     question: &str,
     text: &[u8],
     into: &mut Vec<u8>,
-) -> io::Result<()> {
+) -> RowResult<()> {
     match question {
         "write" => Ok(write_name(&Name::from_slice(alloc, text)?, into)?),
         "name" => append_name(alloc, text, into),
@@ -32,11 +32,11 @@ pub fn append_answer(
         "component" => append_component(alloc, text, into),
         "target" => append_target(alloc, text, into),
         "same" => append_same(alloc, text, into),
-        _ => Err(malformed()),
+        _ => Err(RowStop::Malformed),
     }
 }
 
-fn append_name(alloc: Global, text: &[u8], into: &mut Vec<u8>) -> io::Result<()> {
+fn append_name(alloc: Global, text: &[u8], into: &mut Vec<u8>) -> RowResult<()> {
     match read_name(alloc, text) {
         Ok(name) => {
             if name.is_empty() {
@@ -45,15 +45,15 @@ fn append_name(alloc: Global, text: &[u8], into: &mut Vec<u8>) -> io::Result<()>
             append_text(name.as_slice(), into)
         }
         Err(NameTextRefusal::BadName(at)) => append_bad(alloc, at, into),
-        Err(NameTextRefusal::NoMemory) => Err(no_memory()),
+        Err(NameTextRefusal::NoMemory) => Err(RowStop::NoMemory),
     }
 }
 
-fn append_descriptor(alloc: Global, text: &[u8], into: &mut Vec<u8>) -> io::Result<()> {
+fn append_descriptor(alloc: Global, text: &[u8], into: &mut Vec<u8>) -> RowResult<()> {
     match append_again(alloc, text, into) {
         Ok(()) => Ok(()),
         Err(NameRefusal::BadDescriptor(at)) => append_bad(alloc, at, into),
-        Err(NameRefusal::NoMemory) => Err(no_memory()),
+        Err(NameRefusal::NoMemory) => Err(RowStop::NoMemory),
     }
 }
 
@@ -69,7 +69,7 @@ fn append_again(alloc: Global, text: &[u8], into: &mut Vec<u8>) -> Result<(), Na
     }
 }
 
-fn append_cuts(alloc: Global, text: &[u8], into: &mut Vec<u8>) -> io::Result<()> {
+fn append_cuts(alloc: Global, text: &[u8], into: &mut Vec<u8>) -> RowResult<()> {
     for (end, _) in text.iter().enumerate() {
         append_descriptor(alloc, &text[..end], into)?;
         into.extend_from_slice(b", ")?;
@@ -77,28 +77,28 @@ fn append_cuts(alloc: Global, text: &[u8], into: &mut Vec<u8>) -> io::Result<()>
     append_descriptor(alloc, text, into)
 }
 
-fn append_component(alloc: Global, text: &[u8], into: &mut Vec<u8>) -> io::Result<()> {
+fn append_component(alloc: Global, text: &[u8], into: &mut Vec<u8>) -> RowResult<()> {
     let Ok(of) = read_type(alloc, text) else {
-        return Err(malformed());
+        return Err(RowStop::Malformed);
     };
     let copy = of.copied(alloc)?;
     match &copy {
         JType::Array(component) => Ok(write_type(component.get(), Spelling::Escaped, into)?),
-        _ => Err(malformed()),
+        _ => Err(RowStop::Malformed),
     }
 }
 
-fn append_target(alloc: Global, text: &[u8], into: &mut Vec<u8>) -> io::Result<()> {
+fn append_target(alloc: Global, text: &[u8], into: &mut Vec<u8>) -> RowResult<()> {
     match read_target(alloc, text) {
         Ok(target) => Ok(write_target(&target, into)?),
         Err(TargetRefusal::BadTarget(at)) => append_bad(alloc, at, into),
-        Err(TargetRefusal::NoMemory) => Err(no_memory()),
+        Err(TargetRefusal::NoMemory) => Err(RowStop::NoMemory),
     }
 }
 
-fn append_same(alloc: Global, text: &[u8], into: &mut Vec<u8>) -> io::Result<()> {
+fn append_same(alloc: Global, text: &[u8], into: &mut Vec<u8>) -> RowResult<()> {
     let Some(at) = text.iter().position(|byte| *byte == b' ') else {
-        return Err(malformed());
+        return Err(RowStop::Malformed);
     };
     let one = target_of(alloc, &text[..at])?;
     let other = target_of(alloc, &text[at + 1..])?;
@@ -107,24 +107,20 @@ fn append_same(alloc: Global, text: &[u8], into: &mut Vec<u8>) -> io::Result<()>
     append_whether(other.is_same(&one), into)
 }
 
-fn target_of(alloc: Global, text: &[u8]) -> io::Result<Target> {
+fn target_of(alloc: Global, text: &[u8]) -> RowResult<Target> {
     match read_target(alloc, text) {
         Ok(target) => Ok(target),
-        Err(_) => Err(malformed()),
+        Err(_) => Err(RowStop::Malformed),
     }
 }
 
-fn append_whether(is_so: bool, into: &mut Vec<u8>) -> io::Result<()> {
+fn append_whether(is_so: bool, into: &mut Vec<u8>) -> RowResult<()> {
     let told = if is_so { b"same".as_slice() } else { b"other" };
     into.extend_from_slice(told)?;
     Ok(())
 }
 
-fn append_bad(alloc: Global, at: usize, into: &mut Vec<u8>) -> io::Result<()> {
+fn append_bad(alloc: Global, at: usize, into: &mut Vec<u8>) -> RowResult<()> {
     into.extend_from_slice(format!(in alloc; "bad at {at}")?.as_bytes())?;
     Ok(())
-}
-
-fn no_memory() -> Error {
-    Error::from(ErrorKind::OutOfMemory)
 }

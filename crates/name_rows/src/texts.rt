@@ -1,11 +1,11 @@
 //! Any bytes as a text of one line.
 ghost use Rattle.std.specs.Prelude.{◌<◌, IfOk};
 
+use kb_table::{RowResult, RowStop};
 use std::alloc::Global;
-use std::io::{self, Error, ErrorKind};
 
 /// The bytes that are spelled so: `\` and two digits in base 16, in lower case, are one byte.
-pub fn read_text(alloc: Global, spelled: &str) -> io::Result<Vec<u8>> {
+pub fn read_text(alloc: Global, spelled: &str) -> RowResult<Vec<u8>> {
     let mut text = Vec::new(alloc);
     let mut rest = spelled.as_bytes();
     while let [first, others @ ..] = rest {
@@ -23,18 +23,18 @@ pub fn read_text(alloc: Global, spelled: &str) -> io::Result<Vec<u8>> {
     Ok(text)
 }
 
-fn digit_value(letter: u8) -> io::Result<u8>
+fn digit_value(letter: u8) -> RowResult<u8>
     ensures { IfOk result (λ digit. digit < 16) }
 {
     match letter {
         b'0'..=b'9' => Ok(letter - b'0'),
         b'a'..=b'f' => Ok(letter - b'a' + 10),
-        _ => Err(malformed()),
+        _ => Err(RowStop::Malformed),
     }
 }
 
 /// Appends the bytes as one line: `\` and two digits for each that is no letter of ASCII, no digit and no sign.
-pub fn append_text(text: &[u8], into: &mut Vec<u8>) -> io::Result<()> {
+pub fn append_text(text: &[u8], into: &mut Vec<u8>) -> RowResult<()> {
     for byte in text {
         if (0x20..0x7f).contains(byte) {
             into.push(*byte)?;
@@ -53,9 +53,4 @@ fn digit(value: u8) -> u8
     } else {
         b'a' - 10 + value
     }
-}
-
-/// The fault of a row that asks for nothing.
-pub fn malformed() -> Error {
-    Error::from(ErrorKind::InvalidData)
 }

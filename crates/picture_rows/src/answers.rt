@@ -5,15 +5,15 @@ ghost use Rattle.kb_picture.specs.Places.{places_of};
 
 use crate::asked::Asked;
 use crate::texts::add;
-use crate::words::{malformed, no_memory};
 use kb_heap::{Ending, Heap, Input, RunBounds};
 use kb_machine::{fits_types, run};
 use kb_names::Target;
-use kb_picture::{Leaf, PlaceLists, ending_at, is_instance, places};
+use kb_picture::{Leaf, Path, PlaceLists, ending_at, is_instance, places};
+use kb_rows::Held;
+use kb_table::{RowResult, RowStop, kept};
 use kb_test::write_run;
 use kb_world::World;
 use std::alloc::Global;
-use std::io;
 
 /// Within them each method of the rows ends.
 const BOUNDS: RunBounds = RunBounds {
@@ -29,40 +29,43 @@ pub fn add_answer(
     world: &World,
     asked: &Asked,
     text: &mut Vec<u8>,
-) -> io::Result<()> {
-    match places(alloc, &asked.path, &asked.input) {
-        Ok(Some(lists)) => add_judged(alloc, world, asked, &lists, text),
+) -> RowResult<()> {
+    let (path, input) = (asked.path.get(), asked.input.get());
+    match places(alloc, path, input) {
+        Ok(Some(lists)) => add_judged(alloc, world, &asked.target, path, input, &lists, text),
         Ok(None) => add(b"no places\n", text),
-        Err(_) => Err(no_memory()),
+        Err(_) => Err(RowStop::NoMemory),
     }
 }
 
 fn add_judged(
     alloc: Global,
     world: &World,
-    asked: &Asked,
+    target: &Option<Held<Target>>,
+    path: &Path,
+    input: &Input,
     lists: &PlaceLists,
     text: &mut Vec<u8>,
-) -> io::Result<()>
-    requires { places_of asked.now.path.picture asked.now.input ≡ Some lists.now }
+) -> RowResult<()>
+    requires { places_of path.now.picture input.now ≡ Some lists.now }
 {
     add_places(alloc, lists, text)?;
-    match is_instance(alloc, world, &asked.path, &asked.input, lists) {
-        Ok(true) => add_instance(alloc, world, asked, lists, text),
+    match is_instance(alloc, world, path, input, lists) {
+        Ok(true) => add_instance(alloc, world, target, path, input, lists, text),
         Ok(false) => add(b"no instance\n", text),
-        Err(_) => Err(no_memory()),
+        Err(_) => Err(RowStop::NoMemory),
     }
 }
 
 /// As in `places o0=i0 l0=i0`.
-fn add_places(alloc: Global, lists: &PlaceLists, text: &mut Vec<u8>) -> io::Result<()> {
+fn add_places(alloc: Global, lists: &PlaceLists, text: &mut Vec<u8>) -> RowResult<()> {
     add(b"places", text)?;
     add_each(alloc, "o", lists.objects.as_slice(), text)?;
     add_each(alloc, "l", lists.locs.as_slice(), text)?;
     add(b"\n", text)
 }
 
-fn add_each(alloc: Global, letter: &str, places: &[u32], text: &mut Vec<u8>) -> io::Result<()> {
+fn add_each(alloc: Global, letter: &str, places: &[u32], text: &mut Vec<u8>) -> RowResult<()> {
     let mut number: u32 = 0;
     for place in places {
         let piece = format!(in alloc; " {letter}{number}=i{place}")?;
@@ -76,19 +79,21 @@ fn add_each(alloc: Global, letter: &str, places: &[u32], text: &mut Vec<u8>) -> 
 fn add_instance(
     alloc: Global,
     world: &World,
-    asked: &Asked,
+    target: &Option<Held<Target>>,
+    path: &Path,
+    input: &Input,
     lists: &PlaceLists,
     text: &mut Vec<u8>,
-) -> io::Result<()>
-    requires { places_of asked.now.path.picture asked.now.input ≡ Some lists.now }
+) -> RowResult<()>
+    requires { places_of path.now.picture input.now ≡ Some lists.now }
 {
     add(b"instance\n", text)?;
-    let Leaf::Ended(_) = &asked.path.leaf else {
+    let Leaf::Ended(_) = &path.leaf else {
         return Ok(());
     };
-    match ending_at(alloc, world, &asked.path, &asked.input, lists) {
-        Ok(stated) => add_stated(alloc, world, asked, &stated, text),
-        Err(_) => Err(no_memory()),
+    match ending_at(alloc, world, path, input, lists) {
+        Ok(stated) => add_stated(alloc, world, target, input, &stated, text),
+        Err(_) => Err(RowStop::NoMemory),
     }
 }
 
@@ -96,13 +101,14 @@ fn add_instance(
 fn add_stated(
     alloc: Global,
     world: &World,
-    asked: &Asked,
+    target: &Option<Held<Target>>,
+    input: &Input,
     stated: &(Ending, Heap),
     text: &mut Vec<u8>,
-) -> io::Result<()> {
-    add_end(alloc, world, &asked.input, stated, text)?;
-    match &asked.target {
-        Some(target) => add_compared(alloc, world, target, &asked.input, stated, text),
+) -> RowResult<()> {
+    add_end(alloc, world, input, stated, text)?;
+    match target {
+        Some(target) => add_compared(alloc, world, target.get(), input, stated, text),
         None => Ok(()),
     }
 }
@@ -114,14 +120,11 @@ fn add_end(
     input: &Input,
     end: &(Ending, Heap),
     text: &mut Vec<u8>,
-) -> io::Result<()> {
+) -> RowResult<()> {
     let Ok(inputs) = u32::try_from(input.heap.objects.as_slice().len()) else {
-        return Err(no_memory());
+        return Err(RowStop::NoMemory);
     };
-    match write_run(alloc, &end.0, &end.1, inputs, world.literals(), text) {
-        Ok(()) => Ok(()),
-        Err(_) => Err(no_memory()),
-    }
+    kept(write_run(alloc, &end.0, &end.1, inputs, world.literals(), text))
 }
 
 fn add_compared(
@@ -131,16 +134,16 @@ fn add_compared(
     input: &Input,
     stated: &(Ending, Heap),
     text: &mut Vec<u8>,
-) -> io::Result<()> {
+) -> RowResult<()> {
     let Ok(method) = world.reach(alloc, target) else {
-        return Err(malformed());
+        return Err(RowStop::Malformed);
     };
     if !fits_types(world, method, input) {
         return add(b"not type-correct\n", text);
     }
     match run(alloc, world, method, input, &BOUNDS) {
         Ok(end) => add_verdict(alloc, world, input, (&end, stated), text),
-        Err(_) => Err(no_memory()),
+        Err(_) => Err(RowStop::NoMemory),
     }
 }
 
@@ -151,7 +154,7 @@ fn add_verdict(
     input: &Input,
     both: (&(Ending, Heap), &(Ending, Heap)),
     text: &mut Vec<u8>,
-) -> io::Result<()> {
+) -> RowResult<()> {
     let (end, stated) = both;
     if are_same(end, stated) {
         return add(b"as the run\n", text);

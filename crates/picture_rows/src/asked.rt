@@ -3,69 +3,58 @@
 use crate::answers::add_answer;
 use crate::choosing::add_choices;
 use crate::emitting::emit;
-use crate::inputs::{add_to_input, no_input};
-use crate::paths::{add_to_path, no_path};
-use crate::texts::{add, split};
+use crate::texts::add;
 use kb_heap::Input;
 use kb_names::{Target, read_target};
+use kb_path_lines::{add_to_input, add_to_path, no_input, path_of, split};
 use kb_picture::Path;
+use kb_rows::{Held, Row};
+use kb_table::RowResult;
 use kb_world::World;
 use std::alloc::Global;
-use std::io;
 
 /// A path and an input, and the method whose runs the path speaks of, where it speaks of some.
 #[derive(Drop)]
 pub struct Asked {
-    pub target: Option<Target>,
-    pub path: Path,
-    pub input: Input,
+    pub target: Option<Held<Target>>,
+    pub path: Held<Path>,
+    pub input: Held<Input>,
 }
 
-/// Adds the answers of a table to the text.
-pub fn add_answers(
-    alloc: Global,
-    world: &World,
-    table: &str,
-    text: &mut Vec<u8>,
-) -> io::Result<()> {
-    let mut asked = Asked {
+/// Nothing is asked of yet.
+pub fn nothing_asked(alloc: Global) -> RowResult<Asked> {
+    let path = empty_path(alloc)?;
+    let input = held_input(alloc, no_input(alloc))?;
+    Ok(Asked {
         target: None,
-        path: no_path(alloc),
-        input: no_input(alloc),
-    };
-    add_lines(alloc, world, table, &mut asked, text)
+        path,
+        input,
+    })
 }
 
-fn add_lines(
-    alloc: Global,
-    world: &World,
-    table: &str,
-    asked: &mut Asked,
-    text: &mut Vec<u8>,
-) -> io::Result<()> {
-    for line in table.lines() {
-        add_line(alloc, world, line, asked, text)?;
-    }
-    Ok(())
+fn empty_path(alloc: Global) -> RowResult<Held<Path>> {
+    Ok(Held::new(alloc, path_of(alloc, Row::new(alloc)))?)
 }
 
-/// A line `ask` asks of the path and the input before it, `choices` of the picture alone, and `emit` makes the input that the
-/// path carries; a line `#` speaks to the reader alone, and the lines with the names of paths and inputs are written as they
-/// are.
-fn add_line(
+pub fn held_input(alloc: Global, input: Input) -> RowResult<Held<Input>> {
+    Ok(Held::new(alloc, input)?)
+}
+
+/// Adds what a line comes to. A line `ask` asks of the path and the input before it, `choices` of the picture alone, and `emit`
+/// makes the input that the path carries; the lines with the names of paths and inputs are written as they are.
+pub fn add_line(
     alloc: Global,
     world: &World,
     line: &str,
     asked: &mut Asked,
     text: &mut Vec<u8>,
-) -> io::Result<()> {
+) -> RowResult<()> {
     let (word, rest) = split(line);
     match word.as_bytes() {
-        b"" | b"#" => Ok(()),
         b"ask" => add_answer(alloc, world, asked, text),
         b"choices" => {
             add_itself(line, text)?;
-            add_choices(alloc, world, &asked.path.picture, rest, text)
+            add_choices(alloc, world, &asked.path.get().picture, rest, text)
         }
         b"emit" => {
             add_itself(line, text)?;
@@ -79,19 +68,27 @@ fn add_line(
     }
 }
 
-fn add_itself(line: &str, text: &mut Vec<u8>) -> io::Result<()> {
+fn add_itself(line: &str, text: &mut Vec<u8>) -> RowResult<()> {
     add(line.as_bytes(), text)?;
     add(b"\n", text)
 }
 
 /// Takes a line of a path or an input; the first line of either begins it anew.
-fn take(alloc: Global, word: &str, rest: &str, asked: &mut Asked) -> io::Result<()> {
+fn take(alloc: Global, word: &str, rest: &str, asked: &mut Asked) -> RowResult<()> {
     match word.as_bytes() {
-        b"method" => asked.target = read_target(alloc, rest.as_bytes()).ok(),
-        b"path" => asked.path = no_path(alloc),
-        b"input" => asked.input = no_input(alloc),
-        b"arg" | b"in" => return add_to_input(alloc, word, rest, &mut asked.input),
-        _ => return add_to_path(alloc, word, rest, &mut asked.path),
+        b"method" => asked.target = read_method(alloc, rest)?,
+        b"path" => asked.path = empty_path(alloc)?,
+        b"input" => asked.input = held_input(alloc, no_input(alloc))?,
+        b"arg" | b"in" => return add_to_input(alloc, word, rest, asked.input.get_mut()),
+        _ => return add_to_path(alloc, word, rest, asked.path.get_mut()),
     }
     Ok(())
+}
+
+/// The method of a target, or none.
+fn read_method(alloc: Global, text: &str) -> RowResult<Option<Held<Target>>> {
+    match read_target(alloc, text.as_bytes()) {
+        Ok(target) => Ok(Some(Held::new(alloc, target)?)),
+        Err(_) => Ok(None),
+    }
 }

@@ -1,14 +1,14 @@
 //! The input that a path carries, as lines of a text.
 
-use crate::asked::Asked;
+use crate::asked::{Asked, held_input};
 use crate::choosing::add_exact;
 use crate::texts::add;
-use crate::words::{int, malformed, no_memory};
 use kb_heap::{Input, Object, Value};
 use kb_input::input_of;
+use kb_rows::Held;
+use kb_table::{RowResult, RowStop, read_int};
 use kb_world::World;
 use std::alloc::Global;
-use std::io;
 
 /// Makes the input of the picture with these values of its variables the one that is asked of, and adds its lines.
 pub fn emit(
@@ -17,39 +17,37 @@ pub fn emit(
     words: &str,
     asked: &mut Asked,
     text: &mut Vec<u8>,
-) -> io::Result<()> {
+) -> RowResult<()> {
     let values = values_of(alloc, words)?;
-    let input = emitted(alloc, world, asked, values.as_slice())?;
-    add_input(alloc, &input, text)?;
-    asked.input = input;
-    Ok(())
+    asked.input = emitted(alloc, world, values.as_slice(), asked)?;
+    add_input(alloc, asked.input.get(), text)
 }
 
-fn values_of(alloc: Global, words: &str) -> io::Result<Vec<i32>> {
+fn values_of(alloc: Global, words: &str) -> RowResult<Vec<i32>> {
     let mut values = Vec::new(alloc);
     for word in words.split(' ') {
         if !word.is_empty() {
-            values.push(int(word)?)?;
+            values.push(read_int(word)?)?;
         }
     }
     Ok(values)
 }
 
 /// The input for the parameters of the method that the table names.
-fn emitted(alloc: Global, world: &World, asked: &Asked, values: &[i32]) -> io::Result<Input> {
+fn emitted(alloc: Global, world: &World, values: &[i32], asked: &Asked) -> RowResult<Held<Input>> {
     let Some(target) = &asked.target else {
-        return Err(malformed());
+        return Err(RowStop::Malformed);
     };
-    let Ok(method) = world.reach(alloc, target) else {
-        return Err(malformed());
+    let Ok(method) = world.reach(alloc, target.get()) else {
+        return Err(RowStop::Malformed);
     };
-    match input_of(alloc, world, method, &asked.path.picture, values) {
-        Ok(input) => Ok(input),
-        Err(_) => Err(no_memory()),
+    match input_of(alloc, world, method, &asked.path.get().picture, values) {
+        Ok(input) => held_input(alloc, input),
+        Err(_) => Err(RowStop::NoMemory),
     }
 }
 
-fn add_input(alloc: Global, input: &Input, text: &mut Vec<u8>) -> io::Result<()> {
+fn add_input(alloc: Global, input: &Input, text: &mut Vec<u8>) -> RowResult<()> {
     for value in input.args.as_slice() {
         add(b"arg", text)?;
         add_value(alloc, value, text)?;
@@ -58,7 +56,7 @@ fn add_input(alloc: Global, input: &Input, text: &mut Vec<u8>) -> io::Result<()>
     add_objects(alloc, input.heap.objects.as_slice(), text)
 }
 
-fn add_objects(alloc: Global, objects: &[Object], text: &mut Vec<u8>) -> io::Result<()> {
+fn add_objects(alloc: Global, objects: &[Object], text: &mut Vec<u8>) -> RowResult<()> {
     let mut number: u32 = 0;
     for object in objects {
         add(format!(in alloc; "in i{number} ")?.as_bytes(), text)?;
@@ -70,14 +68,14 @@ fn add_objects(alloc: Global, objects: &[Object], text: &mut Vec<u8>) -> io::Res
     Ok(())
 }
 
-fn add_values(alloc: Global, values: &[Value], text: &mut Vec<u8>) -> io::Result<()> {
+fn add_values(alloc: Global, values: &[Value], text: &mut Vec<u8>) -> RowResult<()> {
     for value in values {
         add_value(alloc, value, text)?;
     }
     Ok(())
 }
 
-fn add_value(alloc: Global, value: &Value, text: &mut Vec<u8>) -> io::Result<()> {
+fn add_value(alloc: Global, value: &Value, text: &mut Vec<u8>) -> RowResult<()> {
     let piece = match value {
         Value::Int(number) => format!(in alloc; " {number}")?,
         Value::Null => format!(in alloc; " null")?,

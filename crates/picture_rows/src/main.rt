@@ -11,97 +11,80 @@ mod answers;
 mod asked;
 mod choosing;
 mod emitting;
-mod inputs;
-mod paths;
-mod pictures;
 mod texts;
-mod words;
 
-use asked::add_answers;
-use kb_load::world_of;
-use kb_outside::{FileShelf, OutSink, Shelf, send_all};
+use asked::{Asked, add_line, nothing_asked};
+use kb_load::{InWorlds, WorldRows, read_world};
+use kb_outside::{FileShelf, OutSink, Shelf, Sink};
+use kb_table::{RowResult, read_words, send, write_rows};
 use kb_world::World;
 use std::alloc::Global;
-use std::io::{self, Error, ErrorKind};
+use std::io;
 use std::process::ExitCode;
-use words::malformed;
 
-/// More bytes than a table has, and than a class file.
-const ROOM: usize = 65_536;
+/// Rows make a path and an input, and ask of them.
+#[derive(Drop)]
+struct PathRows {
+    asked: Asked,
+}
+
+impl WorldRows for PathRows {
+    fn write_in_world<W: Sink>(
+        &mut self,
+        alloc: Global,
+        world: &World,
+        row: &str,
+        out: &mut W,
+    ) -> RowResult<()> {
+        let mut text = Vec::new(alloc);
+        add_line(alloc, world, row, &mut self.asked, &mut text)?;
+        send(out, text.as_slice())
+    }
+}
 
 /// Writes the answers of all rows.
 fn main(rt: HostRuntime) -> io::Result<ExitCode> {
     let mut shelf = FileShelf::new(&rt);
     let mut out = OutSink::new(io::writer(&rt));
-    let mut text = Vec::new(rt.alloc());
-    add_tables(rt.alloc(), &mut shelf, &mut text)?;
-    match send_all(&mut out, text.as_slice()) {
-        Ok(()) => Ok(ExitCode::from(0)),
-        Err(_) => Err(Error::from(ErrorKind::Other)),
-    }
+    write_tables(rt.alloc(), &mut shelf, &mut out)?;
+    Ok(ExitCode::from(0))
 }
 
-fn add_tables<S: Shelf>(alloc: Global, shelf: &mut S, text: &mut Vec<u8>) -> io::Result<()> {
-    add_table(alloc, "Node.class", "rows", shelf, text)?;
-    add_table(alloc, "Node.class Low.class", "rows-with-low", shelf, text)?;
-    add_table(alloc, "Node.class", "choices", shelf, text)?;
-    add_table(
+fn write_tables<S: Shelf, W: Sink>(alloc: Global, shelf: &mut S, out: &mut W) -> RowResult<()> {
+    write_table(alloc, "Node.class", "rows", shelf, out)?;
+    write_table(alloc, "Node.class Low.class", "rows-with-low", shelf, out)?;
+    write_table(alloc, "Node.class", "choices", shelf, out)?;
+    write_table(
         alloc,
         "H.class S.class A.class B.class",
         "choices-with-types",
         shelf,
-        text,
+        out,
     )?;
-    add_table(
+    write_table(
         alloc,
         "Shape.class Lonely.class Bare.class Square.class Holder.class",
         "choices-with-arrays",
         shelf,
-        text,
+        out,
     )
 }
 
-/// Adds the answers of a table to the text, in the world of these class files.
-fn add_table<S: Shelf>(
+/// Writes the answers of a table, in the world of these class files.
+fn write_table<S: Shelf, W: Sink>(
     alloc: Global,
     classes: &str,
     table: &str,
     shelf: &mut S,
-    text: &mut Vec<u8>,
-) -> io::Result<()> {
-    let table = read_table(alloc, table, shelf)?;
-    let world = read_world(alloc, classes, shelf)?;
-    add_answers(alloc, &world, table.as_str(), text)
-}
-
-fn read_table<S: Shelf>(alloc: Global, name: &str, shelf: &mut S) -> io::Result<String> {
-    let bytes = read_file(alloc, name, shelf)?;
-    match String::from_utf8(bytes) {
-        Ok(table) => Ok(table),
-        Err(_) => Err(malformed()),
-    }
-}
-
-fn read_world<S: Shelf>(alloc: Global, names: &str, shelf: &mut S) -> io::Result<World> {
-    let files = read_files(alloc, names, shelf)?;
-    match world_of(alloc, files.as_slice()) {
-        Some(world) => Ok(world),
-        None => Err(malformed()),
-    }
-}
-
-fn read_files<S: Shelf>(alloc: Global, names: &str, shelf: &mut S) -> io::Result<Vec<Vec<u8>>> {
-    let mut files = Vec::new(alloc);
-    for name in names.split(' ') {
-        files.push(read_file(alloc, name, shelf)?)?;
-    }
-    Ok(files)
-}
-
-fn read_file<S: Shelf>(alloc: Global, name: &str, shelf: &mut S) -> io::Result<Vec<u8>> {
-    let mut bytes = Vec::new(alloc);
-    match shelf.read(name, ROOM, &mut bytes) {
-        Ok(()) => Ok(bytes),
-        Err(_) => Err(Error::from(ErrorKind::NotFound)),
-    }
+    out: &mut W,
+) -> RowResult<()> {
+    let names = read_words(alloc, classes, ' ')?;
+    let world = read_world(alloc, names.as_slice(), shelf)?;
+    let mut rows = InWorlds {
+        rows: PathRows {
+            asked: nothing_asked(alloc)?,
+        },
+        world: Some(world),
+    };
+    write_rows(alloc, table, &mut rows, shelf, out)
 }

@@ -1,63 +1,86 @@
-//! The texts of reports whose paths are made by hand, one behind the other: each form of a line stands in one of them.
+//! The texts of reports: rows of the file `rows` make reports, a line each, and have their texts written, so that each form of
+//! a line of a report stands in one of them.
 //!
-//! The gate compares what the program writes with `stdout`, so that a text costs no proof. What is expected there is no output
-//! of this program: it was written by hand, after what each line is to say.
+//! The gate runs it over the files of `data/` and compares what it writes with `stdout`, so that a row costs no proof. What is
+//! expected there is no output of this program: it was written by hand, after what each line is to say. The class files are made
+//! by `examples/reports/make.py`.
 #![tactic(auto)]
 
-mod arrays;
-mod ints;
-mod leaves;
-mod locations;
-mod names;
-mod parts;
-mod references;
-mod whole;
-mod worlds;
+mod reports;
 
-use kb_outside::{OutSink, Sink, send_all};
+use kb_load::{InWorlds, WorldRows};
+use kb_outside::{FileShelf, OutSink, Sink};
+use kb_path_lines::split;
 use kb_report::{Report, report_text};
 use kb_rows::Held;
+use kb_table::{RowResult, RowStop, kept, send, write_rows};
 use kb_world::World;
+use reports::{add_to_report, read_report};
 use std::alloc::Global;
-use std::io::{self, Error, ErrorKind};
+use std::io;
 use std::process::ExitCode;
-use worlds::world;
+
+/// The report that rows make.
+#[derive(Drop)]
+struct ReportRows {
+    report: Option<Held<Report>>,
+}
+
+impl WorldRows for ReportRows {
+    fn write_in_world<W: Sink>(
+        &mut self,
+        alloc: Global,
+        world: &World,
+        row: &str,
+        out: &mut W,
+    ) -> RowResult<()> {
+        let (word, rest) = split(row);
+        match word.as_bytes() {
+            b"report" => begin(alloc, rest, &mut self.report),
+            b"text" => write_text(alloc, world, &self.report, out),
+            _ => add_row(alloc, word, rest, &mut self.report),
+        }
+    }
+}
 
 /// Writes the texts.
 fn main(rt: HostRuntime) -> io::Result<ExitCode> {
-    let alloc = rt.alloc();
+    let mut shelf = FileShelf::new(&rt);
     let mut out = OutSink::new(io::writer(&rt));
-    let world = world(alloc)?;
-    write_texts(alloc, &world, &mut out)?;
+    let mut rows = InWorlds {
+        rows: ReportRows { report: None },
+        world: None,
+    };
+    write_rows(rt.alloc(), "rows", &mut rows, &mut shelf, &mut out)?;
     Ok(ExitCode::from(0))
 }
 
-fn write_texts<W: Sink>(alloc: Global, world: &World, out: &mut W) -> io::Result<()> {
-    write_text(alloc, world, ints::abs(alloc), out)?;
-    write_text(alloc, world, ints::div(alloc), out)?;
-    write_text(alloc, world, ints::operations(alloc), out)?;
-    write_text(alloc, world, locations::locations(alloc), out)?;
-    write_text(alloc, world, whole::whole(alloc), out)?;
-    write_text(alloc, world, names::names(alloc), out)?;
-    write_text(alloc, world, names::fields(alloc), out)?;
-    write_text(alloc, world, names::nothing(alloc), out)?;
-    write_text(alloc, world, arrays::arrays(alloc), out)?;
-    write_text(alloc, world, arrays::nested(alloc), out)?;
-    write_text(alloc, world, references::references(alloc), out)?;
-    write_text(alloc, world, leaves::leaves(alloc), out)
+fn begin(alloc: Global, words: &str, report: &mut Option<Held<Report>>) -> RowResult<()> {
+    *report = Some(read_report(alloc, words)?);
+    Ok(())
 }
 
-/// Writes the text of a report, if it could be made.
+fn add_row(
+    alloc: Global,
+    word: &str,
+    rest: &str,
+    report: &mut Option<Held<Report>>,
+) -> RowResult<()> {
+    match report {
+        Some(report) => add_to_report(alloc, word, rest, report.get_mut()),
+        None => Err(RowStop::Malformed),
+    }
+}
+
 fn write_text<W: Sink>(
     alloc: Global,
     world: &World,
-    report: io::Result<Held<Report>>,
+    report: &Option<Held<Report>>,
     out: &mut W,
-) -> io::Result<()> {
-    let report = report?;
-    let text = report_text(alloc, world, report.get())?;
-    match send_all(out, text.as_slice()) {
-        Ok(()) => Ok(()),
-        Err(_) => Err(Error::from(ErrorKind::Other)),
-    }
+) -> RowResult<()> {
+    let Some(report) = report else {
+        return Err(RowStop::Malformed);
+    };
+    let text = kept(report_text(alloc, world, report.get()))?;
+    send(out, text.as_slice())
 }

@@ -1,30 +1,30 @@
 //! Questions about conditions.
 ghost use Rattle.std.specs.Prelude.{◌<◌};
 
-use crate::numbers::{kept, malformed, read_budget, words_of};
+use crate::numbers::{read_budget, words_of};
 use crate::outcomes::{Outcome, judged_open, judged_refutation, judged_values};
-use crate::subjects::{Subject, Subjects};
-use crate::terms::{Query, op_named, read_query};
-use kb_blast::{blast, can_blast};
+use crate::subjects::{Subject, Subjects, conditions_of};
+use crate::terms::{Query, op_named};
+use kb_blast::can_blast;
 use kb_chain::{Formula, Log};
 use kb_oracle::{Answer, Oracle, OracleStop, SolverOracle};
+use kb_table::{RowResult, RowStop, kept};
 use std::alloc::Global;
-use std::io;
 
 /// What an oracle says of conditions.
 pub fn asked<O: Oracle>(
     alloc: Global,
     oracle: &mut O,
     query: &Query,
-) -> io::Result<Result<Answer, OracleStop>> {
+) -> RowResult<Result<Answer, OracleStop>> {
     if !can_blast(&query.pool, query.when.as_slice()) {
-        return Err(malformed());
+        return Err(RowStop::Malformed);
     }
     Ok(oracle.ask(alloc, &query.pool, query.when.as_slice()))
 }
 
 /// What the solver says of conditions within a budget.
-pub fn solved(alloc: Global, query: &Query, budget: u32) -> io::Result<Answer>
+pub fn solved(alloc: Global, query: &Query, budget: u32) -> RowResult<Answer>
     requires { 0 < budget }
 {
     let mut oracle = SolverOracle::new(budget);
@@ -32,7 +32,7 @@ pub fn solved(alloc: Global, query: &Query, budget: u32) -> io::Result<Answer>
 }
 
 /// What the solver comes to, and how many undecided answers its oracle counts.
-pub fn ask_text(alloc: Global, subject: &Subject, budget: &str) -> io::Result<String> {
+pub fn ask_text(alloc: Global, subject: &Subject, budget: &str) -> RowResult<String> {
     let query = subject.query()?;
     let mut oracle = SolverOracle::new(read_budget(budget)?);
     let answer = kept(asked(alloc, &mut oracle, query)?)?;
@@ -48,7 +48,7 @@ pub fn outcome_of(
     formula: &Formula,
     query: &Query,
     answer: &Answer,
-) -> io::Result<Outcome> {
+) -> RowResult<Outcome> {
     match answer {
         Answer::Model(values) => judged_values(alloc, query, values.as_slice()),
         Answer::Refuted(log) => judged_refutation(alloc, formula, log),
@@ -57,9 +57,9 @@ pub fn outcome_of(
 }
 
 /// The values of the model.
-pub fn values_text(alloc: Global, subject: &Subject, budget: &str) -> io::Result<String> {
+pub fn values_text(alloc: Global, subject: &Subject, budget: &str) -> RowResult<String> {
     let Answer::Model(values) = solved(alloc, subject.query()?, read_budget(budget)?)? else {
-        return Err(malformed());
+        return Err(RowStop::Malformed);
     };
     let mut text = String::new(alloc);
     for value in values.as_slice() {
@@ -69,10 +69,10 @@ pub fn values_text(alloc: Global, subject: &Subject, budget: &str) -> io::Result
 }
 
 /// Whether the conditions and those before them have one answer, to the last step of its log.
-pub fn alike_text(alloc: Global, subjects: &Subjects, budget: &str) -> io::Result<String> {
+pub fn alike_text(alloc: Global, subjects: &Subjects, budget: &str) -> RowResult<String> {
     let budget = read_budget(budget)?;
-    let left = solved(alloc, subjects.former.query()?, budget)?;
-    let right = solved(alloc, subjects.current.query()?, budget)?;
+    let left = solved(alloc, subjects.former.get().query()?, budget)?;
+    let right = solved(alloc, subjects.current.get().query()?, budget)?;
     let alike = are_alike(&left, &right);
     Ok(format!(in alloc; "{alike}")?)
 }
@@ -96,10 +96,10 @@ fn are_one_log(left: &Log, right: &Log) -> bool {
 
 /// Whether an operation on two ints, of which one that takes one int leaves the second aside, has that value and no other: with
 /// the value there is a model, and with every other one a refutation.
-pub fn computes_text(alloc: Global, text: &str) -> io::Result<String> {
+pub fn computes_text(alloc: Global, text: &str) -> RowResult<String> {
     let words = words_of(alloc, text)?;
     let [op, left, right, value] = words.as_slice() else {
-        return Err(malformed());
+        return Err(RowStop::Malformed);
     };
     let operands = match op_named(op) {
         Some(op) if op.is_binary() => "v0 v1",
@@ -114,12 +114,16 @@ pub fn computes_text(alloc: Global, text: &str) -> io::Result<String> {
 }
 
 /// What the solver comes to on conditions over two ints.
-fn outcome_of_ints(alloc: Global, text: &str) -> io::Result<Outcome> {
-    let query = read_query(alloc, "ii", text)?;
-    let answer = solved(alloc, &query, 1000)?;
-    if !can_blast(&query.pool, query.when.as_slice()) {
-        return Err(malformed());
-    }
-    let blasted = kept(blast(alloc, &query.pool, query.when.as_slice()))?;
-    outcome_of(alloc, &blasted.formula, &query, &answer)
+fn outcome_of_ints(alloc: Global, text: &str) -> RowResult<Outcome> {
+    let (subject, _) = conditions_of(alloc, "ii", text)?;
+    outcome_on(alloc, subject.get(), 1000)
+}
+
+/// What the solver comes to within a budget.
+fn outcome_on(alloc: Global, subject: &Subject, budget: u32) -> RowResult<Outcome>
+    requires { 0 < budget }
+{
+    let query = subject.query()?;
+    let answer = solved(alloc, query, budget)?;
+    outcome_of(alloc, &subject.formula, query, &answer)
 }

@@ -4,20 +4,20 @@ ghost use Rattle.kb_chain.specs.Literal.{has, negated, place_of};
 ghost use Rattle.kb_chain.specs.Propagation.{all_negated};
 
 use crate::formulas::read_chain;
-use crate::numbers::{kept, malformed, read_i32, read_numbers, read_u32};
+use crate::numbers::read_numbers;
 use kb_chain::Lit;
 use kb_eliminate::Trail;
 use kb_sat::{ActivityOrder, Crowding, Ranks, levels_of};
+use kb_table::{RowResult, RowStop, kept, read_int, read_number};
 use std::alloc::Global;
-use std::io;
 
 /// Which variables come out of an order: how many it has, and then what is done with it, as `bump2`, `put2`, `decay` and `pop`,
 /// with `, ` between two pieces; a piece may begin with a number of times.
-pub fn order_text(alloc: Global, text: &str) -> io::Result<String> {
+pub fn order_text(alloc: Global, text: &str) -> RowResult<String> {
     let Some((variables, pieces)) = text.split_once(' ') else {
-        return Err(malformed());
+        return Err(RowStop::Malformed);
     };
-    let mut order = kept(ActivityOrder::new(alloc, read_u32(variables)?))?;
+    let mut order = kept(ActivityOrder::new(alloc, read_number(variables)?))?;
     let mut text = String::new(alloc);
     for piece in pieces.split(", ") {
         take_piece(alloc, &mut order, piece, &mut text)?;
@@ -30,11 +30,11 @@ fn take_piece(
     order: &mut ActivityOrder,
     piece: &str,
     text: &mut String,
-) -> io::Result<()> {
+) -> RowResult<()> {
     let Some((times, steps)) = piece.split_once(" times ") else {
         return take_steps(alloc, order, piece, text);
     };
-    for _ in 0..read_u32(times)? {
+    for _ in 0..read_number(times)? {
         take_steps(alloc, order, steps, text)?;
     }
     Ok(())
@@ -45,7 +45,7 @@ fn take_steps(
     order: &mut ActivityOrder,
     steps: &str,
     text: &mut String,
-) -> io::Result<()> {
+) -> RowResult<()> {
     for step in steps.split(' ') {
         take_step(alloc, order, step, text)?;
     }
@@ -57,7 +57,7 @@ fn take_step(
     order: &mut ActivityOrder,
     step: &str,
     text: &mut String,
-) -> io::Result<()> {
+) -> RowResult<()> {
     if step == "decay" {
         order.decay();
         return Ok(());
@@ -73,10 +73,10 @@ fn take_step(
         let variable = variable_of(order, variable)?;
         return kept(order.insert(variable));
     }
-    Err(malformed())
+    Err(RowStop::Malformed)
 }
 
-fn append_popped(alloc: Global, order: &mut ActivityOrder, text: &mut String) -> io::Result<()> {
+fn append_popped(alloc: Global, order: &mut ActivityOrder, text: &mut String) -> RowResult<()> {
     match order.pop() {
         Some(variable) => Ok(text.push_str(format!(in alloc; "{variable} ")?.as_str())?),
         None => Ok(text.push_str("none ")?),
@@ -84,13 +84,13 @@ fn append_popped(alloc: Global, order: &mut ActivityOrder, text: &mut String) ->
 }
 
 /// A variable of an order.
-fn variable_of(order: &ActivityOrder, word: &str) -> io::Result<u32>
+fn variable_of(order: &ActivityOrder, word: &str) -> RowResult<u32>
     ensures above { IfOk result (λ variable. 0 < variable) }
     ensures below { IfOk result (λ variable. variable ≤ order.now) }
 {
-    let variable = read_u32(word)?;
+    let variable = read_number(word)?;
     if variable == 0 || variable > order.vars() {
-        return Err(malformed());
+        return Err(RowStop::Malformed);
     }
     Ok(variable)
 }
@@ -99,10 +99,10 @@ fn variable_of(order: &ActivityOrder, word: &str) -> io::Result<u32>
 const MANY_CLAUSES: u32 = 100_000;
 
 /// After how many learned clauses some are let go, so many times.
-pub fn intervals_text(alloc: Global, times: &str) -> io::Result<String> {
+pub fn intervals_text(alloc: Global, times: &str) -> RowResult<String> {
     let mut crowding = Crowding::new();
     let mut text = String::new(alloc);
-    for _ in 0..read_u32(times)? {
+    for _ in 0..read_number(times)? {
         let interval = next_interval(&mut crowding);
         text.push_str(format!(in alloc; "{interval} ")?.as_str())?;
     }
@@ -120,12 +120,12 @@ fn next_interval(crowding: &mut Crowding) -> u32 {
 
 /// On how many levels learned clauses stood, and whether they were used: the clauses and their levels, as `4:3`, none of which
 /// counts as used; then a chain; and then the clauses that are asked about.
-pub fn ranks_text(alloc: Global, text: &str) -> io::Result<String> {
+pub fn ranks_text(alloc: Global, text: &str) -> RowResult<String> {
     let Some((learned, others)) = text.split_once(", ") else {
-        return Err(malformed());
+        return Err(RowStop::Malformed);
     };
     let Some((chain, asked)) = others.split_once(", ") else {
-        return Err(malformed());
+        return Err(RowStop::Malformed);
     };
     let mut ranks = read_ranks(alloc, learned)?;
     ranks.clear_uses();
@@ -137,18 +137,18 @@ pub fn ranks_text(alloc: Global, text: &str) -> io::Result<String> {
     Ok(text)
 }
 
-fn read_ranks(alloc: Global, text: &str) -> io::Result<Ranks> {
+fn read_ranks(alloc: Global, text: &str) -> RowResult<Ranks> {
     let mut ranks = Ranks::new(alloc);
     for word in text.split(' ') {
         let Some((number, levels)) = word.split_once(':') else {
-            return Err(malformed());
+            return Err(RowStop::Malformed);
         };
-        kept(ranks.set(read_u32(number)?, read_u32(levels)?))?;
+        kept(ranks.set(read_number(number)?, read_number(levels)?))?;
     }
     Ok(ranks)
 }
 
-fn append_rank(alloc: Global, ranks: &Ranks, number: u32, text: &mut String) -> io::Result<()> {
+fn append_rank(alloc: Global, ranks: &Ranks, number: u32, text: &mut String) -> RowResult<()> {
     let Some(rank) = ranks.ranks.get(number as usize) else {
         return Ok(text.push_str("none ")?);
     };
@@ -158,9 +158,9 @@ fn append_rank(alloc: Global, ranks: &Ranks, number: u32, text: &mut String) -> 
 
 /// On how many levels the literals of a clause stand: how many variables there are, and the literals that become true, those
 /// that begin a level with `d` in front; and then, behind `of`, the literals of the clause.
-pub fn levels_text(alloc: Global, text: &str) -> io::Result<String> {
+pub fn levels_text(alloc: Global, text: &str) -> RowResult<String> {
     let Some((trail, clause)) = text.split_once(" of ") else {
-        return Err(malformed());
+        return Err(RowStop::Malformed);
     };
     let trail = read_trail(alloc, trail)?;
     let mut literals = Vec::new(alloc);
@@ -171,18 +171,18 @@ pub fn levels_text(alloc: Global, text: &str) -> io::Result<String> {
     Ok(format!(in alloc; "{levels}")?)
 }
 
-fn read_trail(alloc: Global, text: &str) -> io::Result<Trail> {
+fn read_trail(alloc: Global, text: &str) -> RowResult<Trail> {
     let Some((variables, words)) = text.split_once(' ') else {
-        return Err(malformed());
+        return Err(RowStop::Malformed);
     };
-    let mut trail = kept(Trail::new(alloc, read_u32(variables)?))?;
+    let mut trail = kept(Trail::new(alloc, read_number(variables)?))?;
     for word in words.split(' ') {
         take_literal(&mut trail, word)?;
     }
     Ok(trail)
 }
 
-fn take_literal(trail: &mut Trail, word: &str) -> io::Result<()> {
+fn take_literal(trail: &mut Trail, word: &str) -> RowResult<()> {
     if let Some(number) = word.strip_prefix("d") {
         let literal = free_literal(trail, number)?;
         return kept(trail.decide(literal));
@@ -193,36 +193,36 @@ fn take_literal(trail: &mut Trail, word: &str) -> io::Result<()> {
 }
 
 /// A literal whose variable has a place and no value.
-fn free_literal(trail: &Trail, word: &str) -> io::Result<Lit>
+fn free_literal(trail: &Trail, word: &str) -> RowResult<Lit>
     ensures place { IfOk result (λ literal. place_of literal < 2 * trail.now.vars + 2) }
     ensures unassigned { IfOk result (λ literal. has trail.now.literals literal ≡ false) }
     ensures possible { IfOk result (λ literal. has trail.now.literals (negated literal) ≡ false) }
 {
     let literal = read_literal(word)?;
     if literal.place() >= 2 * trail.vars() as usize + 2 {
-        return Err(malformed());
+        return Err(RowStop::Malformed);
     }
     if trail.is_true(literal) {
-        return Err(malformed());
+        return Err(RowStop::Malformed);
     }
     if trail.is_false(literal) {
-        return Err(malformed());
+        return Err(RowStop::Malformed);
     }
     Ok(literal)
 }
 
-fn read_literal(word: &str) -> io::Result<Lit> {
-    match Lit::from_number(read_i32(word)?) {
+fn read_literal(word: &str) -> RowResult<Lit> {
+    match Lit::from_number(read_int(word)?) {
         Some(literal) => Ok(literal),
-        None => Err(malformed()),
+        None => Err(RowStop::Malformed),
     }
 }
 
 /// On how many levels literals stand, if all are false.
-fn levels_behind(trail: &Trail, literals: &[Lit]) -> io::Result<u32> {
+fn levels_behind(trail: &Trail, literals: &[Lit]) -> RowResult<u32> {
     let known = are_false(trail, literals);
     if !known {
-        return Err(malformed());
+        return Err(RowStop::Malformed);
     }
     Ok(levels_of(trail, literals))
 }

@@ -1,13 +1,12 @@
 //! Questions about the lines of logs.
 
 use crate::formulas::read_log;
-use crate::numbers::kept;
 use kb_log_text::write_log;
+use kb_table::{RowResult, kept};
 use std::alloc::Global;
-use std::io;
 
 /// What a line of text is with the lines of a log behind it, `/` for the end of each line.
-pub fn lines_text(alloc: Global, log: &str) -> io::Result<String> {
+pub fn lines_text(alloc: Global, log: &str) -> RowResult<String> {
     let log = read_log(alloc, log)?;
     let mut bytes = b"undecided 2\n".to_vec(alloc)?;
     kept(write_log(alloc, &log, &mut bytes))?;

@@ -1,12 +1,11 @@
 //! What searches come to, each checked by other means than the search.
 ghost use Rattle.std.specs.Prelude.{◌<◌};
 
-use crate::numbers::{kept, malformed};
 use crate::terms::{Query, known};
 use kb_chain::{Clause, Formula, Lit, Log, Verdict, check_fresh, check_refutation};
+use kb_table::{RowResult, RowStop, kept};
 use kb_terms::TermId;
 use std::alloc::Global;
-use std::io;
 
 /// What a search comes to.
 #[derive(Clone, Copy, PartialEq, Eq, Drop)]
@@ -22,7 +21,7 @@ pub enum Outcome {
 }
 
 impl Outcome {
-    pub fn text(self, alloc: Global) -> io::Result<String> {
+    pub fn text(self, alloc: Global) -> RowResult<String> {
         match self {
             Outcome::Model => Ok(String::from_str(alloc, "model")?),
             Outcome::Refuted => Ok(String::from_str(alloc, "refuted")?),
@@ -33,7 +32,7 @@ impl Outcome {
 }
 
 /// What a refutation comes to, by the check of logs.
-pub fn judged_refutation(alloc: Global, formula: &Formula, log: &Log) -> io::Result<Outcome> {
+pub fn judged_refutation(alloc: Global, formula: &Formula, log: &Log) -> RowResult<Outcome> {
     match kept(check_refutation(alloc, formula, log))? {
         Verdict::Good => Ok(Outcome::Refuted),
         Verdict::Bad(_) => Ok(Outcome::Wrong),
@@ -41,7 +40,7 @@ pub fn judged_refutation(alloc: Global, formula: &Formula, log: &Log) -> io::Res
 }
 
 /// What an undecided search comes to, by the check of fresh logs.
-pub fn judged_open(alloc: Global, formula: &Formula, log: &Log) -> io::Result<Outcome> {
+pub fn judged_open(alloc: Global, formula: &Formula, log: &Log) -> RowResult<Outcome> {
     match kept(check_fresh(alloc, formula, log))? {
         Verdict::Good => Ok(Outcome::Open(log.entries.as_slice().len())),
         Verdict::Bad(_) => Ok(Outcome::Wrong),
@@ -69,7 +68,7 @@ fn is_true(bits: &[bool], literal: Lit) -> bool {
 }
 
 /// What values of the variables come to, by the values of the conditions' terms.
-pub fn judged_values(alloc: Global, query: &Query, values: &[i32]) -> io::Result<Outcome> {
+pub fn judged_values(alloc: Global, query: &Query, values: &[i32]) -> RowResult<Outcome> {
     for (term, truth) in query.when.as_slice() {
         if value_of(alloc, query, *term, values)? != i32::from(*truth) {
             return Ok(Outcome::Wrong);
@@ -79,10 +78,10 @@ pub fn judged_values(alloc: Global, query: &Query, values: &[i32]) -> io::Result
 }
 
 /// The value of a term under values of the variables.
-fn value_of(alloc: Global, query: &Query, term: TermId, values: &[i32]) -> io::Result<i32> {
+fn value_of(alloc: Global, query: &Query, term: TermId, values: &[i32]) -> RowResult<i32> {
     let term = known(&query.pool, term)?;
     if values.len() != query.pool.variables() as usize {
-        return Err(malformed());
+        return Err(RowStop::Malformed);
     }
     kept(query.pool.eval(alloc, term, values))
 }

@@ -1,14 +1,19 @@
 //! Questions about terms: their nodes, values and numbers.
 
-use crate::numbers::{kept, malformed, read_i32, read_numbers, read_u32, words_of};
+use crate::numbers::{read_numbers, words_of};
 use crate::terms::{Query, known, op_named, read_query};
+use kb_rows::Held;
+use kb_table::{RowResult, RowStop, kept, read_int, read_number};
 use kb_terms::{Node, Numbering, Op, Pool, TermId, VarKind};
 use std::alloc::Global;
-use std::io;
 
 /// The nodes of terms, and how many nodes and variables their pool has, and whether its copy has the same.
-pub fn pool_text(alloc: Global, text: &str) -> io::Result<String> {
+pub fn pool_text(alloc: Global, text: &str) -> RowResult<String> {
     let query = query_of(alloc, text)?;
+    terms_text(alloc, query.get())
+}
+
+fn terms_text(alloc: Global, query: &Query) -> RowResult<String> {
     let pool = &query.pool;
     let mut text = String::new(alloc);
     for (term, _) in query.when.as_slice() {
@@ -22,14 +27,14 @@ pub fn pool_text(alloc: Global, text: &str) -> io::Result<String> {
 }
 
 /// The terms of a text, behind the kinds of their variables.
-fn query_of(alloc: Global, text: &str) -> io::Result<Query> {
+fn query_of(alloc: Global, text: &str) -> RowResult<Held<Query>> {
     match text.split_once(' ') {
         Some((kinds, terms)) => read_query(alloc, kinds, terms),
-        None => Err(malformed()),
+        None => Err(RowStop::Malformed),
     }
 }
 
-fn append_node(alloc: Global, pool: &Pool, term: TermId, text: &mut String) -> io::Result<()> {
+fn append_node(alloc: Global, pool: &Pool, term: TermId, text: &mut String) -> RowResult<()> {
     let term = known(pool, term)?;
     let node = match pool.is_const(term) {
         Some(value) => format!(in alloc; "{value}")?,
@@ -39,7 +44,7 @@ fn append_node(alloc: Global, pool: &Pool, term: TermId, text: &mut String) -> i
     Ok(text.push_str(format!(in alloc; "{number} is {node}, ")?.as_str())?)
 }
 
-fn node_text(alloc: Global, node: Node) -> io::Result<String> {
+fn node_text(alloc: Global, node: Node) -> RowResult<String> {
     match node {
         Node::Const(value) => Ok(format!(in alloc; "constant {value}")?),
         Node::Var(number, VarKind::Int) => Ok(format!(in alloc; "int v{number}")?),
@@ -52,37 +57,37 @@ fn node_text(alloc: Global, node: Node) -> io::Result<String> {
 }
 
 /// Whether the copy of a pool has its nodes and variables.
-fn is_copied(pool: &Pool) -> io::Result<bool> {
+fn is_copied(pool: &Pool) -> RowResult<bool> {
     let copy = kept(pool.copy())?;
     Ok(copy.nodes() == pool.nodes() && copy.variables() == pool.variables())
 }
 
 /// The value of an operation on two ints, and how many operands it has.
-pub fn apply_text(alloc: Global, text: &str) -> io::Result<String> {
+pub fn apply_text(alloc: Global, text: &str) -> RowResult<String> {
     let words = words_of(alloc, text)?;
     let [name, left, right] = words.as_slice() else {
-        return Err(malformed());
+        return Err(RowStop::Malformed);
     };
     let Some(op) = op_named(name) else {
-        return Err(malformed());
+        return Err(RowStop::Malformed);
     };
-    let value = op.apply(read_i32(left)?, read_i32(right)?);
+    let value = op.apply(read_int(left)?, read_int(right)?);
     let operands = if op.is_binary() { 2 } else { 1 };
     Ok(format!(in alloc; "{value}, operands {operands}")?)
 }
 
 /// The value and the number of a sum with so many plus signs, all of whose terms are one variable of that value.
-pub fn chain_text(alloc: Global, text: &str) -> io::Result<String> {
+pub fn chain_text(alloc: Global, text: &str) -> RowResult<String> {
     let Some((count, value)) = text.split_once(' ') else {
-        return Err(malformed());
+        return Err(RowStop::Malformed);
     };
     let mut pool = Pool::new(alloc);
     let variable = kept(pool.variable(VarKind::Int))?;
-    let sum = summed(&mut pool, variable, read_u32(count)?)?;
-    sum_text(alloc, &pool, sum, read_i32(value)?)
+    let sum = summed(&mut pool, variable, read_number(count)?)?;
+    sum_text(alloc, &pool, sum, read_int(value)?)
 }
 
-fn summed(pool: &mut Pool, variable: TermId, count: u32) -> io::Result<TermId> {
+fn summed(pool: &mut Pool, variable: TermId, count: u32) -> RowResult<TermId> {
     let mut sum = variable;
     for _ in 0..count {
         let left = known(pool, sum)?;
@@ -92,10 +97,10 @@ fn summed(pool: &mut Pool, variable: TermId, count: u32) -> io::Result<TermId> {
     Ok(sum)
 }
 
-fn sum_text(alloc: Global, pool: &Pool, sum: TermId, value: i32) -> io::Result<String> {
+fn sum_text(alloc: Global, pool: &Pool, sum: TermId, value: i32) -> RowResult<String> {
     let sum = known(pool, sum)?;
     if pool.variables() != 1 {
-        return Err(malformed());
+        return Err(RowStop::Malformed);
     }
     let value = kept(pool.eval(alloc, sum, &[value]))?;
     let numbering = kept(pool.numbering(alloc, &[sum]))?;
@@ -104,12 +109,12 @@ fn sum_text(alloc: Global, pool: &Pool, sum: TermId, value: i32) -> io::Result<S
 }
 
 /// The terms with numbers at and below four terms, in the order of their numbers, and the numbers of the terms behind `of`.
-pub fn numbers_text(alloc: Global, text: &str) -> io::Result<String> {
+pub fn numbers_text(alloc: Global, text: &str) -> RowResult<String> {
     let Some((terms, asked)) = text.split_once(" of ") else {
-        return Err(malformed());
+        return Err(RowStop::Malformed);
     };
     let query = query_of(alloc, terms)?;
-    let numbering = numbering_of(alloc, &query)?;
+    let numbering = numbering_of(alloc, query.get())?;
     let mut text = String::new(alloc);
     for term in numbering.terms() {
         text.push_str(format!(in alloc; "{} ", term.0)?.as_str())?;
@@ -122,9 +127,9 @@ pub fn numbers_text(alloc: Global, text: &str) -> io::Result<String> {
     Ok(text)
 }
 
-fn numbering_of(alloc: Global, query: &Query) -> io::Result<Numbering> {
+fn numbering_of(alloc: Global, query: &Query) -> RowResult<Numbering> {
     let [first, second, third, fourth] = query.when.as_slice() else {
-        return Err(malformed());
+        return Err(RowStop::Malformed);
     };
     let pool = &query.pool;
     let first = known(pool, first.0)?;
@@ -134,7 +139,7 @@ fn numbering_of(alloc: Global, query: &Query) -> io::Result<Numbering> {
     kept(pool.numbering(alloc, &[first, second, third, fourth]))
 }
 
-fn number_text(alloc: Global, numbering: &Numbering, term: TermId) -> io::Result<String> {
+fn number_text(alloc: Global, numbering: &Numbering, term: TermId) -> RowResult<String> {
     match numbering.number_of(term) {
         Some(number) => Ok(format!(in alloc; "{number}")?),
         None => Ok(String::from_str(alloc, "none")?),

@@ -5,7 +5,6 @@ use crate::dimacs_texts::{cnf_text, full_text, run_text, said_text, words_text};
 use crate::formulas::clauses_text;
 use crate::heuristics::{intervals_text, levels_text, order_text, ranks_text};
 use crate::log_lines::lines_text;
-use crate::numbers::malformed;
 use crate::pools::{apply_text, chain_text, numbers_text, pool_text};
 use crate::searches::{
     counts_text, eliminate_text, eliminates_text, exceeds_text, fresh_text, front_text,
@@ -14,18 +13,18 @@ use crate::searches::{
 use crate::subjects::Subjects;
 use crate::telling::told_text;
 use kb_chain::Formula;
+use kb_table::{RowResult, RowStop};
 use std::alloc::Global;
-use std::io;
 
 /// A row with its answer. The first word is the question.
-pub fn answer(alloc: Global, subjects: &Subjects, row: &str) -> io::Result<String> {
+pub fn answer(alloc: Global, subjects: &Subjects, row: &str) -> RowResult<String> {
     let (question, words) = match row.split_once(' ') {
         Some(parts) => parts,
         None => (row, ""),
     };
     let text = match question {
-        "ask" => ask_text(alloc, &subjects.current, words)?,
-        "values" => values_text(alloc, &subjects.current, words)?,
+        "ask" => ask_text(alloc, subjects.current.get(), words)?,
+        "values" => values_text(alloc, subjects.current.get(), words)?,
         "alike" => alike_text(alloc, subjects, words)?,
         "told" => told_text(alloc, subjects, words)?,
         "computes" => computes_text(alloc, words)?,
@@ -35,12 +34,7 @@ pub fn answer(alloc: Global, subjects: &Subjects, row: &str) -> io::Result<Strin
 }
 
 /// The answer to a question that tells what it is about, or to one about a formula.
-fn of_itself(
-    alloc: Global,
-    subjects: &Subjects,
-    question: &str,
-    words: &str,
-) -> io::Result<String> {
+fn of_itself(alloc: Global, subjects: &Subjects, question: &str, words: &str) -> RowResult<String> {
     match question {
         "pool" => pool_text(alloc, words),
         "apply" => apply_text(alloc, words),
@@ -55,12 +49,12 @@ fn of_itself(
         "words" => words_text(alloc, words),
         "run" => run_text(alloc, words),
         "full" => full_text(alloc, words),
-        _ => of_formula(alloc, &subjects.current.formula, question, words),
+        _ => of_formula(alloc, &subjects.current.get().formula, question, words),
     }
 }
 
 /// The answer to a question about a formula.
-fn of_formula(alloc: Global, formula: &Formula, question: &str, words: &str) -> io::Result<String> {
+fn of_formula(alloc: Global, formula: &Formula, question: &str, words: &str) -> RowResult<String> {
     match question {
         "size" => size_text(alloc, formula),
         "clauses" => clauses_text(alloc, formula, words),
@@ -76,12 +70,12 @@ fn of_formula(alloc: Global, formula: &Formula, question: &str, words: &str) -> 
         "needed" => needed_text(alloc, formula, words),
         "eliminate" => eliminate_text(alloc, formula),
         "said" => said_text(alloc, formula, words),
-        _ => Err(malformed()),
+        _ => Err(RowStop::Malformed),
     }
 }
 
 /// How many variables and clauses a formula has.
-fn size_text(alloc: Global, formula: &Formula) -> io::Result<String> {
+fn size_text(alloc: Global, formula: &Formula) -> RowResult<String> {
     let (variables, clauses) = (formula.vars(), formula.clauses().len());
     Ok(format!(in alloc; "{variables} variables, {clauses} clauses")?)
 }

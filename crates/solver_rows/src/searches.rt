@@ -1,30 +1,30 @@
 //! Questions about formulas.
-ghost use Rattle.std.specs.Prelude.{◌<◌, IfOk, IfSome};
-ghost use Rattle.kb_eliminate.specs.Base.{Stands};
+ghost use Rattle.std.specs.Prelude.{◌≡◌, ◌<◌, []};
+ghost use Rattle.kb_eliminate.specs.Base.{IsReady, Stands};
 
 use crate::formulas::{append_clause, read_log};
-use crate::numbers::{kept, malformed, read_budget, read_numbers, read_u32};
+use crate::numbers::{read_budget, read_numbers};
 use crate::outcomes::{Outcome, judged_bits, judged_open, judged_refutation};
 use kb_chain::{
     Formula, Log, ResolveStop, Row, Verdict, check_fresh, check_refutation, derive_needed, resolve,
 };
 use kb_eliminate::{Base, Eliminated, EliminationBounds, eliminate, restored};
 use kb_sat::{Counts, Solved, solve_counted};
+use kb_table::{RowResult, RowStop, kept, read_number};
 use std::alloc::Global;
-use std::io;
 
 /// What the solver makes of a formula within a budget, and what it did.
-fn searched(alloc: Global, formula: &Formula, budget: &str) -> io::Result<(Solved, Counts)> {
+fn searched(alloc: Global, formula: &Formula, budget: &str) -> RowResult<(Solved, Counts)> {
     kept(solve_counted(alloc, formula, read_budget(budget)?))
 }
 
 /// What the solver comes to.
-pub fn solve_text(alloc: Global, formula: &Formula, budget: &str) -> io::Result<String> {
+pub fn solve_text(alloc: Global, formula: &Formula, budget: &str) -> RowResult<String> {
     let (solved, _) = searched(alloc, formula, budget)?;
     outcome_of(alloc, formula, &solved)?.text(alloc)
 }
 
-fn outcome_of(alloc: Global, formula: &Formula, solved: &Solved) -> io::Result<Outcome> {
+fn outcome_of(alloc: Global, formula: &Formula, solved: &Solved) -> RowResult<Outcome> {
     match solved {
         Solved::Sat(bits) => Ok(judged_bits(formula, bits.as_slice())),
         Solved::Unsat(log) => judged_refutation(alloc, formula, log),
@@ -33,7 +33,7 @@ fn outcome_of(alloc: Global, formula: &Formula, solved: &Solved) -> io::Result<O
 }
 
 /// How many literals were tried and set, and how many conflicts and restarts there were.
-pub fn counts_text(alloc: Global, formula: &Formula, budget: &str) -> io::Result<String> {
+pub fn counts_text(alloc: Global, formula: &Formula, budget: &str) -> RowResult<String> {
     let (_, counts) = searched(alloc, formula, budget)?;
     let Counts {
         decisions,
@@ -45,7 +45,7 @@ pub fn counts_text(alloc: Global, formula: &Formula, budget: &str) -> io::Result
 }
 
 /// How many conflicts and restarts there were.
-pub fn restarts_text(alloc: Global, formula: &Formula, budget: &str) -> io::Result<String> {
+pub fn restarts_text(alloc: Global, formula: &Formula, budget: &str) -> RowResult<String> {
     let (_, counts) = searched(alloc, formula, budget)?;
     let Counts {
         conflicts,
@@ -56,9 +56,9 @@ pub fn restarts_text(alloc: Global, formula: &Formula, budget: &str) -> io::Resu
 }
 
 /// What the solver says, unchecked, and whether there were more conflicts than the second number says.
-pub fn exceeds_text(alloc: Global, formula: &Formula, words: &str) -> io::Result<String> {
+pub fn exceeds_text(alloc: Global, formula: &Formula, words: &str) -> RowResult<String> {
     let Some((budget, least)) = words.split_once(' ') else {
-        return Err(malformed());
+        return Err(RowStop::Malformed);
     };
     let (solved, counts) = searched(alloc, formula, budget)?;
     let said = match solved {
@@ -66,13 +66,13 @@ pub fn exceeds_text(alloc: Global, formula: &Formula, words: &str) -> io::Result
         Solved::Unsat(_) => "refuted",
         Solved::Undecided(_) => "open",
     };
-    let more = counts.conflicts > u64::from(read_u32(least)?);
+    let more = counts.conflicts > u64::from(read_number(least)?);
     Ok(format!(in alloc; "{said} {more}")?)
 }
 
 /// Whether the refutation has more entries than there were conflicts. Each conflict gives one entry; the others are resolvents
 /// by which the first search eliminated variables. Were it the second one that refutes, the conflicts of both would count.
-pub fn eliminates_text(alloc: Global, formula: &Formula, budget: &str) -> io::Result<String> {
+pub fn eliminates_text(alloc: Global, formula: &Formula, budget: &str) -> RowResult<String> {
     let (solved, counts) = searched(alloc, formula, budget)?;
     let more = match solved {
         Solved::Unsat(log) => log.entries.as_slice().len() as u64 > counts.conflicts,
@@ -82,9 +82,9 @@ pub fn eliminates_text(alloc: Global, formula: &Formula, budget: &str) -> io::Re
 }
 
 /// Whether the entries of the refutation before the last one are fresh.
-pub fn front_text(alloc: Global, formula: &Formula, budget: &str) -> io::Result<String> {
+pub fn front_text(alloc: Global, formula: &Formula, budget: &str) -> RowResult<String> {
     let (Solved::Unsat(log), _) = searched(alloc, formula, budget)? else {
-        return Err(malformed());
+        return Err(RowStop::Malformed);
     };
     let mut entries = log.entries.into_vec();
     entries.pop();
@@ -95,18 +95,18 @@ pub fn front_text(alloc: Global, formula: &Formula, budget: &str) -> io::Result<
 }
 
 /// What is said of a log as a refutation.
-pub fn refutation_text(alloc: Global, formula: &Formula, text: &str) -> io::Result<String> {
+pub fn refutation_text(alloc: Global, formula: &Formula, text: &str) -> RowResult<String> {
     let log = read_log(alloc, text)?;
     verdict_text(alloc, kept(check_refutation(alloc, formula, &log))?)
 }
 
 /// What is said of a log as a fresh one.
-pub fn fresh_text(alloc: Global, formula: &Formula, text: &str) -> io::Result<String> {
+pub fn fresh_text(alloc: Global, formula: &Formula, text: &str) -> RowResult<String> {
     let log = read_log(alloc, text)?;
     verdict_text(alloc, kept(check_fresh(alloc, formula, &log))?)
 }
 
-fn verdict_text(alloc: Global, verdict: Verdict) -> io::Result<String> {
+fn verdict_text(alloc: Global, verdict: Verdict) -> RowResult<String> {
     match verdict {
         Verdict::Good => Ok(String::from_str(alloc, "good")?),
         Verdict::Bad(entry) => Ok(format!(in alloc; "bad {entry}")?),
@@ -114,15 +114,15 @@ fn verdict_text(alloc: Global, verdict: Verdict) -> io::Result<String> {
 }
 
 /// The resolvent of the clauses at the first two numbers, with the third one as the pivot.
-pub fn resolvent_text(alloc: Global, formula: &Formula, text: &str) -> io::Result<String> {
+pub fn resolvent_text(alloc: Global, formula: &Formula, text: &str) -> RowResult<String> {
     let numbers = read_numbers(alloc, text)?;
     let [left, right, pivot] = numbers.as_slice() else {
-        return Err(malformed());
+        return Err(RowStop::Malformed);
     };
     let clauses = formula.clauses();
     let (Some(left), Some(right)) = (clauses.get(*left as usize), clauses.get(*right as usize))
     else {
-        return Err(malformed());
+        return Err(RowStop::Malformed);
     };
     let mut text = String::new(alloc);
     match resolve(alloc, left, right, *pivot) {
@@ -134,9 +134,9 @@ pub fn resolvent_text(alloc: Global, formula: &Formula, text: &str) -> io::Resul
 }
 
 /// The clauses of a log that those of the numbers need, at all places behind the formula's own clauses.
-pub fn needed_text(alloc: Global, formula: &Formula, text: &str) -> io::Result<String> {
+pub fn needed_text(alloc: Global, formula: &Formula, text: &str) -> RowResult<String> {
     let Some((numbers, log)) = text.split_once(" of ") else {
-        return Err(malformed());
+        return Err(RowStop::Malformed);
     };
     let numbers = read_numbers(alloc, numbers)?;
     let log = read_log(alloc, log)?;
@@ -167,32 +167,38 @@ const BOUNDS: EliminationBounds = EliminationBounds {
 };
 
 /// How many clauses are let go as variables are eliminated, and the model that is restored where the others are false.
-pub fn eliminate_text(alloc: Global, formula: &Formula) -> io::Result<String> {
-    let mut text = String::new(alloc);
-    let Some((base, done)) = eliminated(alloc, formula)? else {
-        text.push_str("false at once")?;
-        return Ok(text);
-    };
+pub fn eliminate_text(alloc: Global, formula: &Formula) -> RowResult<String> {
+    match Base::new(alloc, formula) {
+        Ok((base, None)) => {
+            let mut base = base;
+            text_behind(alloc, &mut base)
+        }
+        Ok((_, Some(_))) => Ok(String::from_str(alloc, "false at once")?),
+        Err(_) => Err(RowStop::NoMemory),
+    }
+}
+
+/// The same of clauses of which none is false from the start.
+fn text_behind(alloc: Global, base: &mut Base<'_>) -> RowResult<String>
+    requires stands { Stands base.old }
+    requires ready { IsReady base.old }
+    requires level { base.old.trail.starts ≡ [] }
+{
+    match eliminate(alloc, base, BOUNDS) {
+        Ok(done) => restored_text(alloc, base, &done),
+        Err(_) => Err(RowStop::NoMemory),
+    }
+}
+
+fn restored_text(alloc: Global, base: &Base<'_>, done: &Eliminated) -> RowResult<String>
+    requires { Stands base.now }
+{
     let gone = done.clauses.len();
-    text.push_str(format!(in alloc; "{gone}")?.as_str())?;
-    if let Some(bits) = kept(restored(alloc, &base, &done))? {
+    let mut text = format!(in alloc; "{gone}")?;
+    if let Some(bits) = kept(restored(alloc, base, done))? {
         for bit in bits.as_slice() {
             text.push_str(if *bit { " 1" } else { " 0" })?;
         }
     }
     Ok(text)
-}
-
-/// What stands behind the elimination; none where propagation refutes the formula.
-fn eliminated<'a>(alloc: Global, formula: &'a Formula) -> io::Result<Option<(Base<'a>, Eliminated)>>
-    ensures { IfOk result (λ found. IfSome found (λ both. Stands both.0)) }
-{
-    let Ok((base, None)) = Base::new(alloc, formula) else {
-        return Ok(None);
-    };
-    let mut base = base;
-    match eliminate(alloc, &mut base, BOUNDS) {
-        Ok(done) => Ok(Some((base, done))),
-        Err(_) => Ok(None),
-    }
 }

@@ -1,26 +1,27 @@
 //! What rows ask about.
 
 use crate::formulas::read_formula;
-use crate::numbers::{kept, malformed, read_u32};
 use crate::terms::{Query, read_query};
 use kb_blast::{blast, can_blast};
 use kb_chain::Formula;
+use kb_rows::Held;
+use kb_table::{RowResult, RowStop, read_number};
 use std::alloc::Global;
-use std::{io, mem};
+use std::mem;
 
 /// A formula, which is that of the conditions where there are any.
 #[derive(Drop)]
 pub struct Subject {
     pub formula: Formula,
-    pub query: Option<Query>,
+    pub query: Option<Held<Query>>,
 }
 
 impl Subject {
     /// The conditions that rows ask about.
-    pub fn query(&self) -> io::Result<&Query> {
+    pub fn query(&self) -> RowResult<&Query> {
         match &self.query {
-            Some(query) => Ok(query),
-            None => Err(malformed()),
+            Some(query) => Ok(query.get()),
+            None => Err(RowStop::Malformed),
         }
     }
 }
@@ -28,64 +29,76 @@ impl Subject {
 /// What the next row asks about, and what stood there before.
 #[derive(Drop)]
 pub struct Subjects {
-    pub current: Subject,
-    pub former: Subject,
+    pub current: Held<Subject>,
+    pub former: Held<Subject>,
 }
 
 impl Subjects {
     /// Two formulas without clauses.
-    pub fn new(alloc: Global) -> Subjects {
-        Subjects {
-            current: without_clauses(alloc),
-            former: without_clauses(alloc),
-        }
+    pub fn new(alloc: Global) -> RowResult<Subjects> {
+        let current = without_clauses(alloc)?;
+        let former = without_clauses(alloc)?;
+        Ok(Subjects { current, former })
     }
 
     /// Reads what is asked about from now on, and tells it: `formula`, a name and how many variables there are, and then the
     /// clauses; or `conditions` and the kinds of the variables, and then the conditions.
-    pub fn replace(&mut self, alloc: Global, name: &str, text: &str) -> io::Result<String> {
-        let (subject, told) = match name.strip_prefix("conditions ") {
+    pub fn replace(&mut self, alloc: Global, name: &str, text: &str) -> RowResult<String> {
+        match name.strip_prefix("conditions ") {
             Some(kinds) => {
                 let (subject, told) = conditions_of(alloc, kinds, text)?;
-                (subject, format!(in alloc; "{name}: {text}{told}\n")?)
+                self.enter(subject);
+                Ok(format!(in alloc; "{name}: {text}{told}\n")?)
             }
-            None => (
-                formula_of(alloc, name, text)?,
-                format!(in alloc; "{name}\n")?,
-            ),
-        };
+            None => {
+                let subject = formula_of(alloc, name, text)?;
+                self.enter(subject);
+                Ok(format!(in alloc; "{name}\n")?)
+            }
+        }
+    }
+
+    fn enter(&mut self, subject: Held<Subject>) {
         self.former = mem::replace(&mut self.current, subject);
-        Ok(told)
     }
 }
 
-fn without_clauses(alloc: Global) -> Subject {
-    Subject {
-        formula: Formula::new(alloc, 0),
-        query: None,
-    }
+fn without_clauses(alloc: Global) -> RowResult<Held<Subject>> {
+    held(alloc, Formula::new(alloc, 0), None)
 }
 
-fn formula_of(alloc: Global, name: &str, text: &str) -> io::Result<Subject> {
+fn held(alloc: Global, formula: Formula, query: Option<Held<Query>>) -> RowResult<Held<Subject>> {
+    Ok(Held::new(alloc, Subject { formula, query })?)
+}
+
+fn formula_of(alloc: Global, name: &str, text: &str) -> RowResult<Held<Subject>> {
     let Some((_, vars)) = name.rsplit_once(' ') else {
-        return Err(malformed());
+        return Err(RowStop::Malformed);
     };
-    Ok(Subject {
-        formula: read_formula(alloc, read_u32(vars)?, text)?,
-        query: None,
-    })
+    let formula = read_formula(alloc, read_number(vars)?, text)?;
+    held(alloc, formula, None)
 }
 
 /// The conditions with their formula, and what is to be told where they have none.
-fn conditions_of(alloc: Global, kinds: &str, text: &str) -> io::Result<(Subject, &'static str)> {
+pub fn conditions_of(
+    alloc: Global,
+    kinds: &str,
+    text: &str,
+) -> RowResult<(Held<Subject>, &'static str)> {
     let query = read_query(alloc, kinds, text)?;
-    if !can_blast(&query.pool, query.when.as_slice()) {
-        return Ok((without_clauses(alloc), " (no comparisons)"));
+    match formula_of_conditions(alloc, query.get())? {
+        Some(formula) => Ok((held(alloc, formula, Some(query))?, "")),
+        None => Ok((without_clauses(alloc)?, " (no comparisons)")),
     }
-    let blasted = kept(blast(alloc, &query.pool, query.when.as_slice()))?;
-    let subject = Subject {
-        formula: blasted.formula,
-        query: Some(query),
-    };
-    Ok((subject, ""))
+}
+
+/// The formula of the conditions, where all are comparisons.
+fn formula_of_conditions(alloc: Global, query: &Query) -> RowResult<Option<Formula>> {
+    if !can_blast(&query.pool, query.when.as_slice()) {
+        return Ok(None);
+    }
+    match blast(alloc, &query.pool, query.when.as_slice()) {
+        Ok(blasted) => Ok(Some(blasted.formula)),
+        Err(_) => Err(RowStop::NoMemory),
+    }
 }

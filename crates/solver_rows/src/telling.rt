@@ -2,28 +2,28 @@
 ghost use Rattle.std.specs.Prelude.{◌<◌};
 
 use crate::asking::{asked, outcome_of, solved};
-use crate::numbers::{malformed, read_budget, read_u32};
+use crate::numbers::read_budget;
 use crate::subjects::{Subject, Subjects};
 use kb_oracle::{Answer, OracleStop, Told, ToldOracle};
+use kb_table::{RowResult, RowStop, read_number};
 use std::alloc::Global;
-use std::io;
 
 /// What an oracle of the budget does at its first calls, and what it counts: a budget, how many calls there are, and what it is
 /// told for which call, as `3:open`, whose log is that of the conditions before these.
-pub fn told_text(alloc: Global, subjects: &Subjects, text: &str) -> io::Result<String> {
+pub fn told_text(alloc: Global, subjects: &Subjects, text: &str) -> RowResult<String> {
     let mut words = text.split(' ');
     let (Some(budget), Some(calls)) = (words.next(), words.next()) else {
-        return Err(malformed());
+        return Err(RowStop::Malformed);
     };
     let budget = read_budget(budget)?;
     let mut told = Vec::new(alloc);
     for word in words {
-        told.push(read_told(alloc, &subjects.former, budget, word)?)?;
+        told.push(read_told(alloc, subjects.former.get(), budget, word)?)?;
     }
     let mut oracle = ToldOracle::new(alloc, budget, told);
     let mut text = String::new(alloc);
-    for _ in 0..read_u32(calls)? {
-        append_call(alloc, &mut oracle, &subjects.current, &mut text)?;
+    for _ in 0..read_number(calls)? {
+        append_call(alloc, &mut oracle, subjects.current.get(), &mut text)?;
     }
     let (calls, bad, unsure) = (oracle.calls(), oracle.bad(), oracle.unsure());
     let given = oracle.given().len();
@@ -33,22 +33,22 @@ pub fn told_text(alloc: Global, subjects: &Subjects, text: &str) -> io::Result<S
 }
 
 /// What is told for which call.
-fn read_told(alloc: Global, former: &Subject, budget: u32, word: &str) -> io::Result<(u64, Told)>
+fn read_told(alloc: Global, former: &Subject, budget: u32, word: &str) -> RowResult<(u64, Told)>
     requires { 0 < budget }
 {
     let Some((call, what)) = word.split_once(':') else {
-        return Err(malformed());
+        return Err(RowStop::Malformed);
     };
-    let call = u64::from(read_u32(call)?);
+    let call = u64::from(read_number(call)?);
     if let Some(number) = what.strip_prefix("bad") {
-        return Ok((call, Told::Bad(read_u32(number)?)));
+        return Ok((call, Told::Bad(read_number(number)?)));
     }
     if what == "memory" {
         return Ok((call, Told::NoMemory));
     }
     match solved(alloc, former.query()?, budget)? {
         Answer::Undecided(log) => Ok((call, Told::Undecided(log))),
-        Answer::Model(_) | Answer::Refuted(_) => Err(malformed()),
+        Answer::Model(_) | Answer::Refuted(_) => Err(RowStop::Malformed),
     }
 }
 
@@ -58,7 +58,7 @@ fn append_call(
     oracle: &mut ToldOracle,
     subject: &Subject,
     text: &mut String,
-) -> io::Result<()> {
+) -> RowResult<()> {
     let query = subject.query()?;
     match asked(alloc, oracle, query)? {
         Ok(answer) => {

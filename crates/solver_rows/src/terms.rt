@@ -2,10 +2,10 @@
 ghost use Rattle.std.specs.Prelude.{IfOk};
 ghost use Rattle.kb_terms.specs.Terms.{IsTerm};
 
-use crate::numbers::{kept, malformed, read_i32, read_u32};
+use kb_rows::Held;
+use kb_table::{RowResult, RowStop, kept, read_int, read_number};
 use kb_terms::{Op, Pool, TermId, VarKind};
 use std::alloc::Global;
-use std::io;
 
 /// Conditions on terms of a pool.
 #[derive(Drop)]
@@ -42,37 +42,42 @@ pub fn op_named(name: &str) -> Option<Op> {
 
 /// The conditions of a text, over variables of these kinds, `i` for an int and `z` for a boolean, with `, ` between two: `+`
 /// for one that holds, `-` for one that does not, and `.` for a term that is only made, and then the term in prefix form.
-pub fn read_query(alloc: Global, kinds: &str, text: &str) -> io::Result<Query> {
-    let mut query = Query {
-        pool: Pool::new(alloc),
-        when: Vec::new(alloc),
-    };
-    let variables = variables_of(alloc, &mut query.pool, kinds)?;
-    for piece in text.split(", ") {
-        add_piece(alloc, &mut query, variables.as_slice(), piece)?;
-    }
+pub fn read_query(alloc: Global, kinds: &str, text: &str) -> RowResult<Held<Query>> {
+    let mut query = no_conditions(alloc)?;
+    add_pieces(alloc, query.get_mut(), kinds, text)?;
     Ok(query)
 }
 
-fn variables_of(alloc: Global, pool: &mut Pool, kinds: &str) -> io::Result<Vec<TermId>> {
+fn no_conditions(alloc: Global) -> RowResult<Held<Query>> {
+    let query = Query {
+        pool: Pool::new(alloc),
+        when: Vec::new(alloc),
+    };
+    Ok(Held::new(alloc, query)?)
+}
+
+fn add_pieces(alloc: Global, query: &mut Query, kinds: &str, text: &str) -> RowResult<()> {
+    let variables = variables_of(alloc, &mut query.pool, kinds)?;
+    for piece in text.split(", ") {
+        add_piece(alloc, query, variables.as_slice(), piece)?;
+    }
+    Ok(())
+}
+
+fn variables_of(alloc: Global, pool: &mut Pool, kinds: &str) -> RowResult<Vec<TermId>> {
     let mut variables = Vec::new(alloc);
     for kind in kinds.bytes() {
         let kind = match kind {
             b'i' => VarKind::Int,
             b'z' => VarKind::Bool,
-            _ => return Err(malformed()),
+            _ => return Err(RowStop::Malformed),
         };
         variables.push(kept(pool.variable(kind))?)?;
     }
     Ok(variables)
 }
 
-fn add_piece(
-    alloc: Global,
-    query: &mut Query,
-    variables: &[TermId],
-    piece: &str,
-) -> io::Result<()> {
+fn add_piece(alloc: Global, query: &mut Query, variables: &[TermId], piece: &str) -> RowResult<()> {
     if let Some(text) = piece.strip_prefix("+") {
         let term = read_term(alloc, &mut query.pool, variables, text)?;
         return Ok(query.when.push((term, true))?);
@@ -85,7 +90,7 @@ fn add_piece(
         read_term(alloc, &mut query.pool, variables, text)?;
         return Ok(());
     }
-    Err(malformed())
+    Err(RowStop::Malformed)
 }
 
 /// The term of a text in prefix form, which is read from its end: each operation finds its operands on the stack.
@@ -94,7 +99,7 @@ fn read_term(
     pool: &mut Pool,
     variables: &[TermId],
     text: &str,
-) -> io::Result<TermId> {
+) -> RowResult<TermId> {
     let mut stack = Vec::new(alloc);
     for word in text.rsplit(' ') {
         let term = term_of(pool, variables, word, &mut stack)?;
@@ -102,7 +107,7 @@ fn read_term(
     }
     match stack.as_slice() {
         [term] => Ok(*term),
-        _ => Err(malformed()),
+        _ => Err(RowStop::Malformed),
     }
 }
 
@@ -112,21 +117,21 @@ fn term_of(
     variables: &[TermId],
     word: &str,
     stack: &mut Vec<TermId>,
-) -> io::Result<TermId> {
+) -> RowResult<TermId> {
     if let Some(op) = op_named(word) {
         return applied(pool, op, stack);
     }
     match word.strip_prefix("v") {
-        Some(number) => match variables.get(read_u32(number)? as usize) {
+        Some(number) => match variables.get(read_number(number)? as usize) {
             Some(variable) => Ok(*variable),
-            None => Err(malformed()),
+            None => Err(RowStop::Malformed),
         },
-        None => kept(pool.constant(read_i32(word)?)),
+        None => kept(pool.constant(read_int(word)?)),
     }
 }
 
 /// The term of an operation on the last terms of the stack.
-fn applied(pool: &mut Pool, op: Op, stack: &mut Vec<TermId>) -> io::Result<TermId> {
+fn applied(pool: &mut Pool, op: Op, stack: &mut Vec<TermId>) -> RowResult<TermId> {
     let left = popped(pool, stack)?;
     if op.is_binary() {
         let right = popped(pool, stack)?;
@@ -136,21 +141,21 @@ fn applied(pool: &mut Pool, op: Op, stack: &mut Vec<TermId>) -> io::Result<TermI
 }
 
 /// The last term of the stack.
-fn popped(pool: &Pool, stack: &mut Vec<TermId>) -> io::Result<TermId>
+fn popped(pool: &Pool, stack: &mut Vec<TermId>) -> RowResult<TermId>
     ensures { IfOk result (IsTerm pool.now) }
 {
     match stack.pop() {
         Some(term) => known(pool, term),
-        None => Err(malformed()),
+        None => Err(RowStop::Malformed),
     }
 }
 
 /// The term, if the pool has it.
-pub fn known(pool: &Pool, term: TermId) -> io::Result<TermId>
+pub fn known(pool: &Pool, term: TermId) -> RowResult<TermId>
     ensures { IfOk result (IsTerm pool.now) }
 {
     if (term.0 as usize) < pool.nodes().len() {
         return Ok(term);
     }
-    Err(malformed())
+    Err(RowStop::Malformed)
 }

@@ -2,13 +2,14 @@
 
 ghost use Rattle.kb_stepint.specs.Reached.{IsReached};
 
-use crate::rows::{TableRow, malformed, no_memory};
+use crate::rows::TableRow;
 use kb_frames::{SymState, paths_are_well_formed};
-use kb_picture::{Init, Leaf, Path};
+use kb_picture::{Init, Leaf};
 use kb_report::{Report, Row, report_text};
+use kb_rows::Held;
+use kb_table::{RowResult, RowStop, kept};
 use kb_world::World;
 use std::alloc::Global;
-use std::io;
 
 /// Lines that stand before the block of the first path.
 const HEAD: usize = 3;
@@ -20,43 +21,54 @@ pub fn append_met(
     row: &TableRow,
     state: &SymState,
     into: &mut Vec<u8>,
-) -> io::Result<()>
+) -> RowResult<()>
     requires { IsReached world.now state.now }
 {
-    paths_are_well_formed();
-    let Ok(path) = state.path(row.decisions.as_slice(), Leaf::Open) else {
-        return Err(no_memory());
-    };
-    let text = text_of(alloc, world, row, path)?;
-    let Ok(text) = String::from_utf8(text) else {
-        return Err(malformed());
-    };
-    append_block(text.as_str(), into)
+    let mut report = report_of(alloc, row)?;
+    add_path(world, row, state, report.get_mut())?;
+    append_report(alloc, world, report.get(), into)
 }
 
-/// The report of one path.
-fn text_of(alloc: Global, world: &World, row: &TableRow, path: Path) -> io::Result<Vec<u8>> {
-    let Ok(target) = row.target.copied(alloc) else {
-        return Err(no_memory());
-    };
-    let mut leaves = Row::new(alloc);
-    leaves.push(path)?;
+/// The report of a row, without paths.
+fn report_of(alloc: Global, row: &TableRow) -> RowResult<Held<Report>> {
     let report = Report {
-        target,
+        target: kept(row.target.copied(alloc))?,
         init: Init::Lazy,
         bounds: row.bounds,
         paths: 1,
         budget: 1,
-        leaves,
+        leaves: Row::new(alloc),
     };
-    match report_text(alloc, world, &report) {
-        Ok(text) => Ok(text),
-        Err(_) => Err(no_memory()),
+    Ok(Held::new(alloc, report)?)
+}
+
+/// Adds the path that the state is on.
+fn add_path(_world: &World, row: &TableRow, state: &SymState, report: &mut Report) -> RowResult<()>
+    requires { IsReached _world.now state.now }
+{
+    paths_are_well_formed();
+    match state.path(row.decisions.as_slice(), Leaf::Open) {
+        Ok(path) => Ok(report.leaves.push(path)?),
+        Err(_) => Err(RowStop::NoMemory),
+    }
+}
+
+/// Appends the block of the path of a report.
+fn append_report(
+    alloc: Global,
+    world: &World,
+    report: &Report,
+    into: &mut Vec<u8>,
+) -> RowResult<()> {
+    let text = kept(report_text(alloc, world, report))?;
+    match String::from_utf8(text) {
+        Ok(text) => append_block(text.as_str(), into),
+        Err(_) => Err(RowStop::Malformed),
     }
 }
 
 /// Appends the lines between the head and the last one.
-fn append_block(text: &str, into: &mut Vec<u8>) -> io::Result<()> {
+fn append_block(text: &str, into: &mut Vec<u8>) -> RowResult<()> {
     for line in text.lines().skip(HEAD) {
         if !line.starts_with("total ") {
             into.extend_from_slice(line.as_bytes())?;

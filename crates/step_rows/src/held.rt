@@ -3,9 +3,9 @@
 use crate::told::append_exact;
 use kb_class::MethodId;
 use kb_frames::{Cell, Outcome, SymState, SymValue};
+use kb_table::RowResult;
 use kb_world::World;
 use std::alloc::Global;
-use std::io;
 
 /// More locals, values on a stack, objects and slots than a row has.
 const MOST: u32 = 64;
@@ -18,7 +18,7 @@ pub fn append_held(
     state: &SymState,
     outcome: &Outcome,
     into: &mut Vec<u8>,
-) -> io::Result<()> {
+) -> RowResult<()> {
     match outcome {
         Outcome::Cut(_) => return Ok(()),
         Outcome::Goes => append_frame(alloc, world, state, into)?,
@@ -33,12 +33,12 @@ fn append_frame(
     world: &World,
     state: &SymState,
     into: &mut Vec<u8>,
-) -> io::Result<()> {
+) -> RowResult<()> {
     append_stack(alloc, state, into)?;
     append_locals(alloc, world, state, into)
 }
 
-fn append_stack(alloc: Global, state: &SymState, into: &mut Vec<u8>) -> io::Result<()> {
+fn append_stack(alloc: Global, state: &SymState, into: &mut Vec<u8>) -> RowResult<()> {
     into.extend_from_slice(b"  stack")?;
     for depth in 0..state.height() {
         into.push(b' ')?;
@@ -53,7 +53,7 @@ fn append_locals(
     world: &World,
     state: &SymState,
     into: &mut Vec<u8>,
-) -> io::Result<()> {
+) -> RowResult<()> {
     into.extend_from_slice(b"  locals")?;
     for number in 0..local_count(world, state.method()) {
         into.push(b' ')?;
@@ -72,7 +72,7 @@ fn local_count(world: &World, method: MethodId) -> u16 {
 }
 
 /// A line for each object that was met: `?` for a cell that nobody has read or written, `=` before what was written.
-fn append_cells(alloc: Global, state: &SymState, into: &mut Vec<u8>) -> io::Result<()> {
+fn append_cells(alloc: Global, state: &SymState, into: &mut Vec<u8>) -> RowResult<()> {
     for number in 0..MOST {
         if state.exact_type_of(SymValue::Obj(number)).is_some() {
             into.extend_from_slice(format!(in alloc; "  o{number}")?.as_bytes())?;
@@ -88,7 +88,7 @@ fn append_cells_of(
     state: &SymState,
     object: u32,
     into: &mut Vec<u8>,
-) -> io::Result<()> {
+) -> RowResult<()> {
     for slot in 0..MOST {
         match state.cell(object, slot) {
             Some(Cell::Untouched) => into.extend_from_slice(b" ?")?,
@@ -106,7 +106,7 @@ fn append_cells_of(
     Ok(())
 }
 
-fn append_made(alloc: Global, state: &SymState, into: &mut Vec<u8>) -> io::Result<()> {
+fn append_made(alloc: Global, state: &SymState, into: &mut Vec<u8>) -> RowResult<()> {
     for number in 0..MOST {
         if let Some(kind) = state.exact_type_of(SymValue::New(number)) {
             into.extend_from_slice(format!(in alloc; "  n{number} ")?.as_bytes())?;
@@ -118,7 +118,7 @@ fn append_made(alloc: Global, state: &SymState, into: &mut Vec<u8>) -> io::Resul
 }
 
 /// Appends a value, or `-` where there is none.
-fn append_value(alloc: Global, value: Option<SymValue>, into: &mut Vec<u8>) -> io::Result<()> {
+fn append_value(alloc: Global, value: Option<SymValue>, into: &mut Vec<u8>) -> RowResult<()> {
     let text = match value {
         None => format!(in alloc; "-")?,
         Some(SymValue::Int(term)) => format!(in alloc; "t{}", term.0)?,

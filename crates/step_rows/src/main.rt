@@ -13,73 +13,42 @@ mod rows;
 mod told;
 mod walk;
 
-use kb_load::world_of;
-use kb_outside::{FileShelf, OutSink, Shelf, Sink, send_all};
-use kb_rows::Held;
+use kb_load::{InWorlds, WorldRows};
+use kb_outside::{FileShelf, OutSink, Sink};
+use kb_table::{RowResult, send, write_rows};
 use kb_world::World;
-use rows::{malformed, read_row};
+use rows::read_row;
 use std::alloc::Global;
-use std::io::{self, Error, ErrorKind};
+use std::io;
 use std::process::ExitCode;
 use walk::walk_text;
 
-/// More bytes than the table has, and than a class file.
-const ROOM: usize = 65_536;
+/// Each row is a walk of its own.
+#[derive(Drop)]
+struct Walks;
+
+impl WorldRows for Walks {
+    fn write_in_world<W: Sink>(
+        &mut self,
+        alloc: Global,
+        world: &World,
+        row: &str,
+        out: &mut W,
+    ) -> RowResult<()> {
+        let asked = read_row(alloc, row)?;
+        let text = walk_text(alloc, world, row, asked.get())?;
+        send(out, text.as_slice())
+    }
+}
 
 /// Writes how each row goes.
 fn main(rt: HostRuntime) -> io::Result<ExitCode> {
     let mut shelf = FileShelf::new(&rt);
     let mut out = OutSink::new(io::writer(&rt));
-    let Ok(table) = String::from_utf8(read_file(rt.alloc(), "rows", &mut shelf)?) else {
-        return Err(malformed());
+    let mut rows = InWorlds {
+        rows: Walks,
+        world: None,
     };
-    let mut world = None;
-    for line in table.as_str().lines() {
-        if line.is_empty() || line.starts_with("#") {
-            continue;
-        }
-        match line.strip_prefix("files ") {
-            Some(names) => world = Some(read_world(rt.alloc(), names, &mut shelf)?),
-            None => write_row(rt.alloc(), line, world.as_ref(), &mut out)?,
-        }
-    }
+    write_rows(rt.alloc(), "rows", &mut rows, &mut shelf, &mut out)?;
     Ok(ExitCode::from(0))
-}
-
-fn read_file<S: Shelf>(alloc: Global, name: &str, shelf: &mut S) -> io::Result<Vec<u8>> {
-    let mut bytes = Vec::new(alloc);
-    match shelf.read(name, ROOM, &mut bytes) {
-        Ok(()) => Ok(bytes),
-        Err(_) => Err(Error::from(ErrorKind::NotFound)),
-    }
-}
-
-/// The world of the class files of these names.
-fn read_world<S: Shelf>(alloc: Global, names: &str, shelf: &mut S) -> io::Result<Held<World>> {
-    let mut files = Vec::new(alloc);
-    for name in names.split(' ') {
-        files.push(read_file(alloc, name, shelf)?)?;
-    }
-    match world_of(alloc, files.as_slice()) {
-        Some(world) => Ok(Held::new(alloc, world)?),
-        None => Err(malformed()),
-    }
-}
-
-/// Writes a row and how it goes.
-fn write_row<W: Sink>(
-    alloc: Global,
-    line: &str,
-    world: Option<&Held<World>>,
-    out: &mut W,
-) -> io::Result<()> {
-    let Some(world) = world else {
-        return Err(malformed());
-    };
-    let row = read_row(alloc, line)?;
-    let text = walk_text(alloc, world.get(), line, &row)?;
-    match send_all(out, text.as_slice()) {
-        Ok(()) => Ok(()),
-        Err(_) => Err(Error::from(ErrorKind::Other)),
-    }
 }

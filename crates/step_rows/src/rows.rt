@@ -2,8 +2,9 @@
 
 use kb_heap::{Bounds, RunBounds};
 use kb_names::{Target, read_target};
+use kb_rows::Held;
+use kb_table::{RowResult, RowStop, read_number};
 use std::alloc::Global;
-use std::io::{self, Error, ErrorKind};
 
 /// A row: a method, its bounds, and the numbers of the alternatives that are taken where there are several.
 #[derive(Drop)]
@@ -26,56 +27,50 @@ const BOUNDS: Bounds = Bounds {
 };
 
 /// The row of a line: a target, bounds, as in `loops=3`, and decisions.
-pub fn read_row(alloc: Global, line: &str) -> io::Result<TableRow> {
-    let mut words = line.split(' ');
-    let Some(target) = words.next() else {
-        return Err(malformed());
-    };
-    let Ok(target) = read_target(alloc, target.as_bytes()) else {
-        return Err(malformed());
-    };
-    let mut row = TableRow {
-        target,
-        bounds: BOUNDS,
-        decisions: Vec::new(alloc),
-    };
-    for word in words {
-        add_word(&mut row, word)?;
+pub fn read_row(alloc: Global, line: &str) -> RowResult<Held<TableRow>> {
+    let mut row = row_of(alloc, line)?;
+    for word in line.split(' ').skip(1) {
+        add_word(row.get_mut(), word)?;
     }
     Ok(row)
 }
 
-/// A decision, or a bound.
-fn add_word(row: &mut TableRow, word: &str) -> io::Result<()> {
-    match word.split_once('=') {
-        Some((name, number)) => set(row, name, number),
-        None => Ok(row.decisions.push(number_of(word)?)?),
+/// The row of the target of a line alone.
+fn row_of(alloc: Global, line: &str) -> RowResult<Held<TableRow>> {
+    let target = match line.split_once(' ') {
+        Some((target, _)) => target,
+        None => line,
+    };
+    match read_target(alloc, target.as_bytes()) {
+        Ok(target) => without_decisions(alloc, target),
+        Err(_) => Err(RowStop::Malformed),
     }
 }
 
-fn set(row: &mut TableRow, name: &str, number: &str) -> io::Result<()> {
-    let number = number_of(number)?;
+fn without_decisions(alloc: Global, target: Target) -> RowResult<Held<TableRow>> {
+    let row = TableRow {
+        target,
+        bounds: BOUNDS,
+        decisions: Vec::new(alloc),
+    };
+    Ok(Held::new(alloc, row)?)
+}
+
+/// A decision, or a bound.
+fn add_word(row: &mut TableRow, word: &str) -> RowResult<()> {
+    match word.split_once('=') {
+        Some((name, number)) => set(&mut row.bounds, name, read_number(number)?),
+        None => Ok(row.decisions.push(read_number(word)?)?),
+    }
+}
+
+fn set(bounds: &mut Bounds, name: &str, number: u32) -> RowResult<()> {
     match name.as_bytes() {
-        b"k" => row.bounds.k = number,
-        b"array" => row.bounds.array = number,
-        b"loops" => row.bounds.run.loops = number,
-        b"steps" => row.bounds.run.steps = number,
-        _ => return Err(malformed()),
+        b"k" => bounds.k = number,
+        b"array" => bounds.array = number,
+        b"loops" => bounds.run.loops = number,
+        b"steps" => bounds.run.steps = number,
+        _ => return Err(RowStop::Malformed),
     }
     Ok(())
-}
-
-fn number_of(word: &str) -> io::Result<u32> {
-    match word.parse::<u32>() {
-        Ok(number) => Ok(number),
-        Err(_) => Err(malformed()),
-    }
-}
-
-pub fn malformed() -> Error {
-    Error::from(ErrorKind::InvalidData)
-}
-
-pub fn no_memory() -> Error {
-    Error::from(ErrorKind::OutOfMemory)
 }

@@ -1,16 +1,15 @@
 //! Alternatives, outcomes and terms, as texts.
 
-use crate::rows::no_memory;
 use kb_frames::Outcome;
 use kb_heap::{Bound, Place};
 use kb_names::{ExactType, Spelling, write_name, write_target, write_type};
 use kb_picture::{Choice, Length, Out, SymEnding};
+use kb_table::{RowResult, kept};
 use kb_terms::{Node, Operand, Pool, VarKind};
 use std::alloc::Global;
-use std::io;
 
 /// Appends the alternatives of a step, one behind the other, without the end of the line.
-pub fn append_choices(alloc: Global, choices: &[Choice], into: &mut Vec<u8>) -> io::Result<()> {
+pub fn append_choices(alloc: Global, choices: &[Choice], into: &mut Vec<u8>) -> RowResult<()> {
     let mut front: &[u8] = b"";
     for choice in choices {
         into.extend_from_slice(front)?;
@@ -20,7 +19,7 @@ pub fn append_choices(alloc: Global, choices: &[Choice], into: &mut Vec<u8>) -> 
     Ok(())
 }
 
-fn append_choice(alloc: Global, choice: &Choice, into: &mut Vec<u8>) -> io::Result<()> {
+fn append_choice(alloc: Global, choice: &Choice, into: &mut Vec<u8>) -> RowResult<()> {
     match choice {
         Choice::Only => into.extend_from_slice(b"only")?,
         Choice::Branch(true) => into.extend_from_slice(b"taken")?,
@@ -46,7 +45,7 @@ fn append_fresh(
     kind: &ExactType,
     length: Length,
     into: &mut Vec<u8>,
-) -> io::Result<()> {
+) -> RowResult<()> {
     into.extend_from_slice(b"new ")?;
     append_exact(kind, into)?;
     match length {
@@ -60,7 +59,7 @@ fn append_fresh(
 }
 
 /// Appends the name of a class, or the descriptor of an array.
-pub fn append_exact(kind: &ExactType, into: &mut Vec<u8>) -> io::Result<()> {
+pub fn append_exact(kind: &ExactType, into: &mut Vec<u8>) -> RowResult<()> {
     let written = match kind {
         ExactType::Class(name) => write_name(name, into),
         ExactType::Array(component) => {
@@ -68,14 +67,11 @@ pub fn append_exact(kind: &ExactType, into: &mut Vec<u8>) -> io::Result<()> {
             write_type(component, Spelling::Escaped, into)
         }
     };
-    match written {
-        Ok(()) => Ok(()),
-        Err(_) => Err(no_memory()),
-    }
+    kept(written)
 }
 
 /// Appends what came of a take, behind the alternatives.
-pub fn append_outcome(alloc: Global, outcome: &Outcome, into: &mut Vec<u8>) -> io::Result<()> {
+pub fn append_outcome(alloc: Global, outcome: &Outcome, into: &mut Vec<u8>) -> RowResult<()> {
     into.extend_from_slice(b": ")?;
     match outcome {
         Outcome::Asks => into.extend_from_slice(b"asks")?,
@@ -101,7 +97,7 @@ fn bound_text(bound: Bound) -> &'static str {
     }
 }
 
-fn append_ending(alloc: Global, ending: &SymEnding, into: &mut Vec<u8>) -> io::Result<()> {
+fn append_ending(alloc: Global, ending: &SymEnding, into: &mut Vec<u8>) -> RowResult<()> {
     match ending {
         SymEnding::Returned(None) => into.extend_from_slice(b"returns")?,
         SymEnding::Returned(Some(value)) => {
@@ -117,16 +113,14 @@ fn append_ending(alloc: Global, ending: &SymEnding, into: &mut Vec<u8>) -> io::R
     Ok(())
 }
 
-fn append_place(alloc: Global, place: &Place, into: &mut Vec<u8>) -> io::Result<()> {
+fn append_place(alloc: Global, place: &Place, into: &mut Vec<u8>) -> RowResult<()> {
     into.extend_from_slice(b"illtyped ")?;
-    let Ok(()) = write_target(&place.method, into) else {
-        return Err(no_memory());
-    };
+    kept(write_target(&place.method, into))?;
     into.extend_from_slice(format!(in alloc; " {}", place.at)?.as_bytes())?;
     Ok(())
 }
 
-fn append_value(alloc: Global, value: Out, into: &mut Vec<u8>) -> io::Result<()> {
+fn append_value(alloc: Global, value: Out, into: &mut Vec<u8>) -> RowResult<()> {
     let text = match value {
         Out::Int(Operand::Const(number)) => format!(in alloc; "{number}")?,
         Out::Int(Operand::Var(number)) => format!(in alloc; "v{number}")?,
@@ -142,7 +136,7 @@ fn append_value(alloc: Global, value: Out, into: &mut Vec<u8>) -> io::Result<()>
 }
 
 /// Appends the terms of the pool from that number on, a line each.
-pub fn append_nodes(alloc: Global, pool: &Pool, from: usize, into: &mut Vec<u8>) -> io::Result<()> {
+pub fn append_nodes(alloc: Global, pool: &Pool, from: usize, into: &mut Vec<u8>) -> RowResult<()> {
     for (number, node) in pool.nodes().iter().enumerate() {
         if from <= number {
             append_node(alloc, number, node, into)?;
@@ -151,7 +145,7 @@ pub fn append_nodes(alloc: Global, pool: &Pool, from: usize, into: &mut Vec<u8>)
     Ok(())
 }
 
-fn append_node(alloc: Global, number: usize, node: &Node, into: &mut Vec<u8>) -> io::Result<()> {
+fn append_node(alloc: Global, number: usize, node: &Node, into: &mut Vec<u8>) -> RowResult<()> {
     let text = match node {
         Node::Const(value) => format!(in alloc; "  t{number} {value}\n")?,
         Node::Var(variable, VarKind::Int) => format!(in alloc; "  t{number} v{variable}\n")?,

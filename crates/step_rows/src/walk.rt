@@ -14,7 +14,7 @@ ghost use Rattle.kb_stepref.specs.Reached.{IsHeapReached};
 
 use crate::ends::append_met;
 use crate::held::append_held;
-use crate::rows::{TableRow, no_memory};
+use crate::rows::TableRow;
 use crate::told::{append_choices, append_nodes, append_outcome};
 use kb_class::MethodId;
 use kb_frames::{Outcome, SymState, start};
@@ -24,15 +24,15 @@ use kb_rows::Held;
 use kb_stepint::{choices_int, is_int_method, take_int};
 use kb_stepref::laws::heap_methods_stay;
 use kb_stepref::{choices_ref, is_heap_method, take_ref};
+use kb_table::{RowResult, RowStop};
 use kb_world::World;
 use std::alloc::Global;
-use std::io;
 
 /// More steps than a row has.
 const MOST: u32 = 1000;
 
 /// A line with the row, and what its steps come to.
-pub fn walk_text(alloc: Global, world: &World, line: &str, row: &TableRow) -> io::Result<Vec<u8>> {
+pub fn walk_text(alloc: Global, world: &World, line: &str, row: &TableRow) -> RowResult<Vec<u8>> {
     let mut text = format!(in alloc; "> {line}\n")?.into_bytes();
     let Ok(method) = world.reach(alloc, &row.target) else {
         text.extend_from_slice(b"cannot be explored\n")?;
@@ -48,7 +48,7 @@ fn walk(
     method: MethodId,
     row: &TableRow,
     into: &mut Vec<u8>,
-) -> io::Result<()> {
+) -> RowResult<()> {
     if !is_heap_method(world, method) {
         into.extend_from_slice(b"is no method over heaps\n")?;
         return Ok(());
@@ -70,7 +70,7 @@ fn is_in_range(bounds: &Bounds) -> bool
 }
 
 /// The state before the first step, in a box.
-fn begin(alloc: Global, world: &World, method: MethodId) -> io::Result<Held<SymState>>
+fn begin(alloc: Global, world: &World, method: MethodId) -> RowResult<Held<SymState>>
     requires { is_heap_method world.now method ≡ true }
     ensures { IfOk result (IsHeapReached world.now) }
 {
@@ -78,7 +78,7 @@ fn begin(alloc: Global, world: &World, method: MethodId) -> io::Result<Held<SymS
     Ok(Held::new(alloc, state)?)
 }
 
-fn first_state(alloc: Global, world: &World, method: MethodId) -> io::Result<SymState>
+fn first_state(alloc: Global, world: &World, method: MethodId) -> RowResult<SymState>
     requires { is_heap_method world.now method ≡ true }
     ensures { IfOk result (IsHeapReached world.now) }
 {
@@ -86,7 +86,7 @@ fn first_state(alloc: Global, world: &World, method: MethodId) -> io::Result<Sym
     let _ = world.method_of(method);
     match start(alloc, world, method, Init::Lazy) {
         Ok(state) => Ok(state),
-        Err(_) => Err(no_memory()),
+        Err(_) => Err(RowStop::NoMemory),
     }
 }
 
@@ -97,7 +97,7 @@ fn follow(
     row: &TableRow,
     state: &mut SymState,
     into: &mut Vec<u8>,
-) -> io::Result<()>
+) -> RowResult<()>
     requires reached { IsHeapReached world.now state.old }
     requires range { AreInRange row.now.bounds }
     ensures { OnOk result (IsReached world.now state.new) }
@@ -119,7 +119,7 @@ fn step(
     taken: &mut usize,
     state: &mut SymState,
     into: &mut Vec<u8>,
-) -> io::Result<bool>
+) -> RowResult<bool>
     requires reached { IsHeapReached world.now state.old }
     requires range { AreInRange row.now.bounds }
     ensures reached { OnOk result (IsReached world.now state.new) }
@@ -135,14 +135,46 @@ fn step(
         into.extend_from_slice(b" has no such alternative\n")?;
         return Ok(false);
     };
+    take_and_tell(alloc, world, state, choice, &row.bounds, into)
+}
+
+/// Takes an alternative of the next step, and tells what comes of it. Whether another step comes behind it.
+fn take_and_tell(
+    alloc: Global,
+    world: &World,
+    state: &mut SymState,
+    choice: &Choice,
+    bounds: &Bounds,
+    into: &mut Vec<u8>,
+) -> RowResult<bool>
+    requires reached { IsHeapReached world.now state.old }
+    requires range { AreInRange bounds.now }
+    requires offered { Has (if next_is_int world.now state.old then int_choices world.now state.old bounds.now else reference_choices world.now state.old bounds.now) choice.now }
+    ensures reached { OnOk result (IsReached world.now state.new) }
+    ensures on { IfOk result (λ goes_on. goes_on ≡ true → IsHeapReached world.now state.new) }
+{
     let before = state.pool().nodes().len();
-    let outcome = take(alloc, world, state, choice, &row.bounds)?;
-    append_outcome(alloc, &outcome, into)?;
-    append_nodes(alloc, state.pool(), before, into)?;
-    if !is_int_method(world, state.method()) {
-        append_held(alloc, world, state, &outcome, into)?;
-    }
+    let outcome = take(alloc, world, state, choice, bounds)?;
+    append_taken(alloc, world, state, &outcome, before, into)?;
     Ok(goes_on(&outcome))
+}
+
+/// Appends what came of a take: the outcome, the terms of the pool from that number on, and of a method over heaps what the
+/// state holds.
+fn append_taken(
+    alloc: Global,
+    world: &World,
+    state: &SymState,
+    outcome: &Outcome,
+    before: usize,
+    into: &mut Vec<u8>,
+) -> RowResult<()> {
+    append_outcome(alloc, outcome, into)?;
+    append_nodes(alloc, state.pool(), before, into)?;
+    if is_int_method(world, state.method()) {
+        return Ok(());
+    }
+    append_held(alloc, world, state, outcome, into)
 }
 
 /// The alternatives of the next step, which is one of ints or one on references.
@@ -151,7 +183,7 @@ fn choices(
     world: &World,
     state: &SymState,
     bounds: &Bounds,
-) -> io::Result<Vec<Choice>>
+) -> RowResult<Vec<Choice>>
     requires { IsHeapReached world.now state.now }
     ensures { IfOk result (λ choices. choices.items ≡ (if next_is_int world.now state.now then int_choices world.now state.now bounds.now else reference_choices world.now state.now bounds.now)) }
 {
@@ -160,7 +192,7 @@ fn choices(
     } else {
         choices_ref(alloc, world, state, bounds).ok()
     };
-    choices.ok_or(no_memory())
+    choices.ok_or(RowStop::NoMemory)
 }
 
 /// Which alternative is taken: the only one, or that of the next decision.
@@ -180,7 +212,7 @@ fn take(
     state: &mut SymState,
     choice: &Choice,
     bounds: &Bounds,
-) -> io::Result<Outcome>
+) -> RowResult<Outcome>
     requires reached { IsHeapReached world.now state.old }
     requires range { AreInRange bounds.now }
     requires offered { Has (if next_is_int world.now state.old then int_choices world.now state.old bounds.now else reference_choices world.now state.old bounds.now) choice.now }
@@ -199,7 +231,7 @@ fn take_on_ints(
     state: &mut SymState,
     choice: &Choice,
     bounds: &Bounds,
-) -> io::Result<Outcome>
+) -> RowResult<Outcome>
     requires reached { IsHeapReached world.now state.old }
     requires ints { next_is_int world.now state.old ≡ true }
     requires offered { Has (int_choices world.now state.old bounds.now) choice.now }
@@ -209,7 +241,7 @@ fn take_on_ints(
     heap_methods_stay();
     match take_int(alloc, world, state, choice, bounds) {
         Ok(outcome) => Ok(outcome),
-        Err(_) => Err(no_memory()),
+        Err(_) => Err(RowStop::NoMemory),
     }
 }
 
@@ -219,7 +251,7 @@ fn take_on_references(
     state: &mut SymState,
     choice: &Choice,
     bounds: &Bounds,
-) -> io::Result<Outcome>
+) -> RowResult<Outcome>
     requires reached { IsHeapReached world.now state.old }
     requires range { AreInRange bounds.now }
     requires references { next_is_int world.now state.old ≡ false }
@@ -230,7 +262,7 @@ fn take_on_references(
     heap_methods_stay();
     match take_ref(alloc, world, state, choice, bounds) {
         Ok(outcome) => Ok(outcome),
-        Err(_) => Err(no_memory()),
+        Err(_) => Err(RowStop::NoMemory),
     }
 }
 

@@ -4,10 +4,9 @@ ghost use Rattle.kb_test.specs.Tests.{AreTests};
 
 use crate::heaps::append_numbers;
 use crate::texts::append_text;
-use kb_table::malformed;
+use kb_table::{RowResult, RowStop};
 use kb_test::{Test, TestRefusal, read_tests, write_run, write_test};
 use std::alloc::Global;
-use std::io;
 
 /// Appends the answer to a question about the text, in a world of so many literals:
 ///
@@ -21,7 +20,7 @@ pub fn append_answer(
     literals: u32,
     text: &[u8],
     into: &mut Vec<u8>,
-) -> io::Result<()> {
+) -> RowResult<()> {
     match question {
         "read" => {
             append_verdict(alloc, verdict(alloc, literals, text), into)?;
@@ -30,7 +29,7 @@ pub fn append_answer(
         "cut" => append_cuts(alloc, literals, text, into),
         "run" => append_runs(alloc, literals, text, into),
         "numbers" => append_all_numbers(alloc, literals, text, into),
-        _ => Err(malformed()),
+        _ => Err(RowStop::Malformed),
     }
 }
 
@@ -46,7 +45,7 @@ fn append_verdict(
     alloc: Global,
     verdict: Result<usize, TestRefusal>,
     into: &mut Vec<u8>,
-) -> io::Result<()> {
+) -> RowResult<()> {
     let told = match verdict {
         Ok(tests) => format!(in alloc; "tests {tests}\n")?,
         Err(TestRefusal::TestLine(line)) => format!(in alloc; "bad line {line}\n")?,
@@ -57,7 +56,7 @@ fn append_verdict(
 }
 
 /// Says where the tests are written otherwise than they were.
-fn append_again(alloc: Global, literals: u32, text: &[u8], into: &mut Vec<u8>) -> io::Result<()> {
+fn append_again(alloc: Global, literals: u32, text: &[u8], into: &mut Vec<u8>) -> RowResult<()> {
     let Ok(tests) = read_tests(alloc, text, literals) else {
         return Ok(());
     };
@@ -69,14 +68,14 @@ fn append_again(alloc: Global, literals: u32, text: &[u8], into: &mut Vec<u8>) -
     append_text(again.as_slice(), into)
 }
 
-fn written(alloc: Global, tests: &[Test], literals: u32) -> io::Result<Vec<u8>>
+fn written(alloc: Global, tests: &[Test], literals: u32) -> RowResult<Vec<u8>>
     requires { AreTests literals tests.now }
 {
     let mut text = Vec::new(alloc);
     let mut rest = tests;
     while let [test, others @ ..] = rest {
         let Ok(()) = write_test(alloc, test, literals, &mut text) else {
-            return Err(malformed());
+            return Err(RowStop::Malformed);
         };
         rest = others;
     }
@@ -84,7 +83,7 @@ fn written(alloc: Global, tests: &[Test], literals: u32) -> io::Result<Vec<u8>>
 }
 
 /// A line for the first of each run of fronts that have one answer.
-fn append_cuts(alloc: Global, literals: u32, text: &[u8], into: &mut Vec<u8>) -> io::Result<()> {
+fn append_cuts(alloc: Global, literals: u32, text: &[u8], into: &mut Vec<u8>) -> RowResult<()> {
     let mut last = None;
     for (end, _) in text.iter().enumerate() {
         let now = verdict(alloc, literals, &text[..end]);
@@ -97,17 +96,17 @@ fn append_cuts(alloc: Global, literals: u32, text: &[u8], into: &mut Vec<u8>) ->
     Ok(())
 }
 
-fn append_runs(alloc: Global, literals: u32, text: &[u8], into: &mut Vec<u8>) -> io::Result<()> {
+fn append_runs(alloc: Global, literals: u32, text: &[u8], into: &mut Vec<u8>) -> RowResult<()> {
     let Ok(tests) = read_tests(alloc, text, literals) else {
-        return Err(malformed());
+        return Err(RowStop::Malformed);
     };
     for test in tests.as_slice() {
         let Ok(inputs) = u32::try_from(test.input.heap.objects.as_slice().len()) else {
-            return Err(malformed());
+            return Err(RowStop::Malformed);
         };
         let mut run = Vec::new(alloc);
         let Ok(()) = write_run(alloc, &test.ending, &test.heap, inputs, literals, &mut run) else {
-            return Err(malformed());
+            return Err(RowStop::Malformed);
         };
         append_text(run.as_slice(), into)?;
     }
@@ -119,9 +118,9 @@ fn append_all_numbers(
     literals: u32,
     text: &[u8],
     into: &mut Vec<u8>,
-) -> io::Result<()> {
+) -> RowResult<()> {
     let Ok(tests) = read_tests(alloc, text, literals) else {
-        return Err(malformed());
+        return Err(RowStop::Malformed);
     };
     for test in tests.as_slice() {
         append_numbers(alloc, test, into)?;

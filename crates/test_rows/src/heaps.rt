@@ -2,16 +2,16 @@
 
 use kb_heap::{Ending, Object, Value};
 use kb_names::{ExactType, Spelling, write_name, write_type};
+use kb_table::{RowResult, RowStop};
 use kb_test::{Objects, Test};
 use std::alloc::Global;
-use std::io::{self, Error, ErrorKind};
 
 /// More objects than a test here has.
 const MOST: usize = 64;
 
 /// Appends the arguments, the objects of the input, the object or value at the run's end, and the objects that are there then,
 /// each on a line. `#` stands before an object's number in the heap.
-pub fn append_numbers(alloc: Global, test: &Test, into: &mut Vec<u8>) -> io::Result<()> {
+pub fn append_numbers(alloc: Global, test: &Test, into: &mut Vec<u8>) -> RowResult<()> {
     into.extend_from_slice(b"args")?;
     append_values(alloc, test.input.args.as_slice(), into)?;
     for object in test.input.heap.objects.as_slice() {
@@ -27,7 +27,7 @@ pub fn append_numbers(alloc: Global, test: &Test, into: &mut Vec<u8>) -> io::Res
     Ok(())
 }
 
-fn append_values(alloc: Global, values: &[Value], into: &mut Vec<u8>) -> io::Result<()> {
+fn append_values(alloc: Global, values: &[Value], into: &mut Vec<u8>) -> RowResult<()> {
     for value in values {
         let text = match value {
             Value::Int(number) => format!(in alloc; " {number}")?,
@@ -40,7 +40,7 @@ fn append_values(alloc: Global, values: &[Value], into: &mut Vec<u8>) -> io::Res
     Ok(())
 }
 
-fn append_object(alloc: Global, object: &Object, into: &mut Vec<u8>) -> io::Result<()> {
+fn append_object(alloc: Global, object: &Object, into: &mut Vec<u8>) -> RowResult<()> {
     let written = match &object.kind {
         ExactType::Class(name) => write_name(name, into),
         ExactType::Array(component) => {
@@ -49,12 +49,12 @@ fn append_object(alloc: Global, object: &Object, into: &mut Vec<u8>) -> io::Resu
         }
     };
     let Ok(()) = written else {
-        return Err(Error::from(ErrorKind::OutOfMemory));
+        return Err(RowStop::NoMemory);
     };
     append_values(alloc, object.values.as_slice(), into)
 }
 
-fn append_ending(alloc: Global, ending: &Ending, into: &mut Vec<u8>) -> io::Result<()> {
+fn append_ending(alloc: Global, ending: &Ending, into: &mut Vec<u8>) -> RowResult<()> {
     match ending {
         Ending::Returned(Some(value)) => {
             into.extend_from_slice(b"returned")?;

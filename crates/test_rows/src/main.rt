@@ -11,7 +11,7 @@ mod texts;
 
 use answers::append_answer;
 use kb_outside::{FileShelf, OutSink, Shelf, Sink};
-use kb_table::{Rows, malformed, send, write_rows};
+use kb_table::{RowResult, RowStop, Rows, read_number, send, write_rows};
 use std::alloc::Global;
 use std::io;
 use std::process::ExitCode;
@@ -28,16 +28,14 @@ impl Rows for TextRows {
         row: &str,
         _shelf: &mut S,
         out: &mut W,
-    ) -> io::Result<()> {
+    ) -> RowResult<()> {
         let Some((question, words)) = row.split_once(' ') else {
-            return Err(malformed());
+            return Err(RowStop::Malformed);
         };
         let Some((literals, spelled)) = words.split_once(' ') else {
-            return Err(malformed());
+            return Err(RowStop::Malformed);
         };
-        let Ok(literals) = literals.parse::<u32>() else {
-            return Err(malformed());
-        };
+        let literals = read_number(literals)?;
         let text = read_text(alloc, spelled)?;
         let mut answer = Vec::new(alloc);
         answer.extend_from_slice(format!(in alloc; "> {row}\n")?.as_bytes())?;

@@ -1,13 +1,13 @@
 //! Texts of many lines as one.
 
+use kb_table::RowResult;
 use std::alloc::Global;
-use std::io;
 
 /// The first lines of a test that has neither arguments nor objects.
 const HEAD: &[u8] = b"test A.f()V\nbounds alloc 0 loops 0 depth 1 steps 1\n";
 
 /// The text that is spelled so: `|` is a line feed, `~` the first lines of a test, and `-` alone is no text.
-pub fn read_text(alloc: Global, spelled: &str) -> io::Result<Vec<u8>> {
+pub fn read_text(alloc: Global, spelled: &str) -> RowResult<Vec<u8>> {
     let mut text = Vec::new(alloc);
     if spelled == "-" {
         return Ok(text);
@@ -23,7 +23,7 @@ pub fn read_text(alloc: Global, spelled: &str) -> io::Result<Vec<u8>> {
 }
 
 /// Appends the text on one line, with `|` for each line feed.
-pub fn append_text(text: &[u8], into: &mut Vec<u8>) -> io::Result<()> {
+pub fn append_text(text: &[u8], into: &mut Vec<u8>) -> RowResult<()> {
     for byte in text {
         match byte {
             b'\n' => into.push(b'|')?,

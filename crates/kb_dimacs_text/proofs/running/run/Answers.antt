@@ -1,14 +1,13 @@
-use Rattle.std.proofs.Common.{map, string_bytes, ap, subst, sym}
-use Rattle.std.specs.Option.{option_copied}
-use Rattle.kb_dimacs_text.specs.Answers.{AnswersWords}
-use Rattle.kb_dimacs_text.proofs.AnswerLaws.{runs_answer}
+use Rattle.std.proofs.Common.{map, string_bytes}
+use Rattle.kb_dimacs_text.proofs.AnswerLaws.{owes_read, owes_unread}
 use Rattle.kb_dimacs_text.proofs.running.run.Goals as goal
 
 pub returns-in-Ok : goal.returns-in-Ok
 returns-in-Ok g c =
-    let words = map string_bytes c.args.words.now in
-    let input = c.in-Some.input.now in
-    let status = c.in-Ok.answer.status in
-    let answers = subst (AnswersWords words input status) (sym c.as_str.ensures.value) c.in-Ok.ensures.answers in
-    runs_answer words (option_copied c.args.input) input c.as_str.result.now status (g.W.Write.contents c.args.out.now) (g.W.Write.contents c.send-in-Ok.new.out) c.send-in-Ok.result
-    (ap option_copied c.in-Some.is) answers c.send-in-Ok.ensures
+    owes_read (map string_bytes c.args.words.now) c.args.input c.in-Ok.input c.as_slice.result.now (g.K.Sink.written c.args.out.now) (g.K.Sink.written c.answer.new.out)
+    (g.K.Sink.faults c.args.out.now) (g.K.Sink.faults c.answer.new.out) c.answer.result c.in-Ok.is c.as_slice.ensures.value c.answer.ensures
+
+pub returns-in-Err : goal.returns-in-Err
+returns-in-Err g c =
+    owes_unread (map string_bytes c.args.words.now) c.args.input c.in-Err.stop (g.K.Sink.written c.args.out.now) (g.K.Sink.written c.tell.new.out)
+    (g.K.Sink.faults c.args.out.now) (g.K.Sink.faults c.tell.new.out) c.tell.result c.in-Err.is c.tell.ensures

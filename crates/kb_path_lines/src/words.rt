@@ -1,22 +1,33 @@
-//! The words of the tables: slots, what is seen there, operands and values, as reports and tests have them.
+//! The words of the lines: slots, what is seen there, operands and values, as reports and tests have them.
 
-use kb_heap::Value;
-use kb_names::{ExactType, Name, read_type};
+use kb_heap::{Bound, Value};
+use kb_names::{ExactType, Spelling, read_name, read_type_as};
 use kb_picture::{Operand, Origin, Out, Seen, Standing};
+use kb_table::{RowResult, RowStop, read_int, read_number};
 use kb_terms::Op;
 use std::alloc::Global;
-use std::io::{self, Error, ErrorKind};
 
-/// The operations of the rows.
-const OPS: [Op; 5] = [Op::Add, Op::Div, Op::Rem, Op::Eq, Op::Ult];
-
-pub fn malformed() -> Error {
-    Error::from(ErrorKind::InvalidData)
-}
-
-pub fn no_memory() -> Error {
-    Error::from(ErrorKind::OutOfMemory)
-}
+/// Every operation.
+const OPS: [Op; 18] = [
+    Op::Add,
+    Op::Sub,
+    Op::Mul,
+    Op::Div,
+    Op::Rem,
+    Op::Neg,
+    Op::Shl,
+    Op::Shr,
+    Op::Ushr,
+    Op::And,
+    Op::Or,
+    Op::Xor,
+    Op::Byte,
+    Op::Char,
+    Op::Short,
+    Op::Eq,
+    Op::Lt,
+    Op::Ult,
+];
 
 /// The number behind a letter, as in `o3`.
 pub fn numbered(word: &str, letter: &str) -> Option<u32> {
@@ -24,50 +35,36 @@ pub fn numbered(word: &str, letter: &str) -> Option<u32> {
     digits.parse::<u32>().ok()
 }
 
-pub fn number(word: &str) -> io::Result<u32> {
-    match word.parse::<u32>() {
-        Ok(number) => Ok(number),
-        Err(_) => Err(malformed()),
-    }
-}
-
-pub fn int(word: &str) -> io::Result<i32> {
-    match word.parse::<i32>() {
-        Ok(int) => Ok(int),
-        Err(_) => Err(malformed()),
-    }
-}
-
 /// `a0` for an argument, `o0.1` for a slot by its number, `o0[1]` for an element.
-pub fn read_slot(word: &str) -> io::Result<Origin> {
+pub fn read_slot(word: &str) -> RowResult<Origin> {
     if let Some(argument) = numbered(word, "a") {
         return Ok(Origin::Arg(argument));
     }
     match word.split_once('.') {
-        Some((object, slot)) => Ok(Origin::Field(read_object(object)?, number(slot)?)),
+        Some((object, slot)) => Ok(Origin::Field(read_object(object)?, read_number(slot)?)),
         None => read_element(word),
     }
 }
 
-fn read_element(word: &str) -> io::Result<Origin> {
+fn read_element(word: &str) -> RowResult<Origin> {
     let Some((array, index)) = word.split_once('[') else {
-        return Err(malformed());
+        return Err(RowStop::Malformed);
     };
     let Some(index) = index.strip_suffix("]") else {
-        return Err(malformed());
+        return Err(RowStop::Malformed);
     };
-    Ok(Origin::Element(read_object(array)?, number(index)?))
+    Ok(Origin::Element(read_object(array)?, read_number(index)?))
 }
 
 /// `o0` for an object of the picture.
-fn read_object(word: &str) -> io::Result<u32> {
+fn read_object(word: &str) -> RowResult<u32> {
     match numbered(word, "o") {
         Some(object) => Ok(object),
-        None => Err(malformed()),
+        None => Err(RowStop::Malformed),
     }
 }
 
-pub fn read_seen(word: &str) -> io::Result<Seen> {
+pub fn read_seen(word: &str) -> RowResult<Seen> {
     match word.as_bytes() {
         b"null" => Ok(Seen::Null),
         b"beyond" => Ok(Seen::Beyond),
@@ -75,7 +72,7 @@ pub fn read_seen(word: &str) -> io::Result<Seen> {
     }
 }
 
-fn read_seen_number(word: &str) -> io::Result<Seen> {
+fn read_seen_number(word: &str) -> RowResult<Seen> {
     if let Some(variable) = numbered(word, "v") {
         return Ok(Seen::Int(variable));
     }
@@ -85,7 +82,7 @@ fn read_seen_number(word: &str) -> io::Result<Seen> {
     }
 }
 
-pub fn read_standing(word: &str) -> io::Result<Standing> {
+pub fn read_standing(word: &str) -> RowResult<Standing> {
     match word.as_bytes() {
         b"open" => Ok(Standing::Open),
         b"beyond" => Ok(Standing::Beyond),
@@ -93,17 +90,17 @@ pub fn read_standing(word: &str) -> io::Result<Standing> {
     }
 }
 
-pub fn read_operand(word: &str) -> io::Result<Operand> {
+pub fn read_operand(word: &str) -> RowResult<Operand> {
     if let Some(variable) = numbered(word, "v") {
         return Ok(Operand::Var(variable));
     }
     match numbered(word, "t") {
         Some(term) => Ok(Operand::Term(term)),
-        None => Ok(Operand::Const(int(word)?)),
+        None => Ok(Operand::Const(read_int(word)?)),
     }
 }
 
-pub fn read_out(word: &str) -> io::Result<Out> {
+pub fn read_out(word: &str) -> RowResult<Out> {
     if word == "null" {
         return Ok(Out::Null);
     }
@@ -128,35 +125,54 @@ fn read_reference(word: &str) -> Option<Out> {
     Some(Out::New(made))
 }
 
-pub fn read_op(word: &str) -> io::Result<Op> {
+pub fn read_op(word: &str) -> RowResult<Op> {
     match OPS.iter().find(|op| op.name() == word) {
         Some(op) => Ok(*op),
-        None => Err(malformed()),
+        None => Err(RowStop::Malformed),
+    }
+}
+
+pub fn read_bound(word: &str) -> RowResult<Bound> {
+    match word.as_bytes() {
+        b"k" => Ok(Bound::K),
+        b"array" => Ok(Bound::Array),
+        b"alloc" => Ok(Bound::Alloc),
+        b"loops" => Ok(Bound::Loops),
+        b"depth" => Ok(Bound::Depth),
+        b"steps" => Ok(Bound::Steps),
+        _ => Err(RowStop::Malformed),
     }
 }
 
 /// A class by its name, or an array by its descriptor.
-pub fn read_exact(alloc: Global, word: &str) -> io::Result<ExactType> {
+pub fn read_exact(alloc: Global, word: &str) -> RowResult<ExactType> {
     match word.strip_prefix("[") {
         Some(component) => read_array(alloc, component),
-        None => Ok(ExactType::Class(Name::from_vec(word.as_bytes().to_vec(alloc)?)?)),
+        None => read_class(alloc, word),
     }
 }
 
-fn read_array(alloc: Global, component: &str) -> io::Result<ExactType> {
-    match read_type(alloc, component.as_bytes()) {
+fn read_array(alloc: Global, component: &str) -> RowResult<ExactType> {
+    match read_type_as(alloc, Spelling::Escaped, component.as_bytes()) {
         Ok(component) => Ok(ExactType::Array(component)),
-        Err(_) => Err(malformed()),
+        Err(_) => Err(RowStop::Malformed),
+    }
+}
+
+fn read_class(alloc: Global, word: &str) -> RowResult<ExactType> {
+    match read_name(alloc, word.as_bytes()) {
+        Ok(name) => Ok(ExactType::Class(name)),
+        Err(_) => Err(RowStop::Malformed),
     }
 }
 
 /// `i0` for an object of the input.
-pub fn read_value(word: &str) -> io::Result<Value> {
+pub fn read_value(word: &str) -> RowResult<Value> {
     if word == "null" {
         return Ok(Value::Null);
     }
     match numbered(word, "i") {
         Some(object) => Ok(Value::Ref(object)),
-        None => Ok(Value::Int(int(word)?)),
+        None => Ok(Value::Int(read_int(word)?)),
     }
 }
