@@ -1,0 +1,485 @@
+#!/usr/bin/env python3
+"""Measures how time and memory grow on class files that keep all rules but are hostile: long texts that many items share, many
+overloads of one name, and many array types.
+
+Each family has three sizes, a quarter, half and all of it, and beside each size its twin: the same files with long texts cut to
+three bytes (of an array type, to its last component), and overloads with names of their own. For each the script prints
+
+- the processor time of the built program, the least of some runs, less that of its start;
+- how many times that of half the size it is (goal: at most 2.4);
+- how many times that of the twin it is, without what reading takes (goal: at most 2). Reading is the time of files of the same
+  lengths whose long texts are entries that nothing names, and of tests that of a text whose last line is no line;
+- the most memory that the program had (goal: 100 times the bytes of the files, 64 bytes for each class and slot and for each class
+  and method that can be selected in it, and 10 KB for each array type of the universe).
+
+A run that takes more than its time or memory is ended and told as `over`, and so are the larger sizes of its family.
+
+Usage: bench/hostile_files.py [--runs N] [--program FILE] [--seconds N] [--memory MIB] [--most SHARE] [FAMILY ..]
+Build the program first, by running ./kiasan once. `--most 0.25` runs the quarter sizes alone.
+"""
+
+import argparse
+import os
+import resource
+import struct
+import subprocess
+import sys
+import tempfile
+from dataclasses import dataclass, field
+from itertools import product
+from pathlib import Path
+
+from class_files import attribute, method_entry, name_and_type
+from link import PUBLIC, Pool
+from straight import ROOT, class_entry, utf8
+
+SHARES = [0.25, 0.5, 1.0]
+HALF_GOAL, TWIN_GOAL = 2.4, 2.0
+LONGEST = 65_535
+MOST_BYTES = 1 << 20
+TEXT_BYTES = 1 << 26
+# access flags of classes and methods (JVMS 8 tables 4.1-A and 4.6-A)
+ABSTRACT_CLASS, OPEN, STATIC, ABSTRACT, PACKAGE = 0x0421, 0x0001, 0x0009, 0x0401, 0x0400
+INVOKEVIRTUAL, INVOKESTATIC, NEW, POP, GOTO, RETURN = 0xB6, 0xB8, 0xBB, 0x57, 0xA7, 0xB1
+# the most calls of three bytes in one method, beside the one that leads on and the return
+CALLS_IN_METHOD = 21_840
+LETTERS = "abcdefghijklmnopqrstuvwxyzABCDEFGHIJKLMNOPQRSTUVWXYZ0123456789"
+TYPES = "BCDFIJSZ"
+
+
+def short_name(number):
+    """A name of three bytes of its own, for each number below 238,328."""
+    return LETTERS[number // 3844] + LETTERS[number // 62 % 62] + LETTERS[number % 62]
+
+
+def overload(number):
+    """A descriptor of its own, for each number below 262,144."""
+    return "(" + "".join(TYPES[number >> shift & 7] for shift in (15, 12, 9, 6, 3, 0)) + ")V"
+
+
+class ClassFile:
+    """A class that grows. Each entry of its pool stands there once, but for references that are added again."""
+
+    def __init__(self, name, parent="java/lang/Object", access=PUBLIC):
+        self.pool, self.numbers, self.access, self.methods = Pool(), {}, access, []
+        self.this, self.above = self.named(name), self.named(parent)
+
+    def once(self, said, make):
+        """The number of the entry that says so; `make` makes it where it is not there yet."""
+        if said not in self.numbers:
+            self.numbers[said] = self.pool.add(make(said))
+        return self.numbers[said]
+
+    def text(self, text):
+        return self.once(text, utf8)
+
+    def named(self, name):
+        return self.once((self.text(name),), lambda said: class_entry(*said))
+
+    def add_reference(self, owner, name, kind):
+        member = self.once((self.text(name), self.text(kind)), lambda said: name_and_type(*said))
+        return self.pool.add(method_entry(owner, member))
+
+    def add_method(self, access, name, kind, code=None, most_locals=0):
+        attributes = b""
+        if code is not None:
+            content = struct.pack(">HHI", 2, most_locals, len(code)) + code + struct.pack(">HH", 0, 0)
+            attributes = attribute(self.text("Code"), content)
+        front = struct.pack(">HHHH", access, self.text(name), self.text(kind), 0 if code is None else 1)
+        self.methods.append(front + attributes)
+
+    def bytes(self, skipped=b""):
+        attributes = [skipped] if skipped else []
+        whole = (
+            struct.pack(">IHHH", 0xCAFEBABE, 0, 52, len(self.pool.entries) + 1)
+            + b"".join(self.pool.entries)
+            + struct.pack(">HHHHHH", self.access, self.this, self.above, 0, 0, len(self.methods))
+            + b"".join(self.methods)
+            + struct.pack(">H", len(attributes))
+            + b"".join(attributes)
+        )
+        assert len(whole) <= MOST_BYTES and len(self.pool.entries) < LONGEST and len(self.methods) <= LONGEST, len(whole)
+        return whole
+
+
+@dataclass(frozen=True)
+class Case:
+    """Class files with what is asked of the program: a method, or a text of tests. `entries` counts each class with each slot and
+    each method that can be selected in it, `arrays` the array types of the universe."""
+
+    files: list
+    target: str = ""
+    tests: bytes = b""
+    wanted: bytes = b"refused 45 "
+    entries: int = 0
+    arrays: int = 0
+    texts: list = field(default_factory=list)
+
+    @property
+    def size(self):
+        return sum(map(len, self.files)) + len(self.tests)
+
+    @property
+    def memory_goal(self):
+        return 100 * self.size + 64 * self.entries + 10_000 * self.arrays
+
+    def read_alone(self):
+        """Files of the same lengths whose long texts nothing names; tests of the same length whose last line is no line."""
+        if self.tests:
+            cut = self.tests[: self.tests.rindex(b"end\n")] + b"bad\n"
+            return Case(self.files, tests=cut, wanted=b"refused 60 ")
+        files = [padded(f"R{number}", texts, len(file)) for number, (file, texts) in enumerate(zip(self.files, self.texts))]
+        return Case(files, target="R0.none()I")
+
+
+def padded(name, texts, length):
+    """A class of so many bytes with these texts, which nothing names, and an attribute that is skipped."""
+    file = ClassFile(name)
+    for text in texts:
+        file.text(text)
+    skipped = file.text("Skipped")
+    left = length - len(file.bytes()) - 6
+    return file.bytes(attribute(skipped, b"\0" * left)) if left >= 0 else file.bytes()
+
+
+# ---- the families: each makes its case of a share and says whether it is the twin
+
+
+def long_descriptor(is_twin):
+    return "()V" if is_twin else "(" + "I" * (LONGEST - 3) + ")V"
+
+
+def long_name(is_twin, length=LONGEST):
+    return "abc" if is_twin else "n" * length
+
+
+def methods(share, is_twin):
+    """60,000 methods of one descriptor of 65,535 bytes."""
+    count, kind = int(60_000 * share), long_descriptor(is_twin)
+    file = ClassFile("H", access=ABSTRACT_CLASS)
+    for number in range(count):
+        file.add_method(ABSTRACT, short_name(number), kind)
+    return Case([file.bytes()], "H.none()I", entries=count, texts=[[kind]])
+
+
+def references_class(name, parent, count, member):
+    file = ClassFile(name, parent)
+    for _ in range(count):
+        file.add_reference(file.this, member, "()V")
+    return file.bytes()
+
+
+def references(share, is_twin):
+    """65,000 Methodrefs of one name of 65,535 bytes."""
+    member = long_name(is_twin)
+    return Case([references_class("H", "java/lang/Object", int(65_000 * share), member)], "H.none()I", texts=[[member]])
+
+
+def references_chain(share, is_twin):
+    """64 classes in a chain, each with 65,000 such Methodrefs."""
+    count, member = int(64 * share), long_name(is_twin)
+    parents = ["java/lang/Object"] + [f"H{number}" for number in range(count)]
+    files = [references_class(f"H{number}", parents[number], 65_000, member) for number in range(count)]
+    return Case(files, "H0.none()I", texts=[[member]] * count)
+
+
+def add_overloads(file, access, numbers, is_twin):
+    """Adds methods of one name, or of names of their own."""
+    for number in numbers:
+        if is_twin:
+            file.add_method(access, f"m{number}", "()V")
+        else:
+            file.add_method(access, "m", overload(number))
+
+
+def overloads(share, is_twin):
+    """30,000 overloads of one name, and 35,000 Methodrefs to the last of them."""
+    count, references = int(30_000 * share), int(35_000 * share)
+    file = ClassFile("H", access=ABSTRACT_CLASS)
+    add_overloads(file, ABSTRACT, range(count), is_twin)
+    for place in range(references - 500):
+        number = count - 1 - place % 500
+        file.add_reference(file.this, f"m{number}" if is_twin else "m", "()V" if is_twin else overload(number))
+    return Case([file.bytes()], "H.none()I", entries=count, texts=[[]])
+
+
+def packages(share, is_twin, classes, count):
+    """Overloads that only classes of their package may override, in a chain whose packages alternate."""
+    names = [f"{'pq'[number % 2]}/H{number}" for number in range(classes)]
+    parents = ["java/lang/Object"] + names
+    files = []
+    for number, name in enumerate(names):
+        file = ClassFile(name, parents[number], ABSTRACT_CLASS)
+        add_overloads(file, PACKAGE, range(count * number, count * (number + 1)), is_twin)
+        files.append(file.bytes())
+    entries = sum(count * (number + 1) for number in range(classes))
+    return Case(files, f"{names[0]}.none()I", entries=entries, texts=[[]] * classes)
+
+
+def two_packages(share, is_twin):
+    """30,000 overloads of one name in each of two classes, one above the other in another package."""
+    return packages(share, is_twin, 2, int(30_000 * share))
+
+
+def packages_chain(share, is_twin):
+    """4,000 overloads of one name in each of eight classes in a chain whose packages alternate."""
+    return packages(share, is_twin, 8, int(4_000 * share))
+
+
+def add_calls(file, count, call, leads_to=None):
+    """Adds static methods m0, m1 and so on that make so many times what the three bytes do, each leading on to the next one, and
+    the last one to the method of that entry."""
+    parts = [CALLS_IN_METHOD] * (count // CALLS_IN_METHOD) + [count % CALLS_IN_METHOD]
+    for number, part in enumerate(parts):
+        leads = leads_to if number + 1 == len(parts) else file.add_reference(file.this, f"m{number + 1}", "()V")
+        on = struct.pack(">BH", INVOKESTATIC, leads) if leads else b""
+        file.add_method(STATIC, f"m{number}", "()V", call * part + on + bytes([RETURN]))
+
+
+def calls(share, is_twin):
+    """305,000 static calls of one method with 65,532 parameters."""
+    kind = long_descriptor(is_twin)
+    file = ClassFile("H")
+    file.add_method(STATIC, "f", kind, bytes([RETURN]), LONGEST - 3)
+    called = file.add_reference(file.this, "f", kind)
+    add_calls(file, int(305_000 * share), struct.pack(">BH", INVOKESTATIC, called))
+    return Case([file.bytes()], "H.m0()V", wanted=b"refused 50", texts=[[kind]])
+
+
+def array_types(share, is_twin):
+    """255 array types over each of 86 classes, of up to 255 dimensions each; or as many of one dimension."""
+    names = int(86 * share)
+    if is_twin:
+        return [f"[L{short_name(number)};" for number in range(255 * names)]
+    return ["[" * dims + f"L{short_name(number)};" for number, dims in product(range(names), range(1, 256))]
+
+
+def types_files(share, is_twin):
+    """Class files that name the array types, and the texts that are long in each."""
+    kinds = array_types(share, is_twin)
+    parts = [kinds[start : start + 22 * 255] for start in range(0, len(kinds), 22 * 255)]
+    files = []
+    for number, part in enumerate(parts):
+        file = ClassFile(f"A{number}")
+        for kind in part:
+            file.named(kind)
+        files.append(file.bytes())
+    return files, parts
+
+
+def virtual_calls(share, is_twin):
+    """350,000 virtual calls beside 21,930 named array types."""
+    count = int(350_000 * share)
+    low, high = ClassFile("V"), ClassFile("W")
+    low.add_method(OPEN, "v", "()V", bytes([RETURN]), 1)
+    for file, part, leads in [(low, count // 2, low.add_reference(low.named("W"), "m0", "()V")), (high, count - count // 2, None)]:
+        called = file.add_reference(file.named("V"), "v", "()V")
+        add_calls(file, part, struct.pack(">BH", INVOKEVIRTUAL, called), leads)
+    files, texts = types_files(share, is_twin)
+    arrays = len(array_types(share, is_twin))
+    return Case([low.bytes(), high.bytes(), *files], "V.m0()V", wanted=b"refused 50", arrays=arrays, entries=2, texts=[[], [], *texts])
+
+
+def arrays(share, is_twin):
+    """255 array descriptors over one class name of 65,000 bytes."""
+    name = long_name(is_twin, 65_000)
+    kinds = ["[" * dims + f"L{name};" for dims in range(1, int(255 * share) + 1)]
+    files, texts = [], [kinds[start : start + 15] for start in range(0, len(kinds), 15)]
+    for number, part in enumerate(texts):
+        file = ClassFile(f"A{number}")
+        for kind in part:
+            file.named(kind)
+        files.append(file.bytes())
+    return Case(files, "A0.none()I", arrays=len(kinds), texts=texts)
+
+
+def test_of(kinds):
+    """A test of a method that does nothing, with an empty array of each of these types in its input."""
+    lines = ["test T.f()V", "bounds alloc 16 loops 10 depth 16 steps 2000"]
+    lines += [f"in i{number} {kind}" for number, kind in enumerate(kinds)]
+    lines += ["returns"] + [f"out i{number}" for number in range(len(kinds))]
+    return "\n".join(lines + ["end", ""]).encode()
+
+
+def tests(share, is_twin):
+    """Tests of 64 MiB beside 21,930 array types: each object of an input is asked whether its type is of the universe."""
+    file = ClassFile("T")
+    file.add_method(STATIC, "f", "()V", bytes([RETURN]))
+    files, texts = types_files(share, is_twin)
+    last, other = array_types(share, False)[-1], array_types(share, is_twin)[-1]
+    count = int(TEXT_BYTES * share) // len(test_of([last] * 100))
+    verdicts = "".join(f"test {number} passes\n" for number in range(count)) + f"tests {count} passed {count} differed 0\n"
+    return Case([file.bytes(), *files], tests=test_of([other] * 100) * count, wanted=verdicts.encode(), arrays=sum(map(len, texts)))
+
+
+def creations(share, is_twin):
+    """30,000 `new` of a class whose name has 65,535 bytes, in code that is reached."""
+    name = long_name(is_twin)
+    made, file = ClassFile(name), ClassFile("H")
+    add_calls(file, int(30_000 * share), struct.pack(">BH", NEW, file.named(name)))
+    return Case([file.bytes(), made.bytes()], "H.m0()V", wanted=b"refused 50", texts=[[name], [name]])
+
+
+def made_objects(share, is_twin):
+    """A run that makes 30,000 objects of a class whose name has 65,535 bytes, and then goes past its bound."""
+    name = long_name(is_twin)
+    made, file = ClassFile(name), ClassFile("T")
+    once = struct.pack(">BHB", NEW, file.named(name), POP)
+    half = int(15_000 * share)
+    on = struct.pack(">BH", INVOKESTATIC, file.add_reference(file.this, "g", "()V"))
+    file.add_method(STATIC, "f", "()V", once * half + on + bytes([RETURN]))
+    file.add_method(STATIC, "g", "()V", once * half + struct.pack(">BH", GOTO, 0))
+    test = b"test T.f()V\nbounds alloc 16 loops 0 depth 2 steps 100000\npast loops\nend\n"
+    return Case([file.bytes(), made.bytes()], tests=test, wanted=b"test 0 passes\ntests 1 passed 1 differed 0\n")
+
+
+FAMILIES = [
+    methods,
+    references,
+    references_chain,
+    overloads,
+    two_packages,
+    packages_chain,
+    calls,
+    virtual_calls,
+    arrays,
+    tests,
+    creations,
+    made_objects,
+]
+
+
+# ---- runs
+
+
+@dataclass(frozen=True)
+class Run:
+    """The processor seconds of a run, the most bytes that it had, and whether it came to an end."""
+
+    seconds: float
+    memory: int
+    is_over: bool = False
+
+
+def limited(options):
+    """Sets the limits of a child."""
+
+    def set_limits():
+        resource.setrlimit(resource.RLIMIT_CPU, (options.seconds, options.seconds + 1))
+        resource.setrlimit(resource.RLIMIT_AS, (options.memory << 20, options.memory << 20))
+
+    return set_limits
+
+
+def run_once(options, words, wanted, folder):
+    """One run. Its output begins with what is wanted, unless it went past a limit."""
+    with open(folder / "stdout", "w+b") as out:
+        child = subprocess.Popen(
+            [str(options.program), *words], stdin=subprocess.DEVNULL, stdout=out, stderr=subprocess.DEVNULL, preexec_fn=limited(options)
+        )
+        _, status, used = os.wait4(child.pid, 0)
+        child.returncode = os.waitstatus_to_exitcode(status)
+        out.seek(0)
+        text = out.read(len(wanted))
+    run = Run(used.ru_utime + used.ru_stime, used.ru_maxrss << 10, child.returncode < 0 or child.returncode == 8)
+    if not run.is_over and text != wanted:
+        sys.exit(f"{' '.join(words)[:200]}: status {child.returncode}, and not what is wanted: {text[:80]!r}")
+    return run
+
+
+def least_run(options, case):
+    """The run of a case that took the least time, or one that was over."""
+    with tempfile.TemporaryDirectory() as name:
+        folder = Path(name)
+        files = [folder / f"{number}.class" for number in range(len(case.files))]
+        for file, content in zip(files, case.files):
+            file.write_bytes(content)
+        words = ["explore", "--method", case.target]
+        if case.tests:
+            (folder / "tests").write_bytes(case.tests)
+            words = ["replay", "--tests", str(folder / "tests")]
+        runs = []
+        for _ in range(options.runs):
+            runs.append(run_once(options, [*words, *map(str, files)], case.wanted, folder))
+            if runs[-1].is_over:
+                return runs[-1]
+    return min(runs, key=lambda run: run.seconds)
+
+
+def ratio(above, below):
+    return f"{above / below:.2f}" if below > 1e-4 else "-"
+
+
+class Table:
+    """A line for each size of each family."""
+
+    def __init__(self, options):
+        self.options = options
+        self.start = least_run(options, Case([ClassFile("H").bytes()], "H.none()I")).seconds
+
+    def own(self, case):
+        run = least_run(self.options, case)
+        return run, max(run.seconds - self.start, 0.0)
+
+    def print_family(self, family):
+        print(f"{family.__name__}: {family.__doc__.splitlines()[0]}", flush=True)
+        before = None
+        for share in [share for share in SHARES if share <= self.options.most]:
+            before = self.print_size(family, share, before)
+            if before is None:
+                return
+
+    def print_size(self, family, share, before):
+        """Prints a line, and returns the time; None where the run was over."""
+        case, twin = family(share, False), family(share, True)
+        run, took = self.own(case)
+        label = f"  {share:>5.0%} {case.size / 1e6:>8.2f} MB"
+        if run.is_over:
+            print(f"{label}     over ({run.seconds:.0f} s, {run.memory / 1e6:.0f} MB)", flush=True)
+            return None
+        twin_run, twin_took = self.own(twin)
+        beside = "over" if twin_run.is_over else self.beside_twin(case, took, twin, twin_took)
+        half = ratio(took, before) if before is not None else "-"
+        print(
+            f"{label} {took * 1e3:>10.1f} ms, to half {half:>5} (goal {HALF_GOAL}), to its twin {beside:>6} (goal {TWIN_GOAL}),"
+            f" {run.memory / 1e6:>7.1f} MB (goal {case.memory_goal / 1e6:.0f})",
+            flush=True,
+        )
+        return took
+
+    def beside_twin(self, case, took, twin, twin_took):
+        """How many times its twin a case takes, without what reading takes."""
+        _, reading = self.own(case.read_alone())
+        _, twin_reading = self.own(twin.read_alone())
+        return ratio(max(took - reading, 0.0), twin_took - twin_reading)
+
+
+def read_options():
+    words = argparse.ArgumentParser(description="Measures the built program on class files that keep all rules but are hostile.")
+    words.add_argument("families", nargs="*", metavar="FAMILY", help="of " + ", ".join(family.__name__ for family in FAMILIES))
+    words.add_argument("--runs", type=int, default=3, help="runs of each size (3)")
+    words.add_argument("--program", type=Path, default=ROOT / "build" / "kiasan", help="the built program")
+    words.add_argument("--seconds", type=int, default=60, help="the most processor seconds of a run (60)")
+    words.add_argument("--memory", type=int, default=8192, help="the most memory of a run, in MiB (8192)")
+    words.add_argument("--most", type=float, default=1.0, help="the greatest share of the full size (1.0)")
+    options = words.parse_args()
+    unknown = set(options.families) - {family.__name__ for family in FAMILIES}
+    if unknown:
+        words.error(f"no family: {' '.join(sorted(unknown))}")
+    if not options.program.is_file():
+        sys.exit(f"{options.program} is not there: run ./kiasan once")
+    options.program = options.program.resolve()
+    return options
+
+
+def main():
+    options = read_options()
+    table = Table(options)
+    print(f"starting the program: {table.start * 1e3:.2f} ms", flush=True)
+    for family in FAMILIES:
+        if not options.families or family.__name__ in options.families:
+            table.print_family(family)
+
+
+if __name__ == "__main__":
+    main()
