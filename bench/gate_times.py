@@ -11,6 +11,10 @@ the sum is a little below the whole processor time, which is printed beside it.
 Where an earlier run on this machine passed a crate, the gate takes that, so its row is missing: `-- rt ci --anew` does all
 anew.
 
+Below the table stand the processor minutes for a thousand lines of code, definitions and proofs, the crates whose proof takes
+the longest, and the longest chain of proofs, each crate of it above the one before, up to kiasan_main: what no number of
+processors makes shorter but by giving one crate several of them.
+
 Usage: bench/gate_times.py [--log FILE] [--every SECONDS] [-- COMMAND ..]     (the command is .ci/run where none is given)
        bench/gate_times.py --read FILE
 """
@@ -113,6 +117,51 @@ def table(log):
         yield f"{crate:16}" + "".join(f"{cell:10.1f}" for cell in [*cells, sum(cells)])
 
 
+def crates_below():
+    """The crates that each crate of crates.txt names, by its name."""
+    found = {}
+    for line in (ROOT / "crates.txt").read_text(encoding="utf-8").splitlines():
+        head, colon, below = line.partition("#")[0].partition(":")
+        if colon:
+            found[head.split()[0]] = below.split()
+    return found
+
+
+def longest_chain(top, below, seconds):
+    """The chain of proofs up to a crate that takes longest: its seconds, and its crates, lowest first."""
+    known = {}
+
+    def chain(name):
+        if name not in known:
+            time, crates = max((chain(it) for it in below.get(name, [])), default=(0.0, []))
+            known[name] = time + seconds.get(name, 0.0), [*crates, name] if name in seconds else crates
+        return known[name]
+
+    return chain(top)
+
+
+def lines_proved():
+    """How many lines of code, definitions and proofs there are."""
+    files = [path for part in ("src/**/*.rt", "specs/**/*.antt", "proofs/**/*.antt") for path in ROOT.glob(f"crates/*/{part}")]
+    return sum(path.read_bytes().count(b"\n") for path in files)
+
+
+def summary(log):
+    """The lines below the table."""
+    proofs, whole = defaultdict(float), 0.0
+    for line in Path(log).read_text().splitlines():
+        kind, crate, seconds = line.split()
+        whole += float(seconds)
+        if kind == "proof":
+            proofs[crate] += float(seconds)
+    lines = lines_proved()
+    yield f"for a thousand of {lines:,} lines: {whole / 60 / lines * 1000:.2f} processor minutes"
+    dearest = sorted(proofs.items(), key=lambda it: -it[1])[:12]
+    yield "proofs, seconds: " + ", ".join(f"{crate} {seconds:.0f}" for crate, seconds in dearest)
+    time, crates = longest_chain("kiasan_main", crates_below(), proofs)
+    yield f"longest chain of proofs, {time:.0f} s: " + ", ".join(f"{crate} {proofs[crate]:.0f}" for crate in crates)
+
+
 def main():
     parser = argparse.ArgumentParser(description=__doc__.split("\n\n")[0])
     parser.add_argument("--log", default=str(ROOT / "build" / "gate_times.log"))
@@ -121,11 +170,11 @@ def main():
     parser.add_argument("command", nargs="*", default=[".ci/run"])
     options = parser.parse_args()
     if options.read:
-        print(*table(options.read), sep="\n")
+        print(*table(options.read), *summary(options.read), sep="\n")
         return 0
     Path(options.log).parent.mkdir(parents=True, exist_ok=True)
     status, whole = watch(options.command, options.every, options.log)
-    print(*table(options.log), sep="\n")
+    print(*table(options.log), *summary(options.log), sep="\n")
     print(f"whole processor time of the command: {whole / 60:.1f} minutes; log: {options.log}")
     return status
 
