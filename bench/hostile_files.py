@@ -3,7 +3,8 @@
 overloads of one name, and many array types.
 
 Each family has three sizes, a quarter, half and all of it, and beside each size its twin: the same files with long texts cut to
-three bytes (of an array type, to its last component), and overloads with names of their own. For each the script prints
+three bytes, overloads with names of their own, and array types that are only texts, which nothing names. For each the script
+prints
 
 - the processor time of the built program, the least of some runs, less that of its start;
 - how many times that of half the size it is (goal: at most 2.4);
@@ -26,7 +27,6 @@ import subprocess
 import sys
 import tempfile
 from dataclasses import dataclass, field
-from itertools import product
 from pathlib import Path
 
 from class_files import attribute, method_entry, name_and_type
@@ -40,9 +40,17 @@ MOST_BYTES = 1 << 20
 TEXT_BYTES = 1 << 26
 # access flags of classes and methods (JVMS 8 tables 4.1-A and 4.6-A)
 ABSTRACT_CLASS, OPEN, STATIC, ABSTRACT, PACKAGE = 0x0421, 0x0001, 0x0009, 0x0401, 0x0400
-INVOKEVIRTUAL, INVOKESTATIC, NEW, POP, GOTO, RETURN = 0xB6, 0xB8, 0xBB, 0x57, 0xA7, 0xB1
+INVOKEVIRTUAL, INVOKESTATIC, NEW, RETURN = 0xB6, 0xB8, 0xBB, 0xB1
 # the most calls of three bytes in one method, beside the one that leads on and the return
 CALLS_IN_METHOD = 21_840
+PLATFORM = (
+    "java/lang/Object java/lang/String java/lang/Throwable java/lang/Exception java/lang/RuntimeException java/lang/Error"
+    " java/lang/ArithmeticException java/lang/IndexOutOfBoundsException java/lang/ArrayIndexOutOfBoundsException"
+    " java/lang/ArrayStoreException java/lang/ClassCastException java/lang/IllegalArgumentException"
+    " java/lang/IllegalStateException java/lang/NegativeArraySizeException java/lang/NullPointerException"
+    " java/lang/UnsupportedOperationException java/lang/Cloneable java/lang/Comparable java/util/NoSuchElementException"
+    " java/io/Serializable"
+).split()
 LETTERS = "abcdefghijklmnopqrstuvwxyzABCDEFGHIJKLMNOPQRSTUVWXYZ0123456789"
 TYPES = "BCDFIJSZ"
 
@@ -61,7 +69,7 @@ class ClassFile:
     """A class that grows. Each entry of its pool stands there once, but for references that are added again."""
 
     def __init__(self, name, parent="java/lang/Object", access=PUBLIC):
-        self.pool, self.numbers, self.access, self.methods = Pool(), {}, access, []
+        self.name, self.pool, self.numbers, self.access, self.methods = name, Pool(), {}, access, []
         self.this, self.above = self.named(name), self.named(parent)
 
     def once(self, said, make):
@@ -246,25 +254,27 @@ def calls(share, is_twin):
     return Case([file.bytes()], "H.m0()V", wanted=b"refused 50", texts=[[kind]])
 
 
-def array_types(share, is_twin):
-    """255 array types over each of 86 classes, of up to 255 dimensions each; or as many of one dimension."""
-    names = int(86 * share)
-    if is_twin:
-        return [f"[L{short_name(number)};" for number in range(255 * names)]
-    return ["[" * dims + f"L{short_name(number)};" for number, dims in product(range(names), range(1, 256))]
-
-
-def types_files(share, is_twin):
-    """Class files that name the array types, and the texts that are long in each."""
-    kinds = array_types(share, is_twin)
-    parts = [kinds[start : start + 22 * 255] for start in range(0, len(kinds), 22 * 255)]
-    files = []
-    for number, part in enumerate(parts):
-        file = ClassFile(f"A{number}")
-        for kind in part:
-            file.named(kind)
-        files.append(file.bytes())
-    return files, parts
+def with_arrays(share, is_twin, files):
+    """These classes and others, 64 at the most, that name the array types of up to 255 dimensions over each of them, over the
+    platform's classes, int and boolean: 21,930 types. Of a twin they are texts that nothing names, but for the last one. Returns
+    the files, the texts that are long in each, and that last type."""
+    count = int(86 * share)
+    files = files + [ClassFile(f"A{number:02}") for number in range(min(count, 64) - len(files))]
+    own = [f"L{file.name};" for file in files]
+    others = [f"L{name};" for name in PLATFORM] + ["I", "Z"]
+    bases = (own + others)[:count]
+    last = max("[" * 255 + base for base in bases)
+    texts = [[] for _ in files]
+    for number, base in enumerate(bases):
+        place = number % len(files)
+        for dims in range(1, 256):
+            kind = "[" * dims + base
+            texts[place].append(kind)
+            if is_twin and kind != last:
+                files[place].text(kind)
+            else:
+                files[place].named(kind)
+    return [file.bytes() for file in files], texts, last
 
 
 def virtual_calls(share, is_twin):
@@ -275,22 +285,21 @@ def virtual_calls(share, is_twin):
     for file, part, leads in [(low, count // 2, low.add_reference(low.named("W"), "m0", "()V")), (high, count - count // 2, None)]:
         called = file.add_reference(file.named("V"), "v", "()V")
         add_calls(file, part, struct.pack(">BH", INVOKEVIRTUAL, called), leads)
-    files, texts = types_files(share, is_twin)
-    arrays = len(array_types(share, is_twin))
-    return Case([low.bytes(), high.bytes(), *files], "V.m0()V", wanted=b"refused 50", arrays=arrays, entries=2, texts=[[], [], *texts])
+    files, texts, _ = with_arrays(share, is_twin, [low, high])
+    return Case(files, "V.m0()V", wanted=b"refused 50", arrays=1 if is_twin else sum(map(len, texts)), entries=2, texts=texts)
 
 
 def arrays(share, is_twin):
     """255 array descriptors over one class name of 65,000 bytes."""
     name = long_name(is_twin, 65_000)
     kinds = ["[" * dims + f"L{name};" for dims in range(1, int(255 * share) + 1)]
-    files, texts = [], [kinds[start : start + 15] for start in range(0, len(kinds), 15)]
-    for number, part in enumerate(texts):
-        file = ClassFile(f"A{number}")
+    texts = [kinds[start : start + 15] for start in range(0, len(kinds), 15)]
+    files = [ClassFile(f"A{number}") for number in range(len(texts))]
+    for file, part in zip(files, texts):
         for kind in part:
             file.named(kind)
-        files.append(file.bytes())
-    return Case(files, "A0.none()I", arrays=len(kinds), texts=texts)
+    contents = [file.bytes() for file in [*files, ClassFile(name)]]
+    return Case(contents, "A0.none()I", arrays=len(kinds), texts=[*texts, [name]])
 
 
 def test_of(kinds):
@@ -305,11 +314,12 @@ def tests(share, is_twin):
     """Tests of 64 MiB beside 21,930 array types: each object of an input is asked whether its type is of the universe."""
     file = ClassFile("T")
     file.add_method(STATIC, "f", "()V", bytes([RETURN]))
-    files, texts = types_files(share, is_twin)
-    last, other = array_types(share, False)[-1], array_types(share, is_twin)[-1]
-    count = int(TEXT_BYTES * share) // len(test_of([last] * 100))
+    files, texts, last = with_arrays(share, is_twin, [file])
+    test = test_of([last] * 100)
+    count = int(TEXT_BYTES * share) // len(test)
     verdicts = "".join(f"test {number} passes\n" for number in range(count)) + f"tests {count} passed {count} differed 0\n"
-    return Case([file.bytes(), *files], tests=test_of([other] * 100) * count, wanted=verdicts.encode(), arrays=sum(map(len, texts)))
+    arrays = 1 if is_twin else sum(map(len, texts))
+    return Case(files, tests=test * count, wanted=verdicts.encode(), arrays=arrays)
 
 
 def creations(share, is_twin):
@@ -318,19 +328,6 @@ def creations(share, is_twin):
     made, file = ClassFile(name), ClassFile("H")
     add_calls(file, int(30_000 * share), struct.pack(">BH", NEW, file.named(name)))
     return Case([file.bytes(), made.bytes()], "H.m0()V", wanted=b"refused 50", texts=[[name], [name]])
-
-
-def made_objects(share, is_twin):
-    """A run that makes 30,000 objects of a class whose name has 65,535 bytes, and then goes past its bound."""
-    name = long_name(is_twin)
-    made, file = ClassFile(name), ClassFile("T")
-    once = struct.pack(">BHB", NEW, file.named(name), POP)
-    half = int(15_000 * share)
-    on = struct.pack(">BH", INVOKESTATIC, file.add_reference(file.this, "g", "()V"))
-    file.add_method(STATIC, "f", "()V", once * half + on + bytes([RETURN]))
-    file.add_method(STATIC, "g", "()V", once * half + struct.pack(">BH", GOTO, 0))
-    test = b"test T.f()V\nbounds alloc 16 loops 0 depth 2 steps 100000\npast loops\nend\n"
-    return Case([file.bytes(), made.bytes()], tests=test, wanted=b"test 0 passes\ntests 1 passed 1 differed 0\n")
 
 
 FAMILIES = [
@@ -345,7 +342,6 @@ FAMILIES = [
     arrays,
     tests,
     creations,
-    made_objects,
 ]
 
 
