@@ -5,6 +5,7 @@ use kb_names::{
     JType, Name, NameRefusal, NameTextRefusal, Spelling, Target, TargetRefusal, read_method_type,
     read_name, read_target, read_type, write_method_type, write_name, write_target, write_type,
 };
+use kb_rows::Held;
 use kb_table::{RowResult, RowStop};
 use std::alloc::Global;
 
@@ -102,14 +103,14 @@ fn append_same(alloc: Global, text: &[u8], into: &mut Vec<u8>) -> RowResult<()> 
     };
     let one = target_of(alloc, &text[..at])?;
     let other = target_of(alloc, &text[at + 1..])?;
-    append_whether(one.is_same(&other), into)?;
+    append_whether(one.get().is_same(other.get()), into)?;
     into.push(b' ')?;
-    append_whether(other.is_same(&one), into)
+    append_whether(other.get().is_same(one.get()), into)
 }
 
-fn target_of(alloc: Global, text: &[u8]) -> RowResult<Target> {
+fn target_of(alloc: Global, text: &[u8]) -> RowResult<Held<Target>> {
     match read_target(alloc, text) {
-        Ok(target) => Ok(target),
+        Ok(target) => Ok(Held::new(alloc, target)?),
         Err(_) => Err(RowStop::Malformed),
     }
 }
