@@ -4,7 +4,6 @@ ghost use Rattle.std.specs.Prelude.{◌≡◌, ◌↔◌, ◌<◌, ◌^◌, IsTr
 ghost use Rattle.std.specs.List.{AllByRecursion};
 ghost use Rattle.kb_names.specs.declared.types.JType.{JType};
 ghost use Rattle.kb_names.specs.declared.types.JType.TheVariants as types;
-ghost use Rattle.kb_class.specs.Naming.{Has};
 ghost use Rattle.kb_heap.specs.Heap.{object_at};
 ghost use Rattle.kb_link.specs.Slots.{is_static};
 ghost use Rattle.kb_semantics.specs.Inputs.{HasReceiver, HasValuesOf, IsInputObject, IsTypeCorrect, argument_types};
@@ -115,23 +114,10 @@ fn are_input_objects(world: &World, heap: &Heap, objects: &[Object]) -> bool
 fn is_input_object(world: &World, heap: &Heap, object: &Object) -> bool
     ensures { IsTrue result ↔ IsInputObject world.now heap.now object.now }
 {
-    if !is_in(world.universe(), &object.kind) {
+    if !world.is_in_universe(&object.kind) {
         return false;
     }
     has_values_of(world, heap, &object.kind, object.values.as_slice())
-}
-
-fn is_in(types: &[ExactType], of: &ExactType) -> bool
-    ensures { IsTrue result ↔ Has types.now of.now }
-{
-    let mut rest = types;
-    while let [first, others @ ..] = rest {
-        if first.is_same(of) {
-            return true;
-        }
-        rest = others;
-    }
-    false
 }
 
 fn has_values_of(world: &World, heap: &Heap, of: &ExactType, values: &[Value]) -> bool
