@@ -3,7 +3,7 @@
 ghost use Rattle.std.specs.Prelude.{◌≡◌, ◌≤◌, ◌||◌, length, IfOk, IfSome};
 ghost use Rattle.std.specs.List.{list_any};
 ghost use Rattle.kb_asm_body.specs.Layout.{offset_at};
-ghost use Rattle.kb_asm_body.specs.Faults.{is_missing, is_out, is_faulty_instr, is_faulty, fault_of};
+ghost use Rattle.kb_asm_body.specs.Faults.{is_missing, is_out, is_faulty_instr, is_faulty, fault_from, fault_of};
 
 use crate::NoMemory;
 use crate::layout::{Layout, behind, layout_of};
@@ -112,6 +112,28 @@ impl Body<'_> {
             _ => false,
         }
     }
+
+    /// The place of the first faulty line of the body, whose layout this is.
+    fn first_fault(&self, body: &[Line]) -> Result<Option<usize>, NoMemory>
+        ensures fault { IfOk result (λ fault. fault ≡ fault_from (offset_at self.now.layout.now.labels) self.now.is_whole 0 0 body.now) }
+        ensures within { IfOk result (λ fault. IfSome fault (λ place. place ≤ length body.now)) }
+    {
+        let mut at = 0;
+        let mut place = 0;
+        let mut rest = body;
+        while let [line, others @ ..] = rest {
+            if self.is_faulty(line, at) {
+                return Ok(Some(place));
+            }
+            at = behind(line, at)?;
+            place += 1;
+            rest = others;
+        }
+        if self.is_whole && (at == 0 || at as usize > MOST_CODE) {
+            return Ok(Some(place));
+        }
+        Ok(None)
+    }
 }
 
 /// The place, from 0, of the first line of a body that is faulty: it names a label that is missing or out of reach. The line
@@ -125,19 +147,5 @@ pub fn body_fault(alloc: Global, body: &[Line], is_whole: bool) -> Result<Option
         layout: &layout,
         is_whole,
     };
-    let mut at = 0;
-    let mut place = 0;
-    let mut rest = body;
-    while let [line, others @ ..] = rest {
-        if judged.is_faulty(line, at) {
-            return Ok(Some(place));
-        }
-        at = behind(line, at)?;
-        place += 1;
-        rest = others;
-    }
-    if is_whole && (at == 0 || at as usize > MOST_CODE) {
-        return Ok(Some(place));
-    }
-    Ok(None)
+    judged.first_fault(body)
 }

@@ -117,19 +117,32 @@ fn note(
     Ok(())
 }
 
+/// Notes the offsets of the labels of a body, behind those that were noted before, and gives the length of its code.
+fn note_all(
+    alloc: Global,
+    labels: &mut HashMap<Vec<u8>, u32>,
+    body: &[Line],
+) -> Result<u32, NoMemory>
+    ensures labels { OnOk result ((name : List ℕ) → offset_at labels.new name ≡ option_or (offset_at labels.old name) (label_of body.now name)) }
+    ensures size { IfOk result (λ size. size ≡ offset_behind 0 body.now) }
+{
+    let mut size = 0;
+    let mut rest = body;
+    while let [line, others @ ..] = rest {
+        note(alloc, labels, line, size)?;
+        size = behind(line, size)?;
+        rest = others;
+    }
+    Ok(size)
+}
+
 /// The layout of a body.
 pub fn layout_of(alloc: Global, body: &[Line]) -> Result<Layout, NoMemory>
     ensures labels { IfOk result (λ layout. HasLabels layout.labels body.now) }
     ensures size { IfOk result (λ layout. layout.size ≡ offset_behind 0 body.now) }
 {
     let mut labels = HashMap::new(alloc);
-    let mut size = 0;
-    let mut rest = body;
-    while let [line, others @ ..] = rest {
-        note(alloc, &mut labels, line, size)?;
-        size = behind(line, size)?;
-        rest = others;
-    }
+    let size = note_all(alloc, &mut labels, body)?;
     Ok(Layout { labels, size })
 }
 
