@@ -1,5 +1,5 @@
 -- Pieces of code, line by line.
-use Rattle.std.proofs.Common.{◌≡◌, ℕ, List, [], ◌∷◌, ◌++◌, length, Option, Result, Ok, Err, OnOk, refl, sym, ap, subst, ◌∙◌, append-nil}
+use Rattle.std.proofs.Common.{◌≡◌, ℕ, ◌+◌, List, [], ◌∷◌, ◌++◌, length, Option, Result, Ok, Err, OnOk, refl, sym, ap, subst, ◌∙◌, append-nil, length-append}
 use mathlib.Core.Path.{fun_ext}
 use Rattle.kb_classfile.specs.declared.file.PoolEntry.{PoolEntry}
 use Rattle.kb_code.specs.declared.instruction.Instr.{Instr}
@@ -70,9 +70,23 @@ module _ (pool : List PoolEntry) (labels : List ℕ → Option ℕ) where
   line_other (lines.Method head) old new other is = nothing (lines.Method head) old new is (record { code = refl; size = refl })
   line_other lines.End old new other is = nothing lines.End old new is (record { code = refl; size = refl })
 
+-- as many bytes more as the line takes
+pub longer_by : (pool : List PoolEntry) (labels : List ℕ → Option ℕ) (line : Line) (old new : List ℕ) → Appends (EncodesLine pool labels line) old new
+    → length new ≡ length old + line_size line (length old)
+longer_by pool labels line old new a =
+    ap (λ (l : List ℕ). length l) a.is ∙ length-append old a.piece ∙ ap (λ (n : ℕ). length old + n) a.spelled.size
+
 pub on_ok : {A E P Q : Type 0} (r : Result A E) → (P → Q) → OnOk r P → OnOk r Q
 on_ok (Ok a) f p = f p
 on_ok (Err e) f p = tt
+
+pub on_both : {A E P Q R : Type 0} (r : Result A E) → (P → Q → R) → OnOk r P → OnOk r Q → OnOk r R
+on_both (Ok a) f p q = f p q
+on_both (Err e) f p q = tt
+
+pub always : {A E P : Type 0} (r : Result A E) → P → OnOk r P
+always (Ok a) p = p
+always (Err e) p = tt
 
 -- labels that lead to the same offsets
 pub same_labels : (one other : List ℕ → Option ℕ) → ((name : List ℕ) → one name ≡ other name) → one ≡ other

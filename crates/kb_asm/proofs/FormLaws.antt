@@ -1,6 +1,5 @@
 -- What lines ask for is an instruction, and takes as many bytes as is said.
-use Rattle.std.proofs.Common.{◌≡◌, ℕ, zero, suc, ◌+◌, ◌*◌, ◌<◌, ◌≤◌, Bool, true, false, ◌&&◌, not, eqb, ltb, ◌==◌, if◌then◌else◌, List, [], ◌∷◌, length, Option, None, Some, refl, sym, ap, subst, ◌∙◌, arith}
-use Rattle.std.specs.List.{AllZip}
+use Rattle.std.proofs.Common.{◌≡◌, ℕ, zero, suc, ◌+◌, ◌*◌, ◌<◌, ◌≤◌, Bool, true, false, ◌&&◌, not, eqb, ltb, ◌==◌, if◌then◌else◌, List, Option, None, Some, refl, sym, ap, subst, ◌∙◌, arith}
 use Rattle.std.proofs.lemmas.Bool.{and_parts, le-ltb, ltb-false, ltb-true, eqb-true, eqb-false, not-true}
 use Rattle.kb_names.specs.declared.types.MethodType.{MethodType}
 use Rattle.kb_classfile.specs.declared.file.PoolEntry.{PoolEntry}
@@ -26,6 +25,7 @@ use Rattle.kb_code.specs.Reading.{padding_at}
 use Rattle.kb_asm_body.specs.Layout.{instr_size}
 use Rattle.kb_asm.specs.Instructions.{LeadsTo, IsPair, IsEntry, IsCallBy, IsAsked}
 use Rattle.kb_asm.specs.Working.{IsFormed}
+use Rattle.kb_asm.proofs.LoopLaws.{zip_length}
 
 -- ---- the opcodes of forms
 
@@ -181,12 +181,6 @@ module _ (pool : List PoolEntry) (labels : List ℕ → Option ℕ) (op : ℕ) (
   is_writing operand s a = formed (form_of op) operand s.0 refl (agree op) s.1 a
 
 -- ---- how many bytes it takes
-
-zip_length : {A B : Type 0} (R : A → B → Type 0) (xs : List A) (ys : List B) → AllZip R xs ys → length xs ≡ length ys
-zip_length R [] [] h = refl
-zip_length R [] (y ∷ ys) h = absurd h
-zip_length R (x ∷ xs) [] h = absurd h
-zip_length R (x ∷ xs) (y ∷ ys) h = omega (arith, zip_length R xs ys h.1)
 
 by_way : (written way : Written) (at : ℕ) → written ≡ way → size_of written at ≡ size_of way at
 by_way written way at e = ap (λ (w : Written). size_of w at) e

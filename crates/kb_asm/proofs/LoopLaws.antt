@@ -1,5 +1,5 @@
 -- Lists that loops make, an item at a time.
-use Rattle.std.proofs.Common.{◌≡◌, ℕ, ◌+◌, List, [], ◌∷◌, ◌++◌, length, Option, None, Some, refl, sym, ap, subst, ◌∙◌, append_assoc, append-nil, length-append, ◌-◌, ◌<◌, ◌≤◌, take, drop, get_or, take_all, arith}
+use Rattle.std.proofs.Common.{◌≡◌, ℕ, ◌+◌, List, [], ◌∷◌, ◌++◌, length, Option, None, Some, refl, sym, ap, subst, ◌∙◌, append_assoc, append-nil, length-append, ◌-◌, ◌^◌, ◌<◌, ◌≤◌, take, drop, get_or, take_all, arith}
 use Rattle.std.specs.List.{cons_option, AllZip}
 use Rattle.kb_grammar.specs.Grammar.{Piece, Each}
 use Rattle.kb_asm_text.specs.declared.line.Line.{Line}
@@ -7,7 +7,24 @@ use Rattle.kb_asm_text.specs.declared.line.BodyLine.TheVariants as bodies
 use Rattle.kb_asm_text.specs.declared.line.Line.TheVariants as lines
 use Rattle.kb_asm.specs.Parts.{parts}
 use Rattle.kb_asm.specs.Class.{interface_in, field_in, handler_in}
-use Rattle.kb_asm.specs.Working.{Appends, Agree}
+use Rattle.kb_asm.specs.Working.{Appends, Agree, AreCounted}
+
+-- ---- as many as there are parts
+
+pub zip_length : {A B : Type 0} (R : A → B → Type 0) (xs : List A) (ys : List B) → AllZip R xs ys → length xs ≡ length ys
+zip_length R [] [] h = refl
+zip_length R [] (y ∷ ys) h = absurd h
+zip_length R (x ∷ xs) [] h = absurd h
+zip_length R (x ∷ xs) (y ∷ ys) h = omega (arith, zip_length R xs ys h.1)
+
+pub counted_zip : {A B : Type 0} (R : A → B → Type 0) (xs : List A) (ys : List B) → AllZip R xs ys → AreCounted xs → AreCounted ys
+counted_zip R xs ys h few =
+    let many : length xs ≡ length ys = zip_length R xs ys h in
+    let less : length xs < 2 ^ 16 = few in
+    let counted : length ys < 2 ^ 16 = omega arith in
+    counted
+
+-- ---- one more
 
 -- one more value
 pub zip_on : {A B : Type 0} (R : A → B → Type 0) (x : A) (xs : List A) (front : List B) (y : B) (T : List B → Type 0)

@@ -153,7 +153,7 @@ ldcs_needed (line ∷ of) one h =
       | inr m ↦ in_back (line_needs line) (flat_map line_needs of) one (ldcs_needed of one m)
     ]
 
-is_needed : (of : List Line) (one : Says) → Has (says_of of) one → Has (flat_map line_needs of) one
+pub is_needed : (of : List Line) (one : Says) → Has (says_of of) one → Has (flat_map line_needs of) one
 is_needed of one h =
     elim (all_from (firsts_of of) (flat_map line_needs of) one h) [
       | inl m ↦ elim (all_from [] (flat_map ldc_says of) one m) [ inl n ↦ absurd (none one n) | inr n ↦ ldcs_needed of one n ]

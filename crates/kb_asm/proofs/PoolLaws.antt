@@ -1,8 +1,7 @@
 -- The pool of lines has what they need, each once.
-use Rattle.std.proofs.Common.{◌≡◌, inl, inr, ℕ, ◌+◌, Bool, true, false, ◌&&◌, eqb, if◌then◌else◌, List, [], ◌∷◌, ◌++◌, length, map, Option, None, Some, refl, sym, subst, ◌∙◌, arith, flat_map}
-use Rattle.std.specs.List.{list_any, list_all}
-use Rattle.std.proofs.lemmas.Bool.{and_parts, and_from}
-use Rattle.std.proofs.lemmas.List.Folds.{list_all-append}
+use Rattle.std.proofs.Common.{◌≡◌, inl, inr, ℕ, Bool, true, false, eqb, if◌then◌else◌, List, [], ◌∷◌, ◌++◌, map, Option, None, Some, refl, sym, subst, flat_map}
+use Rattle.std.specs.List.{list_any}
+use Rattle.std.proofs.lemmas.Bool.{and_from}
 use Rattle.std.proofs.lemmas.List.Sums.{fold-append}
 use Rattle.kb_names.specs.Descriptors.{type_text, method_text}
 use Rattle.kb_names.specs.declared.class_names.Spelling.TheVariants.{Raw}
@@ -18,11 +17,10 @@ use Rattle.kb_asm_text.specs.declared.line.Line.TheVariants as lines
 use Rattle.kb_asm_pool.specs.declared.items.ReferenceKind.{ReferenceKind}
 use Rattle.kb_asm_pool.specs.Says.{Says, text, int, class, string, name_type, member, same, added, all_added}
 use Rattle.kb_asm_pool.specs.Needs.{class_needs, member_needs, constant_says, constant_needs, ref_name, operand_needs, code_needs, caught_needs, body_needs, line_needs}
-use Rattle.kb_asm_check.specs.Limits.{Standing, ldc_says, is_short, is_sound, has_few_words, is_new, are_few, counted, has_room, fits_behind, with_line, nothing, kept_behind}
-use Rattle.kb_asm_check.specs.Faults.{IsSound}
+use Rattle.kb_asm_check.specs.Limits.{ldc_says}
 use Rattle.kb_asm.specs.Pool.{Has}
 use Rattle.kb_asm.specs.Needs.{named, have, have_all, says_of}
-use Rattle.kb_asm.proofs.SaysLaws.{here, there, which, none, in_front, in_back, in_parts, each_there, all_there, both_there, all_have, all_from, all_pass}
+use Rattle.kb_asm.proofs.SaysLaws.{here, there, which, none, in_front, in_back, in_parts, each_there, all_there, both_there, all_have, all_from}
 
 -- ---- more and more lines
 
@@ -187,45 +185,3 @@ is_closed of one h =
       ]
       | inr m ↦ needs_closed (says_of of) line_needs closed_line of needed one m
     ]
-
--- ---- its texts are short
-
-all_short : (f : Line → List Says) (of : List Line) → ((line : Line) → list_all is_short (line_needs line) ≡ true → list_all is_short (f line) ≡ true)
-    → list_all (λ (line : Line). list_all is_short (line_needs line)) of ≡ true → list_all is_short (flat_map f of) ≡ true
-all_short f [] each h = refl
-all_short f (line ∷ of) each h =
-    let p = and_parts (list_all is_short (line_needs line)) (list_all (λ (l : Line). list_all is_short (line_needs l)) of) h in
-    list_all-append is_short (f line) (flat_map f of) ∙ and_from (list_all is_short (f line)) (list_all is_short (flat_map f of)) (each line p.0) (all_short f of each p.1)
-
-short_constant : (of : Constant) → list_all is_short (constant_says of ∷ []) ≡ true
-short_constant (constants.Int z) = refl
-short_constant (constants.Text bytes) = refl
-
-short_ldc : (line : Line) → list_all is_short (ldc_says line) ≡ true
-short_ldc (lines.Body (bodies.Instr op (operands.Constant of))) = go (eqb op 0x12)
-  where
-    go : (b : Bool) → list_all is_short (map constant_says (if b then of ∷ [] else [])) ≡ true
-    go true = short_constant of
-    go false = refl
-short_ldc line = refl
-
--- lines that keep the limits have short texts
-kept_short : (before : Standing) (of : List Line) → kept_behind before of ≡ length of → list_all (λ (line : Line). list_all is_short (line_needs line)) of ≡ true
-kept_short before [] e = refl
-kept_short before (line ∷ of) e = go (fits_behind before line) refl e (λ k. kept_short (with_line before line) of k)
-  where
-    go : (b : Bool) → fits_behind before line ≡ b → (if b then 1 + kept_behind (with_line before line) of else 0) ≡ length (line ∷ of)
-        → (kept_behind (with_line before line) of ≡ length of → list_all (λ (l : Line). list_all is_short (line_needs l)) of ≡ true)
-        → list_all (λ (l : Line). list_all is_short (line_needs l)) (line ∷ of) ≡ true
-    go true fits k more =
-        let p = and_parts (is_sound before.labels line) (are_few (counted before.counts line) && has_room (with_line before line)) fits in
-        let q = and_parts (list_all is_short (line_needs line)) (has_few_words line && is_new before.labels line) p.0 in
-        and_from (list_all is_short (line_needs line)) (list_all (λ (l : Line). list_all is_short (line_needs l)) of) q.0 (more (omega (arith, k)))
-    go false fits k more = absurd (omega (arith, k))
-
-pub are_short : (of : List Line) → IsSound of → list_all is_short (says_of of) ≡ true
-are_short of sound =
-    let each = kept_short nothing of sound.kept in
-    all_pass is_short (firsts_of of) (flat_map line_needs of)
-    (all_pass is_short [] (flat_map ldc_says of) refl (all_short ldc_says of (λ line h. short_ldc line) each))
-    (all_short line_needs of (λ line h. h) each)

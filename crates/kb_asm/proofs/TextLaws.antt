@@ -1,17 +1,28 @@
--- The lines of a text have operands that words spell.
-use Rattle.std.proofs.Common.{◌≡◌, ℕ, Bool, true, false, List, [], ◌∷◌, refl, sym, subst, if◌then◌else◌}
+-- The lines of a text can be written: words spell their operands, calls have few words, and ldc constants are the first.
+use Rattle.std.proofs.Common.{◌≡◌, ℕ, Bool, true, false, List, [], ◌∷◌, refl, sym, subst, if◌then◌else◌, flat_map}
 use Rattle.std.specs.List.{AllByRecursion}
 use Rattle.std.proofs.lemmas.Bool.{and_parts, and_from}
 use Rattle.kb_asm_text.specs.declared.keyword.Keyword.{Keyword}
 use Rattle.kb_asm_text.specs.declared.keyword.Keyword.TheVariants as keywords
+use Rattle.kb_asm_text.specs.declared.line.BodyLine.TheVariants as bodies
 use Rattle.kb_asm_text.specs.declared.line.Line.{Line}
+use Rattle.kb_asm_text.specs.declared.line.Line.TheVariants as lines
 use Rattle.kb_asm_text.specs.Lines.{SpellsBehind, SpellsWords, keyword_of}
 use Rattle.kb_asm_text.specs.Texts.{SpellEach}
+use Rattle.kb_asm_check.specs.Limits.{ldc_says, has_few_words, nothing}
 use Rattle.kb_asm_check.specs.Faults.{is_body, body_of}
 use Rattle.kb_asm_pool.specs.Says.{Says}
 use Rattle.kb_asm_pool.specs.Needs.{line_needs}
-use Rattle.kb_asm.specs.Needs.{have, have_all}
-use Rattle.kb_asm.specs.Working.{IsFormedLine, AreText}
+use Rattle.kb_asm.specs.Needs.{have, have_all, AreFirst}
+use Rattle.kb_asm.specs.Working.{IsFormed, IsFitLine, AreText}
+use Rattle.kb_asm.proofs.SaysLaws.{in_front, in_back}
+use Rattle.kb_asm.proofs.KeptLaws.{lines_kept, words_kept}
+
+-- ---- words spell the operands
+
+abbrev IsFormedLine : Line → Type 0
+IsFormedLine (lines.Body (bodies.Instr op operand)) = IsFormed op operand
+IsFormedLine _ = Unit {0}
 
 formed_behind : (keyword : Keyword) (line : Line) (first : List ℕ) (words : List (List ℕ)) → SpellsBehind keyword line first words → IsFormedLine line
 formed_behind keywords.Class line first words s = subst IsFormedLine (sym s.1) tt
@@ -33,16 +44,31 @@ formed_each [] texts s = tt
 formed_each (line ∷ of) [] s = absurd s
 formed_each (line ∷ of) (text ∷ texts) s = (formed_words line s.0.words s.0.says, formed_each of texts s.1)
 
-pub are_formed : (of : List Line) → AreText of → AllByRecursion IsFormedLine of
-are_formed of t = formed_each of t.1.spelled.1.texts t.1.spelled.1.spelled
+-- ---- lines that can be written
+
+fit_line : (says : List Says) (line : Line) → IsFormedLine line → has_few_words line ≡ true → AreFirst says (ldc_says line) → IsFitLine says line
+fit_line says (lines.Body (bodies.Instr op operand)) formed few first = record { formed = formed; few = few; first = first }
+fit_line says line formed few first = tt
+
+fit_each : (says : List Says) (of : List Line) → AllByRecursion IsFormedLine of → AllByRecursion (λ (line : Line). has_few_words line ≡ true) of
+    → AreFirst says (flat_map ldc_says of) → AllByRecursion (IsFitLine says) of
+fit_each says [] formed few first = tt
+fit_each says (line ∷ of) formed few first = (
+  fit_line says line formed.0 few.0 (λ one place h e. first one place (in_front (ldc_says line) (flat_map ldc_says of) one h) e),
+  fit_each says of formed.1 few.1 (λ one place h e. first one place (in_back (ldc_says line) (flat_map ldc_says of) one h) e),
+)
+
+pub are_fit : (says : List Says) (of : List Line) → AreText of → AreFirst says (flat_map ldc_says of) → AllByRecursion (IsFitLine says) of
+are_fit says of text first =
+    fit_each says of (formed_each of text.1.spelled.1.texts text.1.spelled.1.spelled) (words_kept nothing of (lines_kept of text.1.sound)) first
 
 -- ---- bodies are fronts
 
-pub body_formed : (of : List Line) → AllByRecursion IsFormedLine of → AllByRecursion IsFormedLine (body_of of)
-body_formed [] f = tt
-body_formed (line ∷ of) f = go (is_body line) (body_formed of f.1)
+pub body_fit : (says : List Says) (of : List Line) → AllByRecursion (IsFitLine says) of → AllByRecursion (IsFitLine says) (body_of of)
+body_fit says [] f = tt
+body_fit says (line ∷ of) f = go (is_body line) (body_fit says of f.1)
   where
-    go : (b : Bool) → AllByRecursion IsFormedLine (body_of of) → AllByRecursion IsFormedLine (if b then line ∷ body_of of else [])
+    go : (b : Bool) → AllByRecursion (IsFitLine says) (body_of of) → AllByRecursion (IsFitLine says) (if b then line ∷ body_of of else [])
     go true more = (f.0, more)
     go false more = tt
 

@@ -1,5 +1,5 @@
 -- Pools that have what lines need.
-use Rattle.std.specs.Prelude.{◌≡◌, ◌≤◌, Bool, true, List, [], ◌∷◌, length}
+use Rattle.std.specs.Prelude.{◌≡◌, ◌<◌, ◌≤◌, ℕ, Bool, true, List, [], ◌∷◌, length, slice_get, Some}
 use Rattle.std.specs.List.{list_all, list_any, flat_map}
 use Rattle.kb_asm_text.specs.declared.line.Line.{Line}
 use Rattle.kb_asm_pool.specs.Says.{Says, text, class, string, name_type, member, same, all_added}
@@ -28,6 +28,10 @@ pub record IsWhole (says : List Says) : Type 0 where
   pub closed : (one : Says) → Has says one → have says (named one) ≡ true
   pub few : length says ≤ 65534
   pub short : list_all is_short says ≡ true
+
+-- these stand nowhere but among the first 255 entries, whose numbers have one byte
+abbrev pub AreFirst : List Says → List Says → Type 0
+AreFirst says ones = (one : Says) (place : ℕ) → Has ones one → slice_get says place ≡ Some one → place < 255
 
 -- what the entries of the pool of lines say: the constants of ldc lines, and then what else the lines need
 abbrev pub says_of : List Line → List Says

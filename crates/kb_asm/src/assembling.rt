@@ -1,6 +1,6 @@
 //! From texts to class files.
 
-ghost use Rattle.std.specs.Prelude.{◌≡◌, IfOk, IfErr};
+ghost use Rattle.std.specs.Prelude.{◌≡◌, [], IfOk, IfErr};
 ghost use Rattle.kb_asm_check.specs.Faults.{Refuses};
 ghost use Rattle.kb_asm.specs.Class.{IsAssembled};
 ghost use Rattle.kb_asm.specs.Needs.{IsWhole, says_of};
@@ -9,7 +9,7 @@ ghost use Rattle.kb_asm.specs.Working.{AreText, IsFileOf, AreBytesOf};
 use crate::NoMemory;
 use crate::class::file_of;
 use crate::numbers::code_name_of;
-use crate::pool::pool_of;
+use crate::pool::fill_pool;
 use kb_asm_check::{TextRefusal, read_text};
 use kb_asm_pool::Items;
 use kb_asm_text::Line;
@@ -33,13 +33,13 @@ fn written(
     write_class(alloc, file, code_name)
 }
 
-/// The bytes of the class of the lines of a text, whose pool is this.
+/// The bytes of the class of the lines of a text, over a pool without entries, which is filled.
 fn bytes_over(pool: &mut Items, alloc: Global, lines: &[Line]) -> Result<Vec<u8>, NoMemory>
     requires text { AreText lines.now }
-    requires says { pool.old.says ≡ says_of lines.now }
-    requires whole { IsWhole pool.old.says }
+    requires empty { pool.old.says ≡ [] }
     ensures { IfOk result (λ bytes. AreBytesOf lines.now bytes.items) }
 {
+    fill_pool(pool, alloc, lines)?;
     let file = file_of(pool, alloc, lines)?;
     written(pool, alloc, lines, &file)
 }
@@ -49,7 +49,7 @@ fn bytes_of(alloc: Global, lines: &[Line]) -> Result<Vec<u8>, NoMemory>
     requires { AreText lines.now }
     ensures { IfOk result (λ bytes. AreBytesOf lines.now bytes.items) }
 {
-    let mut pool = pool_of(alloc, lines)?;
+    let mut pool = Items::new(alloc);
     bytes_over(&mut pool, alloc, lines)
 }
 

@@ -1,16 +1,16 @@
 //! The class of a text.
 
 ghost use Rattle.std.specs.Prelude.{◌≡◌, List, [], ◌∷◌, IsTrue, IfOk, OnOk};
-ghost use Rattle.std.specs.List.{AllByRecursion, AllZip};
-ghost use Rattle.kb_writer.specs.Files.{IfCode};
+ghost use Rattle.std.specs.List.{AllByRecursion, AllZip, flat_map};
 ghost use Rattle.kb_asm_text.specs.declared.line.Line.{Line};
 ghost use Rattle.kb_asm_pool.specs.Needs.{line_needs};
 ghost use Rattle.kb_asm_pool.specs.Entries.{entries_of};
-ghost use Rattle.kb_asm.specs.Needs.{have, have_all, IsWhole};
+ghost use Rattle.kb_asm_check.specs.Limits.{ldc_says};
+ghost use Rattle.kb_asm.specs.Needs.{have, have_all, IsWhole, AreFirst};
 ghost use Rattle.kb_asm.specs.Entries.{SaysClass};
 ghost use Rattle.kb_asm.specs.Parts.{parts};
-ghost use Rattle.kb_asm.specs.Class.{interface_in, field_in, method_in, IsFieldOf, IsMethodOf};
-ghost use Rattle.kb_asm.specs.Working.{Agree, AreCounted, IsFormedLine, IsReady, IsFileOf};
+ghost use Rattle.kb_asm.specs.Class.{interface_in, field_in, method_in, IsFieldOf};
+ghost use Rattle.kb_asm.specs.Working.{Agree, AreText, BeginsClass, AreSound, IsFitLine, IsReadyMethod, IsFileOf};
 
 use crate::NoMemory;
 use crate::methods::methods_of;
@@ -18,7 +18,7 @@ use crate::numbers::{of_class, of_text};
 use crate::parts::push_part;
 use kb_asm_pool::{Items, type_bytes};
 use kb_asm_text::{ClassHead, FieldHead, Line};
-use kb_classfile::{ClassFile, Field};
+use kb_classfile::{ClassFile, Field, Method};
 use kb_rows::Row;
 use std::alloc::Global;
 
@@ -44,7 +44,6 @@ fn interfaces_of(pool: &mut Items, alloc: Global, lines: &[Line]) -> Result<Row<
     requires there { IsTrue (have_all pool.old.says lines.now) }
     ensures same { OnOk result (pool.new.says ≡ pool.old.says) }
     ensures numbers { IfOk result (AllZip (SaysClass (entries_of pool.old.says)) (parts interface_in lines.now)) }
-    ensures few { IfOk result AreCounted }
 {
     let mut interfaces = Row::new(alloc);
     let mut rest = lines;
@@ -92,7 +91,6 @@ fn fields_of(pool: &mut Items, alloc: Global, lines: &[Line]) -> Result<Row<Fiel
     requires there { IsTrue (have_all pool.old.says lines.now) }
     ensures same { OnOk result (pool.new.says ≡ pool.old.says) }
     ensures fields { IfOk result (AllZip (IsFieldOf (entries_of pool.old.says)) (parts field_in lines.now)) }
-    ensures few { IfOk result AreCounted }
 {
     let mut fields = Row::new(alloc);
     let mut rest = lines;
@@ -105,16 +103,44 @@ fn fields_of(pool: &mut Items, alloc: Global, lines: &[Line]) -> Result<Row<Fiel
 }
 
 /// The first line, which is that of the class.
-fn head_of(lines: &[Line]) -> Result<&ClassHead, NoMemory>
-    ensures { IfOk result (λ head. (others : List Line) × (lines.now ≡ Line.Class head.now ∷ others)) }
+fn head_of(lines: &[Line]) -> &ClassHead
+    requires { BeginsClass lines.now }
+    ensures { (others : List Line) × (lines.now ≡ Line.Class result.now ∷ others) }
 {
-    let [first, ..] = lines else {
-        return Err(NoMemory);
-    };
+    let [first, ..] = lines else { unreachable!() };
     match first {
-        Line::Class(head) => Ok(head),
-        _ => Err(NoMemory),
+        Line::Class(head) => head,
+        _ => unreachable!(),
     }
+}
+
+/// The members of a class.
+#[derive(Drop)]
+struct Members {
+    interfaces: Row<u16>,
+    fields: Row<Field>,
+    methods: Row<Method>,
+}
+
+/// The superinterfaces, the fields and the methods.
+fn members_of(pool: &mut Items, alloc: Global, lines: &[Line]) -> Result<Members, NoMemory>
+    requires whole { IsWhole pool.old.says }
+    requires there { IsTrue (have_all pool.old.says lines.now) }
+    requires fit { AllByRecursion (IsFitLine pool.old.says) lines.now }
+    requires sound { AreSound lines.now }
+    ensures same { OnOk result (pool.new.says ≡ pool.old.says) }
+    ensures interfaces { IfOk result (λ of. AllZip (SaysClass (entries_of pool.old.says)) (parts interface_in lines.now) of.interfaces) }
+    ensures fields { IfOk result (λ of. AllZip (IsFieldOf (entries_of pool.old.says)) (parts field_in lines.now) of.fields) }
+    ensures methods { IfOk result (λ of. AllZip (IsReadyMethod pool.old.says) (parts method_in lines.now) of.methods) }
+{
+    let interfaces = interfaces_of(pool, alloc, lines)?;
+    let fields = fields_of(pool, alloc, lines)?;
+    let methods = methods_of(pool, alloc, lines)?;
+    Ok(Members {
+        interfaces,
+        fields,
+        methods,
+    })
 }
 
 /// The class file of the lines of a text, of which the pool has what they need.
@@ -123,27 +149,26 @@ pub(crate) fn file_of(
     alloc: Global,
     lines: &[Line],
 ) -> Result<ClassFile, NoMemory>
+    requires text { AreText lines.now }
     requires whole { IsWhole pool.old.says }
     requires there { IsTrue (have_all pool.old.says lines.now) }
-    requires formed { AllByRecursion IsFormedLine lines.now }
+    requires first { AreFirst pool.old.says (flat_map ldc_says lines.now) }
     ensures same { OnOk result (pool.new.says ≡ pool.old.says) }
     ensures file { IfOk result (IsFileOf pool.old.says lines.now) }
 {
-    let head = head_of(lines)?;
+    let head = head_of(lines);
     let this = of_class(pool, alloc, head.name.as_slice())?;
     let parent = of_class(pool, alloc, head.parent.as_slice())?;
-    let interfaces = interfaces_of(pool, alloc, lines)?;
-    let fields = fields_of(pool, alloc, lines)?;
-    let methods = methods_of(pool, alloc, lines)?;
     let entries = pool.entries(alloc)?;
+    let members = members_of(pool, alloc, lines)?;
     Ok(ClassFile {
         major: MAJOR,
         pool: entries,
         access: head.access,
         this,
         parent,
-        interfaces,
-        fields,
-        methods,
+        interfaces: members.interfaces,
+        fields: members.fields,
+        methods: members.methods,
     })
 }

@@ -1,14 +1,16 @@
 //! The code of a body.
 
-ghost use Rattle.std.specs.Prelude.{◌≡◌, ◌≤◌, length, IsTrue, IfOk, OnOk};
+ghost use Rattle.std.specs.Prelude.{◌≡◌, ◌≤◌, ◌+◌, None, true, false, length, IsTrue, IfOk, OnOk};
 ghost use Rattle.std.specs.List.{AllByRecursion};
 ghost use Rattle.kb_grammar.specs.Grammar.{Each};
+ghost use Rattle.kb_asm_body.specs.Layout.{instr_size, line_size};
+ghost use Rattle.kb_asm_body.specs.Faults.{is_faulty_instr, is_faulty, fault_from};
 ghost use Rattle.kb_asm_pool.specs.Needs.{operand_needs, body_needs, line_needs};
 ghost use Rattle.kb_asm_pool.specs.Entries.{entries_of};
 ghost use Rattle.kb_asm.specs.Needs.{have, have_all, IsWhole};
 ghost use Rattle.kb_asm.specs.Instructions.{SpellsAsked, EncodesLine};
 ghost use Rattle.kb_asm.specs.Class.{IsCodeOf};
-ghost use Rattle.kb_asm.specs.Working.{labels_of, Appends, AreFew, AreCounted, IsFormed, IsFormedLine};
+ghost use Rattle.kb_asm.specs.Working.{labels_of, Appends, AreNear, AreFew, AreCounted, IsFit, IsFitLine, IsSoundBody};
 
 use crate::NoMemory;
 use crate::instr::Body;
@@ -16,7 +18,6 @@ use kb_asm_body::layout_of;
 use kb_asm_pool::Items;
 use kb_asm_text::{BodyLine, Line, Operand, Sizes};
 use kb_classfile::Code;
-use kb_code::MOST_CODE;
 use kb_rows::Row;
 use kb_writer::write_instr;
 use std::alloc::Global;
@@ -31,23 +32,18 @@ impl Body<'_> {
         op: u8,
         operand: &Operand,
     ) -> Result<(), NoMemory>
-        requires few { length code.old.items ≤ 65535 }
+        requires near { AreNear (labels_of self.now.layout.now) }
+        requires few { length code.old.items + instr_size op operand.now (length code.old.items) ≤ 65535 }
+        requires sound { is_faulty_instr (labels_of self.now.layout.now) true op operand.now (length code.old.items) ≡ false }
         requires whole { IsWhole pool.old.says }
         requires there { IsTrue (have pool.old.says (operand_needs op operand.now)) }
-        requires formed { IsFormed op operand.now }
+        requires fit { IsFit pool.old.says op operand.now }
         ensures same { OnOk result (pool.new.says ≡ pool.old.says) }
         ensures bytes { OnOk result (Appends (SpellsAsked (entries_of pool.old.says) (labels_of self.now.layout.now) op operand.now) code.old.items code.new.items) }
     {
         let at = code.len() as u32;
         let written = self.instr(pool, alloc, op, operand)?;
-        if !written.is_sound() {
-            return Err(NoMemory);
-        }
-        if !written.reaches(at) {
-            return Err(NoMemory);
-        }
-        write_instr(code, &written, at)?;
-        Ok(())
+        write_instr(code, &written, at)
     }
 
     /// Appends the bytes of a line of a body.
@@ -58,10 +54,12 @@ impl Body<'_> {
         alloc: Global,
         line: &BodyLine,
     ) -> Result<(), NoMemory>
-        requires few { length code.old.items ≤ 65535 }
+        requires near { AreNear (labels_of self.now.layout.now) }
+        requires few { length code.old.items + line_size (Line.Body line.now) (length code.old.items) ≤ 65535 }
+        requires sound { is_faulty (labels_of self.now.layout.now) true (Line.Body line.now) (length code.old.items) ≡ false }
         requires whole { IsWhole pool.old.says }
         requires there { IsTrue (have pool.old.says (body_needs line.now)) }
-        requires formed { IsFormedLine (Line.Body line.now) }
+        requires fit { IsFitLine pool.old.says (Line.Body line.now) }
         ensures same { OnOk result (pool.new.says ≡ pool.old.says) }
         ensures bytes { OnOk result (Appends (EncodesLine (entries_of pool.old.says) (labels_of self.now.layout.now) (Line.Body line.now)) code.old.items code.new.items) }
     {
@@ -84,10 +82,12 @@ impl Body<'_> {
         alloc: Global,
         line: &Line,
     ) -> Result<(), NoMemory>
-        requires few { length code.old.items ≤ 65535 }
+        requires near { AreNear (labels_of self.now.layout.now) }
+        requires few { length code.old.items + line_size line.now (length code.old.items) ≤ 65535 }
+        requires sound { is_faulty (labels_of self.now.layout.now) true line.now (length code.old.items) ≡ false }
         requires whole { IsWhole pool.old.says }
         requires there { IsTrue (have pool.old.says (line_needs line.now)) }
-        requires formed { IsFormedLine line.now }
+        requires fit { IsFitLine pool.old.says line.now }
         ensures same { OnOk result (pool.new.says ≡ pool.old.says) }
         ensures bytes { OnOk result (Appends (EncodesLine (entries_of pool.old.says) (labels_of self.now.layout.now) line.now) code.old.items code.new.items) }
     {
@@ -99,9 +99,11 @@ impl Body<'_> {
 
     /// The bytes of the code.
     fn bytes(&self, pool: &mut Items, alloc: Global, lines: &[Line]) -> Result<Vec<u8>, NoMemory>
+        requires near { AreNear (labels_of self.now.layout.now) }
+        requires sound { fault_from (labels_of self.now.layout.now) true 0 0 lines.now ≡ None }
         requires whole { IsWhole pool.old.says }
         requires there { IsTrue (have_all pool.old.says lines.now) }
-        requires formed { AllByRecursion IsFormedLine lines.now }
+        requires fit { AllByRecursion (IsFitLine pool.old.says) lines.now }
         ensures same { OnOk result (pool.new.says ≡ pool.old.says) }
         ensures bytes { IfOk result (λ bytes. Each (EncodesLine (entries_of pool.old.says) (labels_of self.now.layout.now)) lines.now 0 bytes.items) }
         ensures few { IfOk result (λ bytes. AreFew bytes.items) }
@@ -110,13 +112,7 @@ impl Body<'_> {
         let mut rest = lines;
         while let [line, others @ ..] = rest {
             self.push_line(&mut code, pool, alloc, line)?;
-            if code.len() > MOST_CODE {
-                return Err(NoMemory);
-            }
             rest = others;
-        }
-        if code.is_empty() {
-            return Err(NoMemory);
         }
         Ok(code)
     }
@@ -129,9 +125,10 @@ pub(crate) fn code_of(
     sizes: Sizes,
     lines: &[Line],
 ) -> Result<Code, NoMemory>
+    requires sound { IsSoundBody lines.now }
     requires whole { IsWhole pool.old.says }
     requires there { IsTrue (have_all pool.old.says lines.now) }
-    requires formed { AllByRecursion IsFormedLine lines.now }
+    requires fit { AllByRecursion (IsFitLine pool.old.says) lines.now }
     ensures same { OnOk result (pool.new.says ≡ pool.old.says) }
     ensures code { IfOk result (IsCodeOf (entries_of pool.old.says) sizes lines.now) }
     ensures few { IfOk result (λ code. AreFew code.bytes × AreCounted code.handlers) }

@@ -1,6 +1,6 @@
 //! The methods of a class.
 
-ghost use Rattle.std.specs.Prelude.{◌≡◌, None, Some, codes, IsTrue, IfOk, OnOk};
+ghost use Rattle.std.specs.Prelude.{◌≡◌, None, Some, codes, IsTrue, IfSome, IfOk, OnOk};
 ghost use Rattle.std.specs.List.{AllByRecursion, AllZip};
 ghost use Rattle.kb_writer.specs.Files.{IfCode};
 ghost use Rattle.kb_asm_pool.specs.Says.{text as says_text};
@@ -10,7 +10,7 @@ ghost use Rattle.kb_asm_check.specs.Faults.{body_of};
 ghost use Rattle.kb_asm.specs.Needs.{have, have_all, IsWhole};
 ghost use Rattle.kb_asm.specs.Parts.{parts};
 ghost use Rattle.kb_asm.specs.Class.{method_in, HasCodeOf, IsMethodOf};
-ghost use Rattle.kb_asm.specs.Working.{Agree, AreCounted, IsFormedLine, IsReady, IsReadyMethod};
+ghost use Rattle.kb_asm.specs.Working.{Agree, IsFitLine, IsSoundBody, IsSoundAt, AreSound, IsReady, IsReadyMethod};
 
 use crate::NoMemory;
 use crate::code::code_of;
@@ -33,7 +33,8 @@ fn sized_code(
     requires whole { IsWhole pool.old.says }
     requires named { IsTrue (have pool.old.says (code_needs sizes)) }
     requires there { IsTrue (have_all pool.old.says lines.now) }
-    requires formed { AllByRecursion IsFormedLine lines.now }
+    requires fit { AllByRecursion (IsFitLine pool.old.says) lines.now }
+    requires sound { IfSome sizes (λ _. IsSoundBody lines.now) }
     ensures same { OnOk result (pool.new.says ≡ pool.old.says) }
     ensures code { IfOk result (HasCodeOf (entries_of pool.old.says) sizes lines.now) }
     ensures ready { IfOk result (IfCode (IsReady pool.old.says)) }
@@ -54,7 +55,8 @@ fn method_of(
     requires whole { IsWhole pool.old.says }
     requires needed { IsTrue (have pool.old.says (line_needs (Line.Method head.now))) }
     requires there { IsTrue (have_all pool.old.says lines.now) }
-    requires formed { AllByRecursion IsFormedLine lines.now }
+    requires fit { AllByRecursion (IsFitLine pool.old.says) lines.now }
+    requires sound { IfSome head.now.sizes (λ _. IsSoundBody lines.now) }
     ensures same { OnOk result (pool.new.says ≡ pool.old.says) }
     ensures method { IfOk result (IsReadyMethod pool.old.says (head.now, lines.now)) }
 {
@@ -80,7 +82,8 @@ fn method_in(
     requires whole { IsWhole pool.old.says }
     requires needed { IsTrue (have pool.old.says (line_needs line.now)) }
     requires there { IsTrue (have_all pool.old.says others.now) }
-    requires formed { AllByRecursion IsFormedLine others.now }
+    requires fit { AllByRecursion (IsFitLine pool.old.says) others.now }
+    requires sound { IsSoundAt line.now others.now }
     ensures same { OnOk result (pool.new.says ≡ pool.old.says) }
     ensures method { IfOk result (Agree (IsReadyMethod pool.old.says) (method_in line.now others.now)) }
 {
@@ -98,10 +101,10 @@ pub(crate) fn methods_of(
 ) -> Result<Row<Method>, NoMemory>
     requires whole { IsWhole pool.old.says }
     requires there { IsTrue (have_all pool.old.says lines.now) }
-    requires formed { AllByRecursion IsFormedLine lines.now }
+    requires fit { AllByRecursion (IsFitLine pool.old.says) lines.now }
+    requires sound { AreSound lines.now }
     ensures same { OnOk result (pool.new.says ≡ pool.old.says) }
     ensures methods { IfOk result (AllZip (IsReadyMethod pool.old.says) (parts method_in lines.now)) }
-    ensures few { IfOk result AreCounted }
 {
     let mut methods = Row::new(alloc);
     let mut rest = lines;

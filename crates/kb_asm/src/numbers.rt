@@ -1,6 +1,6 @@
 //! The numbers of entries.
 
-ghost use Rattle.std.specs.Prelude.{◌≡◌, ◌<◌, ◌+◌, codes, IsTrue, IfOk, OnOk};
+ghost use Rattle.std.specs.Prelude.{◌≡◌, ◌<◌, ◌+◌, ◌-◌, Some, slice_get, codes, IsTrue, IfOk, OnOk};
 ghost use Rattle.kb_asm_pool.specs.Says.{text as says_text, class as says_class};
 ghost use Rattle.kb_asm_pool.specs.Needs.{class_needs, constant_needs, constant_says, field_needs, field_says, call_needs, call_says, ref_name};
 ghost use Rattle.kb_asm_pool.specs.Entries.{entries_of};
@@ -70,6 +70,7 @@ pub(crate) fn of_constant(pool: &mut Items, alloc: Global, of: &Constant) -> Res
     requires there { IsTrue (have pool.old.says (constant_needs of.now)) }
     ensures same { OnOk result (pool.new.says ≡ pool.old.says) }
     ensures number { IfOk result (λ number. EntrySays (entries_of pool.old.says) (constant_says of.now) number) }
+    ensures place { IfOk result (λ number. slice_get pool.old.says (number - 1) ≡ Some (constant_says of.now)) }
 {
     let place = add_constant(pool, alloc, of)?;
     Ok(number_of(place))

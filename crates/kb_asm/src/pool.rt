@@ -1,21 +1,17 @@
 //! The constant pool of a class.
 
-ghost use Rattle.std.specs.Prelude.{◌≡◌, IfOk, OnOk};
+ghost use Rattle.std.specs.Prelude.{◌≡◌, [], OnOk};
 ghost use Rattle.std.specs.List.{flat_map};
 ghost use Rattle.kb_asm_pool.specs.Says.{all_added};
 ghost use Rattle.kb_asm_pool.specs.Needs.{line_needs};
 ghost use Rattle.kb_asm_check.specs.Limits.{ldc_says};
-ghost use Rattle.kb_asm.specs.Needs.{IsWhole, says_of};
-ghost use Rattle.kb_asm.specs.Working.{AreText};
+ghost use Rattle.kb_asm.specs.Needs.{says_of};
 
 use crate::NoMemory;
 use kb_asm_pool::{Items, add_alone, add_needs};
 use kb_asm_text::{BodyLine, Line, Operand};
 use kb_code::LDC;
 use std::alloc::Global;
-
-/// The most entries of a pool.
-const MOST_ENTRIES: usize = 65_534;
 
 /// Adds the constant of an ldc line.
 fn add_ldc_constant(pool: &mut Items, alloc: Global, line: &Line) -> Result<(), NoMemory>
@@ -55,17 +51,11 @@ fn add_all_needs(pool: &mut Items, alloc: Global, lines: &[Line]) -> Result<(), 
     Ok(())
 }
 
-/// The pool of the lines of a text.
-pub(crate) fn pool_of(alloc: Global, lines: &[Line]) -> Result<Items, NoMemory>
-    requires { AreText lines.now }
-    ensures says { IfOk result (λ pool. pool.says ≡ says_of lines.now) }
-    ensures whole { IfOk result (λ pool. IsWhole pool.says) }
+/// Fills a pool with what the lines of a text need, the constants of ldc lines first.
+pub(crate) fn fill_pool(pool: &mut Items, alloc: Global, lines: &[Line]) -> Result<(), NoMemory>
+    requires { pool.old.says ≡ [] }
+    ensures { OnOk result (pool.new.says ≡ says_of lines.now) }
 {
-    let mut pool = Items::new(alloc);
-    add_constants(&mut pool, alloc, lines)?;
-    add_all_needs(&mut pool, alloc, lines)?;
-    if pool.count() > MOST_ENTRIES {
-        return Err(NoMemory);
-    }
-    Ok(pool)
+    add_constants(pool, alloc, lines)?;
+    add_all_needs(pool, alloc, lines)
 }

@@ -39,9 +39,8 @@ loop-rest-preserved c =
     record {
       same = c.in_ok-field.ensures.same ∙ c.loop-rest.invariant.same;
       there = there.1;
-      few = c.in_ok-push_part.ensures.few;
       made = part_next field_in R rest others line c.loop-rest.fields c.push_part.new.row c.in_ok-field.field (AllZip R (parts field_in c.args.lines.now)) split
-          c.in_ok-push_part.ensures.row c.loop-rest.invariant.made agree;
+          c.in_ok-push_part.ensures c.loop-rest.invariant.made agree;
     }
 
 pub returns-clause-fields : goal.returns-clause-fields

@@ -5,14 +5,12 @@ use Rattle.kb_asm_pool.specs.Entries.{entries_of}
 use Rattle.kb_asm.specs.Needs.{have_all}
 use Rattle.kb_asm.specs.Parts.{parts}
 use Rattle.kb_asm.specs.Class.{field_in, IsFieldOf}
-use Rattle.kb_asm.specs.Working.{AreCounted}
 use Rattle.kb_asm.proofs.class.fields_of.Given as goal
 
 abbrev pub invariant-loop-rest : goal.invariant-loop-rest
 invariant-loop-rest l = record {
   same : l.pool.says ≡ l.fn.pool.says;
   there : IsTrue (have_all l.fn.pool.says l.rest);
-  few : AreCounted l.fields;
   made : (more : List Field) → AllZip (IsFieldOf (entries_of l.fn.pool.says)) (parts field_in l.rest) more → AllZip (IsFieldOf (entries_of l.fn.pool.says)) (parts field_in l.lines) (l.fields ++ more);
 }
 

@@ -39,9 +39,8 @@ loop-rest-preserved c =
     record {
       same = c.in_ok-number.ensures.same ∙ c.loop-rest.invariant.same;
       there = there.1;
-      few = c.in_ok-push_part.ensures.few;
       made = part_next interface_in R rest others line c.loop-rest.interfaces c.push_part.new.row c.in_ok-number.number (AllZip R (parts interface_in c.args.lines.now)) split
-          c.in_ok-push_part.ensures.row c.loop-rest.invariant.made agree;
+          c.in_ok-push_part.ensures c.loop-rest.invariant.made agree;
     }
 
 pub returns-clause-numbers : goal.returns-clause-numbers
