@@ -20,7 +20,7 @@ answer_in-requires-clause-linked c = rw c.get.ensures c.in_ok-world.ensures.link
 pub answer_in-requires-clause-names : goal.answer_in-requires-clause-names
 answer_in-requires-clause-names c =
     let given = c.in_ok-given.given.items in
-    rw c.get.ensures (c.worlds_have_names.ensures given c.in_ok-world.world (are_of_bytes _ given c.in_ok-given.ensures c.look_at_files.ensures) c.in_ok-world.ensures)
+    rw c.get.ensures (c.worlds_have_names.ensures given c.in_ok-world.world (are_of_bytes _ given c.in_ok-given.ensures c.tell_files.ensures) c.in_ok-world.ensures)
 
 pub returns-in_err-given : goal.returns-in_err-given
 returns-in_err-given c =
