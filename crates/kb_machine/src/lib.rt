@@ -30,5 +30,5 @@ mod variables;
 mod ways;
 
 pub use fits::fits_types;
-pub use machine::{first_heap, literal, run};
+pub use machine::{first_heap, run};
 pub use std::alloc::AllocError as NoMemory;

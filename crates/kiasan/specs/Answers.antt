@@ -4,7 +4,7 @@ use Rattle.std.specs.Prelude.{◌≡◌, ℕ, ◌+◌, ◌<◌, ◌≤◌, ◌�
 use Rattle.std.specs.List.{AllByRecursion}
 use Rattle.kb_class.specs.declared.given.GivenClass.{GivenClass}
 use Rattle.kb_class.specs.declared.ids.MethodId.{MethodId}
-use Rattle.kb_class.specs.Given.{AreListings}
+use Rattle.kb_class.specs.Given.{AreGivenBy}
 use Rattle.kb_classfile.specs.declared.file.ClassFile.{ClassFile}
 use Rattle.kb_classfile.specs.declared.refusal.ClassRefusal.{ClassRefusal}
 use Rattle.kb_classfile.specs.Reading.{first_fault}
@@ -175,18 +175,6 @@ FileRefuses number bytes refusal = (found : ClassRefusal) × HasClassFault bytes
 abbrev pub ClassRefuses : ℕ → List ℕ → Refusal → Type 0
 ClassRefuses number bytes refusal = FileRefuses number bytes refusal ⊎ ((file : ClassFile) × IsClassFile file bytes × MethodsRefuse number file.methods refusal)
 
--- the bytes spell the class's file, and each method has its listing
-pub record IsClassOf (bytes : List ℕ) (class : GivenClass) : Type 0 where
-  pub file : IsClassFile class.file bytes
-  pub listed : AreListings class.file.methods class.listings
-
--- each spells a class
-abbrev pub AreClasses : List (List ℕ) → List GivenClass → Type 0
-AreClasses [] [] = Unit {0}
-AreClasses (bytes ∷ classes) (class ∷ given) = IsClassOf bytes class × AreClasses classes given
-AreClasses [] (class ∷ given) = ⊥
-AreClasses (bytes ∷ classes) [] = ⊥
-
 -- The first class file that is refused, and its number.
 pub record RefusesClasses (classes : List (List ℕ)) (refusal : Refusal) : Type 0 where
   pub before : List (List ℕ)
@@ -194,7 +182,7 @@ pub record RefusesClasses (classes : List (List ℕ)) (refusal : Refusal) : Type
   pub after : List (List ℕ)
   pub classes_are : classes ≡ before ++ bytes ∷ after
   pub given : List GivenClass
-  pub good : AreClasses before given
+  pub good : AreGivenBy before given
   pub bad : ClassRefuses (length before) bytes refusal
 
 -- what refuses the world of classes: the first rule that they break
@@ -241,7 +229,7 @@ IsReadFaultOrNoMemory stops.NoMemory = Unit {0}
 
 unfoldable pub RepliesOn : Order → Contents → Reply → Type 0
 RepliesOn order contents =
-    Stage (RefusesClasses contents.classes) (AreClasses contents.classes) (λ given.
+    Stage (RefusesClasses contents.classes) (AreGivenBy contents.classes) (λ given.
     Stage (WorldRefuses given) (Links given) (λ world.
     RepliesIn order contents.texts world))
 

@@ -11,7 +11,7 @@ use crate::assembly::answer_assembly;
 use crate::classes::{link_classes, read_classes};
 use crate::methods::{answer_report, answer_tests};
 use crate::orders::{classes_of, read_order, texts_of};
-use crate::ranges::look_at_files;
+use crate::ranges::tell_files;
 use crate::refusals::{Answer, Stop, answer_refusal};
 use crate::replay::replay;
 use kb_outside::{Shelf, ShelfStop};
@@ -134,7 +134,7 @@ fn answer_on(alloc: Global, order: &Order, contents: &Contents) -> Result<Answer
     ensures { Carries ⊥ (RepliesOn order.now contents.now) result }
 {
     let classes = contents.classes.as_slice();
-    look_at_files(classes);
+    tell_files(classes);
     worlds_have_names();
     let given = read_classes(alloc, classes)?;
     let world = link_classes(alloc, given)?;

@@ -12,7 +12,7 @@ ghost use Rattle.kiasan.specs.Exploring.{IsCarried, path_tests, test_of, tests_o
 ghost use Rattle.kiasan.specs.Tests.{literals_in};
 
 use crate::NoMemory;
-use crate::ranges::look_at_numbers;
+use crate::ranges::tell_numbers;
 use kb_heap::{Ending, Heap, Input, Object};
 use kb_picture::{Ended, Leaf, Path, ending_at, final_heaps_are_whole, places};
 use kb_report::Report;
@@ -78,7 +78,7 @@ fn test_of(
         unreachable!()
     };
     let (ending, heap) = ending_at(alloc, world, path, &ended.input, &places)?;
-    look_at_numbers(&ended.input, &ending, &heap);
+    tell_numbers(&ended.input, &ending, &heap);
     let test = test_with(alloc, report, &ended.input, ending, &heap, world.literals())?;
     Ok(test)
 }
