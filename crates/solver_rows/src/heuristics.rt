@@ -17,7 +17,7 @@ pub fn order_text(alloc: Global, text: &str) -> io::Result<String> {
     let Some((variables, pieces)) = text.split_once(' ') else {
         return Err(malformed());
     };
-    let mut order = kept(ActivityOrder::new(alloc, read_u32(variables)?))?;
+    let mut order = kept(ActivityOrder::new(alloc, read_u32(variables)?, &[]))?;
     let mut text = String::new(alloc);
     for piece in pieces.split(", ") {
         take_piece(alloc, &mut order, piece, &mut text)?;
