@@ -32,10 +32,12 @@ pub(crate) struct Search<'a> {
 }
 
 impl<'a> Search<'a> {
-    /// The search that begins with the clauses of a formula; or the number of a clause that is false from the start.
+    /// The search that begins with the clauses of a formula, and decides the variables of `first` before others; or the number of
+    /// a clause that is false from the start.
     pub(crate) fn new(
         alloc: Global,
         formula: &'a Formula,
+        first: &[u32],
     ) -> Result<(Held<Search<'a>>, Option<u32>), NoMemory>
         ensures formula { IfOk result (λ begun. begun.0.base.formula.now ≡ formula.now) }
         ensures entries { IfOk result (λ begun. begun.0.base.entries ≡ []) }
@@ -46,7 +48,7 @@ impl<'a> Search<'a> {
         ensures whole { IfOk result (λ begun. begun.0.base.whole ≡ true) }
         ensures level { IfOk result (λ begun. begun.0.base.trail.starts ≡ []) }
     {
-        let (order, phases, marks) = tables(alloc, formula.vars())?;
+        let (order, phases, marks) = tables(alloc, formula.vars(), first)?;
         let (base, conflict) = Base::new(alloc, formula)?;
         let search = Search {
             base,
@@ -196,11 +198,15 @@ impl<'a> Search<'a> {
     }
 }
 
-/// The tables of the heuristics for the variables up to `vars`.
-fn tables(alloc: Global, vars: u32) -> Result<(ActivityOrder, Vec<bool>, Marks), NoMemory>
+/// The tables of the heuristics for the variables up to `vars`, those of `first` to be decided before others.
+fn tables(
+    alloc: Global,
+    vars: u32,
+    first: &[u32],
+) -> Result<(ActivityOrder, Vec<bool>, Marks), NoMemory>
     ensures { IfOk result (λ tables. IsEquipped vars tables.0 tables.1.items tables.2) }
 {
-    let order = ActivityOrder::new(alloc, vars)?;
+    let order = ActivityOrder::new(alloc, vars, first)?;
     let phases = vec![in alloc; FIRST_PHASE; vars as usize + 1]?;
     let marks = Marks::new(alloc, vars)?;
     Ok((order, phases, marks))
