@@ -1,5 +1,6 @@
 -- Computing the values of terms in order.
-use Rattle.std.proofs.Common.{◌≡◌, ℕ, zero, suc, ◌+◌, ◌<◌, ◌≤◌, ℤ, pos, List, [], ◌∷◌, ◌++◌, length, take, drop, fold, slice_get, Option, Some, None, Bool, true, false, refl, sym, ap, subst, ◌∙◌, arith, length-take, length-append, take_all, take-append_seam}
+use Rattle.std.proofs.Common.{◌≡◌, ℕ, zero, suc, ◌+◌, ◌<◌, ◌≤◌, ℤ, pos, List, [], ◌∷◌, ◌++◌, length, take, drop, fold, slice_get, Option, Some, None, Bool, true, false, refl, sym, ap, subst, ◌∙◌, arith, length-take, length-append, take_all}
+use Rattle.std.proofs.Math.Seq.{take-append_seam}
 use Rattle.std.specs.Option.{ForSome}
 use native.Mathlib.Numerals.{unary_clauses}
 use Rattle.std.proofs.Common.{get_or}

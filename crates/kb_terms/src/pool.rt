@@ -239,8 +239,8 @@ fn extend(nodes: &[Node], inputs: &[i32], computed: &mut Vec<i32>) -> Result<(),
     ensures all { OnOk result (computed.new.items ≡ values inputs.now nodes.now) }
     ensures front { AreFirstValues inputs.now nodes.now computed.new.items }
 {
-    while computed.len() < nodes.len() {
-        let value = node_value(nodes[computed.len()], inputs, computed);
+    while let Some(node) = nodes.get(computed.len()) {
+        let value = node_value(*node, inputs, computed);
         computed.push(value)?;
     }
     Ok(())
