@@ -22,8 +22,8 @@ use std::alloc::Global;
 pub(crate) enum Known {
     /// Nobody is asked.
     Open,
-    /// They are those that stood before.
-    Kept,
+    /// The values from before the take meet them.
+    Met,
     /// What an oracle has answered.
     Answered(Answer),
 }
@@ -52,7 +52,7 @@ pub(crate) fn follow(
 {
     match known {
         Known::Open => Ok(Next::Lists(path_of(alloc, taken.piece.get(), Leaf::Open)?)),
-        Known::Kept => follow_outcome(alloc, world, bounds, taken.piece, taken.outcome),
+        Known::Met => follow_outcome(alloc, world, bounds, taken.piece, taken.outcome),
         Known::Answered(answer) => follow_answer(alloc, world, bounds, taken, answer),
     }
 }
