@@ -26,7 +26,7 @@ use std::alloc::Global;
 const MOST_CLASSES: usize = 64;
 
 /// Why classes are not linked, or a method is not reached.
-#[derive(Debug, Drop)]
+#[derive(Drop)]
 pub enum LinkRefusal {
     /// More than 64 classes are given.
     TooMany,

@@ -14,7 +14,7 @@ use kb_world::World;
 use std::alloc::Global;
 
 /// Why a test is not run.
-#[derive(Debug, Drop)]
+#[derive(Drop)]
 pub enum ReplayStop {
     /// There is no such method.
     TestMethod,
@@ -26,7 +26,7 @@ pub enum ReplayStop {
 }
 
 /// The first test of several that is not run: its number, from 0, and why.
-#[derive(Debug, Drop)]
+#[derive(Drop)]
 pub struct BadTest {
     pub number: usize,
     pub stop: ReplayStop,
