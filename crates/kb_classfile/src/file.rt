@@ -39,7 +39,7 @@ pub struct Handler {
 }
 
 /// The Code attribute of a method (JVMS 8 section 4.7.3).
-#[derive(Debug, Drop)]
+#[derive(Drop)]
 pub struct Code {
     pub max_stack: u16,
     pub max_locals: u16,
@@ -60,7 +60,7 @@ pub const STATIC: u16 = 0x0008;
 
 /// A method: its access flags, the entries of its name and descriptor, and its code, where it has some
 /// (JVMS 8 section 4.6).
-#[derive(Debug, Drop)]
+#[derive(Drop)]
 pub struct Method {
     pub access: u16,
     pub name: u16,
@@ -72,7 +72,7 @@ pub struct Method {
 ///
 /// `pool` has the entry of each number, and Skipped at 0. `this` and `parent` are the numbers of the
 /// entries of the class and its superclass.
-#[derive(Debug, Drop)]
+#[derive(Drop)]
 pub struct ClassFile {
     pub major: u16,
     pub pool: Row<PoolEntry>,
