@@ -2,7 +2,7 @@ use Rattle.std.proofs.Common.{◌≡◌, ◌<◌, ◌≤◌, ◌-◌, true, fals
 use Rattle.kb_chain.specs.Propagation.{UnitRefutes}
 use Rattle.kb_eliminate.specs.Base.{Stands, IsReady}
 use Rattle.kb_sat.specs.Solver.{Equipped}
-use Rattle.kb_sat.proofs.solver.search_on.Given as goal
+use Rattle.kb_sat.proofs.solver.search_to_end.Given as goal
 
 abbrev pub invariant-loop-alloc : goal.invariant-loop-alloc
 invariant-loop-alloc l = record {
