@@ -13,9 +13,10 @@ ghost use Rattle.kb_world.specs.Reach.{IsAccepted};
 
 use endings::ending_text;
 use kb_class::MethodId;
+use kb_fits::fits_types;
 use kb_heap::{Ending, Heap};
 use kb_load::world_of;
-use kb_machine::{fits_types, run};
+use kb_machine::run;
 use kb_outside::{FileShelf, OutSink, Shelf, Sink, send_all};
 use kb_rows::Held;
 use kb_world::World;
