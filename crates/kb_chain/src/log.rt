@@ -17,7 +17,7 @@ pub struct Log {
 }
 
 /// The answer to the check of a log.
-#[derive(Clone, Copy, Debug, PartialEq, Eq)]
+#[derive(Clone, Copy, PartialEq, Eq)]
 pub enum Verdict {
     Good,
     /// The number of the first bad entry; or the number of all entries, where they are good one by one and miss the goal.

@@ -30,7 +30,7 @@ pub enum PoolEntry {
 
 /// A row of a handler table (JVMS 8 section 4.7.3): offsets into the code, and the entry of the class
 /// that is caught, or 0 for any.
-#[derive(Clone, Copy, Debug, PartialEq, Eq)]
+#[derive(Clone, Copy, PartialEq, Eq)]
 pub struct Handler {
     pub start: u16,
     pub end: u16,
@@ -48,7 +48,7 @@ pub struct Code {
 }
 
 /// A field: its access flags, and the entries of its name and descriptor (JVMS 8 section 4.5).
-#[derive(Clone, Copy, Debug, PartialEq, Eq)]
+#[derive(Clone, Copy, PartialEq, Eq)]
 pub struct Field {
     pub access: u16,
     pub name: u16,

@@ -8,13 +8,12 @@ ghost use Rattle.kb_world.specs.Reach.{IsAccepted};
 ghost use Rattle.kb_machine.specs.Turns.{begun, ending_told};
 
 use crate::NoMemory;
-use crate::frame::Frame;
-use crate::instructions::instruction_at;
-use crate::state::{Callers, State};
+use crate::state::State;
 use crate::turn::{Step, Turn};
 use kb_class::MethodId;
 use kb_heap::{Bound, Ending, Heap, Input, Object, Place, RunBounds};
 use kb_names::{MethodType, Name, SharedRow, Target};
+use kb_stack::{Callers, Frame, instruction_at};
 use kb_world::World;
 use std::alloc::Global;
 

@@ -5,9 +5,9 @@ ghost use Rattle.kb_link.specs.Targets.{IsTargetOf};
 
 use crate::NoMemory;
 use kb_class::MethodId;
+use kb_fits::fits_types;
 use kb_heap::Row;
 use kb_link::LinkRefusal;
-use kb_machine::fits_types;
 use kb_names::Target;
 use kb_test::Test;
 use kb_world::World;

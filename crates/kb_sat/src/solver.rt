@@ -7,7 +7,7 @@ ghost use Rattle.kb_chain.specs.Cnf.{Cnf};
 ghost use Rattle.kb_chain.specs.Propagation.{IsFresh, UnitRefutes};
 ghost use Rattle.kb_eliminate.specs.Base.{Stands, IsReady, IsComplete, IsDoomed};
 ghost use Rattle.kb_sat.specs.Solver.{Equipped, GoesOn};
-ghost use Rattle.kb_sat.specs.Answer.{Solves, BegunIs, EndedIs, KeepsAll, IfSat, IfUnsat, IfUndecided, IsOpenOnly, ProgressIs};
+ghost use Rattle.kb_sat.specs.Answer.{Solves, BegunIs, EndedIs, at_end, KeepsAll, IfSat, IfUnsat, IfUndecided, IsOpenOnly, ProgressIs};
 
 use crate::analysis::refute;
 use crate::counts::Counts;
@@ -249,6 +249,16 @@ fn counts_of(ended: &Ended<'_>) -> Counts {
     }
 }
 
+/// How a search ends, apart from its state.
+pub(crate) enum End {
+    /// All variables have a value.
+    Complete,
+    /// The clause of this number is false at level 0.
+    Doomed(u32),
+    /// The log has as many entries as the budget allows, and the clause of this number is false.
+    Spent(u32),
+}
+
 /// Searches until all variables have a value, a clause is false at level 0, or the budget is spent.
 fn search_on<'a>(
     alloc: Global,
@@ -265,18 +275,40 @@ fn search_on<'a>(
     ensures whole { IfOk result (λ ended. lets_go ≡ false → search.entry.base.whole ≡ true → KeepsAll ended) }
 {
     let mut search = search;
+    match search_to_end(alloc, search.get_mut(), budget, lets_go)? {
+        End::Complete => Ok(Ended::Complete(search)),
+        End::Doomed(number) => Ok(Ended::Doomed(search, number)),
+        End::Spent(number) => Ok(Ended::Spent(search, number)),
+    }
+}
+
+/// Searches on in place, and says how the search ends.
+fn search_to_end(
+    alloc: Global,
+    search: &mut Search<'_>,
+    budget: u32,
+    lets_go: bool,
+) -> Result<End, NoMemory>
+    requires budget { 0 < budget }
+    requires stands { Stands search.old.base }
+    requires equipped { Equipped search.old }
+    requires ready { IsReady search.old.base }
+    requires entries { search.old.base.whole ≡ true → search.old.base.entries ≡ [] }
+    ensures ended { IfOk result (λ end. EndedIs search.old.base.formula.now budget (at_end search.new end)) }
+    ensures whole { IfOk result (λ end. lets_go ≡ false → search.old.base.whole ≡ true → KeepsAll (at_end search.new end)) }
+{
     let mut pace = Pace::new();
     let mut crowding = Crowding::new();
-    while search.get().base.entries.as_slice().len() < budget as usize {
-        match advance(alloc, search.get_mut(), &mut pace)? {
-            Progress::Complete => return Ok(Ended::Complete(search)),
-            Progress::Doomed(number) => return Ok(Ended::Doomed(search, number)),
-            Progress::Learned => make_room(alloc, search.get_mut(), &mut crowding, lets_go)?,
+    while search.base.entries.as_slice().len() < budget as usize {
+        match advance(alloc, search, &mut pace)? {
+            Progress::Complete => return Ok(End::Complete),
+            Progress::Doomed(number) => return Ok(End::Doomed(number)),
+            Progress::Learned => make_room(alloc, search, &mut crowding, lets_go)?,
         }
     }
-    match search.get_mut().run()? {
-        None => Ok(Ended::Complete(search)),
-        Some(number) => Ok(Ended::Spent(search, number)),
+    match search.run()? {
+        None => Ok(End::Complete),
+        Some(number) => Ok(End::Spent(number)),
     }
 }
 

@@ -10,20 +10,20 @@ use Rattle.kb_grammar.specs.Lines.{lines_text}
 use Rattle.kb_heap.specs.declared.heap.Value.{Value}
 use Rattle.kb_heap.specs.declared.heap.Object.{Object}
 use Rattle.kb_heap.specs.declared.bounds.RunBounds.{RunBounds}
-use Rattle.kb_test.specs.declared.words.Reference.{Reference}
-use Rattle.kb_test.specs.declared.words.Reference.TheVariants.{Input, Literal, Made}
-use Rattle.kb_test.specs.declared.words.Word.{Word}
-use Rattle.kb_test.specs.declared.words.Word.TheVariants.{Int, Null, Object as object_word}
-use Rattle.kb_test.specs.declared.words.Limits.{Limits}
-use Rattle.kb_test.specs.declared.lines.Listed.{Listed}
-use Rattle.kb_test.specs.declared.outcomes.RunBound.TheVariants.{Alloc, Loops, Depth, Steps}
-use Rattle.kb_test.specs.declared.outcomes.Outcome.{Outcome}
-use Rattle.kb_test.specs.declared.outcomes.Outcome.TheVariants.{Returns, Throws, IllTyped, Past}
+use Rattle.kb_test_lines.specs.declared.words.Reference.{Reference}
+use Rattle.kb_test_lines.specs.declared.words.Reference.TheVariants.{Input, Literal, Made}
+use Rattle.kb_test_lines.specs.declared.words.Word.{Word}
+use Rattle.kb_test_lines.specs.declared.words.Word.TheVariants.{Int, Null, Object as object_word}
+use Rattle.kb_test_lines.specs.declared.words.Limits.{Limits}
+use Rattle.kb_test_lines.specs.declared.lines.Listed.{Listed}
+use Rattle.kb_test_lines.specs.declared.outcomes.RunBound.TheVariants.{Alloc, Loops, Depth, Steps}
+use Rattle.kb_test_lines.specs.declared.outcomes.Outcome.{Outcome}
+use Rattle.kb_test_lines.specs.declared.outcomes.Outcome.TheVariants.{Returns, Throws, IllTyped, Past}
 use Rattle.kb_test.specs.declared.script.Script.{Script}
 use Rattle.kb_test.specs.declared.test_case.Test.{Test}
-use Rattle.kb_test.specs.Words.{is_below, word_below, words_below}
-use Rattle.kb_test.specs.Lines.{listed_below, outcome_below}
-use Rattle.kb_test.specs.Scripts.{limits_of, IsScript, AreScripts, scripts_lines, texts_of}
+use Rattle.kb_test_lines.specs.Words.{is_below, word_below, words_below}
+use Rattle.kb_test_lines.specs.Lines.{listed_below, outcome_below, texts_of}
+use Rattle.kb_test.specs.Scripts.{limits_of, IsScript, AreScripts, scripts_lines}
 use Rattle.kb_heap.specs.Heap.{literal}
 use Rattle.kb_test.specs.Tests.{number_of, value_of, values_of, object_of, objects_of, last_objects, ending_of, literal_objects, test_of, tests_of, SpellsTests}
 use Rattle.kb_test.specs.Writing.{reference_of, word_of, words_of, listed_of, listeds_of, outs_of, news_of}

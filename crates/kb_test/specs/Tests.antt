@@ -14,17 +14,17 @@ use Rattle.kb_heap.specs.declared.bounds.Bound.{Bound}
 use Rattle.kb_heap.specs.declared.bounds.Bound.TheVariants.{K, Array, Alloc, Loops, Depth, Steps}
 use Rattle.kb_heap.specs.declared.ending.Ending.{Ending}
 use Rattle.kb_heap.specs.declared.ending.Ending.TheVariants.{Returned, Threw, IllTyped, Past}
-use Rattle.kb_test.specs.Lines.{IsExact, IsRunBounds, IsPlace}
-use Rattle.kb_test.specs.Scripts.{AreScripts, scripts_lines, texts_of}
-use Rattle.kb_test.specs.declared.words.Reference.{Reference}
-use Rattle.kb_test.specs.declared.words.Reference.TheVariants.{Input, Literal, Made}
-use Rattle.kb_test.specs.declared.words.Word.{Word}
-use Rattle.kb_test.specs.declared.words.Word.TheVariants.{Int as int_word, Null as null_word, Object as object_word}
-use Rattle.kb_test.specs.declared.lines.Listed.{Listed}
-use Rattle.kb_test.specs.declared.outcomes.RunBound.{RunBound}
-use Rattle.kb_test.specs.declared.outcomes.RunBound.TheVariants.{Alloc as alloc_bound, Loops as loops_bound, Depth as depth_bound, Steps as steps_bound}
-use Rattle.kb_test.specs.declared.outcomes.Outcome.{Outcome}
-use Rattle.kb_test.specs.declared.outcomes.Outcome.TheVariants.{Returns, Throws, IllTyped as ill_typed_at, Past as past_bound}
+use Rattle.kb_test_lines.specs.Lines.{IsExact, IsRunBounds, IsPlace, texts_of}
+use Rattle.kb_test.specs.Scripts.{AreScripts, scripts_lines}
+use Rattle.kb_test_lines.specs.declared.words.Reference.{Reference}
+use Rattle.kb_test_lines.specs.declared.words.Reference.TheVariants.{Input, Literal, Made}
+use Rattle.kb_test_lines.specs.declared.words.Word.{Word}
+use Rattle.kb_test_lines.specs.declared.words.Word.TheVariants.{Int as int_word, Null as null_word, Object as object_word}
+use Rattle.kb_test_lines.specs.declared.lines.Listed.{Listed}
+use Rattle.kb_test_lines.specs.declared.outcomes.RunBound.{RunBound}
+use Rattle.kb_test_lines.specs.declared.outcomes.RunBound.TheVariants.{Alloc as alloc_bound, Loops as loops_bound, Depth as depth_bound, Steps as steps_bound}
+use Rattle.kb_test_lines.specs.declared.outcomes.Outcome.{Outcome}
+use Rattle.kb_test_lines.specs.declared.outcomes.Outcome.TheVariants.{Returns, Throws, IllTyped as ill_typed_at, Past as past_bound}
 use Rattle.kb_test.specs.declared.script.Script.{Script}
 use Rattle.kb_test.specs.declared.test_case.Test.{Test}
 

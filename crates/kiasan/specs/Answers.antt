@@ -1,6 +1,6 @@
 -- What the program answers. It goes by stages: the words, the reading of their files, the classes, their world, the texts, the
 -- methods that are reached, and the exploration or the runs. The first stage that refuses gives the answer.
-use Rattle.std.specs.Prelude.{◌≡◌, ℕ, ◌+◌, ◌<◌, ◌≤◌, ◌⊎◌, List, [], ◌∷◌, ◌++◌, length, take, Option, Some, IfSome, IsSome, Result, Err}
+use Rattle.std.specs.Prelude.{◌≡◌, ℕ, ◌+◌, ◌<◌, ◌≤◌, ◌⊎◌, List, [], ◌∷◌, ◌++◌, length, take, Option, Some, IfSome, IsSome, Result, Ok, Err}
 use Rattle.std.specs.List.{AllByRecursion}
 use Rattle.kb_class.specs.declared.given.GivenClass.{GivenClass}
 use Rattle.kb_class.specs.declared.ids.MethodId.{MethodId}
@@ -20,6 +20,8 @@ use Rattle.kb_link.specs.Links.{Links, RefusesLink}
 use Rattle.kb_link.specs.World.{World}
 use Rattle.kiasan.specs.declared.answer.Contents.{Contents}
 use Rattle.kiasan.specs.declared.refusals.Answer.{Answer}
+use Rattle.kiasan.specs.declared.refusals.Fault.{Fault}
+use Rattle.kiasan.specs.declared.refusals.Fault.TheVariants as faults
 use Rattle.kiasan.specs.declared.refusals.Refusal.{Refusal}
 use Rattle.kiasan.specs.declared.refusals.Refusal.TheVariants.{AssemblyLine, TestLine, LongText, Unbuilt}
 use Rattle.kiasan.specs.declared.refusals.Stop.{Stop}
@@ -219,6 +221,13 @@ IsReadFault before now files sound = Rose before now × HasUnsound files sound
 -- a part that refuses nothing: what it comes to is this, unless memory ran out or a file could not be read
 abbrev pub IsOf : {A : Type 0} → Type 0 → (A → Type 0) → Result A Stop → Type 0
 IsOf Fault Passes result = Gives Fault RefusesNothing Passes result
+
+-- what a stop comes to: the answer of its refusal, unless memory ran out; or the fault for which there is none
+abbrev pub ComesTo : Stop → Result Answer Fault → Type 0
+ComesTo (Refused refusal) (Ok answer) = (answer.status ≡ refusal_status refusal) × (answer.text.items ≡ refusal_line refusal)
+ComesTo (Refused refusal) (Err fault) = fault ≡ faults.NoMemory
+ComesTo stops.ReadFault result = result ≡ Err faults.Read
+ComesTo stops.NoMemory result = result ≡ Err faults.NoMemory
 
 abbrev pub IsReadFaultOrNoMemory : Stop → Type 0
 IsReadFaultOrNoMemory (Refused refusal) = ⊥
