@@ -12,7 +12,7 @@ use crate::classes::{link_classes, read_classes};
 use crate::methods::{answer_report, answer_tests};
 use crate::orders::{classes_of, read_order, texts_of};
 use crate::ranges::tell_files;
-use crate::refusals::{Answer, Fault, Stop, answer_stop};
+use crate::refusals::{Answer, Fault, Stop, settle};
 use crate::replay::replay;
 use kb_outside::{Shelf, ShelfStop};
 use kb_rows::Row;
@@ -48,7 +48,7 @@ pub fn answer_words<S: Shelf>(
 {
     match carry_out(alloc, words, shelf) {
         Ok(answer) => Ok(answer),
-        Err(stop) => answer_stop(alloc, &stop),
+        Err(stop) => settle(alloc, stop),
     }
 }
 

@@ -268,7 +268,14 @@ pub enum Fault {
 }
 
 /// What a stop comes to: the answer of its refusal, or no answer.
-pub fn answer_stop(alloc: Global, stop: &Stop) -> Result<Answer, Fault>
+pub fn settle(alloc: Global, stop: Stop) -> Result<Answer, Fault>
+    ensures { ComesTo stop result }
+{
+    answer_stop(alloc, &stop)
+}
+
+// What a stop that is lent comes to.
+fn answer_stop(alloc: Global, stop: &Stop) -> Result<Answer, Fault>
     ensures { ComesTo stop.now result }
 {
     match stop {
