@@ -22,8 +22,8 @@ add_method-requires-clause-method c = array_told c.args.self.now c.args.method.0
 pub returns : goal.returns
 returns c =
     let both : with_all c.add_for_classes.new.found (filter_map (if_code c.args.self.now) (option_map (λ (id : MethodId). id.0) c.select_on_array.result ∷ []))
-        ≡ with_all c.args.found.now (filter_map (if_code c.args.self.now) (called_on c.args.self.now c.args.of.now c.args.method.0)) =
-        ap (λ (f : FoundMethods). with_all f (filter_map (if_code c.args.self.now) (option_map (λ (id : MethodId). id.0) c.select_on_array.result ∷ []))) c.in_ok-add_for_classes.ensures
-        ∙ ap (λ (o : Option ℕ). with_all (with_all c.args.found.now (filter_map (if_code c.args.self.now) (called_among c.args.self.now c.args.of.now c.args.method.0 (class_types c.args.self.now.universe)))) (filter_map (if_code c.args.self.now) (o ∷ []))) c.select_on_array.ensures
-        ∙ with_array c.args.self.now c.args.of.now c.args.method.0 c.has_array_receiver.ensures.linked.universe c.args.found.now (sym c.has_array_receiver.ensures.told ∙ c.if-not-has_array_receiver.false) in
+    ≡ with_all c.args.found.now (filter_map (if_code c.args.self.now) (called_on c.args.self.now c.args.of.now c.args.method.0)) =
+    ap (λ (f : FoundMethods). with_all f (filter_map (if_code c.args.self.now) (option_map (λ (id : MethodId). id.0) c.select_on_array.result ∷ []))) c.in_ok-add_for_classes.ensures
+    ∙ ap (λ (o : Option ℕ). with_all (with_all c.args.found.now (filter_map (if_code c.args.self.now) (called_among c.args.self.now c.args.of.now c.args.method.0 (class_types c.args.self.now.universe)))) (filter_map (if_code c.args.self.now) (o ∷ []))) c.select_on_array.ensures
+    ∙ with_array c.args.self.now c.args.of.now c.args.method.0 c.has_array_receiver.ensures.linked.universe c.args.found.now (sym c.has_array_receiver.ensures.told ∙ c.if-not-has_array_receiver.false) in
     subst (λ (f : FoundMethods). OnOk c.add_method.result (c.add_method.new.found ≡ f)) both c.add_method.ensures
