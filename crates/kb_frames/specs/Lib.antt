@@ -12,6 +12,5 @@ pub mod Lent
 pub mod Paths
 pub mod Comparing
 pub mod Meant
-pub mod Measure
 pub mod Making
 pub mod Endings

@@ -34,8 +34,8 @@ use Rattle.kb_frames.specs.Next.{argument_next}
 use Rattle.kb_frames.specs.StandsFor.{IsInstanceOf, StageStandsFor, StandsFor, reading_at, value_of_sym, values_of_sym}
 use Rattle.kb_frames.specs.State.{State}
 use Rattle.kb_frames.specs.States.{IsBeginning, IsStage, IsState}
-use Rattle.kb_stepint.proofs.OneInstances.{hold_last, many_values, read_met, shape_more, value_inputs, variables_more}
-use Rattle.kb_stepint.proofs.OutcomeValues.{IsLater, heap_later, values_later}
+use Rattle.kb_ways.proofs.OneInstances.{hold_last, many_values, read_met, shape_more, value_inputs, variables_more}
+use Rattle.kb_ways.proofs.OutcomeValues.{IsLater, heap_later, values_later}
 
 take_more : {A : Type 0} (xs : List A) (n : ℕ) (x : A) → slice_get xs n ≡ Some x → take n xs ++ x ∷ [] ≡ take (suc n) xs
 take_more [] n x e = absurd cc

@@ -57,9 +57,9 @@ use Rattle.kb_frames.specs.Next.{is_reference}
 use Rattle.kb_frames.specs.State.{State, cell_at}
 use Rattle.kb_frames.specs.States.{Each, HasCells, IsBeginning, IsCell, IsStage, IsSymValue, IsTouched}
 use Rattle.kb_frames.proofs.FormedPaths.{variables-same}
-use Rattle.kb_stepint.specs.Reached.{HasReadReceiver}
-use Rattle.kb_stepint.proofs.ItemLaws.{each_append, each_cons, each_copy, no_items}
-use Rattle.kb_stepint.proofs.SoundLaws.{Sound, sound_reached}
+use Rattle.kb_ways.specs.Reached.{HasReadReceiver}
+use Rattle.kb_ways.proofs.ItemLaws.{each_append, each_cons, each_copy, no_items}
+use Rattle.kb_ways.proofs.SoundLaws.{Sound, sound_reached}
 use Rattle.kb_stepref.specs.Choices.{alternatives, is_receiver}
 use Rattle.kb_stepref.specs.Laws.{AreInRange, IsAtReferences}
 use Rattle.kb_stepref.specs.Questions.{Reads, question_of}

@@ -29,15 +29,15 @@ use Rattle.kb_frames.specs.Lent.{begun, read_count, read_int}
 use Rattle.kb_frames.specs.Next.{argument_next, is_reference, next_is_int}
 use Rattle.kb_frames.specs.State.{State}
 use Rattle.kb_stepint.specs.Laws.{IsAtInts}
-use Rattle.kb_stepint.specs.Needs.{CanStep}
-use Rattle.kb_stepint.specs.Reached.{IsReached}
-use Rattle.kb_stepint.specs.Simulation.{HasInputOfState, Keeps}
+use Rattle.kb_ways.specs.Needs.{CanStep}
+use Rattle.kb_ways.specs.Reached.{IsReached}
+use Rattle.kb_ways.specs.Simulation.{HasInputOfState, Keeps}
 use Rattle.kb_stepint.specs.Takes.{taken as int_taken, takes_next as int_takes_next}
-use Rattle.kb_stepint.specs.Ways.{Take}
+use Rattle.kb_ways.specs.Ways.{Take}
 use Rattle.kb_stepint.proofs.KeepLaws.{kept as int_kept, takes_next_stays}
 use Rattle.kb_stepint.proofs.ReachedLaws.{is_reached as int_is_reached}
-use Rattle.kb_stepint.proofs.SoundLaws.{Sound, begun_sound, reached_sound, sound_reached}
-use Rattle.kb_stepint.proofs.TakeLaws.{sound_terms}
+use Rattle.kb_ways.proofs.SoundLaws.{Sound, begun_sound, reached_sound, sound_reached}
+use Rattle.kb_ways.proofs.TakeLaws.{sound_terms}
 use Rattle.kb_stepref.specs.Choices.{alternatives, is_receiver, only}
 use Rattle.kb_stepref.specs.HeapMethods.{is_heap_method}
 use Rattle.kb_stepref.specs.Laws.{AreInRange, GoesOnReached, IsAtReferences, OfTakes}

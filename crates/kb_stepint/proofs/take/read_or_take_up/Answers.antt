@@ -1,6 +1,6 @@
 use Rattle.std.proofs.Common.{ℕ, ◌<◌, sym, subst}
-use Rattle.kb_stepint.specs.Needs.{CanStep}
-use Rattle.kb_stepint.proofs.TakeLaws.{can_step}
+use Rattle.kb_ways.specs.Needs.{CanStep}
+use Rattle.kb_ways.proofs.TakeLaws.{can_step}
 use Rattle.kb_stepint.proofs.take.read_or_take_up.Goals as goal
 
 pub take_up-requires : goal.take_up-requires
