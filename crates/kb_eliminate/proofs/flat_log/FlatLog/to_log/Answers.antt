@@ -1,4 +1,4 @@
-use Rattle.std.proofs.Common.{◌≡◌, ◌∙◌, ap, sym, length, take, [], ◌∷◌, ◌++◌, arith}
+use Rattle.std.proofs.Common.{◌∙◌, ap, sym, take, [], ◌∷◌, ◌++◌, arith}
 use Rattle.std.proofs.lemmas.List.{take_more, take_all}
 use Rattle.kb_eliminate.proofs.Places.{at_get_or, at_inside}
 use Rattle.kb_eliminate.proofs.flat_log.FlatLog.to_log.Goals as goal
