@@ -1,5 +1,5 @@
 #!/usr/bin/env python3
-"""Times kb_picture's `places`, `is_instance` and `ending_at`, and kb_machine's `fits_types` beside them, on chains of 10 to 10,000
+"""Times kb_picture's `places`, `is_instance` and `ending_at`, and kb_fits's `fits_types` beside them, on chains of 10 to 10,000
 objects.
 
 The input is a list of so many nodes, of which the receiver is the first. The path sees both slots of each node: its int, and
@@ -12,7 +12,7 @@ run which only makes path and input. The goals: ten times as many objects take a
 takes at most five times as long as `fits_types`.
 
 Usage: bench/pictures.py [--runs N]
-The first run takes as long as the proofs of kb_picture, kb_machine and the crates below them take, unless a checkout on this
+The first run takes as long as the proofs of kb_picture, kb_fits and the crates below them take, unless a checkout on this
 machine has kept them.
 """
 
@@ -23,7 +23,7 @@ from built import ROOT, Program, with_main, with_those_below
 
 NAME = "picturing"
 CRATES = with_those_below(
-    f"{NAME}: kb_class kb_heap kb_load kb_machine kb_names kb_picture kb_rows kb_terms kb_world"
+    f"{NAME}: kb_class kb_fits kb_heap kb_load kb_names kb_picture kb_rows kb_terms kb_world"
 )
 
 SOURCE = with_main("""\
@@ -34,9 +34,9 @@ ghost use Rattle.std.specs.Prelude.{◌≡◌, Some};
 ghost use Rattle.kb_picture.specs.Places.{places_of};
 
 use kb_class::MethodId;
+use kb_fits::fits_types;
 use kb_heap::{Heap, Input, Object, Value};
 use kb_load::world_of;
-use kb_machine::fits_types;
 use kb_names::{ExactType, Name, read_target};
 use kb_picture::{
     Ended, Leaf, Length, Origin, Out, Path, PicObject, Picture, PlaceLists, Seen, SymEnding,

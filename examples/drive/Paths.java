@@ -89,4 +89,104 @@ class Paths {
         }
         return result;
     }
+
+    /** Two products of which neither is 3, whatever the ints are. */
+    static int squares(int x, int y) {
+        if (x * x == 3) {
+            return 1;
+        }
+        if (y * y == 3) {
+            return 2;
+        }
+        return 0;
+    }
+
+    /** A switch of which 0 is a key. */
+    static int zero(int x) {
+        switch (x) {
+            case 0:
+                return 1;
+            case 3:
+                return 2;
+            default:
+                return 3;
+        }
+    }
+
+    /** A switch of which 0 is the last key. */
+    static int near(int x) {
+        switch (x) {
+            case -1:
+                return 1;
+            case 0:
+                return 2;
+            default:
+                return 3;
+        }
+    }
+
+    /** The int that meets the first comparison meets the next two. */
+    static int deep(int x) {
+        if (x == 9) {
+            if (x > 3) {
+                if (x < 20) {
+                    return 1;
+                }
+                return 2;
+            }
+            return 3;
+        }
+        return 4;
+    }
+
+    /** Two comparisons of which none says anything of the other. */
+    static int signs(int a, int b) {
+        int set = 0;
+        if (a < 0) {
+            set = set + 1;
+        }
+        if (b < 0) {
+            set = set + 2;
+        }
+        return set;
+    }
+
+    /** Three such comparisons. */
+    static int signs(int a, int b, int c) {
+        int set = 0;
+        if (a < 0) {
+            set = set + 1;
+        }
+        if (b < 0) {
+            set = set + 2;
+        }
+        if (c < 0) {
+            set = set + 4;
+        }
+        return set;
+    }
+
+    /** Six such comparisons. */
+    static int signs(int a, int b, int c, int d, int e, int f) {
+        int set = 0;
+        if (a < 0) {
+            set = set + 1;
+        }
+        if (b < 0) {
+            set = set + 2;
+        }
+        if (c < 0) {
+            set = set + 4;
+        }
+        if (d < 0) {
+            set = set + 8;
+        }
+        if (e < 0) {
+            set = set + 16;
+        }
+        if (f < 0) {
+            set = set + 32;
+        }
+        return set;
+    }
 }

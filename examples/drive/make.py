@@ -20,11 +20,11 @@ TRUE, FALSE = 1, -1
 
 
 class Formula:
-    """The formula of conditions on one int: variable 1 is true, and the bits of the int come behind it (Tseitin, 1968)."""
+    """The formula of conditions on ints: variable 1 is true, and the bits of the ints come behind it (Tseitin, 1968)."""
 
-    def __init__(self):
-        self.clauses, self.last = [[TRUE]], 33
-        self.int = list(range(2, 34))
+    def __init__(self, ints):
+        self.clauses, self.last = [[TRUE]], 1 + 32 * ints
+        self.ints = [list(range(first, first + 32)) for first in range(2, self.last, 32)]
 
     def add(self, *clauses):
         self.clauses += [list(dict.fromkeys(clause)) for clause in clauses]
@@ -65,12 +65,12 @@ class Formula:
         return e
 
 
-def square_is(number, truth):
-    """The formula of the condition that the square of an int is that number, or is not."""
-    formula = Formula()
-    bits = [TRUE if number >> i & 1 else FALSE for i in range(32)]
-    equal = formula.equal(formula.product(formula.int, formula.int), bits)
-    formula.add([equal if truth else -equal])
+def squares_are_3(truths):
+    """The formula of conditions on as many ints: that the square of each is 3, or is not."""
+    formula = Formula(len(truths))
+    bits = [TRUE if 3 >> i & 1 else FALSE for i in range(32)]
+    equals = [formula.equal(formula.product(each, each), bits) for each in formula.ints]
+    formula.add(*([equal if truth else -equal] for equal, truth in zip(equals, truths)))
     return formula
 
 
@@ -126,13 +126,15 @@ def chains(text):
 
 
 def judge_logs():
-    """A log leaves a query undecided where it is fresh and spends the budget; the first call asks whether the square is 3."""
+    """A log leaves a query undecided where it is fresh and spends the budget. The first call asks whether the square of an int is 3,
+    the second one, behind that it is not, whether another one is."""
+    asked = {"0": squares_are_3([True]), "1": squares_are_3([False, True])}
     for block in re.split(r"^> ", (CRATE / "stdout").read_text(), flags=re.MULTILINE)[1:]:
         row, first = block.splitlines()[:2]
         told = re.findall(r"(\d):log:(\S+)", row)
         if told and first.startswith("path "):
             budget = int(re.search(r"budget=(\d+)", row)[1])
-            logs = [(square_is(3, call == "0"), chains(text)) for call, text in told]
+            logs = [(asked[call], chains(text)) for call, text in told]
             fresh = [is_fresh(formula, log) and len(log) == budget for formula, log in logs]
             assert block.count("| undecided") == sum(fresh), row
             print(row, fresh)

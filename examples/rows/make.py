@@ -351,6 +351,25 @@ def class_t():
     return front + struct.pack(">HHHHH", 0x21, 2, 4, 0, 3) + fields + struct.pack(">H", 3) + methods + b"\0\0"
 
 
+def class_d():
+    """Class D, whose methods `void m()` and `static void m(int)` have the text `m` of two entries, 6 and 8. It names the array types
+    `[[[[LD;` and `[[LD;`. Its static methods take a D: t calls m() by invokevirtual, at 5 by invokespecial and at 8 by
+    invokestatic, u calls m(int) by invokestatic and at 6 by invokevirtual, and v calls each as it may be called."""
+    entries = [utf8(b"D"), b"\7\0\1", utf8(b"java/lang/Object"), b"\7\0\3", utf8(b"Code"), utf8(b"m"), utf8(b"()V"), utf8(b"m")]
+    entries += [utf8(b"(I)V"), b"\x0c\0\6\0\x09", b"\x0a\0\2\0\x0a", b"\x0c\0\x08\0\7", b"\x0a\0\2\0\x0c"]
+    entries += [utf8(b"[[[[LD;"), b"\7\0\x0e", utf8(b"[[LD;"), b"\7\0\x10", utf8(b"t"), utf8(b"(LD;)V"), utf8(b"u"), utf8(b"v")]
+    instance = method(6, 7, b"\xb1", 0, 1)
+    methods = [
+        b"\0\0" + instance[2:],
+        method(8, 9, b"\xb1", 0, 1),
+        method(18, 19, b"\x2a\xb6\0\x0d\x2a\xb7\0\x0d\xb8\0\x0d\xb1", 1, 1),
+        method(20, 19, b"\x03\xb8\0\x0b\x2a\x03\xb6\0\x0b\xb1", 2, 1),
+        method(21, 19, b"\x2a\xb6\0\x0d\x2a\xb7\0\x0d\x03\xb8\0\x0b\xb1", 1, 1),
+    ]
+    front = struct.pack(">IHHH", 0xCAFEBABE, 0, 52, len(entries) + 1) + b"".join(entries)
+    return front + struct.pack(">HHHHHH", 0x21, 2, 4, 0, 0, len(methods)) + b"".join(methods) + b"\0\0"
+
+
 def for_worlds():
     """Class one is below two, and low below the interface six; java/lang/Object is above the others."""
     return {
@@ -359,6 +378,7 @@ def for_worlds():
         "low.class": class_of_pattern(b"low", b"six", extends=6, implements=4),
         "six.class": class_of_pattern(b"six", extends=6, flags=0x621),
         "T.class": class_t(),
+        "D.class": class_d(),
         "plain_a.class": CLASS_A,
         "plain_b.class": CLASS_B,
     }

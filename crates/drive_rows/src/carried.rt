@@ -6,8 +6,9 @@ ghost use Rattle.kb_world.specs.Reach.{IsAccepted};
 
 use crate::rows::TableRow;
 use kb_class::MethodId;
+use kb_fits::fits_types;
 use kb_heap::{Ending, Heap, Input};
-use kb_machine::{fits_types, run};
+use kb_machine::run;
 use kb_picture::{Leaf, Path, PlaceLists, ending_at, is_instance, places};
 use kb_report::Report;
 use kb_table::{RowResult, RowStop};

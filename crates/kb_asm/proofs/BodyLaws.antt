@@ -1,9 +1,8 @@
 -- The lines of a text of a class: the first names the class, and the bodies of methods are whole and sound.
-use Rattle.std.proofs.Common.{◌≡◌, ℕ, ◌+◌, ◌^◌, ◌<◌, ◌≤◌, Bool, true, List, [], ◌∷◌, length, Option, None, Some, IfSome, refl, sym, subst, ◌∙◌, arith, ltb-true, lt-ltb}
+use Rattle.std.proofs.Common.{◌≡◌, ℕ, ◌+◌, ◌^◌, ◌<◌, ◌≤◌, Bool, true, List, [], ◌∷◌, length, Option, None, Some, IfSome, refl, sym, subst, arith, ltb-true, lt-ltb}
 use Rattle.std.specs.Option.{option_map, option_and_then}
 use Rattle.kb_asm_text.specs.declared.line.Sizes.{Sizes}
 use Rattle.kb_asm_text.specs.declared.line.MethodHead.{MethodHead}
-use Rattle.kb_asm_text.specs.declared.line.BodyLine.{BodyLine}
 use Rattle.kb_asm_text.specs.declared.line.Line.{Line}
 use Rattle.kb_asm_text.specs.declared.line.Line.TheVariants as lines
 use Rattle.kb_asm_text.specs.declared.place.Place.{Place}
@@ -14,7 +13,7 @@ use Rattle.kb_asm_check.specs.Limits.{Standing, are_few, with_line, nothing}
 use Rattle.kb_asm_check.specs.Faults.{body_of, is_ended, fault_behind, fault_at, or_else, fault_from}
 use Rattle.kb_asm.specs.Parts.{parts}
 use Rattle.kb_asm.specs.Class.{handler_in}
-use Rattle.kb_asm.specs.Working.{AreText, BeginsClass, AreCounted, IsSoundBody, IsSoundAt, AreSound}
+use Rattle.kb_asm.specs.Working.{AreText, BeginsClass, IsSoundBody, IsSoundAt, AreSound}
 use Rattle.kb_asm.proofs.KeptLaws.{AllKept, lines_kept, fits_few, handlers_kept}
 
 same_place : (one other : Place) → Some one ≡ Some other → one ≡ other

@@ -1,4 +1,4 @@
--- Bodies without a faulty line: where their lines stand, where their labels lead, and what of their instructions can be written.
+-- Bodies without a faulty line: where their lines stand, where their labels lead, and that their instructions can be written.
 use Rattle.std.proofs.Common.{◌≡◌, ℕ, ℤ, zero, suc, ◌+◌, ◌*◌, ◌^◌, ◌<◌, ◌≤◌, Bool, true, false, true≢false, not, ◌&&◌, ◌||◌, ◌==◌, nat_le, nat_lt, if◌then◌else◌, List, [], ◌∷◌, length, Option, None, Some, is_some, refl, sym, ap, subst, ◌∙◌, arith}
 use Rattle.std.specs.Prelude.{int_lt}
 use Rattle.std.specs.List.{AllZip, list_all, list_any}

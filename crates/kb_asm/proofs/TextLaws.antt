@@ -1,4 +1,4 @@
--- The lines of a text can be written: words spell their operands, calls have few words, and the constants of ldc lines are first.
+-- The lines of a text can be written: words spell their operands, calls have few words, and ldc constants are the first.
 use Rattle.std.proofs.Common.{◌≡◌, ℕ, Bool, true, false, List, [], ◌∷◌, refl, sym, subst, if◌then◌else◌, flat_map}
 use Rattle.std.specs.List.{AllByRecursion}
 use Rattle.std.proofs.lemmas.Bool.{and_parts, and_from}

@@ -50,7 +50,8 @@ Agree Means _ _ = ⊥
 abbrev pub IsFormed : ℕ → Operand → Type 0
 IsFormed op operand = (words : List (List ℕ)) × SpellsOperand (shape_of (form_of op)) operand words
 
--- the arguments of an invokeinterface take few words, and the constant of an ldc has a number of one byte in the pool
+-- An instruction that can be written over a pool that says this: some words spell its operand, the arguments of an
+-- invokeinterface take few words, and the constant of an ldc has a number of one byte.
 pub record IsFit (says : List Says) (op : ℕ) (operand : Operand) : Type 0 where
   pub formed : IsFormed op operand
   pub few : has_few_words (lines.Body (bodies.Instr op operand)) ≡ true

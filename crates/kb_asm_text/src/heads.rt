@@ -1,10 +1,11 @@
 //! The lines of a class and its members, and the rows of handler tables.
 
-ghost use Rattle.std.specs.Prelude.{◌≡◌, Some, IfOk, MatchOption};
+ghost use Rattle.std.specs.Prelude.{◌≡◌, ℕ, List, Option, Some, IfOk, MatchOption};
 ghost use Rattle.kb_asm_text.specs.Words.{IsReadAs};
 ghost use Rattle.kb_asm_text.specs.declared.line.MethodHead.{MethodHead};
 ghost use Rattle.kb_asm_text.specs.declared.line.Sizes.{Sizes};
-ghost use Rattle.kb_asm_text.specs.Lines.{SpellsClassHead, SpellsFieldHead, SpellsMember, SpellsSized, SpellsMethodHead, SpellsCatch};
+ghost use Rattle.kb_asm_text.specs.Tokens.{SpellsLabel};
+ghost use Rattle.kb_asm_text.specs.Lines.{SpellsClassHead, SpellsFieldHead, SpellsMember, SpellsSized, SpellsMethodHead, SpellsCatch, SpellsCaught};
 
 use crate::NoMemory;
 use crate::line::{Catch, ClassHead, FieldHead, MethodHead, Sizes};
@@ -12,6 +13,7 @@ use crate::names::{read_caught, read_label, read_method_type, read_text, read_ty
 use crate::tokens::read_flags;
 use crate::words::{five_words, four_words, three_words};
 use kb_grammar::number_within;
+use kb_names::Name;
 use kb_rows::Row;
 use std::alloc::Global;
 
@@ -125,16 +127,10 @@ pub(crate) fn read_catch(alloc: Global, words: &[Row<u8>]) -> Result<Option<Catc
     let Some((start, end, target, class)) = four_words(words) else {
         return Ok(None);
     };
-    let Some(start) = read_label(alloc, start)? else {
+    let Some((start, end)) = read_range(alloc, start, end)? else {
         return Ok(None);
     };
-    let Some(end) = read_label(alloc, end)? else {
-        return Ok(None);
-    };
-    let Some(target) = read_label(alloc, target)? else {
-        return Ok(None);
-    };
-    let Some(class) = read_caught(alloc, class)? else {
+    let Some((target, class)) = read_landing(alloc, target, class)? else {
         return Ok(None);
     };
     Ok(Some(Catch {
@@ -143,4 +139,38 @@ pub(crate) fn read_catch(alloc: Global, words: &[Row<u8>]) -> Result<Option<Catc
         target,
         class,
     }))
+}
+
+/// The labels of the range of a handler.
+fn read_range(alloc: Global, start: &[u8], end: &[u8]) -> Result<Option<(Name, Name)>, NoMemory>
+    ensures { IfOk result (λ read. MatchOption read
+        ((first last : List ℕ) → SpellsLabel first start.now → SpellsLabel last end.now → ⊥)
+        (λ range. SpellsLabel range.0 start.now × SpellsLabel range.1 end.now)) }
+{
+    let Some(start) = read_label(alloc, start)? else {
+        return Ok(None);
+    };
+    let Some(end) = read_label(alloc, end)? else {
+        return Ok(None);
+    };
+    Ok(Some((start, end)))
+}
+
+/// The label where a handler goes on, and the class that it catches, or any.
+fn read_landing(
+    alloc: Global,
+    target: &[u8],
+    class: &[u8],
+) -> Result<Option<(Name, Option<Name>)>, NoMemory>
+    ensures { IfOk result (λ read. MatchOption read
+        ((label : List ℕ) (caught : Option (List ℕ)) → SpellsLabel label target.now → SpellsCaught caught class.now → ⊥)
+        (λ landing. SpellsLabel landing.0 target.now × SpellsCaught landing.1 class.now)) }
+{
+    let Some(target) = read_label(alloc, target)? else {
+        return Ok(None);
+    };
+    let Some(class) = read_caught(alloc, class)? else {
+        return Ok(None);
+    };
+    Ok(Some((target, class)))
 }

@@ -1,7 +1,8 @@
 //! Texts are read, line by line.
 
-ghost use Rattle.std.specs.Prelude.{◌≡◌, None, Some, IfOk, MatchOption};
+ghost use Rattle.std.specs.Prelude.{◌≡◌, None, Some, IfOk, MatchOption, option_map};
 ghost use Rattle.kb_asm_text.specs.declared.line.Line.{Line};
+ghost use Rattle.kb_asm_text.specs.declared.place.Place.{Place as PlaceTo};
 ghost use Rattle.kb_asm_text.specs.Lines.{SpellsLine};
 ghost use Rattle.kb_asm_text.specs.Texts.{next_place as place_next, IsLongestFront};
 
@@ -23,12 +24,12 @@ pub struct Front {
     pub ended: bool,
 }
 
-/// The line, and where it leads, if it may stand there.
-fn placed(place: Place, line: Line) -> Option<(Line, Place)>
-    ensures { MatchOption result (place_next place line ≡ None) (λ p. (p.0 ≡ line) × (place_next place line ≡ Some p.1)) }
+/// What leads somewhere, with where that is. Of any type, so that its proof knows nothing of lines.
+fn with_place<T: Drop>(item: T, place: Option<Place>) -> Option<(T, Place)>
+    ensures { result ≡ option_map (λ (next : PlaceTo). (item, next)) place }
 {
-    match next_place(place, &line) {
-        Some(next) => Some((line, next)),
+    match place {
+        Some(next) => Some((item, next)),
         None => None,
     }
 }
@@ -42,7 +43,8 @@ fn next_line(alloc: Global, place: Place, text: &[u8]) -> Result<Option<(Line, P
     let Some(line) = read_line(alloc, text)? else {
         return Ok(None);
     };
-    Ok(placed(place, line))
+    let next = next_place(place, &line);
+    Ok(with_place(line, next))
 }
 
 /// The lines of the text up to the first one that does not fit: that spells no line, is cut short, or may not stand there.

@@ -15,7 +15,7 @@ use std::marker::Model;
 const INLINE: usize = 4;
 
 /// A disjunction of literals, each once, by rising variable and the positive one first. It may hold both literals of a variable.
-#[derive(Clone, Debug, Drop)]
+#[derive(Clone, Drop)]
 pub struct Clause {
     kept: SmallVec<Lit, INLINE>,
 }

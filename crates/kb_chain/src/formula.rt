@@ -11,7 +11,7 @@ use std::alloc::Global;
 use std::marker::Model;
 
 /// A conjunction of clauses, numbered from 0, over the variables 1 to `vars`.
-#[derive(Clone, Debug, Drop)]
+#[derive(Clone, Drop)]
 pub struct Formula {
     limit: u32,
     kept: Vec<Clause>,

@@ -1,6 +1,6 @@
 //! The check of fresh logs.
 
-ghost use Rattle.std.specs.Prelude.{◌≡◌, ℕ, ◌+◌, ◌*◌, ◌<◌, ◌≤◌, ◌^◌, ◌||◌, ◌++◌, ◌∷◌, [], map, length, true, OnOk, IfOk, IfSome};
+ghost use Rattle.std.specs.Prelude.{◌≡◌, ℕ, ◌+◌, ◌*◌, ◌<◌, ◌≤◌, ◌^◌, ◌||◌, ◌++◌, ◌∷◌, [], map, length, true, OnOk, OnSome, IfOk, IfNone, IfSome};
 ghost use Rattle.std.specs.Bool.{OnTrue, OnFalse};
 ghost use Rattle.kb_chain.specs.Literal.{Literal, has, negated};
 ghost use Rattle.kb_chain.specs.Cnf.{IsWithin};
@@ -91,13 +91,47 @@ fn check_entries(
         if !quiet {
             return Ok(Verdict::Bad(i as u32));
         }
-        let likely = likely_missed(store, entry, &clause);
-        if !is_new(store, index, trail, &clause, likely)? {
+        let number = (first + i) as u32;
+        let Some(next) = take_new(store, index, trail, entry, number, clause)? else {
             return Ok(Verdict::Bad(i as u32));
-        }
-        quiet = take_in(store, index, trail, (first + i) as u32, clause)?;
+        };
+        quiet = next;
     }
     Ok(Verdict::Good)
+}
+
+/// Takes in the clause of an entry, if unit propagation misses one of its literals, and says then whether no clause is
+/// negated on the way.
+fn take_new(
+    store: &mut Store<'_>,
+    index: &mut Index,
+    trail: &mut Trail,
+    entry: &Chain,
+    number: u32,
+    clause: Clause,
+) -> Result<Option<bool>, NoMemory>
+    requires number { number ≡ length store.old.clauses }
+    requires places { trail.old.places ≡ 2 * store.old.vars + 2 }
+    requires rows { length index.old.occurrences.items ≡ 2 * store.old.vars + 2 }
+    requires indexed { IsIndexed store.old.clauses index.old }
+    requires within { IsWithin store.old.vars clause }
+    requires root { IsRoot store.old.clauses trail.old.literals }
+    ensures new { IfOk result (λ next. OnSome next (IsNew store.old.clauses clause)) }
+    ensures known { IfOk result (λ next. IfNone next (IsNew store.old.clauses clause → ⊥)) }
+    ensures clauses { IfOk result (λ next. OnSome next (store.new.clauses ≡ store.old.clauses ++ clause ∷ [])) }
+    ensures vars { store.new.vars ≡ store.old.vars }
+    ensures places { trail.new.places ≡ trail.old.places }
+    ensures rows { length index.new.occurrences.items ≡ length index.old.occurrences.items }
+    ensures indexed { IfOk result (λ next. OnSome next (IsIndexed store.new.clauses index.new)) }
+    ensures root { IfOk result (λ next. IfSome next (λ quiet. OnTrue quiet (IsRoot store.new.clauses trail.new.literals))) }
+    ensures refuted { IfOk result (λ next. IfSome next (λ quiet. OnFalse quiet (IsRefuted store.new.clauses trail.new.literals))) }
+{
+    let likely = likely_missed(store, entry, &clause);
+    if !is_new(store, index, trail, &clause, likely)? {
+        return Ok(None);
+    }
+    let quiet = take_in(store, index, trail, number, clause)?;
+    Ok(Some(quiet))
 }
 
 /// The index of a formula's clauses.

@@ -7,7 +7,7 @@ use std::marker::Model;
 
 /// A variable or its negation, kept as its place in the order of literals. The variables are 1 to 2^31 - 1, as in the DIMACS
 /// format, whose number n is the variable n and -n its negation.
-#[derive(Clone, Copy, Debug, PartialEq, Eq)]
+#[derive(Clone, Copy, PartialEq, Eq)]
 pub struct Lit(u32);
 
 impl Model for Lit {

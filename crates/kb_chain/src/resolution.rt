@@ -10,7 +10,7 @@ use crate::literal::{Lit, place_of};
 use std::alloc::Global;
 
 /// Why there is no resolvent.
-#[derive(Clone, Copy, Debug, PartialEq, Eq)]
+#[derive(Clone, Copy, PartialEq, Eq)]
 pub enum ResolveStop {
     /// It is not so that one clause has exactly one of the pivot's two literals and the other exactly the other.
     NoPivot,

@@ -6,7 +6,7 @@ ghost use Rattle.kb_circuit.specs.Shifts.{moved, moved_up, moved_down};
 use kb_chain::Lit;
 
 /// A shift of the Java virtual machine: up, down with the sign, and down with zeros.
-#[derive(Clone, Copy, Debug)]
+#[derive(Clone, Copy)]
 pub(crate) enum Shift {
     Shl,
     Shr,

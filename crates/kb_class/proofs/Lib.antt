@@ -1,5 +1,6 @@
 pub mod Lists
 pub mod Listings
+pub mod GivenLaws
 pub mod Spellings
 pub mod TableLaws
 pub mod Sound

@@ -1,11 +1,12 @@
--- What a class file with its listings must be to become a class.
+-- What a class file with its listings must be to become a class (The Java Virtual Machine Specification, Java SE 8 Edition,
+-- chapter 4).
 use Rattle.std.specs.Prelude.{ℕ, List, [], ◌∷◌, Option, Some, None, map}
 use Rattle.std.specs.List.{AllByRecursion}
 use Rattle.kb_classfile.specs.declared.file.ClassFile.{ClassFile}
 use Rattle.kb_classfile.specs.declared.file.Method.{Method as ClassMethod}
 use Rattle.kb_classfile.specs.declared.file.Code.{Code}
 use Rattle.kb_classfile.specs.declared.file.Handler.{Handler as ClassHandler}
-use Rattle.kb_classfile.specs.Spelling.{Spells}
+use Rattle.kb_classfile.specs.Spelling.{Spells, IsClassFile}
 use Rattle.kb_code.specs.declared.listing.Handler.{Handler}
 use Rattle.kb_code.specs.declared.listing.Listing.{Listing}
 use Rattle.kb_code.specs.Listing.{Lists}
@@ -44,3 +45,15 @@ pub record IsGiven (class : GivenClass) : Type 0 where
 
 abbrev pub AreGiven : List GivenClass → Type 0
 AreGiven classes = AllByRecursion IsGiven classes
+
+-- The class is given by the bytes: they are its class file, and its methods have their listings.
+pub record IsGivenBy (bytes : List ℕ) (class : GivenClass) : Type 0 where
+  pub file : IsClassFile class.file bytes
+  pub listed : AreListings class.file.methods class.listings
+
+-- the classes are given by the bytes of files, one each, in order
+abbrev pub AreGivenBy : List (List ℕ) → List GivenClass → Type 0
+AreGivenBy [] [] = Unit {0}
+AreGivenBy (bytes ∷ files) (class ∷ classes) = IsGivenBy bytes class × AreGivenBy files classes
+AreGivenBy [] (class ∷ classes) = ⊥
+AreGivenBy (bytes ∷ files) [] = ⊥

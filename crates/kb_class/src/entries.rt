@@ -81,25 +81,45 @@ pub(crate) fn reference_entry<'a>(
 {
     match file.pool.as_slice().get(entry as usize) {
         Some(PoolEntry::Field(class, name_type)) => {
-            let class = type_entry(file, types, *class)?;
-            sought(ReferenceKind::Field, class, file, kinds, *name_type)
+            sought_in(ReferenceKind::Field, file, types, *class, kinds, *name_type)
         }
         Some(PoolEntry::Method(class, name_type)) => {
-            let class = type_entry(file, types, *class)?;
-            sought(ReferenceKind::Method, class, file, kinds, *name_type)
+            sought_in(
+                ReferenceKind::Method,
+                file,
+                types,
+                *class,
+                kinds,
+                *name_type,
+            )
         }
         Some(PoolEntry::InterfaceMethod(class, name_type)) => {
-            let class = type_entry(file, types, *class)?;
-            sought(
+            sought_in(
                 ReferenceKind::InterfaceMethod,
-                class,
                 file,
+                types,
+                *class,
                 kinds,
                 *name_type,
             )
         }
         _ => None,
     }
+}
+
+// The member of one entry, sought in the type of the other.
+fn sought_in<'a>(
+    what: ReferenceKind,
+    file: &'a ClassFile,
+    types: &'a [Option<ExactType>],
+    class: u16,
+    kinds: &'a [Option<MemberKind>],
+    name_type: u16,
+) -> Option<Reference<'a>>
+    ensures { option_map sought_of result ≡ sought_told what (type_in file.now.pool types.now class) (member_in file.now.pool kinds.now name_type) }
+{
+    let class = type_entry(file, types, class)?;
+    sought(what, class, file, kinds, name_type)
 }
 
 // The member of the NameAndType entry with that number, sought in the type.

@@ -13,7 +13,7 @@ use Rattle.kb_classfile.specs.declared.pool.Reference.{Reference}
 use Rattle.kb_classfile.specs.declared.refusal.ClassRefusal.{ClassRefusal}
 use Rattle.kb_classfile.specs.declared.refusal.ClassRefusal.TheVariants as refusals
 use Rattle.kb_classfile.specs.Pool.{entry_at, is_of_kind, fault_at, fault_of, fault_or, first_fault_of}
-use Rattle.kb_classfile.specs.Reading.{short, u1, u2, u4, utf8_entry, integer_entry, float_entry, wide_entry, one_index, two_indices, handle_entry, info, entry, PoolRead, no_entries, with_entry, with_second, next_entry, next_number, pool_read, pool_fault, pool, index_fault, index_of, content, skipped_attribute, skipped_attributes, length_fault, instructions, catch_fault, catch, handler, handlers, code_content, in_content, behind_items, code, says_code, code_attribute, named_attribute, method_attribute, method_attributes, field, fields, method, methods, interfaces}
+use Rattle.kb_classfile.specs.Reading.{short, u1, u2, u4, utf8_entry, integer_entry, float_entry, wide_entry, one_index, two_indices, handle_entry, info, entry, PoolRead, no_entries, with_entry, with_second, next_entry, next_number, pool_read, pool_fault, pool, index_fault, index_of, content, skipped_attribute, skipped_attributes, length_fault, instructions, catch_fault, catch, handler, handlers, code_content, in_content, behind_items, code, says_code, code_attribute, named_attribute, method_attribute, method_attributes, field, fields, method, methods, interfaces, head, members, class_with}
 
 -- the faults of what stands behind the version
 abbrev pub IsInner : ClassRefusal → Type 0
@@ -227,14 +227,23 @@ interfaces_inner : (all : List PoolEntry) → Inner (interfaces all)
 unfolding interfaces
 interfaces_inner all = u2_then _ (λ count. repeated_faults IsInner (λ number. index_of kinds.Class all) (λ number. index_inner kinds.Class all) count)
 
+head_inner : (all : List PoolEntry) → Inner (head all)
+unfolding head
+head_inner all =
+    u2_then _ (λ access. bind_faults IsInner (index_of kinds.Class all) _ (index_inner kinds.Class all) (λ this. bind_faults IsInner (index_of kinds.Class all) _ (index_inner kinds.Class all)
+    (λ parent. bind_faults IsInner (interfaces all) _ (interfaces_inner all) (λ above. done_faults IsInner _))))
+
+members_inner : (all : List PoolEntry) → Inner (members all)
+unfolding members
+members_inner all =
+    bind_faults IsInner (fields all) _ (fields_inner all) (λ data_members. bind_faults IsInner (methods all) _ (methods_inner all)
+    (λ code_members. bind_faults IsInner (skipped_attributes all) _ (attributes_inner all) (λ none. done_faults IsInner _)))
+
 -- what stands behind the version
 abbrev pub behind_version : ℕ → Reader ClassRefusal ClassFile
-behind_version major =
-    pool >>= λ all. u2 >>= λ access. index_of kinds.Class all >>= λ this. index_of kinds.Class all >>= λ parent. interfaces all >>= λ above. fields all >>= λ data_members. methods all >>= λ members. skipped_attributes all >>= λ none.
-    done (record { major = major; pool = all; access = access; this = this; parent = parent; interfaces = above; fields = data_members; methods = members })
+behind_version major = pool >>= λ all. head all >>= λ about. members all >>= λ found. done (class_with major all about found)
 
 pub behind_version_inner : (major : ℕ) → Inner (behind_version major)
 behind_version_inner major =
-    bind_faults IsInner pool _ pool_inner (λ all. u2_then _ (λ access. bind_faults IsInner (index_of kinds.Class all) _ (index_inner kinds.Class all) (λ this. bind_faults IsInner (index_of kinds.Class all) _ (index_inner kinds.Class all)
-    (λ parent. bind_faults IsInner (interfaces all) _ (interfaces_inner all) (λ above. bind_faults IsInner (fields all) _ (fields_inner all) (λ data_members. bind_faults IsInner (methods all) _ (methods_inner all)
-    (λ members. bind_faults IsInner (skipped_attributes all) _ (attributes_inner all) (λ none. done_faults IsInner _))))))))
+    bind_faults IsInner pool _ pool_inner (λ all. bind_faults IsInner (head all) _ (head_inner all)
+    (λ about. bind_faults IsInner (members all) _ (members_inner all) (λ found. done_faults IsInner _)))

@@ -1,15 +1,18 @@
 -- The reader is exact for the grammar: members and the class.
-use Rattle.std.proofs.Common.{◌≡◌, ℕ, ◌≤◌, ◌&&◌, leb, List, None, refl, subst, sym}
+use Rattle.std.proofs.Common.{◌≡◌, ◌∙◌, ℕ, ◌≤◌, ◌++◌, ◌&&◌, leb, List, None, Result, Ok, Err, refl, subst, sym}
 use Rattle.std.proofs.lemmas.Bool.{le-leb, leb-true}
-use Rattle.kb_grammar.specs.Reading.{◌>>=◌, done, judged}
-use Rattle.kb_grammar.specs.Grammar.{Piece, ◌⊳◌, IsAny, Exact}
+use Rattle.kb_grammar.specs.Reading.{Place, Reader, follow, ◌>>=◌, done, judged}
+use Rattle.kb_grammar.specs.Grammar.{Piece, ◌⊳◌, IsAny, IsCut, Exact}
 use Rattle.kb_grammar.proofs.Laws.{exact_same, skip_exact, judged_exact, first_exact, field_exact, last_exact, end_exact, counted_exact, expect_exact, with_unit, without_unit}
 use Rattle.kb_classfile.specs.declared.file.PoolEntry.{PoolEntry}
 use Rattle.kb_classfile.specs.declared.file.ClassFile.{ClassFile}
+use Rattle.kb_classfile.specs.declared.class_reader.Head.{Head}
+use Rattle.kb_classfile.specs.declared.class_reader.Members.{Members}
 use Rattle.kb_classfile.specs.declared.pool.EntryKind.TheVariants as kinds
+use Rattle.kb_classfile.specs.declared.refusal.ClassRefusal.{ClassRefusal}
 use Rattle.kb_classfile.specs.declared.refusal.ClassRefusal.TheVariants as refusals
 use Rattle.kb_classfile.specs.Spelling.{IsU2, IsU4, SpellsTable, SpellsIndex, SpellsPool, SpellsAttributes, SpellsMethodAttributes, SpellsField, SpellsMethod, SpellsVersion, SpellsClass, magic}
-use Rattle.kb_classfile.specs.Reading.{short, u2, u4, index_of, skipped_attributes, method_attributes, field, fields, method, methods, interfaces, version, version_fault, pool, class_body, class_file}
+use Rattle.kb_classfile.specs.Reading.{short, u2, u4, index_of, skipped_attributes, method_attributes, field, fields, method, methods, interfaces, version, version_fault, pool, head, members, class_with, class_body, class_file}
 use Rattle.kb_classfile.proofs.EntryLaws.{u2_exact, u4_exact}
 use Rattle.kb_classfile.proofs.PoolLaws.{index_exact, pool_exact}
 use Rattle.kb_classfile.proofs.CodeLaws.{attributes_exact, method_attributes_exact, both, no_fault}
@@ -75,20 +78,72 @@ AfterPool all y =
 abbrev Body : ClassFile → Piece
 Body y = SpellsVersion y.major ⊳ SpellsPool y.pool ⊳ AfterPool y.pool y
 
-after_pool_exact : (major : ℕ) (all : List PoolEntry)
-    → Exact short (u2 >>= λ access. index_of kinds.Class all >>= λ this. index_of kinds.Class all >>= λ parent. interfaces all >>= λ above. fields all >>= λ data_members. methods all >>= λ members. skipped_attributes all >>= λ none.
-    done (record { major = major; pool = all; access = access; this = this; parent = parent; interfaces = above; fields = data_members; methods = members }))
+-- the same, read item by item
+abbrev after_pool : ℕ → List PoolEntry → Reader ClassRefusal ClassFile
+after_pool major all =
+    u2 >>= λ access. index_of kinds.Class all >>= λ this. index_of kinds.Class all >>= λ parent. interfaces all >>= λ above. fields all >>= λ data_members. methods all >>= λ code_members. skipped_attributes all >>= λ none.
+    done (record { major = major; pool = all; access = access; this = this; parent = parent; interfaces = above; fields = data_members; methods = code_members })
+
+item_by_item_exact : (major : ℕ) (all : List PoolEntry)
+    → Exact short (after_pool major all)
     (λ y at bytes. ((y.major ≡ major) × (y.pool ≡ all)) × AfterPool all y at bytes)
-after_pool_exact major all =
+item_by_item_exact major all =
     field_exact short u2 _ (λ y. y.access) IsU2 (λ y. (y.major ≡ major) × (y.pool ≡ all)) (λ y. SpellsIndex kinds.Class all y.this ⊳ SpellsIndex kinds.Class all y.parent ⊳ SpellsTable (SpellsIndex kinds.Class all) y.interfaces ⊳ SpellsTable (SpellsField all) y.fields ⊳ SpellsTable (SpellsMethod all) y.methods ⊳ SpellsAttributes all) u2_exact
     (λ access. field_exact short (index_of kinds.Class all) _ (λ y. y.this) (SpellsIndex kinds.Class all) (λ y. ((y.major ≡ major) × (y.pool ≡ all)) × (y.access ≡ access)) (λ y. SpellsIndex kinds.Class all y.parent ⊳ SpellsTable (SpellsIndex kinds.Class all) y.interfaces ⊳ SpellsTable (SpellsField all) y.fields ⊳ SpellsTable (SpellsMethod all) y.methods ⊳ SpellsAttributes all) (index_exact kinds.Class all)
     (λ this. field_exact short (index_of kinds.Class all) _ (λ y. y.parent) (SpellsIndex kinds.Class all) (λ y. (((y.major ≡ major) × (y.pool ≡ all)) × (y.access ≡ access)) × (y.this ≡ this)) (λ y. SpellsTable (SpellsIndex kinds.Class all) y.interfaces ⊳ SpellsTable (SpellsField all) y.fields ⊳ SpellsTable (SpellsMethod all) y.methods ⊳ SpellsAttributes all) (index_exact kinds.Class all)
     (λ parent. field_exact short (interfaces all) _ (λ y. y.interfaces) (SpellsTable (SpellsIndex kinds.Class all)) (λ y. ((((y.major ≡ major) × (y.pool ≡ all)) × (y.access ≡ access)) × (y.this ≡ this)) × (y.parent ≡ parent)) (λ y. SpellsTable (SpellsField all) y.fields ⊳ SpellsTable (SpellsMethod all) y.methods ⊳ SpellsAttributes all) (interfaces_exact all)
     (λ above. field_exact short (fields all) _ (λ y. y.fields) (SpellsTable (SpellsField all)) (λ y. (((((y.major ≡ major) × (y.pool ≡ all)) × (y.access ≡ access)) × (y.this ≡ this)) × (y.parent ≡ parent)) × (y.interfaces ≡ above)) (λ y. SpellsTable (SpellsMethod all) y.methods ⊳ SpellsAttributes all) (fields_exact all)
     (λ data_members. field_exact short (methods all) _ (λ y. y.methods) (SpellsTable (SpellsMethod all)) (λ y. ((((((y.major ≡ major) × (y.pool ≡ all)) × (y.access ≡ access)) × (y.this ≡ this)) × (y.parent ≡ parent)) × (y.interfaces ≡ above)) × (y.fields ≡ data_members)) (λ y. SpellsAttributes all) (methods_exact all)
-    (λ members. end_exact short (skipped_attributes all) tt (record { major = major; pool = all; access = access; this = this; parent = parent; interfaces = above; fields = data_members; methods = members }) (SpellsAttributes all)
-    (λ y. (((((((y.major ≡ major) × (y.pool ≡ all)) × (y.access ≡ access)) × (y.this ≡ this)) × (y.parent ≡ parent)) × (y.interfaces ≡ above)) × (y.fields ≡ data_members)) × (y.methods ≡ members)) (attributes_exact all)
+    (λ code_members. end_exact short (skipped_attributes all) tt (record { major = major; pool = all; access = access; this = this; parent = parent; interfaces = above; fields = data_members; methods = code_members }) (SpellsAttributes all)
+    (λ y. (((((((y.major ≡ major) × (y.pool ≡ all)) × (y.access ≡ access)) × (y.this ≡ this)) × (y.parent ≡ parent)) × (y.interfaces ≡ above)) × (y.fields ≡ data_members)) × (y.methods ≡ code_members)) (attributes_exact all)
     (λ y k. rw (← k.0.0.0.0.0.0.0, ← k.0.0.0.0.0.0.1, ← k.0.0.0.0.0.1, ← k.0.0.0.0.1, ← k.0.0.0.1, ← k.0.0.1, ← k.0.1, ← k.1) refl) (((((((refl, refl), refl), refl), refl), refl), refl), refl)))))))
+
+-- two readers, of which the second begins as one reader or as two
+again : {E A B C : Type 0} (r : Result (A × Place) E) (f : A → Reader E B) (g : B → Reader E C) (k : A → Reader E C)
+    → ((x : A) (p : Place) → k x p ≡ (f x >>= g) p) → follow r k ≡ follow (follow r f) g
+again (Ok x) f g k same = same x.0 x.1
+again (Err e) f g k same = refl
+
+head_then : (all : List PoolEntry) (g : Head → Reader ClassRefusal ClassFile) (p : Place)
+    → (u2 >>= λ access. index_of kinds.Class all >>= λ this. index_of kinds.Class all >>= λ parent. interfaces all >>= λ above.
+    g (record { access = access; this = this; parent = parent; interfaces = above })) p ≡ (head all >>= g) p
+unfolding head
+head_then all g p =
+    again (u2 p) _ g _ (λ access m. again (index_of kinds.Class all m) _ g _ (λ this m. again (index_of kinds.Class all m) _ g _
+    (λ parent m. again (interfaces all m) (λ above. done (record { access = access; this = this; parent = parent; interfaces = above })) g _ (λ above m. refl))))
+
+members_then : (all : List PoolEntry) (g : Members → Reader ClassRefusal ClassFile) (p : Place)
+    → (fields all >>= λ data_members. methods all >>= λ code_members. skipped_attributes all >>= λ none.
+    g (record { fields = data_members; methods = code_members })) p ≡ (members all >>= g) p
+unfolding members
+members_then all g p =
+    again (fields all p) _ g _ (λ data_members m. again (methods all m) _ g _
+    (λ code_members m. again (skipped_attributes all m) (λ none. done (record { fields = data_members; methods = code_members })) g _ (λ none m. refl)))
+
+-- two readers that go on in the same way
+goes_on : {E A B : Type 0} (r : Result (A × Place) E) (f g : A → Reader E B) → ((x : A) (p : Place) → f x p ≡ g x p) → follow r f ≡ follow r g
+goes_on (Ok x) f g same = same x.0 x.1
+goes_on (Err e) f g same = refl
+
+same_reader : (major : ℕ) (all : List PoolEntry) (p : Place)
+    → after_pool major all p ≡ (head all >>= λ about. members all >>= λ found. done (class_with major all about found)) p
+same_reader major all p =
+    head_then all (λ about. fields all >>= λ data_members. methods all >>= λ code_members. skipped_attributes all >>= λ none.
+    done (class_with major all about (record { fields = data_members; methods = code_members }))) p
+    ∙ goes_on (head all p) _ _ (λ about m. members_then all (λ found. done (class_with major all about found)) m)
+
+-- a reader that reads the same is exact for the same grammar
+exact_as : {A : Type 0} (r s : Reader ClassRefusal A) (S : A → Piece) → ((p : Place) → r p ≡ s p) → Exact short r S → Exact short s S
+exact_as r s S same exact = record {
+  found = λ p q x e. exact.found p q x (same p ∙ e);
+  only = λ x text rest at spelled. sym (same (record { rest = text ++ rest; at = at })) ∙ exact.only x text rest at spelled;
+  cut = λ x front back at spelled some. subst (IsCut short at front) (same (record { rest = front; at = at })) (exact.cut x front back at spelled some);
+}
+
+after_pool_exact : (major : ℕ) (all : List PoolEntry)
+    → Exact short (head all >>= λ about. members all >>= λ found. done (class_with major all about found))
+    (λ y at bytes. ((y.major ≡ major) × (y.pool ≡ all)) × AfterPool all y at bytes)
+after_pool_exact major all = exact_as (after_pool major all) _ _ (same_reader major all) (item_by_item_exact major all)
 
 class_body_exact : Exact short class_body Body
 unfolding class_body

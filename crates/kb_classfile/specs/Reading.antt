@@ -10,6 +10,8 @@ use Rattle.kb_classfile.specs.declared.file.Field.{Field}
 use Rattle.kb_classfile.specs.declared.file.Handler.{Handler}
 use Rattle.kb_classfile.specs.declared.file.Method.{Method}
 use Rattle.kb_classfile.specs.declared.file.ClassFile.{ClassFile}
+use Rattle.kb_classfile.specs.declared.class_reader.Head.{Head}
+use Rattle.kb_classfile.specs.declared.class_reader.Members.{Members}
 use Rattle.kb_classfile.specs.declared.pool.EntryKind.{EntryKind}
 use Rattle.kb_classfile.specs.declared.pool.EntryKind.TheVariants as kinds
 use Rattle.kb_classfile.specs.declared.pool.Reference.{Reference}
@@ -292,18 +294,35 @@ version = do
   minor ← u2
   judged version_fault u2
 
-unfoldable pub class_body : Reader ClassRefusal ClassFile
-class_body = do
-  major ← version
-  all ← pool
+-- what stands between the constant pool and the fields
+unfoldable pub head : List PoolEntry → Reader ClassRefusal Head
+head all = do
   access ← u2
   this ← index_of kinds.Class all
   parent ← index_of kinds.Class all
   above ← interfaces all
+  done (record { access = access; this = this; parent = parent; interfaces = above })
+
+-- the fields and methods, and the attributes of the class, which are skipped
+unfoldable pub members : List PoolEntry → Reader ClassRefusal Members
+members all = do
   data_members ← fields all
-  members ← methods all
+  code_members ← methods all
   none ← skipped_attributes all
-  done (record { major = major; pool = all; access = access; this = this; parent = parent; interfaces = above; fields = data_members; methods = members })
+  done (record { fields = data_members; methods = code_members })
+
+-- the class of its parts
+abbrev pub class_with : ℕ → List PoolEntry → Head → Members → ClassFile
+class_with major all h m =
+    record { major = major; pool = all; access = h.access; this = h.this; parent = h.parent; interfaces = h.interfaces; fields = m.fields; methods = m.methods }
+
+unfoldable pub class_body : Reader ClassRefusal ClassFile
+class_body = do
+  major ← version
+  all ← pool
+  about ← head all
+  found ← members all
+  done (class_with major all about found)
 
 unfoldable pub class_file : Reader ClassRefusal ClassFile
 class_file = do

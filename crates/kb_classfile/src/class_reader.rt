@@ -1,7 +1,7 @@
 //! Fields, methods and the class (JVMS 8 sections 4.1, 4.5 and 4.6).
 
 ghost use Rattle.std.specs.Prelude.{◌≡◌};
-ghost use Rattle.kb_classfile.specs.Reading.{Gives, field, fields, method, methods, interfaces, version, class_body, class_file};
+ghost use Rattle.kb_classfile.specs.Reading.{Gives, field, fields, method, methods, interfaces, version, head, members, class_body, class_file};
 
 use crate::file::{ClassFile, Field, Method, PoolEntry};
 use crate::pool::EntryKind;
@@ -17,6 +17,22 @@ const MAGIC: u32 = 0xCAFEBABE;
 const OLDEST_MAJOR: u16 = 45;
 
 const NEWEST_MAJOR: u16 = 52;
+
+/// What a class says of itself, between its constant pool and its fields.
+#[derive(Drop)]
+pub(crate) struct Head {
+    access: u16,
+    this: u16,
+    parent: u16,
+    interfaces: Row<u16>,
+}
+
+/// The fields and methods of a class.
+#[derive(Drop)]
+pub(crate) struct Members {
+    fields: Row<Field>,
+    methods: Row<Method>,
+}
 
 impl<'a> Reader<'a> {
     #[tactic(auto, unfolding(crate::specs::Reading::field))]
@@ -101,6 +117,34 @@ impl<'a> Reader<'a> {
         Ok(major)
     }
 
+    /// What stands between the constant pool and the fields.
+    #[tactic(auto, unfolding(crate::specs::Reading::head))]
+    fn head(&mut self, alloc: Global, pool: &[PoolEntry]) -> Result<Head, ClassRefusal>
+        ensures { Gives (λ head. (head, self.new)) result (head pool.now self.old) }
+    {
+        let access = self.u2()?;
+        let this = self.index_of(EntryKind::Class, pool)?;
+        let parent = self.index_of(EntryKind::Class, pool)?;
+        let interfaces = self.interfaces(alloc, pool)?;
+        Ok(Head {
+            access,
+            this,
+            parent,
+            interfaces,
+        })
+    }
+
+    /// The fields and methods, behind which the attributes of the class are skipped.
+    #[tactic(auto, unfolding(crate::specs::Reading::members))]
+    fn members(&mut self, alloc: Global, pool: &[PoolEntry]) -> Result<Members, ClassRefusal>
+        ensures { Gives (λ members. (members, self.new)) result (members pool.now self.old) }
+    {
+        let fields = self.fields(alloc, pool)?;
+        let methods = self.methods(alloc, pool)?;
+        self.skipped_attributes(pool)?;
+        Ok(Members { fields, methods })
+    }
+
     /// All of a class file behind the magic number.
     #[tactic(auto, unfolding(crate::specs::Reading::class_body))]
     fn class_body(&mut self, alloc: Global) -> Result<ClassFile, ClassRefusal>
@@ -108,22 +152,17 @@ impl<'a> Reader<'a> {
     {
         let major = self.version()?;
         let pool = self.pool(alloc)?;
-        let access = self.u2()?;
-        let this = self.index_of(EntryKind::Class, pool.as_slice())?;
-        let parent = self.index_of(EntryKind::Class, pool.as_slice())?;
-        let interfaces = self.interfaces(alloc, pool.as_slice())?;
-        let fields = self.fields(alloc, pool.as_slice())?;
-        let methods = self.methods(alloc, pool.as_slice())?;
-        self.skipped_attributes(pool.as_slice())?;
+        let head = self.head(alloc, pool.as_slice())?;
+        let members = self.members(alloc, pool.as_slice())?;
         Ok(ClassFile {
             major,
             pool,
-            access,
-            this,
-            parent,
-            interfaces,
-            fields,
-            methods,
+            access: head.access,
+            this: head.this,
+            parent: head.parent,
+            interfaces: head.interfaces,
+            fields: members.fields,
+            methods: members.methods,
         })
     }
 

@@ -30,7 +30,7 @@ pub enum PoolEntry {
 
 /// A row of a handler table (JVMS 8 section 4.7.3): offsets into the code, and the entry of the class
 /// that is caught, or 0 for any.
-#[derive(Clone, Copy, Debug, PartialEq, Eq)]
+#[derive(Clone, Copy, PartialEq, Eq)]
 pub struct Handler {
     pub start: u16,
     pub end: u16,
@@ -39,7 +39,7 @@ pub struct Handler {
 }
 
 /// The Code attribute of a method (JVMS 8 section 4.7.3).
-#[derive(Debug, Drop)]
+#[derive(Drop)]
 pub struct Code {
     pub max_stack: u16,
     pub max_locals: u16,
@@ -48,7 +48,7 @@ pub struct Code {
 }
 
 /// A field: its access flags, and the entries of its name and descriptor (JVMS 8 section 4.5).
-#[derive(Clone, Copy, Debug, PartialEq, Eq)]
+#[derive(Clone, Copy, PartialEq, Eq)]
 pub struct Field {
     pub access: u16,
     pub name: u16,
@@ -60,7 +60,7 @@ pub const STATIC: u16 = 0x0008;
 
 /// A method: its access flags, the entries of its name and descriptor, and its code, where it has some
 /// (JVMS 8 section 4.6).
-#[derive(Debug, Drop)]
+#[derive(Drop)]
 pub struct Method {
     pub access: u16,
     pub name: u16,
@@ -72,7 +72,7 @@ pub struct Method {
 ///
 /// `pool` has the entry of each number, and Skipped at 0. `this` and `parent` are the numbers of the
 /// entries of the class and its superclass.
-#[derive(Debug, Drop)]
+#[derive(Drop)]
 pub struct ClassFile {
     pub major: u16,
     pub pool: Row<PoolEntry>,

@@ -47,7 +47,7 @@ pub enum Cond {
 
 /// An instruction. Locals are named by their number, entries of the constant pool by theirs, and targets are offsets into
 /// the code.
-#[derive(Debug, Drop)]
+#[derive(Drop)]
 pub enum Instr {
     Nop,
     PushNull,

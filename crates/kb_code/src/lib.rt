@@ -15,6 +15,7 @@ mod opcode;
 mod placing;
 mod reader;
 mod refusal;
+mod showing;
 mod switch_reader;
 
 pub use decoding::decode;

@@ -10,7 +10,7 @@ use Rattle.kb_frames.specs.declared.value.Outcome.{Outcome}
 use Rattle.kb_frames.specs.declared.value.Outcome.TheVariants.{Asks, Goes, Ends, Cut}
 use Rattle.kb_frames.specs.Paths.{path_of}
 use Rattle.kb_drive.specs.declared.follow.Known.{Known}
-use Rattle.kb_drive.specs.declared.follow.Known.TheVariants.{Open, Kept, Answered}
+use Rattle.kb_drive.specs.declared.follow.Known.TheVariants.{Open, Met, Answered}
 use Rattle.kb_drive.specs.declared.piece.Piece.{Piece}
 use Rattle.kb_drive.specs.declared.waiting.Taken.{Taken}
 use Rattle.kb_drive.specs.declared.waiting.Waiting.{Waiting}
@@ -48,8 +48,8 @@ pub keeps_count : (world : World) (bounds : Bounds) (walk : Walk) (waiting : Lis
 unfolding path_of
 keeps_count world bounds walk waiting taken Open unsure now counted later =
     kept_count walk (walk_with (record walk { waiting = waiting }) (follows world bounds taken Open)) unsure now (let more = one_more walk.listed (path_of_piece taken.piece OpenLeaf) false refl in omega (arith, more)) later
-keeps_count world bounds walk waiting taken Kept unsure now counted later =
-    kept_count walk (walk_with (record walk { waiting = waiting }) (follows world bounds taken Kept)) unsure now (outcome_same world bounds walk.listed taken.piece taken.outcome) later
+keeps_count world bounds walk waiting taken Met unsure now counted later =
+    kept_count walk (walk_with (record walk { waiting = waiting }) (follows world bounds taken Met)) unsure now (outcome_same world bounds walk.listed taken.piece taken.outcome) later
 keeps_count world bounds walk waiting taken (Answered (Model values)) unsure now counted later =
     kept_count walk (walk_with (record walk { waiting = waiting }) (follows world bounds taken (Answered (Model values)))) unsure now
     (outcome_same world bounds walk.listed (record taken.piece { values = values }) taken.outcome) later

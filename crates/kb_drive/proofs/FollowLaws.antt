@@ -23,7 +23,7 @@ use Rattle.kb_frames.specs.State.{State}
 use Rattle.kb_stepint.specs.Ways.{Take}
 use Rattle.kb_drive.specs.declared.piece.Piece.{Piece}
 use Rattle.kb_drive.specs.declared.follow.Known.{Known}
-use Rattle.kb_drive.specs.declared.follow.Known.TheVariants.{Open, Kept, Answered}
+use Rattle.kb_drive.specs.declared.follow.Known.TheVariants.{Open, Met, Answered}
 use Rattle.kb_drive.specs.declared.follow.Next.{Next}
 use Rattle.kb_drive.specs.declared.follow.Next.TheVariants.{Lists, Waits as WaitsNext, Leaves}
 use Rattle.kb_drive.specs.EmittedLaws.{InputsAreOfStates, IsOfState, input_for}
@@ -45,7 +45,7 @@ use Rattle.kb_drive.proofs.LeafLaws.{cut_right, ended_right, open_right, some_sh
 use Rattle.kb_drive.proofs.PathLaws.{path_is}
 use Rattle.kb_drive.proofs.PartLaws.{alternatives_begin, alternatives_rise, parts_behind}
 use Rattle.kb_oracle.proofs.AnswerLaws.{never-met}
-use Rattle.kb_drive.proofs.SettledLaws.{explored_with, leads_on, piece_behind, values_kept, values_of_model}
+use Rattle.kb_drive.proofs.SettledLaws.{explored_with, leads_on, piece_behind, values_met, values_of_model}
 use Rattle.kb_drive.proofs.SizeLaws.{size_split}
 use Rattle.kb_drive.proofs.WaitLaws.{listed_replaces, refuted_replaces, waiting_replaces}
 
@@ -193,9 +193,9 @@ module _ (steps : StepsLeadOn) (endings_mean : EndingsMean) (emits : InputsAreOf
         let means = path_is world after.state alternative.decisions OpenLeaf behind.explored.formed tt in
         listed (length alternative.piece.state.when) alternative.piece.values OpenLeaf behind means
         (open_right endings_mean emits one_places world target bounds explorable (length alternative.piece.state.when) budget alternative.piece.values after alternative.decisions behind means)
-    follows_rightly Kept behind is =
+    follows_rightly Met behind is =
         settled (length alternative.piece.state.when) alternative.piece.values alternative.piece.values behind
-        (values_kept world target bounds (length alternative.piece.state.when) alternative.piece.values after behind is) after.outcome refl
+        (values_met world target bounds (length alternative.piece.state.when) alternative.piece.values after behind is) after.outcome refl
     follows_rightly (Answered (Model values)) behind is =
         settled (length alternative.piece.state.when) alternative.piece.values values behind (values_of_model world target bounds after.state values is.0 is.1) after.outcome refl
     follows_rightly (Answered (Refuted log)) behind is = left (refuted (length alternative.piece.state.when) alternative.piece.values log.entries behind is.0)

@@ -1,5 +1,5 @@
 -- What conditions and seen slots say of an input stays when a state grows: the variables that there were keep their values.
-use Rattle.std.proofs.Common.{◌≡◌, ℕ, zero, suc, ◌<◌, ℤ, Bool, true, false, List, [], ◌∷◌, ◌++◌, length, take, fold, cond, Option, Some, None, slice_get, refl, sym, ap, ◌∙◌, subst, arith, length-take}
+use Rattle.std.proofs.Common.{◌≡◌, ℕ, zero, suc, ◌<◌, ℤ, Bool, true, false, List, [], ◌∷◌, ◌++◌, length, take, fold, Option, Some, None, slice_get, refl, sym, ap, ◌∙◌, subst, arith, length-take}
 use Rattle.std.specs.List.{filter_map}
 use Rattle.std.proofs.lemmas.Option.{slice_get_within}
 use Rattle.kb_blast.specs.Meaning.{AreMetInPool}
@@ -10,7 +10,7 @@ use Rattle.kb_heap.specs.declared.heap.Value.{Value}
 use Rattle.kb_link.specs.World.{World}
 use Rattle.kb_oracle.proofs.Queries.{length-kinds}
 use Rattle.kb_terms.specs.Op.{is_binary}
-use Rattle.kb_terms.specs.Terms.{Extends, IsPool, IsSecond, IsTerm, int_at, is_variable, node_at, value_of, values, variables_of}
+use Rattle.kb_terms.specs.Terms.{Extends, IsPool, IsSecond, IsTerm, int_at, node_at, value_of, values, variables_of}
 use Rattle.kb_terms.specs.declared.node.Node.{Node}
 use Rattle.kb_terms.specs.declared.node.Node.TheVariants.{Const, Var, Op as Apply}
 use Rattle.kb_terms.specs.declared.node.TermId.{TermId}
@@ -29,9 +29,9 @@ use Rattle.kb_picture.specs.WellFormed.{variable_seen, variables_seen}
 use Rattle.kb_frames.specs.State.{State}
 use Rattle.kb_frames.specs.States.{IsState}
 use Rattle.kb_frames.specs.Comparing.{comparison_of}
+use Rattle.kb_frames.proofs.PathLaws.{variable-below}
 use Rattle.kb_drive.specs.Steps.{StaysAtInputs}
 use Rattle.kb_drive.proofs.FrontLaws.{conditions_both, front_at, passes_term}
-use Rattle.kb_drive.proofs.SumLaws.{count_first}
 
 -- ---- the values of terms hang on the first variables alone
 
@@ -47,27 +47,10 @@ agree_run xs ys done (n ∷ ns) agree =
     one (Var v kind) h = ap (λ (z : ℤ). done ++ z ∷ []) (h v kind refl)
     one (Apply op left right) h = refl
 
--- a variable of a pool has a number below that of its variables
-variable_below : (nodes : List Node) (i v : ℕ) (kind : VarKind) → IsPool nodes → slice_get nodes i ≡ Some (Var v kind) → v < variables_of nodes
-variable_below nodes i v kind pool at = let number : v ≡ variables_of (take i nodes) = pool.fits i (Var v kind) at in rw number (counted nodes i at)
-  where
-    counted : (ns : List Node) (k : ℕ) → slice_get ns k ≡ Some (Var v kind) → variables_of (take k ns) < variables_of ns
-    counted [] k e = absurd cc
-    counted (n ∷ ns) zero e =
-        let same : n ≡ Var v kind = cc in
-        let first = count_first is_variable n ns in
-        let one : cond (is_variable n) (suc zero) zero ≡ suc zero = rw same refl in
-        omega (arith, first, one)
-    counted (n ∷ ns) (suc k) e =
-        let less = counted ns k e in
-        let first = count_first is_variable n ns in
-        let front = count_first is_variable n (take k ns) in
-        omega (arith, less, first, front)
-
 pub value_agrees : (nodes : List Node) (t : TermId) (xs ys : List ℤ) → IsPool nodes → ((v : ℕ) → v < variables_of nodes → int_at xs v ≡ int_at ys v)
     → value_of nodes t xs ≡ value_of nodes t ys
 unfolding value_of values
-value_agrees nodes t xs ys pool agree = ap (λ (vs : List ℤ). int_at vs t.0) (agree_run xs ys [] nodes (λ i v kind at. agree v (variable_below nodes i v kind pool at)))
+value_agrees nodes t xs ys pool agree = ap (λ (vs : List ℤ). int_at vs t.0) (agree_run xs ys [] nodes (λ i v kind at. agree v (variable-below nodes pool i v kind at)))
 
 -- ---- how many variables there are
 

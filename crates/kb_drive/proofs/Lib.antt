@@ -13,6 +13,7 @@ pub mod InputLaws
 pub mod KindLaws
 pub mod LeadLaws
 pub mod LeafLaws
+pub mod MetLaws
 pub mod OpenLaws
 pub mod OrderLaws
 pub mod PartLaws

@@ -108,8 +108,7 @@ module _ (world : World) (target : MethodId) (bounds : Bounds) where
     stands = stands_on after after.outcome refl goes behind.outcomes;
   }
 
-  -- where nothing was added, the values from before meet all conditions
-  pub values_kept : (count : ℕ) (values : List ℤ) (after : Take) → IsBehind world target bounds count values after → length after.state.when ≡ count
+  -- the values from before the take, where they meet all conditions
+  pub values_met : (count : ℕ) (values : List ℤ) (after : Take) → IsBehind world target bounds count values after → AreMetInPool after.state.nodes values after.state.when
       → AreValuesFor after.state.nodes after.state.when values
-  values_kept count values after behind same =
-      subst (λ (when : List (TermId × Bool)). AreValuesFor after.state.nodes when values) (take_all count after.state.when (omega (arith, same))) behind.explored.met
+  values_met count values after behind met = record { few = behind.explored.met.few; fits = behind.explored.met.fits; met = met }

@@ -20,7 +20,7 @@ use Rattle.kb_frames.specs.declared.value.Outcome.{Outcome}
 use Rattle.kb_frames.specs.declared.value.Outcome.TheVariants.{Asks, Goes, Ends, Cut}
 use Rattle.kb_frames.specs.Paths.{path_of}
 use Rattle.kb_drive.specs.declared.follow.Known.{Known}
-use Rattle.kb_drive.specs.declared.follow.Known.TheVariants.{Open, Kept, Answered}
+use Rattle.kb_drive.specs.declared.follow.Known.TheVariants.{Open, Met, Answered}
 use Rattle.kb_drive.specs.declared.follow.Next.TheVariants.{Lists}
 use Rattle.kb_drive.specs.declared.piece.Piece.{Piece}
 use Rattle.kb_drive.specs.declared.waiting.Taken.{Taken}
@@ -205,9 +205,9 @@ pub sources_with : (world : World) (bounds : Bounds) (walk : Walk) (waiting : Li
 unfolding path_of
 sources_with world bounds walk waiting taken Open answers formed method given paths pieces now same =
     let all : answers ≡ now = cc in subst (IsFrom world (walk_with (record walk { waiting = waiting }) (follows world bounds taken Open))) all (open_from world bounds walk waiting answers paths pieces taken.piece)
-sources_with world bounds walk waiting taken Kept answers formed method given paths pieces now same =
+sources_with world bounds walk waiting taken Met answers formed method given paths pieces now same =
     let all : answers ≡ now = cc in
-    subst (IsFrom world (walk_with (record walk { waiting = waiting }) (follows world bounds taken Kept))) all
+    subst (IsFrom world (walk_with (record walk { waiting = waiting }) (follows world bounds taken Met))) all
     (outcome_from world bounds walk waiting answers paths pieces taken.piece taken.outcome formed method given)
 sources_with world bounds walk waiting taken (Answered (Model values)) answers formed method given paths pieces now same =
     let all : answers ++ Model values ∷ [] ≡ now = cc in

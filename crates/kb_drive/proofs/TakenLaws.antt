@@ -19,12 +19,12 @@ use Rattle.kb_stepint.specs.Reached.{IsReached}
 use Rattle.kb_stepint.specs.Ways.{Take}
 use Rattle.kb_stepref.specs.Reached.{IsHeapReached}
 use Rattle.kb_drive.specs.declared.follow.Known.{Known}
-use Rattle.kb_drive.specs.declared.follow.Known.TheVariants.{Open, Kept, Answered}
+use Rattle.kb_drive.specs.declared.follow.Known.TheVariants.{Open, Met, Answered}
 use Rattle.kb_drive.specs.declared.waiting.Taken.{Taken}
 use Rattle.kb_drive.specs.declared.waiting.Waiting.{Waiting}
 use Rattle.kb_drive.specs.declared.walk.Walk.{Walk}
 use Rattle.kb_drive.specs.Explorable.{IsExplorable}
-use Rattle.kb_drive.specs.Following.{CanFollow, CanFollowOutcome, IsAskedWithin, IsKnown, IsTakenFrom, IsTakenOf, alternative_next, follows, given_after, path_of_piece, taken_from, waits_on, walk_with}
+use Rattle.kb_drive.specs.Following.{CanFollow, CanFollowOutcome, IsAskedWithin, IsKnown, IsTakenFrom, IsTakenOf, StoodMet, alternative_next, follows, given_after, path_of_piece, taken_from, waits_on, walk_with}
 use Rattle.kb_drive.specs.Pieces.{IsBehind}
 use Rattle.kb_frames.specs.Endings.{ended_in}
 use Rattle.kb_drive.specs.Steps.{LeadsOn}
@@ -129,6 +129,9 @@ module _ (world : World) (target : MethodId) (bounds : Bounds) (waiting now : Li
   pub can_follow : CanFollow world taken
   can_follow = subst (CanFollow world) (sym was.is) (record { terms = open_terms; outcome = outcome_follows after.outcome refl })
 
+  pub stood_met : StoodMet taken
+  stood_met = subst StoodMet (sym was.is) (record { within = behind.explored.within; met = behind.explored.met.met })
+
   -- The open path of conditions that an oracle could not answer.
   pub unserved_taken : (Unfit : ℕ → Query → Type 0) (i : ℕ) (path : Path) → IsRefused Unfit taken.piece i path → IsUnserved world target bounds Unfit i path
   unserved_taken Unfit i path refused = subst (IsUnserved world target bounds Unfit i) (sym path_same) is_unserved
@@ -186,7 +189,7 @@ module _ (world : World) (bounds : Bounds) (walk : Walk) (now : List Waiting) (t
 
   by_known : (it : Known) → known ≡ it → (before given : Option (List Answer)) → OfGiven (IsFrom world walk) before given → OfGiven (IsFrom world new) before (given_after given it)
   by_known Open same before given of = kept_sources before given (λ answers from. from_answers answers answers from (sym (ap (given_after (Some answers)) same))) of
-  by_known Kept same before given of = kept_sources before given (λ answers from. from_answers answers answers from (sym (ap (given_after (Some answers)) same))) of
+  by_known Met same before given of = kept_sources before given (λ answers from. from_answers answers answers from (sym (ap (given_after (Some answers)) same))) of
   by_known (Answered answer) same before given of =
       more_sources before given answer (λ answers from. from_answers answers (answers ++ answer ∷ []) from (sym (ap (given_after (Some answers)) same))) of
 

@@ -14,7 +14,7 @@ use Rattle.kb_frames.specs.declared.value.Outcome.{Outcome}
 use Rattle.kb_frames.specs.declared.value.Outcome.TheVariants.{Asks, Goes, Ends, Cut}
 use Rattle.kb_frames.specs.Paths.{path_of}
 use Rattle.kb_drive.specs.declared.follow.Known.{Known}
-use Rattle.kb_drive.specs.declared.follow.Known.TheVariants.{Open, Kept, Answered}
+use Rattle.kb_drive.specs.declared.follow.Known.TheVariants.{Open, Met, Answered}
 use Rattle.kb_drive.specs.declared.follow.Next.{Next}
 use Rattle.kb_drive.specs.declared.follow.Next.TheVariants.{Lists, Waits as WaitsNext, Leaves}
 use Rattle.kb_drive.specs.declared.piece.Piece.{Piece}
@@ -147,7 +147,7 @@ module _ (world : World) (bounds : Bounds) (taken : Taken) where
       → AreOpenLast walk.paths (listed_with walk.listed (follows world bounds taken known))
   unfolding path_of
   open_with walk Open count kept within = open_last_open walk.paths walk.listed (path_of_piece taken.piece OpenLeaf) kept (omega (arith, count, within)) refl
-  open_with walk Kept count kept within = open_with_piece walk count kept within taken.piece
+  open_with walk Met count kept within = open_with_piece walk count kept within taken.piece
   open_with walk (Answered (Model values)) count kept within = open_with_piece walk count kept within (record taken.piece { values = values })
   open_with walk (Answered (Refuted log)) count kept within = kept
   open_with walk (Answered (UndecidedAnswer log)) count kept within =

@@ -1,5 +1,5 @@
 -- What follows an alternative that was taken, by what is known of its conditions.
-use Rattle.std.specs.Prelude.{◌≡◌, ◌≢◌, ◌<◌, ◌≤◌, ℕ, suc, Bool, List, [], ◌∷◌, ◌++◌, length, nat_lt, Option, Some, None, option_map, slice_get, if◌then◌else◌}
+use Rattle.std.specs.Prelude.{◌≡◌, ◌≢◌, ◌<◌, ◌≤◌, ℕ, suc, Bool, List, [], ◌∷◌, ◌++◌, length, take, nat_lt, Option, Some, None, option_map, slice_get, if◌then◌else◌}
 use Rattle.kb_blast.specs.Meaning.{AreMetInPool}
 use Rattle.kb_blast.specs.Query.{query_of}
 use Rattle.kb_heap.specs.declared.bounds.Bounds.{Bounds}
@@ -23,7 +23,7 @@ use Rattle.kb_drive.specs.declared.waiting.Waiting.{Waiting}
 use Rattle.kb_drive.specs.declared.waiting.Taken.{Taken}
 use Rattle.kb_drive.specs.declared.walk.Walk.{Walk}
 use Rattle.kb_drive.specs.declared.follow.Known.{Known}
-use Rattle.kb_drive.specs.declared.follow.Known.TheVariants.{Open, Kept, Answered}
+use Rattle.kb_drive.specs.declared.follow.Known.TheVariants.{Open, Met, Answered}
 use Rattle.kb_drive.specs.declared.follow.Next.{Next}
 use Rattle.kb_drive.specs.declared.follow.Next.TheVariants.{Lists, Waits, Leaves}
 use Rattle.kb_drive.specs.Covers.{is_open}
@@ -47,39 +47,45 @@ taken_from world bounds alternative = record {
   stood = length alternative.piece.state.when;
 }
 
+-- the values from before the take meet the conditions that stood before it
+pub record StoodMet (taken : Taken) : Type 0 where
+  pub within : taken.stood ≤ length taken.piece.state.when
+  pub met : AreMetInPool taken.piece.state.nodes taken.piece.values (take taken.stood taken.piece.state.when)
+
 -- ---- what is known of its conditions
 
--- Nobody was asked, and nobody will be; or it has the conditions that stood before, which the values meet; or an oracle with
--- that budget has answered.
+-- Nobody was asked, and nobody will be; or the values from before the take meet all its conditions; or an oracle with that
+-- budget has answered.
 abbrev pub IsKnown : ℕ → Taken → Known → Type 0
 IsKnown budget taken Open = Unit {0}
-IsKnown budget taken Kept = length taken.piece.state.when ≡ taken.stood
+IsKnown budget taken Met = AreMetInPool taken.piece.state.nodes taken.piece.values taken.piece.state.when
 IsKnown budget taken (Answered answer) =
     IsAnswerTo (query_of taken.piece.state.nodes taken.piece.state.when) budget answer
     × IfModel (λ values. AreMetInPool taken.piece.state.nodes values taken.piece.state.when) answer
 
--- Nobody is asked about an alternative that adds no condition, and about every other one somebody is.
+-- Nobody is asked about an alternative whose conditions the values meet, and about every other one somebody is (the values at
+-- hand decide one side of a branch, as in concolic testing: Godefroid, Klarlund and Sen, 2005).
 abbrev pub IsLearnt : Taken → Known → Type 0
 IsLearnt taken Open = ⊥
-IsLearnt taken Kept = length taken.piece.state.when ≡ taken.stood
-IsLearnt taken (Answered answer) = length taken.piece.state.when ≢ taken.stood
+IsLearnt taken Met = AreMetInPool taken.piece.state.nodes taken.piece.values taken.piece.state.when
+IsLearnt taken (Answered answer) = AreMetInPool taken.piece.state.nodes taken.piece.values taken.piece.state.when → ⊥
 
 -- the answers of an oracle, where they are told, when this is known
 abbrev pub given_after : Option (List Answer) → Known → Option (List Answer)
 given_after given Open = given
-given_after given Kept = given
+given_after given Met = given
 given_after given (Answered answer) = option_map (λ (answers : List Answer). answers ++ answer ∷ []) given
 
--- nobody was asked only where as many paths are listed as may be, and else somebody was where conditions were added
+-- nobody was asked only where as many paths are listed as may be, and else the conditions were looked at
 abbrev pub IsAskedWithin : Walk → Known → Type 0
 IsAskedWithin walk Open = walk.paths ≤ walk.closed
-IsAskedWithin walk Kept = walk.closed < walk.paths
+IsAskedWithin walk Met = walk.closed < walk.paths
 IsAskedWithin walk (Answered answer) = walk.closed < walk.paths
 
 -- an undecided answer was counted
 abbrev pub HasCounted : ℕ → ℕ → Known → Type 0
 HasCounted unsure now Open = Unit {0}
-HasCounted unsure now Kept = Unit {0}
+HasCounted unsure now Met = Unit {0}
 HasCounted unsure now (Answered answer) = OnUndecided (Rose unsure now) answer
 
 -- ---- what follows
@@ -113,7 +119,7 @@ follows_answer world bounds taken (UndecidedAnswer log) = Lists (path_of_piece t
 -- What follows an alternative that was taken: it is listed as a path, it waits, or it leaves.
 abbrev pub follows : World → Bounds → Taken → Known → Next
 follows world bounds taken Open = Lists (path_of_piece taken.piece OpenLeaf)
-follows world bounds taken Kept = follows_outcome world bounds taken.piece taken.outcome
+follows world bounds taken Met = follows_outcome world bounds taken.piece taken.outcome
 follows world bounds taken (Answered answer) = follows_answer world bounds taken answer
 
 -- ---- when it can follow

@@ -1,5 +1,6 @@
 pub mod Division
 pub mod Covers
+pub mod Met
 pub mod Within
 pub mod Runs
 pub mod Compared

@@ -6,11 +6,12 @@ ghost use Rattle.kb_oracle.specs.Answers.{IfBad};
 ghost use Rattle.kb_terms.specs.Terms.{AreTerms};
 ghost use Rattle.kb_picture.specs.declared.path.Leaf.TheVariants.{Open};
 ghost use Rattle.kb_frames.specs.Paths.{path_roots};
-ghost use Rattle.kb_drive.specs.Following.{HasCounted, IsKnown, IsLearnt, given_after, path_of_piece};
+ghost use Rattle.kb_drive.specs.Following.{HasCounted, IsKnown, IsLearnt, StoodMet, given_after, path_of_piece};
 ghost use Rattle.kb_drive.specs.Stops.{IfOracle, IsOf};
 
 use crate::follow::Known;
 use crate::leaf::path_of;
+use crate::met::are_met_at_hand;
 use crate::piece::Piece;
 use crate::stop::DriveStop;
 use crate::waiting::Taken;
@@ -18,13 +19,15 @@ use kb_oracle::{Oracle, OracleStop};
 use kb_picture::Leaf;
 use std::alloc::Global;
 
-/// What is known of the conditions of an alternative that was taken. Nobody is asked about one that adds none.
+/// What is known of the conditions of an alternative that was taken. Nobody is asked where the values from before it meet them
+/// all; those that stood before they meet.
 pub(crate) fn learn<O: Oracle>(
     alloc: Global,
     taken: &Taken,
     oracle: &mut O,
 ) -> Result<Known, OracleStop>
-    requires { AreConditions taken.now.piece.state.nodes taken.now.piece.state.when }
+    requires conditions { AreConditions taken.now.piece.state.nodes taken.now.piece.state.when }
+    requires met { StoodMet taken.now }
     ensures learnt { IfOk result (IsLearnt taken.now) }
     ensures known { IfOk result (IsKnown (O.budget oracle.old) taken.now) }
     ensures undecided { IfOk result (HasCounted (O.unsure oracle.old) (O.unsure oracle.new)) }
@@ -36,12 +39,11 @@ pub(crate) fn learn<O: Oracle>(
     ensures later_bad { O.bad oracle.old ≤ O.bad oracle.new }
     ensures later_unsure { O.unsure oracle.old ≤ O.unsure oracle.new }
 {
-    let state = &taken.piece.get().state;
-    let when = state.conditions();
-    if when.len() == taken.stood {
-        return Ok(Known::Kept);
+    if are_met_at_hand(alloc, taken)? {
+        return Ok(Known::Met);
     }
-    let answer = oracle.ask(alloc, state.pool(), when)?;
+    let state = &taken.piece.get().state;
+    let answer = oracle.ask(alloc, state.pool(), state.conditions())?;
     Ok(Known::Answered(answer))
 }
 

@@ -1,7 +1,10 @@
 //! What follows an alternative that was taken.
 ghost use Rattle.std.specs.Prelude.{◌≡◌, IfOk};
+ghost use Rattle.kb_frames.specs.Paths.{path_roots};
 ghost use Rattle.kb_stepref.specs.Reached.{IsHeapReached};
-ghost use Rattle.kb_drive.specs.Following.{CanFollow, CanFollowOutcome, follows, follows_answer, follows_outcome, waits_at};
+ghost use Rattle.kb_terms.specs.Terms.{AreTerms};
+ghost use Rattle.kb_drive.specs.Following.{CanFollow, CanFollowOutcome, follows, follows_answer, follows_outcome, path_of_piece, waits_at};
+ghost use Rattle.kb_drive.specs.declared.follow.Next.TheVariants as nexts;
 ghost use Rattle.kb_drive.specs.Taking.{choices_at};
 
 use crate::NoMemory;
@@ -22,8 +25,8 @@ use std::alloc::Global;
 pub(crate) enum Known {
     /// Nobody is asked.
     Open,
-    /// They are those that stood before.
-    Kept,
+    /// The values from before the take meet them.
+    Met,
     /// What an oracle has answered.
     Answered(Answer),
 }
@@ -51,8 +54,8 @@ pub(crate) fn follow(
     ensures { IfOk result (λ next. next ≡ follows world.now bounds.now taken known) }
 {
     match known {
-        Known::Open => Ok(Next::Lists(path_of(alloc, taken.piece.get(), Leaf::Open)?)),
-        Known::Kept => follow_outcome(alloc, world, bounds, taken.piece, taken.outcome),
+        Known::Open => lists(alloc, taken.piece.get(), Leaf::Open),
+        Known::Met => follow_outcome(alloc, world, bounds, taken.piece, taken.outcome),
         Known::Answered(answer) => follow_answer(alloc, world, bounds, taken, answer),
     }
 }
@@ -73,11 +76,16 @@ fn follow_answer(
             follow_outcome(alloc, world, bounds, piece, taken.outcome)
         }
         Answer::Refuted(_) => Ok(Next::Leaves),
-        Answer::Undecided(log) => {
-            let path = path_of(alloc, taken.piece.get(), Leaf::Undecided(log))?;
-            Ok(Next::Lists(path))
-        }
+        Answer::Undecided(log) => lists(alloc, taken.piece.get(), Leaf::Undecided(log)),
     }
+}
+
+// The path of a piece with that leaf is listed.
+fn lists(alloc: Global, piece: &Piece, leaf: Leaf) -> Result<Next, NoMemory>
+    requires { AreTerms piece.now.state.nodes (path_roots piece.now.state leaf) }
+    ensures { IfOk result (λ next. next ≡ nexts.Lists (path_of_piece piece.now leaf)) }
+{
+    Ok(Next::Lists(path_of(alloc, piece, leaf)?))
 }
 
 // What follows where the values of the piece meet its conditions.

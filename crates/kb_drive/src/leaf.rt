@@ -6,13 +6,15 @@ ghost use Rattle.kb_frames.specs.Paths.{path_roots};
 ghost use Rattle.kb_drive.specs.Values.{followed_by_zeros};
 ghost use Rattle.kb_drive.specs.Following.{input_of_piece, path_of_piece};
 ghost use Rattle.kb_frames.specs.Endings.{ended_in};
+ghost use Rattle.kb_frames.specs.Stated.{made_of, writes_of};
 
 use crate::NoMemory;
 use crate::piece::Piece;
+use kb_frames::SymState;
 use kb_heap::{Bound, Input};
 use kb_input::input_of;
-use kb_picture::{Ended, Leaf, Path, SymEnding};
-use kb_rows::Held;
+use kb_picture::{Ended, Leaf, Made, Path, SymEnding, Write};
+use kb_rows::{Held, Row};
 use kb_world::World;
 use std::alloc::Global;
 
@@ -50,15 +52,29 @@ fn ended_in(
 ) -> Result<Ended, NoMemory>
     ensures { IfOk result (λ ended. ended ≡ ended_in piece.now.state ending (input_of_piece world.now piece.now)) }
 {
+    let left = left_by(&piece.state)?;
     let input = input_of_piece(alloc, world, piece)?;
-    let writes = piece.state.writes()?;
-    let made = piece.state.made()?;
     Ok(Ended {
         ending,
-        writes,
-        made,
+        writes: left.writes,
+        made: left.made,
         input,
     })
+}
+
+// What a state keeps as written, and what as made.
+#[derive(Drop)]
+pub(crate) struct Left {
+    writes: Row<Write>,
+    made: Row<Made>,
+}
+
+fn left_by(state: &SymState) -> Result<Left, NoMemory>
+    ensures { IfOk result (λ left. left ≡ record { writes = writes_of state.now; made = made_of state.now }) }
+{
+    let writes = state.writes()?;
+    let made = state.made()?;
+    Ok(Left { writes, made })
 }
 
 /// The path of a piece whose inputs, or their runs, go beyond the bound.

@@ -11,6 +11,7 @@ mod explore;
 mod follow;
 mod laws;
 mod leaf;
+mod met;
 mod piece;
 mod steps;
 mod stop;

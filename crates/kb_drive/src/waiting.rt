@@ -79,12 +79,37 @@ impl WaitingChoices {
             return Ok(None);
         };
         if last.has_more() {
-            let taken = last.take_copy(alloc, world, bounds)?;
-            self.push(last.behind_one()?)?;
+            let taken = self.take_one(alloc, world, bounds, last)?;
             return Ok(Some(taken));
         }
         let taken = last.take_last(alloc, world, bounds)?;
         Ok(Some(taken))
+    }
+
+    // Takes the next alternative of a choice, which waits on.
+    fn take_one(
+        &mut self,
+        alloc: Global,
+        world: &World,
+        bounds: &Bounds,
+        choice: Waiting,
+    ) -> Result<Taken, NoMemory>
+        requires { CanBeTaken world.now bounds.now choice }
+        ensures taken { IfOk result (IsTakenOf world.now bounds.now choice (slice_get choice.choices choice.next)) }
+        ensures waits { OnOk result (self.new ≡ record choice { next = suc choice.next } ∷ self.old) }
+        ensures reached { IfOk result (λ taken. IsReached world.now taken.piece.state) }
+    {
+        let taken = choice.take_copy(alloc, world, bounds)?;
+        self.put_back(choice)?;
+        Ok(taken)
+    }
+
+    // Puts a choice back, with one alternative fewer.
+    fn put_back(&mut self, choice: Waiting) -> Result<(), NoMemory>
+        ensures { OnOk result (self.new ≡ record choice { next = suc choice.next } ∷ self.old) }
+    {
+        let waiting = choice.behind_one()?;
+        self.push(waiting)
     }
 }
 

@@ -6,7 +6,7 @@ ghost use Rattle.kb_terms.specs.Terms.{AreTerms};
 ghost use Rattle.kb_picture.specs.declared.path.Leaf.TheVariants.{Open as OpenLeaf};
 ghost use Rattle.kb_frames.specs.Paths.{path_roots};
 ghost use Rattle.kb_drive.specs.declared.follow.Next.TheVariants.{Lists};
-ghost use Rattle.kb_drive.specs.Following.{HasCounted, IsAskedWithin, IsKnown, closed_with, given_after, walk_with};
+ghost use Rattle.kb_drive.specs.Following.{HasCounted, IsAskedWithin, IsKnown, StoodMet, closed_with, given_after, walk_with};
 ghost use Rattle.kb_drive.specs.Stops.{IfOracle, IsRefused, IsUnserved};
 ghost use Rattle.kb_drive.specs.Walks.{IsFurther, IsRefined, IsWalk, KeepsCount, KeepsSources};
 
@@ -122,6 +122,7 @@ fn ask_within<O: Oracle>(
 ) -> Result<Known, DriveStop>
     requires conditions { AreConditions taken.now.piece.state.nodes taken.now.piece.state.when }
     requires terms { AreTerms taken.now.piece.state.nodes (path_roots taken.now.piece.state OpenLeaf) }
+    requires met { StoodMet taken.now }
     ensures known { IfOk result (IsKnown (O.budget oracle.old) taken.now) }
     ensures within { IfOk result (IsAskedWithin walk.now) }
     ensures undecided { IfOk result (HasCounted (O.unsure oracle.old) (O.unsure oracle.new)) }

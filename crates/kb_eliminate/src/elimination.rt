@@ -60,7 +60,30 @@ pub fn eliminate(
 {
     let mut occurrences = Occurrences::new(alloc, base)?;
     let candidates = candidates(alloc, &base.trail, &occurrences)?;
-    let mut sorted = candidates.as_slice().to_vec(alloc)?;
+    let mut eliminated = eliminate_all(
+        alloc,
+        base,
+        &mut occurrences,
+        candidates.as_slice(),
+        bounds,
+    )?;
+    eliminated.left = left_over(alloc, candidates.as_slice(), &occurrences)?;
+    base.purge();
+    Ok(eliminated)
+}
+
+/// Eliminates candidates, those with the fewest pairs of clauses first.
+fn eliminate_all(
+    alloc: Global,
+    base: &mut Base<'_>,
+    occurrences: &mut Occurrences,
+    candidates: &[Candidate],
+    bounds: EliminationBounds,
+) -> Result<Eliminated, NoMemory>
+    requires { IsUndecided base.old.formula.now base.old }
+    ensures { OnOk result (IsUndecided base.old.formula.now base.new) }
+{
+    let mut sorted = candidates.to_vec(alloc)?;
     sorted.sort_by_key(|candidate| candidate.pairs)?;
     let mut eliminated = Eliminated::new(alloc);
     for candidate in sorted.as_slice() {
@@ -68,20 +91,11 @@ pub fn eliminate(
             break;
         }
         let pivot = candidate.pivot;
-        let Some(sides) = few_clauses(alloc, base, &mut occurrences, bounds, pivot)? else {
+        let Some(sides) = few_clauses(alloc, base, occurrences, bounds, pivot)? else {
             continue;
         };
-        eliminate_variable(
-            alloc,
-            base,
-            &mut occurrences,
-            &mut eliminated,
-            &sides,
-            bounds,
-        )?;
+        eliminate_variable(alloc, base, occurrences, &mut eliminated, &sides, bounds)?;
     }
-    eliminated.left = left_over(alloc, candidates.as_slice(), &occurrences)?;
-    base.purge();
     Ok(eliminated)
 }
 

@@ -4,7 +4,7 @@
 ///
 /// An entry with that number may be no Utf8 entry, or not be there: then it has no text, and so none that is asked for. A file
 /// that was read has no such numbers.
-#[derive(Clone, Copy, Debug, PartialEq, Eq)]
+#[derive(Clone, Copy, PartialEq, Eq)]
 pub enum FormatFault {
     /// The name of a Class entry that is neither an array's descriptor nor non-empty and free of `.`, `;` and `[`, or an empty
     /// name of a NameAndType entry, field or method: its entry.

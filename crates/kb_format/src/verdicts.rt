@@ -11,7 +11,7 @@ use kb_names::NoMemory;
 use std::alloc::Global;
 
 /// What a text is, of all that may be asked of it.
-#[derive(Clone, Copy, Debug, PartialEq, Eq)]
+#[derive(Clone, Copy, PartialEq, Eq)]
 pub struct Verdict {
     pub class_name: bool,
     pub not_empty: bool,

@@ -12,11 +12,10 @@ use Rattle.kb_heap.specs.declared.heap.Input.{Input}
 use Rattle.kb_heap.specs.declared.heap.Object.{Object}
 use Rattle.kb_heap.specs.declared.heap.Value.{Value}
 use Rattle.kb_heap.specs.declared.heap.Value.TheVariants.{Int as IntValue}
-use Rattle.kb_heap.specs.Heap.{with_value}
+use Rattle.kb_heap.specs.Heap.{with_value, literal}
 use Rattle.kb_link.specs.World.{World}
 use Rattle.kb_semantics.specs.Config.{Ended as RunEnded}
 use Rattle.kb_semantics.specs.Step.{first_heap}
-use Rattle.kb_semantics.specs.Values.{literal}
 use Rattle.kb_terms.specs.Numbering.{IsNumbering, is_operation, place_of}
 use Rattle.kb_terms.specs.Terms.{IsTerm, node_at, value_of}
 use Rattle.kb_terms.specs.declared.listing.Operand.TheVariants.{Const, Var, Term as TermOperand}

@@ -1,12 +1,12 @@
 -- The path of a state is well-formed: its terms are those that a walk from its conditions and its leaf meets, in its order,
 -- each with the operands that its operation has.
-use Rattle.std.proofs.Common.{◌≡◌, ℕ, zero, suc, ◌<◌, pos, Bool, true, false, List, [], ◌∷◌, ◌++◌, length, map, take, get_or, slice_get, Option, Some, None, refl, sym, ap, subst, ◌∙◌, arith, inl, inr}
-use Rattle.std.specs.Prelude.{unwrap_or, replicate, ◌==◌}
+use Rattle.std.proofs.Common.{◌≡◌, ℕ, zero, suc, ◌<◌, Bool, true, false, List, [], ◌∷◌, ◌++◌, ◌+◌, length, map, take, drop, get_or, slice_get, Option, Some, None, refl, sym, ap, subst, ◌∙◌, arith, inl, inr}
+use Rattle.std.specs.Prelude.{unwrap_or, ◌==◌}
 use Rattle.std.specs.List.{flat_map}
 use Rattle.std.proofs.lemmas.Bool.{and_parts}
 use Rattle.std.proofs.lemmas.Bool.Decides.{Decides-eqb}
 use Rattle.std.proofs.lemmas.Grind.{flat_map-append}
-use Rattle.std.proofs.lemmas.List.{append-nil, map-append, length-replicate}
+use Rattle.std.proofs.lemmas.List.{append-nil, map-append}
 use Rattle.std.proofs.lemmas.List.Quantifiers.{position-Some}
 use Rattle.std.proofs.lemmas.Option.{slice_get_within, slice_get-get_or}
 use Rattle.kb_terms.specs.declared.op.Op.{Op}
@@ -19,7 +19,8 @@ use Rattle.kb_terms.specs.declared.listing.Term.{Term}
 use Rattle.kb_terms.specs.Op.{is_binary}
 use Rattle.kb_terms.specs.Terms.{node_at, variables_of, IsPool, IsSecond as IsSecondTerm}
 use Rattle.kb_terms.specs.Numbering.{place_of, is_operation, IsOperandOf, IsNumbering}
-use Rattle.kb_terms.proofs.Computing.{can_compute}
+use Rattle.kb_terms.proofs.Entries.{split_at}
+use Rattle.kb_terms.proofs.Interned.{variables-append}
 use Rattle.kb_blast.specs.Query.{number_in, operand_from, operand_of, operands_of, listed, roots_of as condition_roots, numbered_conditions, node_passes, is_comparison, AreConditions}
 use Rattle.kb_blast.specs.Meaning.{IsComparison}
 use Rattle.kb_picture.specs.declared.picture.Picture.{Picture}
@@ -52,12 +53,15 @@ comparison-shape (Some (Const c)) e = absurd (cc)
 comparison-shape (Some (Var v kind)) e = absurd (cc)
 comparison-shape (Some (Apply op left right)) e = (op, left, right, refl, e)
 
-variable-below : (nodes : List Node) → IsPool nodes → (i v : ℕ) (kind : VarKind) → slice_get nodes i ≡ Some (Var v kind) → v < variables_of nodes
+-- the number of a variable is below how many there are
+pub variable-below : (nodes : List Node) → IsPool nodes → (i v : ℕ) (kind : VarKind) → slice_get nodes i ≡ Some (Var v kind) → v < variables_of nodes
 variable-below nodes formed i v kind e =
-    let inputs = replicate (variables_of nodes) (pos 0) in
-    let many : length inputs ≡ variables_of nodes = length-replicate (variables_of nodes) (pos 0) in
-    let below : v < length inputs = can_compute nodes i (Var v kind) inputs (replicate i (pos 0)) formed e (omega (arith, many)) (length-replicate i (pos 0)) in
-    omega (arith, many, below)
+    let rest : List Node = drop (suc i) nodes in
+    let number : v ≡ variables_of (take i nodes) = formed.fits i (Var v kind) e in
+    let parts : variables_of (take i nodes ++ Var v kind ∷ rest) ≡ variables_of nodes = ap variables_of (split_at nodes i (Var v kind) e) in
+    let one : variables_of (Var v kind ∷ []) ≡ 1 = refl in
+    let behind : variables_of (Var v kind ∷ rest) ≡ variables_of (Var v kind ∷ []) + variables_of rest = variables-append (Var v kind ∷ []) rest in
+    omega (arith, number, parts, variables-append (take i nodes) (Var v kind ∷ rest), behind, one)
 
 -- a place is that of the term
 pub place-there : (ts : List TermId) (t : TermId) (j : ℕ) → place_of ts t ≡ Some j → slice_get ts j ≡ Some t

@@ -7,11 +7,10 @@ use Rattle.std.proofs.lemmas.Option.{slice_get_within}
 use Rattle.kb_class.specs.declared.ids.MethodId.{MethodId}
 use Rattle.kb_heap.specs.declared.heap.Object.{Object}
 use Rattle.kb_heap.specs.declared.heap.Input.{Input}
-use Rattle.kb_heap.specs.Heap.{object_at}
+use Rattle.kb_heap.specs.Heap.{object_at, literal}
 use Rattle.kb_link.specs.World.{World}
 use Rattle.kb_semantics.specs.Config.{Setting}
 use Rattle.kb_semantics.specs.Step.{first_heap, start_of}
-use Rattle.kb_semantics.specs.Values.{literal}
 use Rattle.kb_picture.specs.declared.choice.Init.{Init}
 use Rattle.kb_picture.specs.Places.{places_of}
 use Rattle.kb_picture.specs.Shapes.{HasShape}

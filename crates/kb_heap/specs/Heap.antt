@@ -1,7 +1,8 @@
 -- A heap as its list of objects: an object's number is its place in the list, and an object is its exact type and
 -- the values of its slots or elements.
-use Rattle.std.specs.Prelude.{ℕ, Option, Some, None, IsSome, [], ◌∷◌, ◌++◌, slice_get, slice_set}
+use Rattle.std.specs.Prelude.{ℕ, Option, Some, None, IsSome, [], ◌∷◌, ◌++◌, slice_get, slice_set, codes}
 use Rattle.std.specs.Option.{option_and_then}
+use Rattle.kb_names.specs.declared.types.ExactType.TheVariants as exact
 use Rattle.kb_heap.specs.declared.heap.Value.{Value}
 use Rattle.kb_heap.specs.declared.heap.Object.{Object}
 use Rattle.kb_heap.specs.declared.heap.Heap.{Heap}
@@ -33,3 +34,8 @@ with_value heap object slot value = with_object_at heap object slot value (objec
 -- the heap with one object more, behind the others
 abbrev pub with_object : Heap → Object → Heap
 with_object heap of = record { objects = heap.objects ++ of ∷ [] }
+
+-- The object of a string literal: a String (The Java Virtual Machine Specification, Java SE 8 Edition, section 5.1). It is
+-- opaque, so that it has no slots (own).
+abbrev pub literal : Object
+literal = record { kind = exact.Class (codes "java/lang/String"); values = [] }

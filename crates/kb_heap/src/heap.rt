@@ -1,9 +1,9 @@
 //! Heaps and what they hold.
 ghost use Rattle.std.specs.Prelude.{◌≡◌, ◌↔◌, [], ◌∷◌, ◌++◌, Some, length, IfOk, IfErr, IsTrue};
-ghost use Rattle.kb_heap.specs.Heap.{IsPlace, value_at, with_value, with_object};
+ghost use Rattle.kb_heap.specs.Heap.{IsPlace, value_at, with_value, with_object, literal};
 
 use crate::{NoMemory, Row};
-use kb_names::{ExactType, Same, are_same};
+use kb_names::{ExactType, Name, Same, are_same};
 use std::alloc::Global;
 
 /// A value: every one is of category 1 (JVMS 8 section 2.11.1).
@@ -40,6 +40,17 @@ pub struct Object {
 }
 
 impl Object {
+    /// The object that stands for a string literal. It has no slots: strings are opaque.
+    pub fn literal(alloc: Global) -> Result<Object, NoMemory>
+        ensures { IfOk result (λ object. object ≡ literal) }
+    {
+        let name = Name::from_slice(alloc, b"java/lang/String".as_slice())?;
+        Ok(Object {
+            kind: ExactType::Class(name),
+            values: Row::new(alloc),
+        })
+    }
+
     /// Another object that equals this one.
     pub fn copied(&self, alloc: Global) -> Result<Object, NoMemory>
         ensures { IfOk result (λ copy. copy ≡ self.now) }

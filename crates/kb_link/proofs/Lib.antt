@@ -19,6 +19,7 @@ pub mod OneUniverse
 pub mod LiteralLaws
 pub mod UniverseTexts
 pub mod UniverseLaws
+pub mod OwnParts
 pub mod UniverseReading
 pub mod UniverseMentions
 pub mod Filling

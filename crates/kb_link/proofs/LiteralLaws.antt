@@ -46,7 +46,7 @@ module _ {A : Type 0} where
   has_last [] y = (zero, refl)
   has_last (w ∷ xs) y = (let rest : Has (xs ++ y ∷ []) y = has_last xs y in (suc rest.0, rest.1))
 
-has_none : (text : List ℕ) → Has [] text → ⊥
+pub has_none : (text : List ℕ) → Has [] text → ⊥
 has_none text (i, at) = absurd cc
 
 -- ---- texts added

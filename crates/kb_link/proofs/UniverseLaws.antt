@@ -41,7 +41,7 @@ has_inside (first ∷ texts) text (place, at) = go (bytes_eq text first) refl pl
       let rest : position_or_len (bytes_eq text) texts < length texts = again (i, there) in
       omega (arith, is, rest)
 
-in_set : (texts : List (List ℕ)) (text : List ℕ) → (Has texts text × (is_some (literal_in texts text) ≡ true)) ⊎ ((Has texts text → ⊥) × (is_some (literal_in texts text) ≡ false))
+pub in_set : (texts : List (List ℕ)) (text : List ℕ) → (Has texts text × (is_some (literal_in texts text) ≡ true)) ⊎ ((Has texts text → ⊥) × (is_some (literal_in texts text) ≡ false))
 in_set texts text = elim (cases_lt (position_or_len (bytes_eq text) texts) (length texts)) [
   | inl below ↦ inl (inside_has texts text below, (let e = lt-ltb (position_or_len (bytes_eq text) texts) (length texts) below in rw e refl))
   | inr over ↦ inr ((λ has. (let h : position_or_len (bytes_eq text) texts < length texts = has_inside texts text has in omega (arith, h, over))), (let e = le-ltb (position_or_len (bytes_eq text) texts) (length texts) over in rw e refl))

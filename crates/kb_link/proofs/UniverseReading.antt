@@ -15,9 +15,7 @@ use Rattle.kb_names.proofs.ShapeLaws.{shape_of-arrays_of, arrays_of-shape_of}
 use Rattle.kb_class.specs.Class.{Class}
 use Rattle.kb_link.specs.World.{number_in}
 use Rattle.kb_link.specs.Universe.{IsElement, array_text}
-use Rattle.kb_class.specs.Naming.{Has}
-use Rattle.kb_link.specs.Mentions.{AddsTexts, exact_text, array_parts, element_text, IsWantedArray, IsPartOf, IsSimple}
-use Rattle.kb_link.proofs.LiteralLaws.{adds_same, adds_all}
+use Rattle.kb_link.specs.Mentions.{exact_text, element_text, IsWantedArray, IsSimple}
 use Rattle.kb_link.proofs.UniverseTexts.{one_base, element_of, part_text_is}
 
 -- ---- how many [ a text begins with
@@ -130,8 +128,3 @@ pushed_more start now next all (t ∷ others) text component some at read pushed
 pub pushed_done : (start now : List ExactType) (all rest : List (List ℕ)) → length rest < 1 → ((after : List ExactType) → Pushed now rest after → Pushed start all after) → Pushed start all now
 pushed_done start now all [] none goes = goes now (pushed_none now)
 pushed_done start now all (t ∷ rest) none goes = absurd (omega (arith, none))
-
--- ---- the parts of an array
-
-pub wanted_parts : (classes : List Class) (before after : List (List ℕ)) (whole : List ℕ) → IsWantedArray classes whole → after ≡ before ++ array_parts whole → AddsTexts before after (IsPartOf classes whole)
-wanted_parts classes before after whole wanted pushed = adds_same before after (Has (array_parts whole)) (IsPartOf classes whole) (λ t. (λ has. (wanted, has), λ part. part.1)) (adds_all before after (array_parts whole) pushed)

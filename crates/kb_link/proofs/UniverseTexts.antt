@@ -69,7 +69,7 @@ element_base float_base = refl
 element_base double_base = refl
 element_base (class_base name) = refl
 
-no_parts : (base : Base) → array_parts (base_text Raw base) ≡ []
+pub no_parts : (base : Base) → array_parts (base_text Raw base) ≡ []
 no_parts bool_base = refl
 no_parts byte_base = refl
 no_parts char_base = refl

@@ -78,9 +78,20 @@ element_text (byte ∷ bytes) = if byte == 91 then element_text bytes else byte 
 abbrev pub IsWantedArray : List Class → List ℕ → Type 0
 IsWantedArray classes text = (component : JType) × IsElement classes (shape_of component).base × (text ≡ exact_text (exact.Array component))
 
+-- A text that begins with [, and what is left of it behind each [ that it begins with, as far as it begins with one and up to
+-- the first that is in the set, without that one.
+abbrev pub own_parts : List (List ℕ) → List ℕ → List (List ℕ)
+own_parts named [] = []
+own_parts named (byte ∷ bytes) =
+    if byte == 91 then (byte ∷ bytes) ∷ (if is_some (literal_in named bytes) then [] else own_parts named bytes) else []
+
 -- the text is the descriptor of such an array, or of a component array of it
 abbrev pub IsPartOf : List Class → List ℕ → List ℕ → Type 0
 IsPartOf classes whole text = IsWantedArray classes whole × Has (array_parts whole) text
+
+-- the text is the descriptor of such an array, or of a component array of it before the first that is in the set
+abbrev pub IsOwnPartOf : List Class → List (List ℕ) → List ℕ → List ℕ → Type 0
+IsOwnPartOf classes named whole text = IsWantedArray classes whole × Has (own_parts named whole) text
 
 -- a boolean, an int or a class
 abbrev pub IsSimple : Base → Type 0

@@ -26,7 +26,7 @@ use std::alloc::Global;
 const MOST_CLASSES: usize = 64;
 
 /// Why classes are not linked, or a method is not reached.
-#[derive(Debug, Drop)]
+#[derive(Drop)]
 pub enum LinkRefusal {
     /// More than 64 classes are given.
     TooMany,
@@ -58,7 +58,7 @@ pub enum LinkRefusal {
 }
 
 /// What of an instruction cannot be carried out.
-#[derive(Clone, Copy, Debug, PartialEq, Eq)]
+#[derive(Clone, Copy, PartialEq, Eq)]
 pub enum What {
     /// An opcode that is not built.
     Opcode(u8),

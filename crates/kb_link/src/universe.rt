@@ -1,5 +1,5 @@
 //! The exact types that an object of an input may have.
-ghost use Rattle.std.specs.Prelude.{◌≡◌, ◌↔◌, ◌∷◌, [], ◌++◌, ℕ, List, Some, map, length, IfOk, OnOk, IsTrue};
+ghost use Rattle.std.specs.Prelude.{◌≡◌, ◌↔◌, ◌<◌, ◌∷◌, [], ◌++◌, ℕ, List, Some, map, length, slice_get, IfOk, OnOk, IsTrue};
 ghost use Rattle.std.specs.List.{AllByRecursion};
 ghost use Rattle.std.specs.Option.{option_copied};
 ghost use Rattle.kb_names.specs.Shape.{Base};
@@ -10,8 +10,9 @@ ghost use Rattle.kb_names.specs.declared.types.JType.{JType};
 ghost use Rattle.kb_names.specs.declared.types.ExactType.TheVariants as exact;
 ghost use Rattle.kb_class.specs.Naming.{Has};
 ghost use Rattle.kb_order.specs.Texts.{IsRising};
+ghost use Rattle.kb_link.specs.Rules.{name_of};
 ghost use Rattle.kb_link.specs.Universe.{is_concrete, IsElement, given_types, array_text, IsUniverse};
-ghost use Rattle.kb_link.specs.Mentions.{AddsTexts, AnyOf, IsTextGiven, IsWantedArray, IsPartOf, IsSimple, platform_types, array_parts, element_text};
+ghost use Rattle.kb_link.specs.Mentions.{AddsTexts, AnyOf, IsTextGiven, IsWantedArray, IsPartOf, IsOwnPartOf, IsSimple, platform_types, own_parts, element_text};
 
 use crate::classes::Classes;
 use crate::literals::{place_in, push_text, set_of};
@@ -33,7 +34,7 @@ pub(crate) fn universe_of(alloc: Global, classes: &Classes) -> Result<Row<ExactT
     let mut universe = Row::new(alloc);
     push_given(alloc, classes.as_slice(), &mut universe)?;
     push_platform(alloc, classes.as_slice(), &named, &mut universe)?;
-    push_arrays(alloc, arrays.as_slice(), &mut universe)?;
+    push_arrays(alloc, classes, arrays.as_slice(), &mut universe)?;
     Ok(universe)
 }
 
@@ -145,17 +146,25 @@ fn arrays_in(alloc: Global, classes: &Classes, named: &TextSet) -> Result<TextSe
     ensures rises { IfOk result IsRising }
     ensures same { IfOk result (λ set. (text : List ℕ) → Has set text ↔ AnyOf (IsPartOf classes.now) named.now text) }
 {
-    let texts = parts_in(alloc, classes, named.as_slice())?;
+    let texts = parts_in(alloc, classes, named, named.as_slice())?;
     set_of(alloc, texts)
 }
 
-fn parts_in(alloc: Global, classes: &Classes, named: &[Row<u8>]) -> Result<Vec<Row<u8>>, NoMemory>
-    ensures { IfOk result (λ texts. AddsTexts [] texts.items (AnyOf (IsPartOf classes.now) named.now)) }
+// The descriptors of the arrays among these texts whose elements may be ones, and of their component arrays, each up to the
+// first component that is in the set. So no array of the set is added twice, nor a component of it.
+fn parts_in(
+    alloc: Global,
+    classes: &Classes,
+    named: &TextSet,
+    wholes: &[Row<u8>],
+) -> Result<Vec<Row<u8>>, NoMemory>
+    requires { IsRising named.now }
+    ensures { IfOk result (λ texts. AddsTexts [] texts.items (AnyOf (IsOwnPartOf classes.now named.now) wholes.now)) }
 {
     let mut texts = Vec::new(alloc);
-    let mut rest = named;
+    let mut rest = wholes;
     while let [whole, others @ ..] = rest {
-        push_wanted(alloc, classes, whole.as_slice(), &mut texts)?;
+        push_wanted(alloc, classes, named, whole.as_slice(), &mut texts)?;
         rest = others;
     }
     Ok(texts)
@@ -164,20 +173,28 @@ fn parts_in(alloc: Global, classes: &Classes, named: &[Row<u8>]) -> Result<Vec<R
 fn push_wanted(
     alloc: Global,
     classes: &Classes,
+    named: &TextSet,
     whole: &[u8],
     texts: &mut Vec<Row<u8>>,
 ) -> Result<(), NoMemory>
-    ensures { OnOk result (AddsTexts texts.old.items texts.new.items (IsPartOf classes.now whole.now)) }
+    requires { IsRising named.now }
+    ensures { OnOk result (AddsTexts texts.old.items texts.new.items (IsOwnPartOf classes.now named.now whole.now)) }
 {
     if !is_wanted(classes, whole) {
         return Ok(());
     }
-    push_parts(alloc, whole, texts)
+    push_parts(alloc, named, whole, texts)
 }
 
-// Adds the descriptor of an array and those of its component arrays.
-fn push_parts(alloc: Global, whole: &[u8], texts: &mut Vec<Row<u8>>) -> Result<(), NoMemory>
-    ensures { OnOk result (texts.new.items ≡ texts.old.items ++ array_parts whole.now) }
+// Adds the descriptor of an array and those of its component arrays, the longest first, up to the first that is in the set.
+fn push_parts(
+    alloc: Global,
+    named: &TextSet,
+    whole: &[u8],
+    texts: &mut Vec<Row<u8>>,
+) -> Result<(), NoMemory>
+    requires { IsRising named.now }
+    ensures { OnOk result (texts.new.items ≡ texts.old.items ++ own_parts named.now whole.now) }
 {
     let mut rest = whole;
     while let [first, others @ ..] = rest {
@@ -185,6 +202,9 @@ fn push_parts(alloc: Global, whole: &[u8], texts: &mut Vec<Row<u8>>) -> Result<(
             return Ok(());
         }
         push_text(alloc, rest, texts)?;
+        if place_in(named, others).is_some() {
+            return Ok(());
+        }
         rest = others;
     }
     Ok(())
@@ -254,6 +274,7 @@ fn name_in(text: &[u8]) -> Option<&[u8]>
 // Adds the arrays with these descriptors.
 fn push_arrays(
     alloc: Global,
+    classes: &Classes,
     arrays: &[Row<u8>],
     universe: &mut Row<ExactType>,
 ) -> Result<(), NoMemory>
@@ -262,7 +283,7 @@ fn push_arrays(
 {
     let mut rest = arrays;
     while let [text, others @ ..] = rest {
-        let component = component_of(alloc, text.as_slice())?;
+        let component = component_of(alloc, classes, text.as_slice())?;
         universe.push(ExactType::Array(component))?;
         rest = others;
     }
@@ -270,26 +291,44 @@ fn push_arrays(
 }
 
 // The component of an array with that descriptor, whose element is a boolean, an int or a class.
-fn component_of(alloc: Global, text: &[u8]) -> Result<JType, NoMemory>
+fn component_of(alloc: Global, classes: &Classes, text: &[u8]) -> Result<JType, NoMemory>
     ensures { IfOk result (λ type. (component : JType) → IsSimple (shape_of component).base → text.now ≡ array_text component → type ≡ component) }
 {
     let element = element_of(text);
-    let base = element_type(alloc, element)?;
+    let base = element_type(alloc, classes, element)?;
     let dims = text.len().saturating_sub(element.len());
     with_dims(alloc, base, dims.saturating_sub(1))
 }
 
 // The type of an element that is a boolean, an int or a class.
-fn element_type(alloc: Global, text: &[u8]) -> Result<JType, NoMemory>
+fn element_type(alloc: Global, classes: &Classes, text: &[u8]) -> Result<JType, NoMemory>
     ensures { IfOk result (λ type. (base : Base) → IsSimple base → text.now ≡ base_text Raw base → type ≡ base_type base) }
 {
     if is_letter(text, b'I') {
         return Ok(JType::Int);
     }
     match name_in(text) {
-        Some(name) => Ok(JType::Class(Name::from_slice(alloc, name)?)),
+        Some(name) => Ok(JType::Class(shared_name(alloc, classes, name)?)),
         None => Ok(JType::Bool),
     }
+}
+
+// The name of these bytes: that of the class of the name, where there is one, shared with it.
+fn shared_name(alloc: Global, classes: &Classes, name: &[u8]) -> Result<Name, NoMemory>
+    ensures { IfOk result (λ told. told ≡ name.now) }
+{
+    match classes.number_of(name) {
+        Some(number) => name_at(alloc, classes, number),
+        None => Name::from_slice(alloc, name),
+    }
+}
+
+// The name of the class of that number.
+fn name_at(alloc: Global, classes: &Classes, number: u32) -> Result<Name, NoMemory>
+    requires { number < length classes.now }
+    ensures { IfOk result (λ name. slice_get (map name_of classes.now) number ≡ Some name) }
+{
+    classes.as_slice()[number as usize].name().copied(alloc)
 }
 
 // The array of so many dimensions over a type.

@@ -2,28 +2,15 @@
 use Rattle.std.specs.Prelude.{◌≡◌, ℕ, List, [], ◌∷◌, ◌++◌, map, Option}
 use Rattle.std.specs.declared.vec.Vec.{Vec}
 use Rattle.std.specs.declared.alloc.Global.{Global}
-use Rattle.kb_classfile.specs.Spelling.{IsClassFile}
 use Rattle.kb_table.specs.Files.{AreWhole}
 use Rattle.kb_class.specs.declared.given.GivenClass.{GivenClass}
-use Rattle.kb_class.specs.Given.{AreListings}
+use Rattle.kb_class.specs.Given.{IsGivenBy, AreGivenBy}
 use Rattle.kb_link.specs.Links.{Links}
 use Rattle.kb_link.specs.World.{World}
 
--- the bytes spell the class's file, and each method has its listing
-pub record IsClassOf (bytes : List ℕ) (class : GivenClass) : Type 0 where
-  pub file : IsClassFile class.file bytes
-  pub listed : AreListings class.file.methods class.listings
-
--- each spells a class
-abbrev pub AreClasses : List (List ℕ) → List GivenClass → Type 0
-AreClasses [] [] = Unit {0}
-AreClasses (bytes ∷ files) (class ∷ given) = IsClassOf bytes class × AreClasses files given
-AreClasses [] (class ∷ given) = ⊥
-AreClasses (bytes ∷ files) [] = ⊥
-
 -- the class that the bytes spell is behind the others
 abbrev pub AddsClass : List ℕ → List GivenClass → List GivenClass → Type 0
-AddsClass bytes before after = (class : GivenClass) × IsClassOf bytes class × (after ≡ before ++ class ∷ [])
+AddsClass bytes before after = (class : GivenClass) × IsGivenBy bytes class × (after ≡ before ++ class ∷ [])
 
 -- the bytes of each file
 abbrev pub contents_of : List (Vec ℕ Global) → List (List ℕ)
@@ -32,7 +19,7 @@ contents_of files = map (λ (bytes : Vec ℕ Global). bytes.items) files
 -- the world is that of the classes that the files spell, one each, in order
 pub record IsWorldOf (files : List (List ℕ)) (world : World) : Type 0 where
   pub given : List GivenClass
-  pub spelled : AreClasses files given
+  pub spelled : AreGivenBy files given
   pub links : Links given world
 
 -- the world is that of the files of these names, which are whole where it is told what they hold

@@ -5,8 +5,8 @@
 mod worlds;
 
 ghost use Rattle.std.specs.Prelude.{[], ◌∷◌, IfOk, IfSome};
-ghost use Rattle.kb_class.specs.Given.{AreListings, IsGiven};
-ghost use Rattle.kb_load.specs.Worlds.{AddsClass, AreClasses, IsClassOf, IsWorldOf, contents_of};
+ghost use Rattle.kb_class.specs.Given.{AreListings, IsGiven, IsGivenBy, AreGivenBy};
+ghost use Rattle.kb_load.specs.Worlds.{AddsClass, IsWorldOf, contents_of};
 
 use kb_class::{GivenClass, handlers_of};
 use kb_classfile::{ClassFile, Method, read_class};
@@ -30,7 +30,7 @@ pub fn world_of(alloc: Global, files: &[Vec<u8>]) -> Option<World>
 
 // The classes that these bytes spell, in order.
 fn given_classes(alloc: Global, files: &[Vec<u8>]) -> Option<Vec<GivenClass>>
-    ensures { IfSome result (λ classes. AreClasses (contents_of files.now) classes.items) }
+    ensures { IfSome result (λ classes. AreGivenBy (contents_of files.now) classes.items) }
 {
     let mut classes = Vec::new(alloc);
     for bytes in files {
@@ -52,7 +52,7 @@ fn add_class(alloc: Global, bytes: &[u8], classes: &mut Vec<GivenClass>) -> Opti
 
 /// The class that the bytes spell; None where they are no class file, its code cannot be decoded, or memory runs out.
 pub fn given_class(alloc: Global, bytes: &[u8]) -> Option<GivenClass>
-    ensures spelled { IfSome result (IsClassOf bytes.now) }
+    ensures spelled { IfSome result (IsGivenBy bytes.now) }
     ensures given { IfSome result IsGiven }
 {
     let Ok(file) = read_class(alloc, bytes) else {

@@ -15,11 +15,11 @@ use Rattle.kb_semantics.specs.Config.{Setting, Config, Outcome}
 use Rattle.kb_semantics.specs.Instructions.{Elements, array_at, elements_of, on_array, on_place, place_in_array, takes_object, with}
 use Rattle.kb_semantics.specs.Values.{kept}
 use Rattle.kb_semantics.specs.Ways.{array_store, goes, goes_with, ill_typed, index_outside, throws}
-use Rattle.kb_machine.specs.Arrays.{loaded_at, loaded_from, loaded_value, stored_at, stored_from, stored_in, stored_value}
-use Rattle.kb_machine.specs.declared.arrays.Loaded.{Loaded}
-use Rattle.kb_machine.specs.declared.arrays.Loaded.TheVariants as loaded
-use Rattle.kb_machine.specs.declared.arrays.Stored.{Stored}
-use Rattle.kb_machine.specs.declared.arrays.Stored.TheVariants as stored
+use Rattle.kb_values.specs.Arrays.{loaded_at, loaded_from, loaded_value, stored_at, stored_from, stored_in, stored_value}
+use Rattle.kb_values.specs.declared.arrays.Loaded.{Loaded}
+use Rattle.kb_values.specs.declared.arrays.Loaded.TheVariants as loaded
+use Rattle.kb_values.specs.declared.arrays.Stored.{Stored}
+use Rattle.kb_values.specs.declared.arrays.Stored.TheVariants as stored
 
 module _ (s : Setting) (c : Config) (next : ℕ) (rest : List Value) (o : ℕ) (such : JType → Bool) (index : ℤ) where
   -- ---- loads

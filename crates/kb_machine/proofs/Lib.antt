@@ -1,9 +1,5 @@
+pub mod ArrayLaws
 pub mod CallLaws
 pub mod LandingLaws
-pub mod ListingLaws
-pub mod LocalLaws
 pub mod RunLaws
-pub mod Stacks
 pub mod Steps
-pub mod SwitchLaws
-pub mod ArrayLaws

@@ -1,6 +1,3 @@
-pub mod Unwritten
+pub mod Families
 pub mod Turns
 pub mod Landings
-pub mod Arrays
-pub mod Listings
-pub mod Callees

@@ -1,18 +1,13 @@
 -- What the machine's state stands for in one step, and what a step comes to.
-use Rattle.std.specs.Prelude.{ℕ, ◌+◌, List, Option, option_map}
+use Rattle.std.specs.Prelude.{ℕ, ◌+◌}
 use Rattle.kb_heap.specs.declared.ending.Ending.TheVariants as endings
 use Rattle.kb_heap.specs.declared.ending.Ending.{Ending}
 use Rattle.kb_heap.specs.declared.bounds.Bound.TheVariants.{Steps}
 use Rattle.kb_link.specs.World.{World}
-use Rattle.kb_heap.specs.declared.heap.Value.{Value}
 use Rattle.kb_heap.specs.declared.heap.Heap.{Heap}
 use Rattle.kb_semantics.specs.Config.{Setting, Config, Outcome, Goes, Ends, place_in_code}
-use Rattle.kb_semantics.specs.Operands.{Taken}
-use Rattle.kb_semantics.specs.Instructions.{CallKind, BySelection, Special, Static}
 use Rattle.kb_machine.specs.declared.state.State.{State}
 use Rattle.kb_machine.specs.declared.turn.Turn.{Turn}
-use Rattle.kb_machine.specs.declared.turn.Call.{Call}
-use Rattle.kb_machine.specs.declared.turn.Call.TheVariants as found
 use Rattle.kb_machine.specs.declared.turn.Step.{Step}
 use Rattle.kb_machine.specs.declared.turn.Step.TheVariants as steps
 
@@ -43,15 +38,6 @@ told t (steps.Returned value) m = ended (endings.Returned value) m.heap
 told t (steps.Threw object) m = ended (endings.Threw object) m.heap
 told t (steps.IllTyped method at) m = ended (endings.IllTyped (place_in_code t.world.now method at)) m.heap
 told t (steps.Past bound) m = ended (endings.Past bound) m.heap
-
--- what was taken, where something was, and what is left on the stack
-abbrev pub as_taken : {A : Type 0} → Option A → List Value → Option (Taken A)
-as_taken it rest = option_map (λ x. record { it = x; rest = rest }) it
-
-abbrev pub kind_of : Call → CallKind
-kind_of found.BySelection = BySelection
-kind_of found.Special = Special
-kind_of found.Static = Static
 
 -- how the run ends, where a step ends it
 abbrev pub ending_told : World → Step → Ending

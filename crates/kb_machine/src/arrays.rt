@@ -1,52 +1,20 @@
 //! Arrays (JVMS 8 section 6.5).
 
-ghost use Rattle.std.specs.Prelude.{◌≡◌, ◌∷◌, length, option_map, pos, true, IfOk};
-ghost use Rattle.kb_semantics.specs.Instructions.{Elements as PlainElements, array_at, array_length, load_element, make_array, makes_array, new_array, place_in_array, store_element, takes_object};
+ghost use Rattle.std.specs.Prelude.{◌≡◌, ◌∷◌, pos, IfOk};
+ghost use Rattle.kb_semantics.specs.Instructions.{array_length, load_element, make_array, makes_array, store_element};
 ghost use Rattle.kb_heap.specs.declared.heap.Value.TheVariants.{Int};
 ghost use Rattle.kb_heap.specs.Heap.{IsPlace, with_value};
-ghost use Rattle.kb_semantics.specs.Values.{takes_component};
 ghost use Rattle.kb_semantics.specs.Ways.{goes, goes_with};
-ghost use Rattle.kb_machine.specs.Arrays.{loaded_at, plain_elements, stored_at};
 ghost use Rattle.kb_machine.specs.Turns.{setting_of, config_of, told};
 
 use crate::NoMemory;
-use crate::kinds::kept;
 use crate::state::State;
-use crate::throwing::{ARRAY_STORE, INDEX_OUTSIDE, NEGATIVE_SIZE, NULL_POINTER, default_of};
+use crate::throwing::{ARRAY_STORE, INDEX_OUTSIDE, NEGATIVE_SIZE, NULL_POINTER};
 use crate::turn::{Step, Turn};
 use kb_code::Elem;
-use kb_heap::{Bound, Heap, Object, Row, Value};
-use kb_names::{ExactType, JType};
-use kb_world::World;
-use std::alloc::Global;
-
-/// The component and the elements of an array.
-#[derive(Clone, Copy)]
-pub(crate) struct Elements<'h> {
-    pub(crate) component: &'h JType,
-    pub(crate) values: &'h [Value],
-}
-
-/// What an array has at an index.
-#[derive(Clone, Copy)]
-pub(crate) enum Loaded {
-    Value(Value),
-    /// The index is not in the array.
-    Outside,
-    IllTyped,
-}
-
-/// What becomes of a value that is to be stored in an array.
-#[derive(Clone, Copy)]
-pub(crate) enum Stored {
-    /// It is kept so at that place.
-    Kept(u32, Value),
-    /// The index is not in the array.
-    Outside,
-    /// It is an object that the array may not have.
-    Refused,
-    IllTyped,
-}
+use kb_heap::{Bound, Value};
+use kb_names::JType;
+use kb_values::{Loaded, Stored, len_at, loaded_at, new_array, stored_at};
 
 impl State {
     /// iaload, aaload, baload
@@ -156,116 +124,5 @@ impl State {
             Ok(len) => self.push(turn, Value::Int(len)),
             Err(_) => Err(NoMemory),
         }
-    }
-}
-
-/// An array of default values.
-fn new_array(alloc: Global, of: JType, count: u32) -> Result<Object, NoMemory>
-    ensures { IfOk result (λ object. object ≡ new_array of count) }
-{
-    let values = vec![in alloc; default_of(&of); count as usize]?;
-    Ok(Object {
-        kind: ExactType::Array(of),
-        values: Row::from_vec(values),
-    })
-}
-
-// The component and the elements of an array that the instruction takes.
-fn array_at(heap: &Heap, array: u32, elem: Elem) -> Option<Elements<'_>>
-    ensures { option_map plain_elements result ≡ array_at heap.now array (takes_component elem) }
-{
-    let object = heap.objects.as_slice().get(array as usize)?;
-    let ExactType::Array(component) = &object.kind else {
-        return None;
-    };
-    if !takes_component(elem, component) {
-        return None;
-    }
-    Some(Elements {
-        component,
-        values: object.values.as_slice(),
-    })
-}
-
-// The length of an array.
-fn len_at(heap: &Heap, array: u32) -> Option<usize>
-    ensures { result ≡ option_map (λ (found : PlainElements). length found.values) (array_at heap.now array (λ component. true)) }
-{
-    let object = heap.objects.as_slice().get(array as usize)?;
-    match &object.kind {
-        ExactType::Array(_) => Some(object.values.as_slice().len()),
-        ExactType::Class(_) => None,
-    }
-}
-
-// What the array has at an index.
-fn loaded_at(heap: &Heap, array: u32, elem: Elem, index: i32) -> Loaded
-    ensures { result ≡ loaded_at heap.now array (takes_component elem) index }
-{
-    let Some(found) = array_at(heap, array, elem) else {
-        return Loaded::IllTyped;
-    };
-    let Some(place) = place_in_array(index, found.values.len()) else {
-        return Loaded::Outside;
-    };
-    match found.values.get(place as usize) {
-        Some(value) => Loaded::Value(*value),
-        None => Loaded::IllTyped,
-    }
-}
-
-// What becomes of a value that is to be stored in the array at an index.
-fn stored_at(world: &World, heap: &Heap, array: u32, elem: Elem, index: i32, value: Value) -> Stored
-    ensures { result ≡ stored_at world.now heap.now array (takes_component elem) index value }
-{
-    let Some(found) = array_at(heap, array, elem) else {
-        return Stored::IllTyped;
-    };
-    let Some(place) = place_in_array(index, found.values.len()) else {
-        return Stored::Outside;
-    };
-    if !takes_object(world, heap, found.component, value) {
-        return Stored::Refused;
-    }
-    match kept(found.component, value) {
-        Some(value) => Stored::Kept(place, value),
-        None => Stored::IllTyped,
-    }
-}
-
-fn takes_component(elem: Elem, component: &JType) -> bool
-    ensures { result ≡ takes_component elem component.now }
-{
-    match (elem, component) {
-        (Elem::Int, JType::Int) => true,
-        (Elem::Byte, JType::Bool) => true,
-        (Elem::Ref, JType::Class(_) | JType::Array(_)) => true,
-        _ => false,
-    }
-}
-
-// The place of an index in an array of that length.
-fn place_in_array(index: i32, len: usize) -> Option<u32>
-    ensures { result ≡ place_in_array index len }
-{
-    let Ok(place) = u32::try_from(index) else {
-        return None;
-    };
-    if place as usize >= len {
-        return None;
-    }
-    Some(place)
-}
-
-// Whether the component takes the value: null, or an object that fits it.
-fn takes_object(world: &World, heap: &Heap, component: &JType, value: Value) -> bool
-    ensures { result ≡ takes_object world.now heap.now component.now value }
-{
-    let Value::Ref(object) = value else {
-        return true;
-    };
-    match heap.objects.as_slice().get(object as usize) {
-        Some(of) => world.subtype(&of.kind, component),
-        None => false,
     }
 }

@@ -1,14 +1,14 @@
 //! Branches and switches (JVMS 8 section 6.5).
 
-ghost use Rattle.std.specs.Prelude.{◌≡◌, slice_index_or};
-ghost use Rattle.kb_semantics.specs.Instructions.{is_wanted, goto, if_int, if_ints, if_null, if_same, is_null, same_reference, switch};
-ghost use Rattle.kb_semantics.specs.Comparisons.{switch_target, table_keys};
+ghost use Rattle.std.specs.Prelude.{◌≡◌};
+ghost use Rattle.kb_semantics.specs.Instructions.{goto, if_int, if_ints, if_null, if_same, switch};
+ghost use Rattle.kb_semantics.specs.Comparisons.{table_keys};
 ghost use Rattle.kb_machine.specs.Turns.{setting_of, config_of, told};
 
-use crate::arithmetic::holds;
 use crate::state::State;
 use crate::turn::{Step, Turn};
 use kb_code::Cond;
+use kb_values::{holds, is_null, is_wanted, same_reference, switch_target, table_target};
 
 impl State {
     /// ifeq, ifne, iflt, ifge, ifgt, ifle
@@ -97,62 +97,5 @@ impl State {
             Some(value) => self.jumps(turn, table_target(value, low, targets, default)),
             None => self.ill_typed(),
         }
-    }
-}
-
-/// Whether they are one reference.
-pub(crate) fn same_reference(left: Option<u32>, right: Option<u32>) -> bool
-    ensures { result ≡ same_reference left right }
-{
-    match (left, right) {
-        (None, None) => true,
-        (Some(left), Some(right)) => left == right,
-        _ => false,
-    }
-}
-
-fn is_null(reference: Option<u32>) -> bool
-    ensures { result ≡ is_null reference }
-{
-    reference.is_none()
-}
-
-fn is_wanted(want: bool, so: bool) -> bool
-    ensures { result ≡ is_wanted want so }
-{
-    want == so
-}
-
-// Where a switch by keys goes on.
-fn switch_target(value: i32, keys: &[(i32, u32)], default: u32) -> u32
-    ensures { result ≡ switch_target value keys.now default }
-{
-    let mut rest = keys;
-    while let [(key, target), others @ ..] = rest {
-        if value == *key {
-            return *target;
-        }
-        rest = others;
-    }
-    default
-}
-
-// Where a switch by the place in a table goes on.
-#[tactic(auto, using(crate::proofs::SwitchLaws::table_below, crate::proofs::SwitchLaws::table_from))]
-fn table_target(value: i32, low: i32, targets: &[u32], default: u32) -> u32
-    ensures { result ≡ switch_target value (table_keys low targets.now) default }
-{
-    if value < low {
-        return default;
-    }
-    target_at(targets, value.abs_diff(low) as usize, default)
-}
-
-fn target_at(targets: &[u32], place: usize, default: u32) -> u32
-    ensures { result ≡ slice_index_or targets.now place default }
-{
-    match targets.get(place) {
-        Some(target) => *target,
-        None => default,
     }
 }

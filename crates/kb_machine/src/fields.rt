@@ -1,7 +1,7 @@
 //! Objects and their fields (JVMS 8 section 6.5).
 
 ghost use Rattle.std.specs.Prelude.{◌≡◌, option_and_then, IfOk};
-ghost use Rattle.kb_semantics.specs.Instructions.{field_of, get_field, has_field, make_object, makes, put_field, with};
+ghost use Rattle.kb_semantics.specs.Instructions.{field_of, get_field, make_object, makes, put_field, with};
 ghost use Rattle.kb_heap.specs.declared.heap.Object.{Object as PlainObject};
 ghost use Rattle.kb_heap.specs.Heap.{object_at, with_value};
 ghost use Rattle.kb_semantics.specs.Ways.{goes_with};
@@ -9,11 +9,12 @@ ghost use Rattle.kb_machine.specs.Turns.{setting_of, config_of, told};
 
 use crate::NoMemory;
 use crate::state::State;
-use crate::throwing::{NULL_POINTER, new_object};
+use crate::throwing::NULL_POINTER;
 use crate::turn::{Step, Turn};
-use kb_heap::{Heap, Object, Value};
+use kb_heap::{Object, Value};
 use kb_names::ExactType;
-use kb_world::{FieldSlot, World};
+use kb_values::{field_of, new_object};
+use kb_world::FieldSlot;
 
 impl State {
     /// getfield
@@ -94,26 +95,5 @@ impl State {
         let number = self.add(object)?;
         self.frame.push(Value::Ref(number))?;
         Ok(self.advance(turn))
-    }
-}
-
-// What the object has in the slot of the field, where it has that.
-fn field_of(world: &World, heap: &Heap, object: u32, field: &FieldSlot) -> Option<Value>
-    ensures { result ≡ option_and_then (λ (of : PlainObject). field_of world.now of field.now) (object_at heap.now object) }
-{
-    let of = heap.objects.as_slice().get(object as usize)?;
-    if !has_field(world, &of.kind, field) {
-        return None;
-    }
-    of.values.as_slice().get(field.slot as usize).copied()
-}
-
-// Whether an object of the exact type has the slot.
-fn has_field(world: &World, kind: &ExactType, field: &FieldSlot) -> bool
-    ensures { result ≡ has_field world.now kind.now field.now }
-{
-    match kind {
-        ExactType::Class(name) => world.is_in_chain(name, field.class),
-        ExactType::Array(_) => false,
     }
 }

@@ -1,74 +1,54 @@
-//! Which instruction a frame stands at, and what each does (JVMS 8 section 6.5).
+//! What each instruction does (JVMS 8 section 6.5).
 
-ghost use Rattle.std.specs.Prelude.{◌≡◌, drop, option_map, IfOk};
-ghost use Rattle.kb_code.specs.Listing.{offset_of};
-ghost use Rattle.kb_semantics.specs.Config.{behind, instruction_at};
+ghost use Rattle.std.specs.Prelude.{◌≡◌, IfOk};
 ghost use Rattle.kb_semantics.specs.Step.{effect};
-ghost use Rattle.kb_machine.specs.Listings.{from_place, plain_found};
+ghost use Rattle.kb_machine.specs.Families.{IsConstant, IsLocal, IsRearranging, IsIntWork, IsBranch, IsReturn, IsArrayWork, IsObjectWork, IsCall};
 ghost use Rattle.kb_machine.specs.Turns.{config_of, setting_of, told};
 
 use crate::NoMemory;
-use crate::frame::Frame;
 use crate::state::State;
-use crate::turn::{Call, Step, Turn};
+use crate::turn::{Step, Turn};
 use kb_code::Instr;
-use kb_world::World;
-
-/// An instruction, and the offset behind it.
-#[derive(Clone, Copy)]
-pub(crate) struct Found<'w> {
-    pub(crate) instr: &'w Instr,
-    pub(crate) next: u32,
-}
-
-/// The instruction at the frame's offset.
-#[tactic(auto, using(crate::proofs::ListingLaws::by_place))]
-pub(crate) fn instruction_at<'w>(world: &'w World, frame: &Frame) -> Option<Found<'w>>
-    ensures { option_map plain_found result ≡ instruction_at world.now frame.now.method frame.now.at }
-{
-    let place = world.find_place(frame.method(), frame.at());
-    match world.find_code(frame.method()) {
-        Some(code) => found_at(code.listing.items.as_slice(), code.size, place),
-        None => None,
-    }
-}
-
-// The instruction at a place of a listing.
-fn found_at(items: &[(u32, Instr)], size: u32, place: Option<u32>) -> Option<Found<'_>>
-    ensures { option_map plain_found result ≡ from_place items.now size place }
-{
-    let place = place? as usize;
-    let item = items.get(place)?;
-    Some(Found {
-        instr: &item.1,
-        next: offset_at(items, place + 1, size),
-    })
-}
-
-// The offset of the item at that place, or the code's length.
-fn offset_at(items: &[(u32, Instr)], place: usize, size: u32) -> u32
-    ensures { result ≡ offset_of (drop place items.now) size }
-{
-    match items.get(place) {
-        Some((at, _)) => *at,
-        None => size,
-    }
-}
-
-/// The offset behind the instruction at the frame's offset.
-pub(crate) fn behind(world: &World, frame: &Frame) -> u32
-    ensures { result ≡ behind world.now frame.now.method frame.now.at }
-{
-    match instruction_at(world, frame) {
-        Some(found) => found.next,
-        None => frame.at(),
-    }
-}
+use kb_stack::Call;
 
 impl State {
-    /// Takes up an instruction.
+    /// Takes up an instruction, by its family.
     #[tactic(auto, unfolding(kb_semantics::specs::Step::effect))]
     pub(crate) fn take(&mut self, turn: &Turn<'_>, instr: &Instr) -> Result<Step, NoMemory>
+        ensures { IfOk result (λ step. told turn.now step self.new ≡ effect instr.now (setting_of turn.now) turn.now.next (config_of turn.now self.old)) }
+    {
+        match instr {
+            Instr::Nop | Instr::PushNull | Instr::PushInt(_) => self.take_constant(turn, instr),
+            Instr::Ldc(_) => self.take_constant(turn, instr),
+            Instr::LoadInt(_) | Instr::LoadRef(_) => self.take_local(turn, instr),
+            Instr::StoreInt(_) | Instr::StoreRef(_) => self.take_local(turn, instr),
+            Instr::Inc(..) => self.take_local(turn, instr),
+            Instr::Pop | Instr::Pop2 | Instr::Dup => self.take_rearranging(turn, instr),
+            Instr::DupX1 | Instr::DupX2 | Instr::Dup2 => self.take_rearranging(turn, instr),
+            Instr::Dup2X1 | Instr::Dup2X2 | Instr::Swap => self.take_rearranging(turn, instr),
+            Instr::Int2(_) | Instr::Neg | Instr::Narrow(_) => self.take_int(turn, instr),
+            Instr::IfInt(..) | Instr::IfPair(..) => self.take_branch(turn, instr),
+            Instr::IfSame(..) | Instr::IfNull(..) => self.take_branch(turn, instr),
+            Instr::Goto(_) | Instr::Table(..) => self.take_branch(turn, instr),
+            Instr::Lookup(..) => self.take_branch(turn, instr),
+            Instr::ReturnInt | Instr::ReturnRef => self.take_return(turn, instr),
+            Instr::Return => self.take_return(turn, instr),
+            Instr::LoadElem(_) | Instr::StoreElem(_) => self.take_array(turn, instr),
+            Instr::NewPrim(_) | Instr::NewRefs(_) => self.take_array(turn, instr),
+            Instr::Length => self.take_array(turn, instr),
+            Instr::GetField(_) | Instr::PutField(_) => self.take_object(turn, instr),
+            Instr::New(_) | Instr::Throw | Instr::Cast(_) => self.take_object(turn, instr),
+            Instr::InstanceOf(_) => self.take_object(turn, instr),
+            Instr::Virtual(_) | Instr::Special(_) => self.take_call(turn, instr),
+            Instr::Static(_) | Instr::Interface(_) => self.take_call(turn, instr),
+            Instr::Other(_) => Ok(self.ill_typed()),
+        }
+    }
+
+    // Those that push constants, and the one that does nothing.
+    #[tactic(auto, unfolding(kb_semantics::specs::Step::effect))]
+    fn take_constant(&mut self, turn: &Turn<'_>, instr: &Instr) -> Result<Step, NoMemory>
+        requires { IsConstant instr.now }
         ensures { IfOk result (λ step. told turn.now step self.new ≡ effect instr.now (setting_of turn.now) turn.now.next (config_of turn.now self.old)) }
     {
         match instr {
@@ -76,12 +56,33 @@ impl State {
             Instr::PushNull => self.push_null(turn),
             Instr::PushInt(value) => self.push_int(turn, *value),
             Instr::Ldc(entry) => self.load_constant(turn, *entry),
+            _ => unreachable!(),
+        }
+    }
+
+    // Those on locals.
+    #[tactic(auto, unfolding(kb_semantics::specs::Step::effect))]
+    fn take_local(&mut self, turn: &Turn<'_>, instr: &Instr) -> Result<Step, NoMemory>
+        requires { IsLocal instr.now }
+        ensures { IfOk result (λ step. told turn.now step self.new ≡ effect instr.now (setting_of turn.now) turn.now.next (config_of turn.now self.old)) }
+    {
+        match instr {
             Instr::LoadInt(local) => self.load_int(turn, *local),
             Instr::LoadRef(local) => self.load_reference(turn, *local),
             Instr::StoreInt(local) => self.store_int(turn, *local),
             Instr::StoreRef(local) => self.store_reference(turn, *local),
-            Instr::LoadElem(elem) => self.load_element(turn, *elem),
-            Instr::StoreElem(elem) => self.store_element(turn, *elem),
+            Instr::Inc(local, by) => self.increase(turn, *local, *by),
+            _ => unreachable!(),
+        }
+    }
+
+    // Those that rearrange the operand stack.
+    #[tactic(auto, unfolding(kb_semantics::specs::Step::effect))]
+    fn take_rearranging(&mut self, turn: &Turn<'_>, instr: &Instr) -> Result<Step, NoMemory>
+        requires { IsRearranging instr.now }
+        ensures { IfOk result (λ step. told turn.now step self.new ≡ effect instr.now (setting_of turn.now) turn.now.next (config_of turn.now self.old)) }
+    {
+        match instr {
             Instr::Pop => Ok(self.pop(turn)),
             Instr::Pop2 => Ok(self.pop2(turn)),
             Instr::Dup => self.dup(turn),
@@ -91,10 +92,31 @@ impl State {
             Instr::Dup2X1 => self.dup2_x1(turn),
             Instr::Dup2X2 => self.dup2_x2(turn),
             Instr::Swap => self.swap(turn),
+            _ => unreachable!(),
+        }
+    }
+
+    // Those that compute ints.
+    #[tactic(auto, unfolding(kb_semantics::specs::Step::effect))]
+    fn take_int(&mut self, turn: &Turn<'_>, instr: &Instr) -> Result<Step, NoMemory>
+        requires { IsIntWork instr.now }
+        ensures { IfOk result (λ step. told turn.now step self.new ≡ effect instr.now (setting_of turn.now) turn.now.next (config_of turn.now self.old)) }
+    {
+        match instr {
             Instr::Int2(op) => self.apply_two(turn, *op),
             Instr::Neg => self.negate(turn),
-            Instr::Inc(local, by) => self.increase(turn, *local, *by),
             Instr::Narrow(cut) => self.narrow(turn, *cut),
+            _ => unreachable!(),
+        }
+    }
+
+    // Branches and switches.
+    #[tactic(auto, unfolding(kb_semantics::specs::Step::effect))]
+    fn take_branch(&mut self, turn: &Turn<'_>, instr: &Instr) -> Result<Step, NoMemory>
+        requires { IsBranch instr.now }
+        ensures { IfOk result (λ step. told turn.now step self.new ≡ effect instr.now (setting_of turn.now) turn.now.next (config_of turn.now self.old)) }
+    {
+        match instr {
             Instr::IfInt(cond, target) => Ok(self.if_int(turn, *cond, *target)),
             Instr::IfPair(cond, target) => Ok(self.if_ints(turn, *cond, *target)),
             Instr::IfSame(want, target) => Ok(self.if_same(turn, *want, *target)),
@@ -106,23 +128,69 @@ impl State {
             Instr::Lookup(default, keys) => {
                 Ok(self.lookup_switch(turn, *default, keys.as_slice()))
             }
+            _ => unreachable!(),
+        }
+    }
+
+    // Returns.
+    #[tactic(auto, unfolding(kb_semantics::specs::Step::effect))]
+    fn take_return(&mut self, turn: &Turn<'_>, instr: &Instr) -> Result<Step, NoMemory>
+        requires { IsReturn instr.now }
+        ensures { IfOk result (λ step. told turn.now step self.new ≡ effect instr.now (setting_of turn.now) turn.now.next (config_of turn.now self.old)) }
+    {
+        match instr {
             Instr::ReturnInt => self.return_int(turn),
             Instr::ReturnRef => self.return_reference(turn),
             Instr::Return => self.return_nothing(turn),
+            _ => unreachable!(),
+        }
+    }
+
+    // Those on arrays.
+    #[tactic(auto, unfolding(kb_semantics::specs::Step::effect))]
+    fn take_array(&mut self, turn: &Turn<'_>, instr: &Instr) -> Result<Step, NoMemory>
+        requires { IsArrayWork instr.now }
+        ensures { IfOk result (λ step. told turn.now step self.new ≡ effect instr.now (setting_of turn.now) turn.now.next (config_of turn.now self.old)) }
+    {
+        match instr {
+            Instr::LoadElem(elem) => self.load_element(turn, *elem),
+            Instr::StoreElem(elem) => self.store_element(turn, *elem),
+            Instr::NewPrim(code) => self.make_primitives(turn, *code),
+            Instr::NewRefs(entry) => self.make_references(turn, *entry),
+            Instr::Length => self.array_length(turn),
+            _ => unreachable!(),
+        }
+    }
+
+    // Those on objects.
+    #[tactic(auto, unfolding(kb_semantics::specs::Step::effect))]
+    fn take_object(&mut self, turn: &Turn<'_>, instr: &Instr) -> Result<Step, NoMemory>
+        requires { IsObjectWork instr.now }
+        ensures { IfOk result (λ step. told turn.now step self.new ≡ effect instr.now (setting_of turn.now) turn.now.next (config_of turn.now self.old)) }
+    {
+        match instr {
             Instr::GetField(entry) => self.get_field(turn, *entry),
             Instr::PutField(entry) => self.put_field(turn, *entry),
+            Instr::New(entry) => self.make_object(turn, *entry),
+            Instr::Throw => self.throw(turn),
+            Instr::Cast(entry) => self.cast(turn, *entry),
+            Instr::InstanceOf(entry) => self.instance_of(turn, *entry),
+            _ => unreachable!(),
+        }
+    }
+
+    // Calls.
+    #[tactic(auto, unfolding(kb_semantics::specs::Step::effect))]
+    fn take_call(&mut self, turn: &Turn<'_>, instr: &Instr) -> Result<Step, NoMemory>
+        requires { IsCall instr.now }
+        ensures { IfOk result (λ step. told turn.now step self.new ≡ effect instr.now (setting_of turn.now) turn.now.next (config_of turn.now self.old)) }
+    {
+        match instr {
             Instr::Virtual(entry) => self.invoke(turn, Call::BySelection, *entry),
             Instr::Special(entry) => self.invoke(turn, Call::Special, *entry),
             Instr::Static(entry) => self.invoke(turn, Call::Static, *entry),
             Instr::Interface(entry) => self.invoke(turn, Call::BySelection, *entry),
-            Instr::New(entry) => self.make_object(turn, *entry),
-            Instr::NewPrim(code) => self.make_primitives(turn, *code),
-            Instr::NewRefs(entry) => self.make_references(turn, *entry),
-            Instr::Length => self.array_length(turn),
-            Instr::Throw => self.throw(turn),
-            Instr::Cast(entry) => self.cast(turn, *entry),
-            Instr::InstanceOf(entry) => self.instance_of(turn, *entry),
-            Instr::Other(_) => Ok(self.ill_typed()),
+            _ => unreachable!(),
         }
     }
 }

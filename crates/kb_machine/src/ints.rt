@@ -5,12 +5,12 @@ ghost use Rattle.kb_semantics.specs.Instructions.{apply_two, negate, narrow};
 ghost use Rattle.kb_machine.specs.Turns.{setting_of, config_of, told};
 
 use crate::NoMemory;
-use crate::arithmetic::{int2_value, narrowed};
 use crate::state::State;
 use crate::throwing::ARITHMETIC;
 use crate::turn::{Step, Turn};
 use kb_code::{IntCut, IntOp};
 use kb_heap::Value;
+use kb_values::{int2_value, narrowed};
 
 impl State {
     /// iadd, isub, imul, idiv, irem, ishl, ishr, iushr, iand, ior, ixor

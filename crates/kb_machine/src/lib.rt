@@ -1,22 +1,16 @@
 //! The concrete machine: runs of methods over inputs, one instruction after the other.
 //!
-//! `specs/` of kb_semantics says what a run is, and which inputs are type-correct.
+//! `specs/` of kb_semantics says what a run is.
 #![tactic(auto)]
 
-mod arithmetic;
 mod arrays;
 mod branching;
 mod calls;
 mod constants;
 mod fields;
-mod fits;
-mod frame;
 mod instructions;
 mod ints;
-mod kinds;
-mod locals;
 mod machine;
-mod operands;
 mod pool;
 mod rearranging;
 mod returns;
@@ -25,10 +19,8 @@ mod throwing;
 mod turn;
 mod types;
 mod unwinding;
-mod value_stack;
 mod variables;
 mod ways;
 
-pub use fits::fits_types;
-pub use machine::{first_heap, literal, run};
+pub use machine::{first_heap, run};
 pub use std::alloc::AllocError as NoMemory;

@@ -1,20 +1,19 @@
 //! Runs of methods.
 
 ghost use Rattle.std.specs.Prelude.{◌≡◌, suc, IfOk};
+ghost use Rattle.kb_heap.specs.Heap.{literal};
 ghost use Rattle.kb_semantics.specs.Config.{no_target, target_of};
 ghost use Rattle.kb_semantics.specs.Step.{first_heap, run, run_of};
-ghost use Rattle.kb_semantics.specs.Values.{literal};
 ghost use Rattle.kb_world.specs.Reach.{IsAccepted};
 ghost use Rattle.kb_machine.specs.Turns.{begun, ending_told};
 
 use crate::NoMemory;
-use crate::frame::Frame;
-use crate::instructions::instruction_at;
-use crate::state::{Callers, State};
+use crate::state::State;
 use crate::turn::{Step, Turn};
 use kb_class::MethodId;
-use kb_heap::{Bound, Ending, Heap, Input, Object, Place, Row, RunBounds};
-use kb_names::{ExactType, MethodType, Name, SharedRow, Target};
+use kb_heap::{Bound, Ending, Heap, Input, Object, Place, RunBounds};
+use kb_names::{MethodType, Name, SharedRow, Target};
+use kb_stack::{Callers, Frame, instruction_at};
 use kb_world::World;
 use std::alloc::Global;
 
@@ -128,21 +127,10 @@ pub fn first_heap(alloc: Global, world: &World, heap: &Heap) -> Result<Heap, NoM
 {
     let mut first = heap.copied(alloc)?;
     for _ in 0..world.literals() {
-        let literal = literal(alloc)?;
+        let literal = Object::literal(alloc)?;
         let Ok(_) = first.add(literal) else {
             return Err(NoMemory);
         };
     }
     Ok(first)
-}
-
-/// The object that stands for a string literal. It has no slots: strings are opaque.
-pub fn literal(alloc: Global) -> Result<Object, NoMemory>
-    ensures { IfOk result (λ object. object ≡ literal) }
-{
-    let name = Name::from_slice(alloc, b"java/lang/String".as_slice())?;
-    Ok(Object {
-        kind: ExactType::Class(name),
-        values: Row::new(alloc),
-    })
 }

@@ -1,21 +1,17 @@
 //! Returns (JVMS 8 sections 2.6.4 and 6.5).
 
-ghost use Rattle.std.specs.Prelude.{◌≡◌, is_some, length, option_and_then, IfOk, IsTrue};
-ghost use Rattle.kb_semantics.specs.Config.{behind, has_room, result_of};
+ghost use Rattle.std.specs.Prelude.{◌≡◌, is_some, option_and_then, IfOk};
+ghost use Rattle.kb_semantics.specs.Config.{result_of};
 ghost use Rattle.kb_semantics.specs.Values.{kept};
 ghost use Rattle.kb_semantics.specs.Instructions.{return_int, return_nothing, return_reference};
-ghost use Rattle.kb_semantics.specs.Ways.{hands_over, pushed, returns_nothing, returns_value};
+ghost use Rattle.kb_semantics.specs.Ways.{hands_over, returns_nothing, returns_value};
 ghost use Rattle.kb_machine.specs.Turns.{config_of, setting_of, told};
 
 use crate::NoMemory;
-use crate::frame::Frame;
-use crate::instructions::behind;
-use crate::kinds::kept;
-use crate::operands::value_of;
 use crate::state::State;
 use crate::turn::{Step, Turn};
 use kb_heap::Value;
-use kb_world::World;
+use kb_values::{kept, value_of};
 
 impl State {
     /// ireturn
@@ -97,21 +93,5 @@ impl State {
             return Ok(place);
         }
         Ok(Step::Goes)
-    }
-}
-
-impl Frame {
-    // It goes on behind its invoke, with the result on its stack: false where it may not have it.
-    fn resumes(&mut self, world: &World, value: Option<Value>) -> Result<bool, NoMemory>
-        ensures room { IfOk result (λ room. room ≡ has_room world.now self.old.method (length (pushed value self.old.stack))) }
-        ensures frame { IfOk result (λ room. IsTrue room → self.new ≡ record self.old { at = behind world.now self.old.method self.old.at; stack = pushed value self.old.stack }) }
-    {
-        let next = behind(world, self);
-        self.give(value)?;
-        if !self.is_allowed(world) {
-            return Ok(false);
-        }
-        self.go(next);
-        Ok(true)
     }
 }

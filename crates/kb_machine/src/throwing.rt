@@ -1,7 +1,6 @@
 //! Instructions that throw (JVMS 8 sections 2.10 and 6.5).
 
-ghost use Rattle.std.specs.Prelude.{◌≡◌, [], ◌∷◌, length, map, IfOk, OnOk, if◌then◌else◌};
-ghost use Rattle.kb_link.specs.declared.slots.FieldSlot.{FieldSlot as PlainSlot};
+ghost use Rattle.std.specs.Prelude.{◌≡◌, [], ◌∷◌, length, IfOk, OnOk, if◌then◌else◌};
 ghost use Rattle.kb_names.specs.declared.types.JType.TheVariants as types;
 ghost use Rattle.kb_class.specs.Platform.{throwable};
 ghost use Rattle.kb_heap.specs.declared.heap.Object.{Object as PlainObject};
@@ -9,7 +8,6 @@ ghost use Rattle.kb_heap.specs.declared.heap.Value.TheVariants.{Ref};
 ghost use Rattle.kb_heap.specs.Heap.{object_at, with_object};
 ghost use Rattle.kb_link.specs.Subtypes.{fits};
 ghost use Rattle.kb_semantics.specs.Instructions.{throw, with};
-ghost use Rattle.kb_semantics.specs.Values.{default_of, new_object};
 ghost use Rattle.kb_semantics.specs.Ways.{ill_typed, throws, throws_object};
 ghost use Rattle.kb_machine.specs.declared.turn.Step.TheVariants as steps;
 ghost use Rattle.kb_machine.specs.Turns.{setting_of, config_of, told};
@@ -18,10 +16,8 @@ use crate::NoMemory;
 use crate::state::State;
 use crate::turn::{Step, Turn};
 use crate::unwinding::{Landing, unwind};
-use kb_heap::{Bound, Object, Row, Value};
-use kb_names::{ExactType, JType, Name};
-use kb_world::{FieldSlot, World};
-use std::alloc::Global;
+use kb_heap::{Bound, Object, Value};
+use kb_values::new_object;
 
 /// The exceptions that the machine throws itself.
 pub(crate) const NULL_POINTER: &[u8] = b"java/lang/NullPointerException";
@@ -108,40 +104,5 @@ impl State {
             Some(None) => self.throws(turn, NULL_POINTER),
             None => Ok(self.ill_typed()),
         }
-    }
-}
-
-/// A new object of the class.
-pub(crate) fn new_object(alloc: Global, world: &World, class: &[u8]) -> Result<Object, NoMemory>
-    ensures { IfOk result (λ object. object ≡ new_object world.now class.now) }
-{
-    let Ok(name) = Name::from_slice(alloc, class) else {
-        return Err(NoMemory);
-    };
-    let values = default_values(alloc, world.slots_named(&name))?;
-    Ok(Object {
-        kind: ExactType::Class(name),
-        values,
-    })
-}
-
-// The default value of each slot.
-fn default_values(alloc: Global, slots: &[FieldSlot]) -> Result<Row<Value>, NoMemory>
-    ensures { IfOk result (λ values. values ≡ map (λ (slot : PlainSlot). default_of slot.kind) slots.now) }
-{
-    let mut values = Row::new(alloc);
-    for slot in slots {
-        values.push(default_of(&slot.kind))?;
-    }
-    Ok(values)
-}
-
-/// The default value of a slot or an element of the type.
-pub(crate) fn default_of(of: &JType) -> Value
-    ensures { result ≡ default_of of.now }
-{
-    match of {
-        JType::Class(_) | JType::Array(_) => Value::Null,
-        _ => Value::Int(0),
     }
 }

@@ -19,15 +19,6 @@ pub(crate) struct Turn<'w> {
     pub(crate) next: u32,
 }
 
-/// How a call finds its method: by the receiver's class (invokevirtual, invokeinterface), upwards from a class that does not
-/// depend on the receiver (invokespecial), or as the method that is named (invokestatic).
-#[derive(Clone, Copy)]
-pub(crate) enum Call {
-    BySelection,
-    Special,
-    Static,
-}
-
 /// What a step comes to.
 #[derive(Clone, Copy, PartialEq, Eq)]
 pub(crate) enum Step {

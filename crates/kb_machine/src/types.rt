@@ -1,11 +1,8 @@
 //! Types of objects and arrays (JVMS 8 section 6.5).
 
 ghost use Rattle.std.specs.Prelude.{◌≡◌, IfOk};
-ghost use Rattle.std.specs.Option.{option_map_or};
-ghost use Rattle.kb_semantics.specs.Instructions.{cast, component_of_entry, instance_of, is_instance, make_array};
-ghost use Rattle.kb_arith.specs.Word.{truth};
+ghost use Rattle.kb_semantics.specs.Instructions.{cast, component_of_entry, instance_of, make_array};
 ghost use Rattle.kb_semantics.specs.Config.{class_number};
-ghost use Rattle.kb_link.specs.Subtypes.{type_of_exact};
 ghost use Rattle.kb_world.specs.Faults.{component_of_code};
 ghost use Rattle.kb_machine.specs.Turns.{setting_of, config_of, told};
 
@@ -13,10 +10,9 @@ use crate::NoMemory;
 use crate::state::State;
 use crate::throwing::CLASS_CAST;
 use crate::turn::{Step, Turn};
-use kb_heap::{Heap, Value};
-use kb_names::{Component, ExactType, JType};
-use kb_world::{World, component_of_code};
-use std::alloc::Global;
+use kb_heap::Value;
+use kb_values::{is_instance, truth, type_of_exact};
+use kb_world::component_of_code;
 
 impl State {
     /// checkcast
@@ -74,44 +70,5 @@ impl State {
         ensures { IfOk result (λ step. told turn.now step self.new ≡ make_array (component_of_code code) (setting_of turn.now) turn.now.next (config_of turn.now self.old)) }
     {
         self.make_array(turn, component_of_code(code))
-    }
-}
-
-// Whether the reference leads to an object of the type: `null` for null.
-fn is_instance(
-    world: &World,
-    heap: &Heap,
-    high: &ExactType,
-    reference: Option<u32>,
-    null: bool,
-) -> bool
-    ensures { result ≡ option_map_or (is_instance world.now heap.now high.now) reference null }
-{
-    let Some(object) = reference else {
-        return null;
-    };
-    match heap.objects.as_slice().get(object as usize) {
-        Some(of) => world.exact_subtype(&of.kind, high),
-        None => false,
-    }
-}
-
-/// 1 where that is so, else 0.
-pub(crate) fn truth(so: bool) -> i32
-    ensures { result ≡ truth so }
-{
-    if so { 1 } else { 0 }
-}
-
-// The type of the objects of the exact type.
-fn type_of_exact(alloc: Global, of: &ExactType) -> Result<JType, NoMemory>
-    ensures { IfOk result (λ type. type ≡ type_of_exact of.now) }
-{
-    match of {
-        ExactType::Class(name) => Ok(JType::Class(name.copied(alloc)?)),
-        ExactType::Array(component) => {
-            let component = component.copied(alloc)?;
-            Ok(JType::Array(Component::new(alloc, component)?))
-        }
     }
 }

@@ -8,12 +8,11 @@ ghost use Rattle.kb_semantics.specs.Ways.{goes_to, handler_among, handler_at, is
 ghost use Rattle.kb_machine.specs.Turns.{setting_of};
 ghost use Rattle.kb_machine.specs.Landings.{landed, unwound};
 
-use crate::frame::Frame;
-use crate::state::Callers;
 use crate::turn::Turn;
 use kb_class::ClassId;
 use kb_code::Handler;
 use kb_names::ExactType;
+use kb_stack::{Callers, Frame};
 use kb_world::World;
 
 /// Where an exception comes to.

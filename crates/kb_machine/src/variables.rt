@@ -5,10 +5,10 @@ ghost use Rattle.kb_semantics.specs.Instructions.{load_int, load_reference, stor
 ghost use Rattle.kb_machine.specs.Turns.{setting_of, config_of, told};
 
 use crate::NoMemory;
-use crate::operands::value_of;
 use crate::state::State;
 use crate::turn::{Step, Turn};
 use kb_heap::Value;
+use kb_values::value_of;
 
 impl State {
     /// iload

@@ -8,7 +8,7 @@ use crate::{NoMemory, Row};
 use std::alloc::Global;
 
 /// How the names of classes stand in a descriptor.
-#[derive(Clone, Copy, Debug, PartialEq, Eq)]
+#[derive(Clone, Copy, PartialEq, Eq)]
 pub enum Spelling {
     /// As they are, in a class file: no name has one of the bytes `.`, `;` and `[` (JVMS 8 section 4.2.1).
     Raw,

@@ -14,7 +14,7 @@ use crate::{Component, JType, MethodType, Name, NoMemory, Row, SharedRow, Spelli
 use std::alloc::Global;
 
 /// Why a descriptor was not read.
-#[derive(Clone, Copy, Debug, PartialEq, Eq)]
+#[derive(Clone, Copy, PartialEq, Eq)]
 pub enum NameRefusal {
     /// The first offset at which no descriptor goes on: the offset of the first byte that may not stand there,
     /// or the text's length where it ends too early.

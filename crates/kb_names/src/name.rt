@@ -8,7 +8,7 @@ use std::marker::Model;
 
 /// The name of a class, a field or a method: any bytes, made once and shared by all copies. That each item of a
 /// name is a byte, below 256, is an invariant.
-#[derive(Debug, Drop)]
+#[derive(Drop)]
 pub struct Name {
     bytes: SharedRow<u8>,
 }

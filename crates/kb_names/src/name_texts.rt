@@ -9,7 +9,7 @@ use crate::{Name, NoMemory, Row};
 use std::alloc::Global;
 
 /// Why the text of a name was not read.
-#[derive(Clone, Copy, Debug, PartialEq, Eq)]
+#[derive(Clone, Copy, PartialEq, Eq)]
 pub enum NameTextRefusal {
     /// The first offset at which no name goes on: the offset of the first byte that may not stand there, or
     /// the text's length where it ends too early.

@@ -8,7 +8,7 @@ use std::sync::Arc;
 
 /// A list that is made once and then shared: copying it adds an owner, and copies no item. Contracts see it as
 /// the list of its items.
-#[derive(Debug, Drop)]
+#[derive(Drop)]
 pub struct SharedRow<T> {
     // `None` where there are no items.
     shared: Option<Arc<Vec<T>, Global>>,

@@ -13,7 +13,7 @@ use crate::{Name, NoMemory, Row, Spelling, Target, write_method_type, write_name
 use std::alloc::Global;
 
 /// Why a target was not read.
-#[derive(Clone, Copy, Debug, PartialEq, Eq)]
+#[derive(Clone, Copy, PartialEq, Eq)]
 pub enum TargetRefusal {
     /// The first offset at which no target goes on: the offset of the first byte that may not stand there, or
     /// the text's length where it ends too early.

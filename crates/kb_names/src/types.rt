@@ -10,7 +10,7 @@ use std::sync::Arc;
 
 /// A type of a field, a parameter or a result (JVMS 8 section 4.3.2).
 #[cycle(types)]
-#[derive(Debug, Drop)]
+#[derive(Drop)]
 pub enum JType {
     Bool,
     Byte,
@@ -28,7 +28,7 @@ pub enum JType {
 
 /// The component type of an array, made once and shared by all copies.
 #[cycle(types)]
-#[derive(Debug, Drop)]
+#[derive(Drop)]
 pub struct Component {
     of: Arc<JType, Global>,
 }
@@ -145,7 +145,7 @@ fn is_same_result(one: &Option<JType>, other: &Option<JType>) -> bool
 }
 
 /// The parameters and the result of a method; no result for `void` (JVMS 8 section 4.3.3).
-#[derive(Debug, Drop)]
+#[derive(Drop)]
 pub struct MethodType {
     pub params: SharedRow<JType>,
     pub result: Option<JType>,
@@ -176,7 +176,7 @@ impl MethodType {
 }
 
 /// What an object is: of a class, or an array with its component.
-#[derive(Debug, Drop)]
+#[derive(Drop)]
 pub enum ExactType {
     Class(Name),
     Array(JType),
@@ -206,7 +206,7 @@ impl ExactType {
 }
 
 /// A method of a class, by the class's name, its own and its type.
-#[derive(Debug, Drop)]
+#[derive(Drop)]
 pub struct Target {
     pub class: Name,
     pub name: Name,

@@ -7,7 +7,7 @@ use kb_chain::{Log, Row};
 use std::alloc::AllocFailed;
 
 /// What is known of a query.
-#[derive(Clone, Debug, Drop)]
+#[derive(Clone, Drop)]
 pub enum Answer {
     /// Values that make every condition true, that of variable 0 first. Variables outside the conditions are 0.
     Model(Row<i32>),

@@ -13,8 +13,8 @@ ghost use Rattle.kb_oracle.specs.Search.{IsFound};
 use crate::NoMemory;
 use crate::answer::Answer;
 use kb_blast::{Blasted, blast, read_back};
-use kb_chain::Row;
-use kb_sat::{Solved, solve};
+use kb_chain::{Lit, Row};
+use kb_sat::{Solved, solve_from};
 use kb_terms::{Pool, TermId};
 use std::alloc::Global;
 
@@ -42,7 +42,8 @@ fn search(alloc: Global, budget: u32, blasted: &Blasted, variables: u32) -> Resu
     requires budget { 0 < budget }
     ensures { IfOk result (IsFound blasted.now.vars blasted.now.formula variables budget) }
 {
-    match solve(alloc, &blasted.formula, budget)? {
+    let first = input_bits(alloc, blasted)?;
+    match solve_from(alloc, &blasted.formula, budget, first.as_slice())? {
         Solved::Sat(bits) => {
             let values = values_of(alloc, blasted, bits.as_slice(), variables)?;
             Ok(Answer::Model(values))
@@ -50,6 +51,23 @@ fn search(alloc: Global, budget: u32, blasted: &Blasted, variables: u32) -> Resu
         Solved::Unsat(log) => Ok(Answer::Refuted(log)),
         Solved::Undecided(log) => Ok(Answer::Undecided(log)),
     }
+}
+
+/// The formula's variables that are bits of the query's: variable after variable, the highest bit of each first. With the values
+/// of these a search knows all others, so it decides them first.
+fn input_bits(alloc: Global, blasted: &Blasted) -> Result<Vec<u32>, NoMemory> {
+    let mut first = Vec::new(alloc);
+    for word in blasted.vars.as_slice() {
+        push_bits(&word.1, &mut first)?;
+    }
+    Ok(first)
+}
+
+fn push_bits(word: &[Lit; 32], bits: &mut Vec<u32>) -> Result<(), NoMemory> {
+    for literal in word.iter().rev() {
+        bits.push(literal.variable())?;
+    }
+    Ok(())
 }
 
 /// The value of each of so many variables under the bits of a formula's variables; 0 for a variable without a word.

@@ -9,8 +9,8 @@ use Rattle.kb_heap.specs.declared.heap.Input.{Input}
 use Rattle.kb_heap.specs.declared.ending.Ending.{Ending}
 use Rattle.kb_heap.specs.declared.ending.Ending.TheVariants.{Returned, Threw, IllTyped, Past}
 use Rattle.kb_link.specs.World.{World}
+use Rattle.kb_heap.specs.Heap.{literal}
 use Rattle.kb_semantics.specs.Inputs.{IsTypeCorrect}
-use Rattle.kb_semantics.specs.Values.{literal}
 use Rattle.kb_semantics.specs.Past.{IsChain, IsPastK, IsPastArray}
 use Rattle.kb_picture.specs.declared.picture.Origin.{Origin}
 use Rattle.kb_picture.specs.declared.picture.Seen.{Seen}

@@ -37,7 +37,7 @@ pub enum Choice {
 }
 
 /// When it is chosen which object a reference is.
-#[derive(Clone, Copy, Debug, PartialEq, Eq)]
+#[derive(Clone, Copy, PartialEq, Eq)]
 pub enum Init {
     /// When it is read for the first time (Khurshid, Păsăreanu and Visser, 2003).
     Lazy,

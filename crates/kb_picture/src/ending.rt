@@ -1,7 +1,6 @@
 //! What an ended path states of one of its instances.
 ghost use Rattle.std.specs.Prelude.{◌≡◌, ◌+◌, ◌++◌, Some, IfOk, OnOk, map, fold, replicate};
-ghost use Rattle.kb_heap.specs.Heap.{with_value, with_object};
-ghost use Rattle.kb_semantics.specs.Values.{literal};
+ghost use Rattle.kb_heap.specs.Heap.{with_value, with_object, literal};
 ghost use Rattle.kb_picture.specs.declared.path.Ended.{Ended as Stated};
 ghost use Rattle.kb_picture.specs.declared.path.Leaf.TheVariants.{Ended as EndedLeaf};
 ghost use Rattle.kb_picture.specs.Places.{places_of};
@@ -13,7 +12,6 @@ use crate::path::{Ended, Leaf, Made, Out, Path, SymEnding, Write};
 use crate::picture::{Origin, PlaceLists};
 use crate::values::{operand_value, term_values, variable_values};
 use kb_heap::{Ending, Heap, Input, Object, Value};
-use kb_names::{ExactType, Name};
 use kb_rows::Row;
 use kb_world::World;
 use std::alloc::Global;
@@ -230,20 +228,9 @@ fn add_literals(alloc: Global, count: u32, heap: &mut Heap) -> Result<(), NoMemo
     ensures { OnOk result (heap.new.objects ≡ heap.old.objects ++ replicate count literal) }
 {
     for _ in 0..count {
-        add(heap, literal(alloc)?)?;
+        add(heap, Object::literal(alloc)?)?;
     }
     Ok(())
-}
-
-// The object that stands for a string literal. It has no slots: strings are opaque.
-fn literal(alloc: Global) -> Result<Object, NoMemory>
-    ensures { IfOk result (λ object. object ≡ literal) }
-{
-    let name = Name::from_slice(alloc, b"java/lang/String".as_slice())?;
-    Ok(Object {
-        kind: ExactType::Class(name),
-        values: Row::new(alloc),
-    })
 }
 
 fn add(heap: &mut Heap, object: Object) -> Result<(), NoMemory>

@@ -17,13 +17,13 @@ use Rattle.kb_heap.specs.declared.heap.Value.TheVariants.{Int}
 use Rattle.kb_heap.specs.declared.heap.Object.{Object}
 use Rattle.kb_heap.specs.declared.heap.Heap.{Heap}
 use Rattle.kb_heap.specs.declared.heap.Input.{Input}
-use Rattle.kb_heap.specs.Heap.{object_at, object_with, with_object, with_object_at, with_value}
+use Rattle.kb_heap.specs.Heap.{object_at, object_with, with_object, with_object_at, with_value, literal}
 use Rattle.kb_link.specs.World.{World, type_entry_of}
 use Rattle.kb_link.specs.Subtypes.{fits}
 use Rattle.kb_world.specs.Lookup.{resolved_field, resolved_method, selected_special}
 use Rattle.kb_world.specs.Calls.{is_without_file}
 use Rattle.kb_semantics.specs.Config.{Setting, Frame, Config, Ended, Outcome, Goes, Ends, has_room, info_of, instruction_at, local_of, result_of, with_local}
-use Rattle.kb_semantics.specs.Values.{kept, literal, new_object, takes_component}
+use Rattle.kb_semantics.specs.Values.{kept, new_object, takes_component}
 use Rattle.kb_semantics.specs.Operands.{Reference, an_int, a_reference, two_ints, two_references, an_element, an_element_and_value, an_object_and_value, int_of, reference_of, receiver_of}
 use Rattle.kb_semantics.specs.Ways.{goes_to, branches, counted, lands, throws_in, throws, nearest_handler, standpoint, ill_typed, arithmetic, index_outside, null_pointer, enters, goes_on, pushed, hands_to, hands_over, returns_value, returns_nothing}
 use Rattle.kb_semantics.specs.Instructions.{with, here, nop, push_null, push_int, load_constant, constant_at, load_int, load_reference, sets_local, store_int, store_reference, increase, rearrange, apply_two, int2_value, negate, narrow, if_int, if_ints, if_same, if_null, goto, switch, return_int, return_reference, return_nothing, on_object, field_of, get_field, put_field, class_of_entry, make_object, Elements, array_at, on_array, place_in_array, load_element, takes_object, store_element, array_length, new_array, makes_array, make_array, is_instance, cast, instance_of, throw, CallKind, BySelection, Special, Static, Callee, callee_at, operands_of, selected_at, invokes_method, invokes, invokes_on, invoke}

@@ -6,7 +6,7 @@ use Rattle.kb_heap.specs.declared.ending.Ending.TheVariants.{Returned, Threw, Il
 use Rattle.kb_heap.specs.declared.heap.Heap.{Heap}
 use Rattle.kb_heap.specs.declared.heap.Object.{Object}
 use Rattle.kb_names.specs.declared.types.ExactType.{ExactType}
-use Rattle.kb_semantics.specs.Values.{literal}
+use Rattle.kb_heap.specs.Heap.{literal}
 
 -- no run ends past a bound of explorations
 abbrev pub IsRunEnding : Ending → Type 0

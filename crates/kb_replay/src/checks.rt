@@ -5,16 +5,16 @@ ghost use Rattle.kb_link.specs.Targets.{IsTargetOf};
 
 use crate::NoMemory;
 use kb_class::MethodId;
+use kb_fits::fits_types;
 use kb_heap::Row;
 use kb_link::LinkRefusal;
-use kb_machine::fits_types;
 use kb_names::Target;
 use kb_test::Test;
 use kb_world::World;
 use std::alloc::Global;
 
 /// Why a test is not run.
-#[derive(Debug, Drop)]
+#[derive(Drop)]
 pub enum ReplayStop {
     /// There is no such method.
     TestMethod,
@@ -26,7 +26,7 @@ pub enum ReplayStop {
 }
 
 /// The first test of several that is not run: its number, from 0, and why.
-#[derive(Debug, Drop)]
+#[derive(Drop)]
 pub struct BadTest {
     pub number: usize,
     pub stop: ReplayStop,

@@ -1,5 +1,5 @@
 //! The runs of tests, held against what the tests say.
-ghost use Rattle.std.specs.Prelude.{IfErr, IfOk};
+ghost use Rattle.std.specs.Prelude.{◌≡◌, ◌↔◌, IfErr, IfOk, IsTrue};
 ghost use Rattle.kb_replay.specs.Replays.{AreReplayed, AreRunnable, IsReplayed, IsRunnable, Says, Stops};
 
 use crate::NoMemory;
@@ -44,13 +44,20 @@ pub fn run_test(
     ensures { IfOk result (Says world.now id test.now) }
 {
     let (ending, heap) = run(alloc, world, id, &test.input, &test.bounds)?;
+    if ends_as_stated(test, &ending, &heap) {
+        return Ok(Replayed::Passes);
+    }
+    Ok(Replayed::Differs(ending, heap))
+}
+
+// Whether a run that ends so and leaves that heap does what the test says.
+fn ends_as_stated(test: &Test, ending: &Ending, heap: &Heap) -> bool
+    ensures { IsTrue result ↔ ((ending.now ≡ test.now.ending) × (heap.now ≡ test.now.heap)) }
+{
     if !ending.is_same(&test.ending) {
-        return Ok(Replayed::Differs(ending, heap));
+        return false;
     }
-    if !test.heap.is_heap(&heap) {
-        return Ok(Replayed::Differs(ending, heap));
-    }
-    Ok(Replayed::Passes)
+    test.heap.is_heap(heap)
 }
 
 /// Runs each test by its method.

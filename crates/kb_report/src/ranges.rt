@@ -17,43 +17,43 @@ use kb_picture::{
     SymEnding, Term, Write,
 };
 
-// A part of a report. To look at it does nothing.
+// A part of a report, whose numbers are in their ranges.
 trait Ranged {
     ghost fits: { Self → Type 0 };
 
-    fn look_at(&self)
+    fn tell_range(&self)
         ensures { fits self.now };
 }
 
-fn look_at_each<T: Ranged>(items: &[T])
+fn tell_each<T: Ranged>(items: &[T])
     ensures { AllByRecursion T.fits items.now }
 {
     let mut rest = items;
     while let [first, others @ ..] = rest {
-        first.look_at();
+        first.tell_range();
         rest = others;
     }
 }
 
 // ---- numbers
 
-fn look_at_number(_number: u32)
+fn tell_number(_number: u32)
     ensures { IsSmall _number }
 {}
 
-fn look_at_int(_value: i32)
+fn tell_int(_value: i32)
     ensures { FitsSigned w32 _value }
 {}
 
-fn look_at_count(_count: usize)
+fn tell_count(_count: usize)
     ensures { IsCount _count }
 {}
 
 impl Ranged for u32 {
     ghost fits = { IsSmall };
 
-    fn look_at(&self) {
-        look_at_number(*self)
+    fn tell_range(&self) {
+        tell_number(*self)
     }
 }
 
@@ -62,16 +62,16 @@ impl Ranged for u32 {
 impl Ranged for Origin {
     ghost fits = { OriginFits };
 
-    fn look_at(&self) {
+    fn tell_range(&self) {
         match *self {
-            Origin::Arg(number) => number.look_at(),
+            Origin::Arg(number) => number.tell_range(),
             Origin::Field(object, slot) => {
-                object.look_at();
-                slot.look_at()
+                object.tell_range();
+                slot.tell_range()
             }
             Origin::Element(array, index) => {
-                array.look_at();
-                index.look_at()
+                array.tell_range();
+                index.tell_range()
             }
         }
     }
@@ -80,11 +80,11 @@ impl Ranged for Origin {
 impl Ranged for Seen {
     ghost fits = { IsSeenInRange };
 
-    fn look_at(&self) {
+    fn tell_range(&self) {
         match *self {
-            Seen::Int(number) => number.look_at(),
-            Seen::Loc(number) => number.look_at(),
-            Seen::Obj(number) => number.look_at(),
+            Seen::Int(number) => number.tell_range(),
+            Seen::Loc(number) => number.tell_range(),
+            Seen::Obj(number) => number.tell_range(),
             Seen::Null => (),
             Seen::Beyond => (),
         }
@@ -94,11 +94,11 @@ impl Ranged for Seen {
 impl Ranged for Length {
     ghost fits = { LengthFits };
 
-    fn look_at(&self) {
+    fn tell_range(&self) {
         match *self {
             Length::Plain => (),
-            Length::Is(n) => n.look_at(),
-            Length::Above(n) => n.look_at(),
+            Length::Is(n) => n.tell_range(),
+            Length::Above(n) => n.tell_range(),
         }
     }
 }
@@ -106,11 +106,11 @@ impl Ranged for Length {
 impl Ranged for Operand {
     ghost fits = { IsOperandInRange };
 
-    fn look_at(&self) {
+    fn tell_range(&self) {
         match *self {
-            Operand::Const(value) => look_at_int(value),
-            Operand::Var(number) => number.look_at(),
-            Operand::Term(number) => number.look_at(),
+            Operand::Const(value) => tell_int(value),
+            Operand::Var(number) => number.tell_range(),
+            Operand::Term(number) => number.tell_range(),
         }
     }
 }
@@ -118,14 +118,14 @@ impl Ranged for Operand {
 impl Ranged for Out {
     ghost fits = { OutFits };
 
-    fn look_at(&self) {
+    fn tell_range(&self) {
         match *self {
-            Out::Int(operand) => operand.look_at(),
+            Out::Int(operand) => operand.tell_range(),
             Out::Null => (),
-            Out::Loc(number) => number.look_at(),
-            Out::Obj(number) => number.look_at(),
-            Out::Literal(number) => number.look_at(),
-            Out::New(number) => number.look_at(),
+            Out::Loc(number) => number.tell_range(),
+            Out::Obj(number) => number.tell_range(),
+            Out::Literal(number) => number.tell_range(),
+            Out::New(number) => number.tell_range(),
         }
     }
 }
@@ -133,11 +133,11 @@ impl Ranged for Out {
 impl Ranged for Value {
     ghost fits = { ValueFits };
 
-    fn look_at(&self) {
+    fn tell_range(&self) {
         match *self {
-            Value::Int(value) => look_at_int(value),
+            Value::Int(value) => tell_int(value),
             Value::Null => (),
-            Value::Ref(object) => object.look_at(),
+            Value::Ref(object) => object.tell_range(),
         }
     }
 }
@@ -147,19 +147,19 @@ impl Ranged for Value {
 impl Ranged for (Origin, Seen) {
     ghost fits = { SlotFits };
 
-    fn look_at(&self) {
-        self.0.look_at();
-        self.1.look_at()
+    fn tell_range(&self) {
+        self.0.tell_range();
+        self.1.tell_range()
     }
 }
 
 impl Ranged for PicLoc {
     ghost fits = { IsLocInRange };
 
-    fn look_at(&self) {
+    fn tell_range(&self) {
         match self.standing {
             Standing::Open => (),
-            Standing::Obj(number) => number.look_at(),
+            Standing::Obj(number) => number.tell_range(),
             Standing::Beyond => (),
         }
     }
@@ -168,20 +168,20 @@ impl Ranged for PicLoc {
 impl Ranged for PicObject {
     ghost fits = { ObjectFits };
 
-    fn look_at(&self) {
-        self.length.look_at();
-        self.origin.look_at()
+    fn tell_range(&self) {
+        self.length.tell_range();
+        self.origin.tell_range()
     }
 }
 
 impl Ranged for Term {
     ghost fits = { IsTermInRange };
 
-    fn look_at(&self) {
-        self.left.look_at();
+    fn tell_range(&self) {
+        self.left.tell_range();
         match self.right {
             None => (),
-            Some(operand) => operand.look_at(),
+            Some(operand) => operand.tell_range(),
         }
     }
 }
@@ -189,73 +189,73 @@ impl Ranged for Term {
 impl Ranged for (u32, bool) {
     ghost fits = { ConditionFits };
 
-    fn look_at(&self) {
-        self.0.look_at()
+    fn tell_range(&self) {
+        self.0.tell_range()
     }
 }
 
 impl Ranged for Write {
     ghost fits = { WriteFits };
 
-    fn look_at(&self) {
-        self.slot.look_at();
-        self.value.look_at()
+    fn tell_range(&self) {
+        self.slot.tell_range();
+        self.value.tell_range()
     }
 }
 
 impl Ranged for Made {
     ghost fits = { MadeFits };
 
-    fn look_at(&self) {
-        look_at_each(self.values.as_slice())
+    fn tell_range(&self) {
+        tell_each(self.values.as_slice())
     }
 }
 
 impl Ranged for Object {
     ghost fits = { InputObjectFits };
 
-    fn look_at(&self) {
-        look_at_each(self.values.as_slice())
+    fn tell_range(&self) {
+        tell_each(self.values.as_slice())
     }
 }
 
 impl Ranged for Input {
     ghost fits = { InputFits };
 
-    fn look_at(&self) {
-        look_at_each(self.args.as_slice());
-        look_at_each(self.heap.objects.as_slice());
-        look_at_count(self.heap.objects.as_slice().len())
+    fn tell_range(&self) {
+        tell_each(self.args.as_slice());
+        tell_each(self.heap.objects.as_slice());
+        tell_count(self.heap.objects.as_slice().len())
     }
 }
 
 impl Ranged for (u32, u32) {
     ghost fits = { IsStep };
 
-    fn look_at(&self) {
-        self.0.look_at();
-        self.1.look_at()
+    fn tell_range(&self) {
+        self.0.tell_range();
+        self.1.tell_range()
     }
 }
 
 impl Ranged for Chain {
     ghost fits = { IsChain };
 
-    fn look_at(&self) {
-        self.start.look_at();
-        look_at_each(self.steps.as_slice())
+    fn tell_range(&self) {
+        self.start.tell_range();
+        tell_each(self.steps.as_slice())
     }
 }
 
 impl Ranged for SymEnding {
     ghost fits = { EndingFits };
 
-    fn look_at(&self) {
+    fn tell_range(&self) {
         match self {
             SymEnding::Returned(None) => (),
-            SymEnding::Returned(Some(value)) => value.look_at(),
-            SymEnding::Threw(value) => value.look_at(),
-            SymEnding::IllTyped(place) => place.at.look_at(),
+            SymEnding::Returned(Some(value)) => value.tell_range(),
+            SymEnding::Threw(value) => value.tell_range(),
+            SymEnding::IllTyped(place) => place.at.tell_range(),
         }
     }
 }
@@ -263,74 +263,74 @@ impl Ranged for SymEnding {
 impl Ranged for Ended {
     ghost fits = { EndedFits };
 
-    fn look_at(&self) {
-        self.ending.look_at();
-        look_at_each(self.writes.as_slice());
-        look_at_each(self.made.as_slice());
-        look_at_count(self.made.as_slice().len());
-        self.input.look_at()
+    fn tell_range(&self) {
+        self.ending.tell_range();
+        tell_each(self.writes.as_slice());
+        tell_each(self.made.as_slice());
+        tell_count(self.made.as_slice().len());
+        self.input.tell_range()
     }
 }
 
 impl Ranged for Leaf {
     ghost fits = { LeafFits };
 
-    fn look_at(&self) {
+    fn tell_range(&self) {
         match self {
-            Leaf::Ended(ended) => ended.look_at(),
-            Leaf::Cut(_, input) => input.look_at(),
+            Leaf::Ended(ended) => ended.tell_range(),
+            Leaf::Cut(_, input) => input.tell_range(),
             Leaf::Undecided(log) => {
-                look_at_each(log.entries.as_slice());
-                look_at_count(log.entries.as_slice().len())
+                tell_each(log.entries.as_slice());
+                tell_count(log.entries.as_slice().len())
             }
             Leaf::Open => (),
         }
     }
 }
 
-fn look_at_counts(path: &Path)
+fn tell_counts(path: &Path)
     ensures { HasCounts path.now }
 {
-    look_at_count(path.picture.locs.as_slice().len());
-    look_at_count(path.picture.objects.as_slice().len());
-    look_at_count(path.terms.as_slice().len())
+    tell_count(path.picture.locs.as_slice().len());
+    tell_count(path.picture.objects.as_slice().len());
+    tell_count(path.terms.as_slice().len())
 }
 
 impl Ranged for Path {
     ghost fits = { PathFits };
 
-    fn look_at(&self) {
-        look_at_counts(self);
-        look_at_each(self.decisions.as_slice());
-        look_at_each(self.picture.seen.as_slice());
-        look_at_each(self.picture.locs.as_slice());
-        look_at_each(self.picture.objects.as_slice());
-        look_at_each(self.terms.as_slice());
-        look_at_each(self.when.as_slice());
-        self.leaf.look_at()
+    fn tell_range(&self) {
+        tell_counts(self);
+        tell_each(self.decisions.as_slice());
+        tell_each(self.picture.seen.as_slice());
+        tell_each(self.picture.locs.as_slice());
+        tell_each(self.picture.objects.as_slice());
+        tell_each(self.terms.as_slice());
+        tell_each(self.when.as_slice());
+        self.leaf.tell_range()
     }
 }
 
 // ---- reports
 
-fn look_at_bounds(bounds: &Bounds)
+fn tell_bounds(bounds: &Bounds)
     ensures { BoundsFit bounds.now }
 {
-    bounds.k.look_at();
-    bounds.array.look_at();
-    bounds.run.alloc.look_at();
-    bounds.run.loops.look_at();
-    bounds.run.depth.look_at();
-    bounds.run.steps.look_at()
+    bounds.k.tell_range();
+    bounds.array.tell_range();
+    bounds.run.alloc.tell_range();
+    bounds.run.loops.tell_range();
+    bounds.run.depth.tell_range();
+    bounds.run.steps.tell_range()
 }
 
 /// Each number of a report is in the range of its type. It does nothing else.
-pub(crate) fn look_at_report(report: &Report)
+pub(crate) fn tell_report(report: &Report)
     ensures { ReportFits report.now }
 {
-    look_at_bounds(&report.bounds);
-    report.paths.look_at();
-    report.budget.look_at();
-    look_at_each(report.leaves.as_slice());
-    look_at_count(report.leaves.as_slice().len())
+    tell_bounds(&report.bounds);
+    report.paths.tell_range();
+    report.budget.tell_range();
+    tell_each(report.leaves.as_slice());
+    tell_count(report.leaves.as_slice().len())
 }

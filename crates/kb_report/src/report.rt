@@ -12,7 +12,7 @@ use crate::NoMemory;
 use crate::blocks::write_path;
 use crate::kinds::{LeafKind, count_of};
 use crate::naming::NamedWorld;
-use crate::ranges::look_at_report;
+use crate::ranges::tell_report;
 use crate::text::Text;
 use crate::words::write_numbered;
 use kb_heap::{Bounds, RunBounds};
@@ -42,7 +42,7 @@ pub fn report_text(alloc: Global, world: &World, report: &Report) -> Result<Vec<
     ensures text { IfOk result (λ text. text.items ≡ report_text world.now report.now) }
     ensures fits { ReportFits report.now }
 {
-    look_at_report(report);
+    tell_report(report);
     let named = NamedWorld::of(alloc, world)?;
     let mut text = Text::new(alloc);
     write_head(&mut text, report)?;

@@ -9,7 +9,7 @@ use std::marker::Model;
 
 /// A value that lies elsewhere: moving, keeping and dropping it handles a pointer, whatever its size. Contracts see the value
 /// itself.
-#[derive(Debug, Drop)]
+#[derive(Drop)]
 pub struct Held<T> {
     of: Box<T>,
 }

@@ -8,6 +8,7 @@ use Rattle.kb_eliminate.specs.Base.{Stands, IsComplete, IsConflict, IsDoomed, Is
 use Rattle.kb_sat.specs.Solver.{Equipped}
 use Rattle.kb_sat.specs.declared.search.Search.{Search}
 use Rattle.kb_sat.specs.declared.solver.Begun.{Begun}
+use Rattle.kb_sat.specs.declared.solver.End.{End}
 use Rattle.kb_sat.specs.declared.solver.Ended.{Ended}
 use Rattle.kb_sat.specs.declared.solver.Progress.{Progress}
 use Rattle.kb_sat.specs.declared.solver.Progress.TheVariants.{Complete, Doomed, Learned}
@@ -54,6 +55,12 @@ EndedIs formula budget (Ended.Spent search number) =
     Stands search.base × (search.base.formula.now ≡ formula)
     × (search.base.whole ≡ true → (length search.base.entries ≡ budget) × (UnitRefutes formula.clauses → ⊥))
     × IsConflict search.base.clauses search.base.trail number
+
+-- the search at such an end
+abbrev pub at_end : Search → End → Ended
+at_end search End.Complete = Ended.Complete search
+at_end search (End.Doomed number) = Ended.Doomed search number
+at_end search (End.Spent number) = Ended.Spent search number
 
 -- no clause was let go, or the search ended with a refutation
 abbrev pub KeepsAll : Ended → Type 0

@@ -1,7 +1,7 @@
 //! How much a search did, as solvers print it. No contract speaks of it.
 
 /// What was done in all searches of one call. A count that reaches its greatest value stays there.
-#[derive(Clone, Copy, Debug, Default, PartialEq, Eq, Drop)]
+#[derive(Clone, Copy, Default, PartialEq, Eq, Drop)]
 pub struct Counts {
     /// Literals that were tried.
     pub decisions: u64,

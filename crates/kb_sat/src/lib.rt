@@ -19,4 +19,4 @@ pub use kb_eliminate::NoMemory;
 pub use order::ActivityOrder;
 pub use pace::Crowding;
 pub use ranks::{Rank, Ranks, levels_of};
-pub use solver::{Solved, solve, solve_counted};
+pub use solver::{Solved, solve, solve_counted, solve_from};

@@ -1,6 +1,6 @@
 //! The order in which variables are decided, by their activity in conflicts (VSIDS of Chaff: Moskewicz and others, 2001, in
 //! MiniSat's form). Free: contracts see only that it holds variables.
-ghost use Rattle.std.specs.Prelude.{◌≡◌, ◌+◌, ◌<◌, ◌≤◌, length, IfOk, IfSome};
+ghost use Rattle.std.specs.Prelude.{◌≡◌, ◌+◌, ◌<◌, ◌≤◌, length, IfOk, OnOk, IfSome};
 ghost use Rattle.kb_sat.specs.Order.{HavePlaces};
 
 use crate::parameters::{
@@ -41,16 +41,18 @@ impl Model for ActivityOrder {
 }
 
 impl ActivityOrder {
-    /// All variables from 1 to `vars`, by rising number.
-    pub fn new(alloc: Global, vars: u32) -> Result<ActivityOrder, NoMemory>
+    /// All variables from 1 to `vars`, none of which took part in a conflict yet: those of `first` in its order, and behind them
+    /// the others by rising number. What stands in `first` again, or is no such variable, has no place of its own.
+    pub fn new(alloc: Global, vars: u32, first: &[u32]) -> Result<ActivityOrder, NoMemory>
         ensures { IfOk result (λ order. order ≡ vars) }
     {
-        let heap = first_variables(alloc, vars)?;
+        let heap = in_order(alloc, vars, first)?;
         let mut places = vec![in alloc; ABSENT; vars as usize + 1]?;
-        for variable in 1..=vars {
-            places[variable as usize] = variable as usize - 1;
+        let mut activities = vec![in alloc; 0; vars as usize + 1]?;
+        for (place, variable) in heap.iter().enumerate() {
+            places[*variable as usize] = place;
+            activities[*variable as usize] = (heap.len() - place) as u64;
         }
-        let activities = vec![in alloc; 0; vars as usize + 1]?;
         Ok(ActivityOrder {
             limit: vars,
             heap,
@@ -151,14 +153,68 @@ impl ActivityOrder {
     }
 }
 
-fn first_variables(alloc: Global, vars: u32) -> Result<Vec<u32>, NoMemory>
+// The variables from 1 to `vars`, each once, those of `first` before the others.
+fn in_order(alloc: Global, vars: u32, first: &[u32]) -> Result<Vec<u32>, NoMemory>
     ensures { IfOk result (λ heap. HavePlaces (vars + 1) heap.items) }
 {
-    let mut heap = Vec::with_capacity(alloc, vars as usize)?;
-    for variable in 1..=vars {
-        heap.push(variable)?;
+    let mut listed = Listed {
+        variables: Vec::with_capacity(alloc, vars as usize)?,
+        is_there: vec![in alloc; false; vars as usize + 1]?,
+    };
+    listed.push_all(first)?;
+    listed.push_up_to(vars)?;
+    Ok(listed.variables)
+}
+
+// Variables, each at most once, and which of them are there.
+#[derive(Drop)]
+struct Listed {
+    variables: Vec<u32>,
+    is_there: Vec<bool>,
+}
+
+impl Listed {
+    fn push_all(&mut self, variables: &[u32]) -> Result<(), NoMemory>
+        requires { HavePlaces (length self.old.is_there.items) self.old.variables.items }
+        ensures places { OnOk result (HavePlaces (length self.new.is_there.items) self.new.variables.items) }
+        ensures size { OnOk result (length self.new.is_there.items ≡ length self.old.is_there.items) }
+    {
+        for variable in variables {
+            self.push(*variable)?;
+        }
+        Ok(())
     }
-    Ok(heap)
+
+    fn push_up_to(&mut self, vars: u32) -> Result<(), NoMemory>
+        requires { HavePlaces (length self.old.is_there.items) self.old.variables.items }
+        ensures places { OnOk result (HavePlaces (length self.new.is_there.items) self.new.variables.items) }
+        ensures size { OnOk result (length self.new.is_there.items ≡ length self.old.is_there.items) }
+    {
+        for variable in 1..=vars {
+            self.push(variable)?;
+        }
+        Ok(())
+    }
+
+    // Adds what is a variable with a place, and not there yet.
+    fn push(&mut self, variable: u32) -> Result<(), NoMemory>
+        requires { HavePlaces (length self.old.is_there.items) self.old.variables.items }
+        ensures places { OnOk result (HavePlaces (length self.new.is_there.items) self.new.variables.items) }
+        ensures size { OnOk result (length self.new.is_there.items ≡ length self.old.is_there.items) }
+    {
+        if variable == 0 {
+            return Ok(());
+        }
+        if variable as usize >= self.is_there.len() {
+            return Ok(());
+        }
+        if self.is_there[variable as usize] {
+            return Ok(());
+        }
+        self.is_there[variable as usize] = true;
+        self.variables.push(variable)?;
+        Ok(())
+    }
 }
 
 /// Moves the variable at a place towards the front, past those that are less active.

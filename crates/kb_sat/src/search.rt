@@ -1,9 +1,9 @@
 //! The search (conflict-driven clause learning: Marques-Silva and Sakallah, 1999): propagate, decide, learn from a conflict,
 //! jump back. That it stays within what the log derives is under proof; which literals it tries is free.
-ghost use Rattle.std.specs.Prelude.{◌≡◌, ℕ, ◌+◌, ◌*◌, ◌<◌, ◌≤◌, true, [], length, OnOk, IfOk, IfSome, IfNone};
-ghost use Rattle.kb_chain.specs.Literal.{Literal, has, place_of};
+ghost use Rattle.std.specs.Prelude.{◌≡◌, ℕ, ◌+◌, ◌*◌, ◌<◌, ◌≤◌, true, false, Some, [], ◌∷◌, ◌++◌, length, OnOk, IfOk, IfSome, IfNone};
+ghost use Rattle.kb_chain.specs.Literal.{Literal, has, negated, place_of};
 ghost use Rattle.kb_eliminate.specs.Trail.{TrailGrows, level_start, cut_back};
-ghost use Rattle.kb_eliminate.specs.Watches.{IsAwake};
+ghost use Rattle.kb_eliminate.specs.Watches.{IsAwake, paired, put_pair};
 ghost use Rattle.kb_eliminate.specs.Base.{Stands, IsReady, IsConflict, IsComplete, IsPropagated, IsDoomed};
 ghost use Rattle.kb_sat.specs.Solver.{Equipped, IsEquipped, GoesOn, Keeps, StepIs};
 
@@ -32,10 +32,12 @@ pub(crate) struct Search<'a> {
 }
 
 impl<'a> Search<'a> {
-    /// The search that begins with the clauses of a formula; or the number of a clause that is false from the start.
+    /// The search that begins with the clauses of a formula, and decides the variables of `first` before others; or the number of
+    /// a clause that is false from the start.
     pub(crate) fn new(
         alloc: Global,
         formula: &'a Formula,
+        first: &[u32],
     ) -> Result<(Held<Search<'a>>, Option<u32>), NoMemory>
         ensures formula { IfOk result (λ begun. begun.0.base.formula.now ≡ formula.now) }
         ensures entries { IfOk result (λ begun. begun.0.base.entries ≡ []) }
@@ -46,7 +48,7 @@ impl<'a> Search<'a> {
         ensures whole { IfOk result (λ begun. begun.0.base.whole ≡ true) }
         ensures level { IfOk result (λ begun. begun.0.base.trail.starts ≡ []) }
     {
-        let (order, phases, marks) = tables(alloc, formula.vars())?;
+        let (order, phases, marks) = tables(alloc, formula.vars(), first)?;
         let (base, conflict) = Base::new(alloc, formula)?;
         let search = Search {
             base,
@@ -146,10 +148,34 @@ impl<'a> Search<'a> {
         self.ranks.note(&learned.chain);
         self.base.entries.push(learned.chain)?;
         self.go_back(level)?;
-        let number = self.base.clauses.len();
         let row = literals.as_slice();
         let first = row[0];
         let second = second_of(row);
+        self.keep(row, first, second, levels)?;
+        Ok(())
+    }
+
+    /// Puts a learned clause behind the others, watches two of its literals, and makes the first of these true by it.
+    fn keep(&mut self, row: &[Lit], first: Lit, second: Lit, levels: u32) -> Result<(), NoMemory>
+        requires first { place_of first < length self.old.base.watches.lists.items }
+        requires second { place_of second < length self.old.base.watches.lists.items }
+        requires place { place_of first < 2 * self.old.base.trail.vars + 2 }
+        requires unassigned { has self.old.base.trail.literals first ≡ false }
+        requires possible { has self.old.base.trail.literals (negated first) ≡ false }
+        ensures clauses { OnOk result (self.new.base.clauses ≡ self.old.base.clauses ++ row.now ∷ []) }
+        ensures pairs { OnOk result (self.new.base.watches.pairs.items ≡ self.old.base.watches.pairs.items ++ paired first second ∷ []) }
+        ensures lists { OnOk result (self.new.base.watches.lists.items ≡ put_pair self.old.base.watches.lists.items first second (length self.old.base.clauses)) }
+        ensures trail { OnOk result (self.new.base.trail ≡ record self.old.base.trail {
+          literals = self.old.base.trail.literals ++ first ∷ [];
+          reasons = self.old.base.trail.reasons ++ Some (length self.old.base.clauses) ∷ [];
+        }) }
+        ensures head { OnOk result (self.new.base.head ≡ self.old.base.head) }
+        ensures entries { OnOk result (self.new.base.entries ≡ self.old.base.entries) }
+        ensures formula { OnOk result (self.new.base.formula.now ≡ self.old.base.formula.now) }
+        ensures whole { OnOk result (self.new.base.whole ≡ self.old.base.whole) }
+        ensures tables { OnOk result ((self.new.order ≡ self.old.order) × (self.new.phases ≡ self.old.phases) × (self.new.marks ≡ self.old.marks)) }
+    {
+        let number = self.base.clauses.len();
         self.base.clauses.push(row)?;
         watch_pair(&mut self.base.watches, number, first, second)?;
         self.ranks.set(number, levels)?;
@@ -196,11 +222,15 @@ impl<'a> Search<'a> {
     }
 }
 
-/// The tables of the heuristics for the variables up to `vars`.
-fn tables(alloc: Global, vars: u32) -> Result<(ActivityOrder, Vec<bool>, Marks), NoMemory>
+/// The tables of the heuristics for the variables up to `vars`, those of `first` to be decided before others.
+fn tables(
+    alloc: Global,
+    vars: u32,
+    first: &[u32],
+) -> Result<(ActivityOrder, Vec<bool>, Marks), NoMemory>
     ensures { IfOk result (λ tables. IsEquipped vars tables.0 tables.1.items tables.2) }
 {
-    let order = ActivityOrder::new(alloc, vars)?;
+    let order = ActivityOrder::new(alloc, vars, first)?;
     let phases = vec![in alloc; FIRST_PHASE; vars as usize + 1]?;
     let marks = Marks::new(alloc, vars)?;
     Ok((order, phases, marks))

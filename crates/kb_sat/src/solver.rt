@@ -7,7 +7,7 @@ ghost use Rattle.kb_chain.specs.Cnf.{Cnf};
 ghost use Rattle.kb_chain.specs.Propagation.{IsFresh, UnitRefutes};
 ghost use Rattle.kb_eliminate.specs.Base.{Stands, IsReady, IsComplete, IsDoomed};
 ghost use Rattle.kb_sat.specs.Solver.{Equipped, GoesOn};
-ghost use Rattle.kb_sat.specs.Answer.{Solves, BegunIs, EndedIs, KeepsAll, IfSat, IfUnsat, IfUndecided, IsOpenOnly, ProgressIs};
+ghost use Rattle.kb_sat.specs.Answer.{Solves, BegunIs, EndedIs, at_end, KeepsAll, IfSat, IfUnsat, IfUndecided, IsOpenOnly, ProgressIs};
 
 use crate::analysis::refute;
 use crate::counts::Counts;
@@ -16,7 +16,7 @@ use crate::order::ActivityOrder;
 use crate::pace::{Crowding, Pace};
 use crate::parameters::{ELIMINATION, ELIMINATION_CLAUSES, SMALL_BUDGET};
 use crate::search::Search;
-use kb_chain::{Formula, Log, Row};
+use kb_chain::{Clause, Formula, Log, Row};
 use kb_eliminate::{Eliminated, NoMemory, eliminate, model, restored};
 use kb_rows::Held;
 use std::alloc::Global;
@@ -52,6 +52,24 @@ pub fn solve(alloc: Global, formula: &Formula, budget: u32) -> Result<Solved, No
     Ok(solved)
 }
 
+/// As `solve`, but with the variables of `first` decided before others, in its order, until conflicts tell more. What is no
+/// variable of the formula is passed over.
+pub fn solve_from(
+    alloc: Global,
+    formula: &Formula,
+    budget: u32,
+    first: &[u32],
+) -> Result<Solved, NoMemory>
+    requires { 0 < budget }
+    ensures sat { IfOk result (IfSat (λ bits. (length bits ≡ formula.now.vars) × Satisfies (assignment_of bits) formula.now.clauses)) }
+    ensures unsat { IfOk result (IfUnsat (λ log. IsRefutation formula.now.clauses log.entries × (length log.entries ≤ budget))) }
+    ensures undecided { IfOk result (IfUndecided (λ log. IsFresh formula.now.clauses log.entries × (length log.entries ≡ budget)
+        × (UnitRefutes formula.now.clauses → ⊥))) }
+{
+    let (solved, _counts) = solve_in_order(alloc, formula, budget, first)?;
+    Ok(solved)
+}
+
 /// What `solve` answers, with what its searches did.
 pub fn solve_counted(
     alloc: Global,
@@ -64,18 +82,65 @@ pub fn solve_counted(
     ensures undecided { IfOk result (λ found. IfUndecided (λ log. IsFresh formula.now.clauses log.entries × (length log.entries ≡ budget)
         × (UnitRefutes formula.now.clauses → ⊥)) found.0) }
 {
+    let first = likely_inputs(alloc, formula)?;
+    solve_in_order(alloc, formula, budget, first.as_slice())
+}
+
+// What is answered where the variables of `first` are decided before others, with what the searches did.
+fn solve_in_order(
+    alloc: Global,
+    formula: &Formula,
+    budget: u32,
+    first: &[u32],
+) -> Result<(Solved, Counts), NoMemory>
+    requires { 0 < budget }
+    ensures sat { IfOk result (λ found. IfSat (λ bits. (length bits ≡ formula.now.vars) × Satisfies (assignment_of bits) formula.now.clauses) found.0) }
+    ensures unsat { IfOk result (λ found. IfUnsat (λ log. IsRefutation formula.now.clauses log.entries × (length log.entries ≤ budget)) found.0) }
+    ensures undecided { IfOk result (λ found. IfUndecided (λ log. IsFresh formula.now.clauses log.entries × (length log.entries ≡ budget)
+        × (UnitRefutes formula.now.clauses → ⊥)) found.0) }
+{
     let mut before = Counts::default();
     if budget > SMALL_BUDGET {
-        let (found, counts) = attempt(alloc, formula, budget, true)?;
+        let (found, counts) = attempt(alloc, formula, budget, first, true)?;
         if let Some(solved) = found {
             return Ok((solved, counts));
         }
         before = counts;
     }
-    let (found, counts) = attempt(alloc, formula, budget, false)?;
+    let (found, counts) = attempt(alloc, formula, budget, first, false)?;
     match found {
         Some(solved) => Ok((solved, before.plus(counts))),
         None => unreachable!(),
+    }
+}
+
+// The variables that are the greatest of no clause of two literals or more, by falling number: of a formula of gates, each of
+// which has a greater number than what it is made of, the inputs.
+fn likely_inputs(alloc: Global, formula: &Formula) -> Result<Vec<u32>, NoMemory> {
+    let mut is_made = vec![in alloc; false; formula.vars() as usize + 1]?;
+    note_greatest(formula.clauses(), is_made.as_mut_slice());
+    let mut inputs = Vec::new(alloc);
+    for below in 0..formula.vars() {
+        let variable = formula.vars() - below;
+        if is_made.get(variable as usize) == Some(&false) {
+            inputs.push(variable)?;
+        }
+    }
+    Ok(inputs)
+}
+
+// Notes of each clause of two literals or more the greatest variable.
+fn note_greatest(clauses: &[Clause], is_made: &mut [bool]) {
+    for clause in clauses {
+        if let [_, .., last] = clause.literals() {
+            note(is_made, last.variable());
+        }
+    }
+}
+
+fn note(is_made: &mut [bool], variable: u32) {
+    if let Some(place) = is_made.get_mut(variable as usize) {
+        *place = true;
     }
 }
 
@@ -85,13 +150,14 @@ pub(crate) fn attempt(
     alloc: Global,
     formula: &Formula,
     budget: u32,
+    first: &[u32],
     lets_go: bool,
 ) -> Result<(Option<Solved>, Counts), NoMemory>
     requires { 0 < budget }
     ensures answers { IfOk result (λ found. IfSome found.0 (Solves formula.now budget)) }
     ensures some { IfOk result (λ found. lets_go ≡ false → IsSome found.0) }
 {
-    match begin(alloc, formula, lets_go)? {
+    match begin(alloc, formula, first, lets_go)? {
         Begun::Doomed(search, number) => {
             let counts = search.get().counts;
             let log = refutation(alloc, search, number)?;
@@ -117,11 +183,12 @@ pub(crate) enum Begun<'a> {
 pub(crate) fn begin<'a>(
     alloc: Global,
     formula: &'a Formula,
+    first: &[u32],
     lets_go: bool,
 ) -> Result<Begun<'a>, NoMemory>
     ensures { IfOk result (BegunIs formula.now lets_go) }
 {
-    let (search, conflict) = Search::new(alloc, formula)?;
+    let (search, conflict) = Search::new(alloc, formula, first)?;
     if let Some(number) = conflict {
         return Ok(Begun::Doomed(search, number));
     }
@@ -182,6 +249,16 @@ fn counts_of(ended: &Ended<'_>) -> Counts {
     }
 }
 
+/// How a search ends, apart from its state.
+pub(crate) enum End {
+    /// All variables have a value.
+    Complete,
+    /// The clause of this number is false at level 0.
+    Doomed(u32),
+    /// The log has as many entries as the budget allows, and the clause of this number is false.
+    Spent(u32),
+}
+
 /// Searches until all variables have a value, a clause is false at level 0, or the budget is spent.
 fn search_on<'a>(
     alloc: Global,
@@ -198,18 +275,40 @@ fn search_on<'a>(
     ensures whole { IfOk result (λ ended. lets_go ≡ false → search.entry.base.whole ≡ true → KeepsAll ended) }
 {
     let mut search = search;
+    match search_to_end(alloc, search.get_mut(), budget, lets_go)? {
+        End::Complete => Ok(Ended::Complete(search)),
+        End::Doomed(number) => Ok(Ended::Doomed(search, number)),
+        End::Spent(number) => Ok(Ended::Spent(search, number)),
+    }
+}
+
+/// Searches on in place, and says how the search ends.
+fn search_to_end(
+    alloc: Global,
+    search: &mut Search<'_>,
+    budget: u32,
+    lets_go: bool,
+) -> Result<End, NoMemory>
+    requires budget { 0 < budget }
+    requires stands { Stands search.old.base }
+    requires equipped { Equipped search.old }
+    requires ready { IsReady search.old.base }
+    requires entries { search.old.base.whole ≡ true → search.old.base.entries ≡ [] }
+    ensures ended { IfOk result (λ end. EndedIs search.old.base.formula.now budget (at_end search.new end)) }
+    ensures whole { IfOk result (λ end. lets_go ≡ false → search.old.base.whole ≡ true → KeepsAll (at_end search.new end)) }
+{
     let mut pace = Pace::new();
     let mut crowding = Crowding::new();
-    while search.get().base.entries.as_slice().len() < budget as usize {
-        match advance(alloc, search.get_mut(), &mut pace)? {
-            Progress::Complete => return Ok(Ended::Complete(search)),
-            Progress::Doomed(number) => return Ok(Ended::Doomed(search, number)),
-            Progress::Learned => make_room(alloc, search.get_mut(), &mut crowding, lets_go)?,
+    while search.base.entries.as_slice().len() < budget as usize {
+        match advance(alloc, search, &mut pace)? {
+            Progress::Complete => return Ok(End::Complete),
+            Progress::Doomed(number) => return Ok(End::Doomed(number)),
+            Progress::Learned => make_room(alloc, search, &mut crowding, lets_go)?,
         }
     }
-    match search.get_mut().run()? {
-        None => Ok(Ended::Complete(search)),
-        Some(number) => Ok(Ended::Spent(search, number)),
+    match search.run()? {
+        None => Ok(End::Complete),
+        Some(number) => Ok(End::Spent(number)),
     }
 }
 

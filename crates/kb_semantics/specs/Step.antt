@@ -9,8 +9,8 @@ use Rattle.kb_heap.specs.declared.ending.Ending.TheVariants.{Past}
 use Rattle.kb_heap.specs.declared.heap.Heap.{Heap}
 use Rattle.kb_heap.specs.declared.heap.Input.{Input}
 use Rattle.kb_link.specs.World.{World}
+use Rattle.kb_heap.specs.Heap.{literal}
 use Rattle.kb_semantics.specs.Config.{Setting, Config, Ended, Outcome, Goes, Ends, instruction_at, first_frame}
-use Rattle.kb_semantics.specs.Values.{literal}
 use Rattle.kb_world.specs.Faults.{component_of_code}
 use Rattle.kb_semantics.specs.Comparisons.{table_keys}
 use Rattle.kb_semantics.specs.Ways.{ill_typed, past}

@@ -1,6 +1,6 @@
 -- Types and their values: which values a slot, an element or a result of a type has, and how it keeps one (JVMS 8 sections 2.3,
 -- 2.4, 2.7 and 6.5). A further type of ints joins as a further case of each definition here.
-use Rattle.std.specs.Prelude.{◌≡◌, ◌⊎◌, ℕ, pos, Bool, true, false, List, [], ◌∷◌, map, codes, is_some, Option, Some, None}
+use Rattle.std.specs.Prelude.{◌≡◌, ◌⊎◌, ℕ, pos, Bool, true, false, List, [], ◌∷◌, map, is_some, Option, Some, None}
 use Rattle.std.specs.Int.{w32}
 use Rattle.std.specs.Int.RustNames.{FitsSigned}
 use Rattle.std.specs.Option.{option_map_or}
@@ -84,7 +84,3 @@ slots_of_class world name = option_map_or (slots_of world) (number_in world.clas
 -- a new object of the class: each slot has its default value (new, section 6.5)
 abbrev pub new_object : World → List ℕ → Object
 new_object world name = record { kind = exact.Class name; values = map (λ (slot : FieldSlot). default_of slot.kind) (slots_of_class world name) }
-
--- the string literals are opaque objects without slots (own)
-abbrev pub literal : Object
-literal = record { kind = exact.Class (codes "java/lang/String"); values = [] }

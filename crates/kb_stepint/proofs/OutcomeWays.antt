@@ -17,7 +17,7 @@ use Rattle.kb_heap.specs.declared.heap.Input.{Input}
 use Rattle.kb_heap.specs.declared.heap.Object.{Object}
 use Rattle.kb_heap.specs.declared.heap.Value.{Value}
 use Rattle.kb_heap.specs.declared.heap.Value.TheVariants.{Int as IntValue}
-use Rattle.kb_heap.specs.Heap.{object_at, value_at, with_object}
+use Rattle.kb_heap.specs.Heap.{object_at, value_at, with_object, literal}
 use Rattle.kb_link.specs.World.{World}
 use Rattle.kb_link.specs.declared.slots.FieldSlot.{FieldSlot}
 use Rattle.kb_names.specs.declared.types.ExactType.{ExactType}
@@ -28,7 +28,7 @@ use Rattle.kb_semantics.specs.Config.{Setting, Config, Frame, Outcome, class_num
 use Rattle.kb_semantics.specs.Config.{Goes as StepGoes, Ends as StepEnds}
 use Rattle.kb_semantics.specs.Looks.{Slot, stores}
 use Rattle.kb_semantics.specs.Step.{config_at, first_heap, next_config, step}
-use Rattle.kb_semantics.specs.Values.{default_of, literal, new_object, slots_of_class}
+use Rattle.kb_semantics.specs.Values.{default_of, new_object, slots_of_class}
 use Rattle.kb_semantics.specs.Ways.{counted, goes_on, goes_to, handler_among, handler_at, hands_over, hands_to, lands, nearest_handler, past, standpoint, throws, throws_in}
 use Rattle.kb_semantics.specs.Ways.{ill_typed as ill_typed_step, carries_out as carries_out_step}
 use Rattle.kb_terms.specs.declared.node.TermId.{TermId}

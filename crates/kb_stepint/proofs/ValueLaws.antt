@@ -14,9 +14,9 @@ use Rattle.kb_terms.specs.declared.node.Node.{Node}
 use Rattle.kb_terms.specs.declared.node.Node.TheVariants.{Const, Var, Op as Apply}
 use Rattle.kb_terms.specs.Op.{is_binary, op_value}
 use Rattle.kb_terms.specs.Terms.{IsSecond, AreOperands, IsPool, IsTerm, NodeFits, Extends, constant_at, second_constant, folded, made_node, term_with, interned, node_at, second_value, node_value, values, value_of, operand_value, variables_of}
-use Rattle.kb_terms.proofs.Computing.{can_compute}
 use Rattle.kb_terms.proofs.Entries.{end-cases}
-use Rattle.kb_terms.proofs.Values.{IsTerm-extends, with_value, length-values, before-value, value_of-node, value_of-constant, value_of-constant_at, value_of-extends}
+use Rattle.kb_terms.proofs.Values.{IsTerm-extends, with_value, before-value, value_of-node, value_of-constant, value_of-constant_at, value_of-extends}
+use Rattle.kb_frames.proofs.PathLaws.{variable-below}
 use Rattle.kb_stepint.specs.Asked.{interned_op}
 use Rattle.kb_stepint.proofs.AskedLaws.{interned_is_term, interned_node}
 use Rattle.kb_stepint.proofs.GrowLaws.{from_found, interned_extends}
@@ -167,5 +167,5 @@ more_inputs nodes inputs more pool enough =
     more_of_nodes inputs more [] nodes (λ i v kind e. below i v kind e) where
       below : (i v : ℕ) (kind : VarKind) → slice_get nodes i ≡ Some (Var v kind) → v < length inputs
       below i v kind e =
-          let inside : i < length nodes = slice_get_within nodes i (Var v kind) e in
-          can_compute nodes i (Var v kind) inputs (values inputs (take i nodes)) pool e enough (length-values inputs (take i nodes) ∙ omega (arith, length-take i nodes, inside))
+          let less : v < variables_of nodes = variable-below nodes pool i v kind e in
+          omega (arith, less, enough)

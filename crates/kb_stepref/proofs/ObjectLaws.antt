@@ -13,7 +13,7 @@ use Rattle.kb_heap.specs.declared.heap.Input.{Input}
 use Rattle.kb_heap.specs.declared.heap.Object.{Object}
 use Rattle.kb_heap.specs.declared.heap.Value.{Value}
 use Rattle.kb_heap.specs.declared.heap.Value.TheVariants.{Ref}
-use Rattle.kb_heap.specs.Heap.{object_at, value_at}
+use Rattle.kb_heap.specs.Heap.{object_at, value_at, literal}
 use Rattle.kb_link.specs.World.{World}
 use Rattle.kb_link.specs.declared.slots.FieldSlot.{FieldSlot}
 use Rattle.kb_names.specs.declared.types.ExactType.{ExactType}
@@ -21,7 +21,7 @@ use Rattle.kb_names.specs.declared.types.ExactType.TheVariants as exact
 use Rattle.kb_semantics.specs.Inputs.{HasValuesOf, IsInputObject, IsTypeCorrect}
 use Rattle.kb_semantics.specs.Instructions.{field_of, has_field, same_reference}
 use Rattle.kb_semantics.specs.Step.{first_heap}
-use Rattle.kb_semantics.specs.Values.{literal, slots_of_class}
+use Rattle.kb_semantics.specs.Values.{slots_of_class}
 use Rattle.kb_terms.proofs.Entries.{slice_get-append-left}
 use Rattle.kb_picture.specs.declared.picture.PicObject.{PicObject}
 use Rattle.kb_picture.specs.Endings.{Reading, place_at}

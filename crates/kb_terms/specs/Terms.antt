@@ -121,15 +121,19 @@ node_value inputs done (Const c) = c
 node_value inputs done (Var v kind) = int_at inputs v
 node_value inputs done (Apply op left right) = op_value op (int_at done left.0) (second_value done right)
 
--- whether the value of a node can be computed from these inputs and the values of the terms before it
-abbrev pub CanCompute : List ℤ → List ℤ → Node → Type 0
-CanCompute inputs done (Const c) = Unit {0}
-CanCompute inputs done (Var v kind) = v < length inputs
-CanCompute inputs done (Apply op left right) = (left.0 < length done) × ForSome right (λ t. t.0 < length done)
+-- whether the value of a node can be computed from the values of the terms before it
+abbrev pub CanCompute : List ℤ → Node → Type 0
+CanCompute done (Const c) = Unit {0}
+CanCompute done (Var v kind) = Unit {0}
+CanCompute done (Apply op left right) = (left.0 < length done) × ForSome right (λ t. t.0 < length done)
 
 -- the values of all terms, in order
 unfoldable pub values : List ℤ → List Node → List ℤ
 values inputs nodes = fold (λ done node. done ++ node_value inputs done node ∷ []) [] nodes
+
+-- these are the values of the first so many terms
+abbrev pub AreFirstValues : List ℤ → List Node → List ℤ → Type 0
+AreFirstValues inputs nodes done = done ≡ take (length done) (values inputs nodes)
 
 -- the value of a term, where each variable has the input of its number
 unfoldable pub value_of : List Node → TermId → List ℤ → ℤ

@@ -2,7 +2,7 @@
 use crate::op::Op;
 
 /// An operand of a listed term: an int, the variable of a number, or the term at that place of the list, from 0.
-#[derive(Clone, Copy, Debug, PartialEq, Eq)]
+#[derive(Clone, Copy, PartialEq, Eq)]
 pub enum Operand {
     Const(i32),
     Var(u32),
@@ -10,7 +10,7 @@ pub enum Operand {
 }
 
 /// A listed term: an operation on operands, with a second one where the operation has two.
-#[derive(Clone, Copy, Debug, PartialEq, Eq)]
+#[derive(Clone, Copy, PartialEq, Eq)]
 pub struct Term {
     pub op: Op,
     pub left: Operand,

@@ -2,11 +2,11 @@
 use crate::op::Op;
 
 /// The number of a term in its pool: its place among the pool's nodes, from 0.
-#[derive(Clone, Copy, Debug, PartialEq, Eq, Hash)]
+#[derive(Clone, Copy, PartialEq, Eq, Hash)]
 pub struct TermId(pub u32);
 
 /// What a variable stands for: an int, or a boolean, which is 0 or 1.
-#[derive(Clone, Copy, Debug, PartialEq, Eq, Hash)]
+#[derive(Clone, Copy, PartialEq, Eq, Hash)]
 pub enum VarKind {
     Int,
     Bool,
@@ -14,7 +14,7 @@ pub enum VarKind {
 
 /// What a term is: a constant, the variable of a number, or an operation on earlier terms, with a second operand
 /// where the operation has two.
-#[derive(Clone, Copy, Debug, PartialEq, Eq, Hash)]
+#[derive(Clone, Copy, PartialEq, Eq, Hash)]
 pub enum Node {
     Const(i32),
     Var(u32, VarKind),

@@ -49,7 +49,7 @@ impl Numbering {
 }
 
 // What is left to do on a walk: to come to a term, or to number it, its operands being done.
-#[derive(Clone, Copy, Debug)]
+#[derive(Clone, Copy)]
 enum Task {
     Enter(TermId),
     Emit(TermId),

@@ -5,7 +5,7 @@ ghost use Rattle.kb_terms.specs.Op.{is_binary, op_value, op_name};
 /// An operation on ints. Each is the instruction of its name (The Java Virtual Machine Specification, Java SE 8
 /// Edition, section 6.5); `Byte`, `Char` and `Short` are i2b, i2c and i2s.
 /// `Eq`, `Lt` and `Ult` give 1 or 0; `Ult` compares without sign.
-#[derive(Clone, Copy, Debug, PartialEq, Eq, Hash)]
+#[derive(Clone, Copy, PartialEq, Eq, Hash)]
 pub enum Op {
     Add,
     Sub,

@@ -3,7 +3,7 @@ ghost use Rattle.std.specs.Prelude.{◌≡◌, ◌+◌, ◌<◌, ◌≤◌, ◌^
 ghost use Rattle.std.specs.Option.{ForSome};
 ghost use Rattle.kb_terms.specs.declared.node.Node.TheVariants.{Const, Var};
 ghost use Rattle.kb_terms.specs.Op.{op_value};
-ghost use Rattle.kb_terms.specs.Terms.{IsTerm, node_at, is_variable, variables_of, AreOperands, constant_at, second_constant, int_at, made_node, NodeFits, IsPool, Extends, HasNode, term_with, value_of, operand_value, values, node_value, CanCompute};
+ghost use Rattle.kb_terms.specs.Terms.{IsTerm, node_at, is_variable, variables_of, AreOperands, constant_at, second_constant, int_at, made_node, NodeFits, IsPool, Extends, HasNode, term_with, value_of, operand_value, values, node_value, AreFirstValues, CanCompute};
 
 use crate::NoMemory;
 use crate::node::{Node, TermId, VarKind};
@@ -177,6 +177,17 @@ impl Pool {
         Ok(computed[term.0 as usize])
     }
 
+    /// Adds the values of the terms behind those that `computed` has, which are those of the first terms, where each variable has
+    /// the entry of `inputs` at its number, and 0 past its end. It takes time in proportion to what it adds. Refused for want of
+    /// memory alone: then some values may have been added.
+    pub fn extend_values(&self, inputs: &[i32], computed: &mut Vec<i32>) -> Result<(), NoMemory>
+        requires { AreFirstValues inputs.now self.now computed.old.items }
+        ensures all { OnOk result (computed.new.items ≡ values inputs.now self.now) }
+        ensures front { AreFirstValues inputs.now self.now computed.new.items }
+    {
+        extend(self.nodes(), inputs, computed)
+    }
+
     // The node of an operation, folded where its operands are constants.
     #[tactic(auto, unfolding(crate::specs::Terms::made_node))]
     fn made_node(&self, op: Op, left: TermId, right: Option<TermId>) -> Node
@@ -213,26 +224,46 @@ pub(crate) fn node_of(nodes: &[Node], term: TermId) -> Node
 
 // The values of the terms with these nodes, in order.
 fn compute(alloc: Global, nodes: &[Node], inputs: &[i32]) -> Result<Vec<i32>, NoMemory>
-    requires formed { IsPool nodes.now }
-    requires enough { variables_of nodes.now ≤ length inputs.now }
+    requires { IsPool nodes.now }
     ensures { IfOk result (λ computed. computed.items ≡ values inputs.now nodes.now) }
 {
     let mut computed = Vec::with_capacity(alloc, nodes.len())?;
-    for node in nodes {
-        let value = node_value(*node, inputs, &computed);
+    extend(nodes, inputs, &mut computed)?;
+    Ok(computed)
+}
+
+// Adds the values of the terms behind those that have one.
+fn extend(nodes: &[Node], inputs: &[i32], computed: &mut Vec<i32>) -> Result<(), NoMemory>
+    requires formed { IsPool nodes.now }
+    requires front { AreFirstValues inputs.now nodes.now computed.old.items }
+    ensures all { OnOk result (computed.new.items ≡ values inputs.now nodes.now) }
+    ensures front { AreFirstValues inputs.now nodes.now computed.new.items }
+{
+    while let Some(node) = nodes.get(computed.len()) {
+        let value = node_value(*node, inputs, computed);
         computed.push(value)?;
     }
-    Ok(computed)
+    Ok(())
+}
+
+// The int at the number; 0 past the end.
+fn int_at(ints: &[i32], number: u32) -> i32
+    ensures { result ≡ int_at ints.now number }
+{
+    match ints.get(number as usize) {
+        Some(int) => *int,
+        None => 0,
+    }
 }
 
 // The value of a node, from those of the terms before it.
 fn node_value(node: Node, inputs: &[i32], computed: &[i32]) -> i32
-    requires { CanCompute inputs.now computed.now node }
+    requires { CanCompute computed.now node }
     ensures { result ≡ node_value inputs.now computed.now node }
 {
     match node {
         Node::Const(value) => value,
-        Node::Var(number, _) => inputs[number as usize],
+        Node::Var(number, _) => int_at(inputs, number),
         Node::Op(op, left, None) => op.apply(computed[left.0 as usize], 0),
         Node::Op(op, left, Some(right)) => {
             op.apply(computed[left.0 as usize], computed[right.0 as usize])

@@ -8,14 +8,14 @@ use Rattle.std.proofs.lemmas.Option.{slice_get_within}
 use Rattle.kb_grammar.specs.Lines.{lines_text}
 use Rattle.kb_grammar.proofs.LineLaws.{lines_text-++}
 use Rattle.kb_heap.specs.declared.heap.Object.{Object}
-use Rattle.kb_test.specs.declared.words.Word.{Word}
-use Rattle.kb_test.specs.declared.lines.Line.{Line}
-use Rattle.kb_test.specs.declared.lines.Line.TheVariants.{Out, New}
+use Rattle.kb_test_lines.specs.declared.words.Word.{Word}
+use Rattle.kb_test_lines.specs.declared.lines.Line.{Line}
+use Rattle.kb_test_lines.specs.declared.lines.Line.TheVariants.{Out, New}
 use Rattle.kb_heap.specs.declared.ending.Ending.{Ending}
-use Rattle.kb_test.specs.Lines.{line_text}
-use Rattle.kb_test.specs.Scripts.{out_lines, new_lines, texts_of}
+use Rattle.kb_test_lines.specs.Lines.{line_text, texts_of}
+use Rattle.kb_test.specs.Scripts.{out_lines, new_lines}
 use Rattle.kb_test.specs.Writing.{words_of, listed_of, listeds_of, outs_of, news_of, ending_text, run_text}
-use Rattle.kb_test.proofs.Texts.{texts_of-++}
+use Rattle.kb_test_lines.proofs.Texts.{texts_of-++}
 
 -- the values of several objects
 abbrev pub lists_of : ℕ → ℕ → List Object → List (List Word)

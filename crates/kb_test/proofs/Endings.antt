@@ -6,18 +6,18 @@ use Rattle.kb_names.specs.Targets.{IsTarget}
 use Rattle.kb_names.specs.declared.types.Target.{Target}
 use Rattle.kb_names.specs.declared.types.ExactType.TheVariants.{Class}
 use Rattle.kb_heap.specs.declared.bounds.RunBounds.{RunBounds}
-use Rattle.kb_test.specs.declared.words.Word.{Word}
-use Rattle.kb_test.specs.declared.words.Limits.{Limits}
-use Rattle.kb_test.specs.declared.lines.Listed.{Listed}
-use Rattle.kb_test.specs.declared.outcomes.Outcome.TheVariants.{Returns}
-use Rattle.kb_test.specs.declared.lines.Line.{Line}
-use Rattle.kb_test.specs.declared.lines.Line.TheVariants.{Method, Limit, Ends, End}
+use Rattle.kb_test_lines.specs.declared.words.Word.{Word}
+use Rattle.kb_test_lines.specs.declared.words.Limits.{Limits}
+use Rattle.kb_test_lines.specs.declared.lines.Listed.{Listed}
+use Rattle.kb_test_lines.specs.declared.outcomes.Outcome.TheVariants.{Returns}
+use Rattle.kb_test_lines.specs.declared.lines.Line.{Line}
+use Rattle.kb_test_lines.specs.declared.lines.Line.TheVariants.{Method, Limit, Ends, End}
 use Rattle.kb_test.specs.declared.script.Script.{Script}
 use Rattle.kb_test.specs.declared.script.Begun.{Begun}
 use Rattle.kb_test.specs.declared.fronts.Open.{Open}
 use Rattle.kb_test.specs.declared.fronts.Open.TheVariants.{Between, Named, Started, Ended}
-use Rattle.kb_test.specs.Words.{AreWordLists, words_below}
-use Rattle.kb_test.specs.Lines.{AreListed, IsListed, IsRunBounds, listed_below}
+use Rattle.kb_test_lines.specs.Words.{AreWordLists, words_below}
+use Rattle.kb_test_lines.specs.Lines.{AreListed, IsListed, IsRunBounds, listed_below}
 use Rattle.kb_test.specs.Scripts.{in_lines, out_lines, new_lines, script_lines, script_below, limits_of, IsScript}
 use Rattle.kb_test.specs.Fronts.{open_limits, ended_limits, with_outcome, begun_lines, ended_lines, open_lines, IsBegun, IsEnded, IsOpen}
 use Rattle.kb_test.proofs.Steps.{AreBelow, are_below, is_below_all}

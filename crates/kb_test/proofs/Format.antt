@@ -5,18 +5,18 @@ use Rattle.std.specs.Option.{option_and_then}
 use Rattle.kb_grammar.specs.Lines.{AreLines, IsFirstBadLine, lines_text}
 use Rattle.kb_grammar.specs.LineFormats.{IsLineFormat, SpellsByLines}
 use Rattle.kb_grammar.proofs.LineLaws.{same_bad_line}
-use Rattle.kb_test.specs.declared.lines.Line.{Line}
+use Rattle.kb_test_lines.specs.declared.lines.Line.{Line}
 use Rattle.kb_test.specs.declared.script.Script.{Script}
 use Rattle.kb_test.specs.declared.test_case.Test.{Test}
 use Rattle.kb_test.specs.declared.fronts.Open.{Open}
 use Rattle.kb_test.specs.declared.fronts.Open.TheVariants.{Between}
 use Rattle.kb_test.specs.declared.fronts.Front.{Front}
-use Rattle.kb_test.specs.Lines.{line_text, IsLine, SpellsLine}
-use Rattle.kb_test.specs.Scripts.{script_lines, AreScripts, scripts_lines, texts_of}
+use Rattle.kb_test_lines.specs.Lines.{line_text, IsLine, SpellsLine, texts_of}
+use Rattle.kb_test.specs.Scripts.{script_lines, AreScripts, scripts_lines}
 use Rattle.kb_test.specs.Tests.{test_of, tests_of, SpellsTests, IsTestsText}
 use Rattle.kb_test.specs.Fronts.{step, FitsAt, open_lines, IsOpen, StandsBehind, SpellsLines, TakesText}
-use Rattle.kb_test.proofs.Texts.{AllLines, AllLines-++, are_lines, texts_of-++}
-use Rattle.kb_test.proofs.SameLines.{same_line, same_lines}
+use Rattle.kb_test_lines.proofs.Texts.{AllLines, AllLines-++, are_lines, texts_of-++}
+use Rattle.kb_test_lines.proofs.SameLines.{same_line, same_lines}
 use Rattle.kb_test.proofs.Steps.{steps, steps_then, front_of}
 use Rattle.kb_test.proofs.Accepts.{front_run, whole_run, open_are_lines, scripts_are_lines}
 use Rattle.kb_test.proofs.Sound.{Stands, next_stands, one_script, with_script}

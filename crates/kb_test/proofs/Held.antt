@@ -7,21 +7,22 @@ use Rattle.std.proofs.lemmas.List.{length-map, length-replicate}
 use Rattle.std.proofs.Math.Seq.{drop-append_seam, take-append_seam}
 use Rattle.kb_names.specs.declared.types.ExactType.{ExactType}
 use Rattle.kb_heap.specs.declared.heap.Object.{Object}
-use Rattle.kb_test.specs.declared.words.Reference.{Reference}
-use Rattle.kb_test.specs.declared.words.Reference.TheVariants.{Input, Literal, Made}
-use Rattle.kb_test.specs.declared.words.Word.{Word}
-use Rattle.kb_test.specs.declared.words.Word.TheVariants.{Int, Null, Object as object_word}
-use Rattle.kb_test.specs.declared.words.Limits.{Limits}
-use Rattle.kb_test.specs.declared.lines.Listed.{Listed}
-use Rattle.kb_test.specs.declared.outcomes.RunBound.TheVariants.{Alloc, Loops, Depth, Steps}
-use Rattle.kb_test.specs.declared.outcomes.Outcome.{Outcome}
-use Rattle.kb_test.specs.declared.outcomes.Outcome.TheVariants.{Returns, Throws, IllTyped, Past}
+use Rattle.kb_test_lines.specs.declared.words.Reference.{Reference}
+use Rattle.kb_test_lines.specs.declared.words.Reference.TheVariants.{Input, Literal, Made}
+use Rattle.kb_test_lines.specs.declared.words.Word.{Word}
+use Rattle.kb_test_lines.specs.declared.words.Word.TheVariants.{Int, Null, Object as object_word}
+use Rattle.kb_test_lines.specs.declared.words.Limits.{Limits}
+use Rattle.kb_test_lines.specs.declared.lines.Listed.{Listed}
+use Rattle.kb_test_lines.specs.declared.outcomes.RunBound.TheVariants.{Alloc, Loops, Depth, Steps}
+use Rattle.kb_test_lines.specs.declared.outcomes.Outcome.{Outcome}
+use Rattle.kb_test_lines.specs.declared.outcomes.Outcome.TheVariants.{Returns, Throws, IllTyped, Past}
 use Rattle.kb_test.specs.declared.script.Script.{Script}
 use Rattle.kb_test.specs.declared.test_case.Test.{Test}
-use Rattle.kb_test.specs.Words.{IsWord, AreWords, AreWordLists, is_below, word_below, words_below}
-use Rattle.kb_test.specs.Lines.{AreListed, IsExact, IsOutcome, listed_below, outcome_below}
+use Rattle.kb_test_lines.specs.Words.{IsWord, AreWords, AreWordLists, is_below, word_below, words_below}
+use Rattle.kb_test_lines.specs.Lines.{AreListed, IsExact, IsOutcome, listed_below, outcome_below}
 use Rattle.kb_test.specs.Scripts.{limits_of, IsScript, AreScripts}
-use Rattle.kb_test.specs.Tests.{number_of, value_of, values_of, object_of, objects_of, last_objects, ending_of, literal_objects, string_object, test_of, tests_of, SpellsTests, IsValue, AreValues, AreObjects, kinds_of, IsEnding, IsTest, AreTests}
+use Rattle.kb_heap.specs.Heap.{literal}
+use Rattle.kb_test.specs.Tests.{number_of, value_of, values_of, object_of, objects_of, last_objects, ending_of, literal_objects, test_of, tests_of, SpellsTests, IsValue, AreValues, AreObjects, kinds_of, IsEnding, IsTest, AreTests}
 use Rattle.kb_test.proofs.Steps.{both, AreBelow, are_below}
 use Rattle.kb_test.proofs.OneText.{last_many}
 
@@ -84,7 +85,7 @@ kinds_last inputs literals (listed ∷ others) (words ∷ lists) e = ap (λ (ks 
 not_empty : (byte : ℕ) (bytes : List ℕ) → byte ∷ bytes ≢ []
 not_empty byte bytes e = cc
 
-string_is : IsExact string_object.kind
+string_is : IsExact literal.kind
 string_is = (
   not_empty 106 _,
   (omega arith, (omega arith, (omega arith, (omega arith, (omega arith, (omega arith, (omega arith, (omega arith, (omega arith, (omega arith, (omega arith, (omega arith, (omega arith, (omega arith, (omega arith, (omega arith, tt)))))))))))))))),
@@ -120,7 +121,7 @@ module _ (literals : ℕ) (script : Script) (is : IsScript literals script) wher
   many = last_many count literals script.inputs script.outs is.as_many
 
   all_of : length heap ≡ total count literals (length script.news)
-  all_of = omega (arith, many, length-append last (literal_objects literals ++ made), length-append (literal_objects literals) made, length-replicate literals string_object, length-map script.news (object_of count literals))
+  all_of = omega (arith, many, length-append last (literal_objects literals ++ made), length-append (literal_objects literals) made, length-replicate literals literal, length-map script.news (object_of count literals))
 
   inputs_are : length (objects_of count literals script.inputs) ≡ count
   inputs_are = length-map script.inputs (object_of count literals)
@@ -131,7 +132,7 @@ module _ (literals : ℕ) (script : Script) (is : IsScript literals script) wher
   behind : take literals (drop count heap) ≡ literal_objects literals
   behind =
       ap (λ (n : ℕ). take literals (drop n heap)) (sym many) ∙ ap (take literals) (drop-append_seam last (literal_objects literals ++ made))
-      ∙ ap (λ (n : ℕ). take n (literal_objects literals ++ made)) (sym (length-replicate literals string_object)) ∙ take-append_seam (literal_objects literals) made
+      ∙ ap (λ (n : ℕ). take n (literal_objects literals ++ made)) (sym (length-replicate literals literal)) ∙ take-append_seam (literal_objects literals) made
 
   is_test : IsTest literals (test_of literals script)
   is_test = record {

@@ -1,12 +1,5 @@
-pub mod Texts
-pub mod ReadLaws
-pub mod SameWords
-pub mod WordLists
-pub mod BoundsLine
-pub mod SameLines
 pub mod Steps
 pub mod Accepts
-pub mod Parts
 pub mod Sound
 pub mod Endings
 pub mod Format

@@ -10,21 +10,22 @@ use Rattle.kb_grammar.specs.Lines.{lines_text}
 use Rattle.kb_heap.specs.declared.heap.Value.{Value}
 use Rattle.kb_heap.specs.declared.heap.Object.{Object}
 use Rattle.kb_heap.specs.declared.bounds.RunBounds.{RunBounds}
-use Rattle.kb_test.specs.declared.words.Reference.{Reference}
-use Rattle.kb_test.specs.declared.words.Reference.TheVariants.{Input, Literal, Made}
-use Rattle.kb_test.specs.declared.words.Word.{Word}
-use Rattle.kb_test.specs.declared.words.Word.TheVariants.{Int, Null, Object as object_word}
-use Rattle.kb_test.specs.declared.words.Limits.{Limits}
-use Rattle.kb_test.specs.declared.lines.Listed.{Listed}
-use Rattle.kb_test.specs.declared.outcomes.RunBound.TheVariants.{Alloc, Loops, Depth, Steps}
-use Rattle.kb_test.specs.declared.outcomes.Outcome.{Outcome}
-use Rattle.kb_test.specs.declared.outcomes.Outcome.TheVariants.{Returns, Throws, IllTyped, Past}
+use Rattle.kb_test_lines.specs.declared.words.Reference.{Reference}
+use Rattle.kb_test_lines.specs.declared.words.Reference.TheVariants.{Input, Literal, Made}
+use Rattle.kb_test_lines.specs.declared.words.Word.{Word}
+use Rattle.kb_test_lines.specs.declared.words.Word.TheVariants.{Int, Null, Object as object_word}
+use Rattle.kb_test_lines.specs.declared.words.Limits.{Limits}
+use Rattle.kb_test_lines.specs.declared.lines.Listed.{Listed}
+use Rattle.kb_test_lines.specs.declared.outcomes.RunBound.TheVariants.{Alloc, Loops, Depth, Steps}
+use Rattle.kb_test_lines.specs.declared.outcomes.Outcome.{Outcome}
+use Rattle.kb_test_lines.specs.declared.outcomes.Outcome.TheVariants.{Returns, Throws, IllTyped, Past}
 use Rattle.kb_test.specs.declared.script.Script.{Script}
 use Rattle.kb_test.specs.declared.test_case.Test.{Test}
-use Rattle.kb_test.specs.Words.{is_below, word_below, words_below}
-use Rattle.kb_test.specs.Lines.{listed_below, outcome_below}
-use Rattle.kb_test.specs.Scripts.{limits_of, IsScript, AreScripts, scripts_lines, texts_of}
-use Rattle.kb_test.specs.Tests.{number_of, value_of, values_of, object_of, objects_of, last_objects, ending_of, literal_objects, string_object, test_of, tests_of, SpellsTests}
+use Rattle.kb_test_lines.specs.Words.{is_below, word_below, words_below}
+use Rattle.kb_test_lines.specs.Lines.{listed_below, outcome_below, texts_of}
+use Rattle.kb_test.specs.Scripts.{limits_of, IsScript, AreScripts, scripts_lines}
+use Rattle.kb_heap.specs.Heap.{literal}
+use Rattle.kb_test.specs.Tests.{number_of, value_of, values_of, object_of, objects_of, last_objects, ending_of, literal_objects, test_of, tests_of, SpellsTests}
 use Rattle.kb_test.specs.Writing.{reference_of, word_of, words_of, listed_of, listeds_of, outs_of, news_of}
 use Rattle.kb_test.proofs.Stated.{outcome_of}
 use Rattle.kb_test.proofs.Steps.{both, AreBelow, are_below}
@@ -181,7 +182,7 @@ module _ (literals : ℕ) (script : Script) (is : IsScript literals script) wher
   news_again =
       ap (listeds_of count literals)
       (ap (λ (n : ℕ). drop (n + literals) (last ++ (literal_objects literals ++ made))) (sym many) ∙ drop-append-add last (literal_objects literals ++ made) literals
-      ∙ ap (λ (n : ℕ). drop n (literal_objects literals ++ made)) (sym (length-replicate literals string_object)) ∙ drop-append_seam (literal_objects literals) made)
+      ∙ ap (λ (n : ℕ). drop n (literal_objects literals ++ made)) (sym (length-replicate literals literal)) ∙ drop-append_seam (literal_objects literals) made)
       ∙ listeds_again count literals (length script.news) script.news there.news
 
   pub read_off : parts_at literals (test_of literals script) ≡ parts_of script

@@ -7,24 +7,24 @@ use Rattle.std.proofs.lemmas.List.{nil_from_length}
 use Rattle.std.proofs.lemmas.List.Folds.{list_all-append}
 use Rattle.kb_names.specs.Targets.{IsTarget}
 use Rattle.kb_names.specs.declared.types.Target.{Target}
-use Rattle.kb_test.specs.declared.words.Word.{Word}
-use Rattle.kb_test.specs.declared.words.Limits.{Limits}
-use Rattle.kb_test.specs.declared.lines.Listed.{Listed}
-use Rattle.kb_test.specs.declared.outcomes.Outcome.{Outcome}
-use Rattle.kb_test.specs.declared.lines.Line.{Line}
-use Rattle.kb_test.specs.declared.lines.Line.TheVariants.{Method, Limit, Arg, In, Ends, Out, New, End}
+use Rattle.kb_test_lines.specs.declared.words.Word.{Word}
+use Rattle.kb_test_lines.specs.declared.words.Limits.{Limits}
+use Rattle.kb_test_lines.specs.declared.lines.Listed.{Listed}
+use Rattle.kb_test_lines.specs.declared.outcomes.Outcome.{Outcome}
+use Rattle.kb_test_lines.specs.declared.lines.Line.{Line}
+use Rattle.kb_test_lines.specs.declared.lines.Line.TheVariants.{Method, Limit, Arg, In, Ends, Out, New, End}
 use Rattle.kb_test.specs.declared.script.Script.{Script}
 use Rattle.kb_test.specs.declared.script.Begun.{Begun}
 use Rattle.kb_test.specs.declared.test_case.Test.{Test}
 use Rattle.kb_test.specs.declared.fronts.Open.{Open}
 use Rattle.kb_test.specs.declared.fronts.Open.TheVariants.{Between, Named, Started, Ended}
 use Rattle.kb_test.specs.declared.fronts.Front.{Front}
-use Rattle.kb_test.specs.Words.{AreWords, AreWordLists, word_below, words_below}
-use Rattle.kb_test.specs.Lines.{AreListed, IsListed, IsLine, listed_below, outcome_below}
+use Rattle.kb_test_lines.specs.Words.{AreWords, AreWordLists, word_below, words_below}
+use Rattle.kb_test_lines.specs.Lines.{AreListed, IsListed, IsLine, listed_below, outcome_below}
 use Rattle.kb_test.specs.Scripts.{in_lines, out_lines, new_lines, script_lines, script_below, limits_of, IsScript, AreScripts, scripts_lines}
 use Rattle.kb_test.specs.Tests.{test_of, tests_of}
 use Rattle.kb_test.specs.Fronts.{open_limits, ended_limits, with_arg, with_input, with_outcome, with_out, with_new, may_have_arg, may_have_input, may_end_so, may_have_out, may_have_new, may_be_whole, if_may, begun_step, ended_step, between_step, named_step, with_open, step, begun_lines, ended_lines, open_lines, IsBegun, IsEnded, IsOpen}
-use Rattle.kb_test.proofs.WordLists.{AreWords-++}
+use Rattle.kb_test_lines.proofs.WordLists.{AreWords-++}
 use Rattle.kb_test.proofs.Steps.{both, and_both, AreBelow, are_below, is_below_all, front_of}
 use Rattle.kb_test.proofs.Accepts.{whole_lines}
 

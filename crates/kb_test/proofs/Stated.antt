@@ -6,17 +6,17 @@ use Rattle.kb_grammar.proofs.LineLaws.{lines_text-++}
 use Rattle.kb_heap.specs.declared.bounds.Bound.TheVariants.{K, Array, Alloc, Loops, Depth, Steps}
 use Rattle.kb_heap.specs.declared.ending.Ending.{Ending}
 use Rattle.kb_heap.specs.declared.ending.Ending.TheVariants.{Returned, Threw, IllTyped, Past}
-use Rattle.kb_test.specs.declared.outcomes.RunBound.TheVariants.{Alloc as alloc_bound, Loops as loops_bound, Depth as depth_bound, Steps as steps_bound}
-use Rattle.kb_test.specs.declared.outcomes.Outcome.{Outcome}
-use Rattle.kb_test.specs.declared.outcomes.Outcome.TheVariants.{Returns, Throws, IllTyped as ill_typed_at, Past as past_bound}
-use Rattle.kb_test.specs.declared.lines.Line.{Line}
-use Rattle.kb_test.specs.declared.lines.Line.TheVariants.{Method, Limit, Arg, Ends, End}
+use Rattle.kb_test_lines.specs.declared.outcomes.RunBound.TheVariants.{Alloc as alloc_bound, Loops as loops_bound, Depth as depth_bound, Steps as steps_bound}
+use Rattle.kb_test_lines.specs.declared.outcomes.Outcome.{Outcome}
+use Rattle.kb_test_lines.specs.declared.outcomes.Outcome.TheVariants.{Returns, Throws, IllTyped as ill_typed_at, Past as past_bound}
+use Rattle.kb_test_lines.specs.declared.lines.Line.{Line}
+use Rattle.kb_test_lines.specs.declared.lines.Line.TheVariants.{Method, Limit, Arg, Ends, End}
 use Rattle.kb_test.specs.declared.script.Script.{Script}
 use Rattle.kb_test.specs.declared.test_case.Test.{Test}
-use Rattle.kb_test.specs.Lines.{bound_text, outcome_text, line_text}
-use Rattle.kb_test.specs.Scripts.{in_lines, out_lines, new_lines, script_lines, texts_of}
+use Rattle.kb_test_lines.specs.Lines.{bound_text, outcome_text, line_text, texts_of}
+use Rattle.kb_test.specs.Scripts.{in_lines, out_lines, new_lines, script_lines}
 use Rattle.kb_test.specs.Writing.{reference_of, word_of, words_of, listeds_of, outs_of, news_of, ending_text, heap_lines, run_text, first_lines, text_with, test_text}
-use Rattle.kb_test.proofs.Texts.{texts_of-++}
+use Rattle.kb_test_lines.proofs.Texts.{texts_of-++}
 
 -- what a text says of the ending, if a test may state it
 abbrev pub outcome_of : ℕ → ℕ → Ending → Option Outcome

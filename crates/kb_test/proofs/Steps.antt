@@ -6,24 +6,24 @@ use Rattle.std.specs.List.{list_all, flat_map}
 use Rattle.std.proofs.lemmas.Bool.{eq-eqb, lt-ltb, ltb-true}
 use Rattle.kb_names.specs.declared.types.Target.{Target}
 use Rattle.kb_heap.specs.declared.bounds.RunBounds.{RunBounds}
-use Rattle.kb_test.specs.declared.words.Reference.{Reference}
-use Rattle.kb_test.specs.declared.words.Reference.TheVariants.{Input, Literal, Made}
-use Rattle.kb_test.specs.declared.words.Word.{Word}
-use Rattle.kb_test.specs.declared.words.Word.TheVariants.{Int, Null, Object}
-use Rattle.kb_test.specs.declared.words.Limits.{Limits}
-use Rattle.kb_test.specs.declared.lines.Listed.{Listed}
-use Rattle.kb_test.specs.declared.outcomes.Outcome.{Outcome}
-use Rattle.kb_test.specs.declared.outcomes.Outcome.TheVariants.{Returns, Throws, IllTyped, Past}
-use Rattle.kb_test.specs.declared.lines.Line.{Line}
-use Rattle.kb_test.specs.declared.lines.Line.TheVariants.{Method, Limit, Arg, In, Ends, Out, New, End}
+use Rattle.kb_test_lines.specs.declared.words.Reference.{Reference}
+use Rattle.kb_test_lines.specs.declared.words.Reference.TheVariants.{Input, Literal, Made}
+use Rattle.kb_test_lines.specs.declared.words.Word.{Word}
+use Rattle.kb_test_lines.specs.declared.words.Word.TheVariants.{Int, Null, Object}
+use Rattle.kb_test_lines.specs.declared.words.Limits.{Limits}
+use Rattle.kb_test_lines.specs.declared.lines.Listed.{Listed}
+use Rattle.kb_test_lines.specs.declared.outcomes.Outcome.{Outcome}
+use Rattle.kb_test_lines.specs.declared.outcomes.Outcome.TheVariants.{Returns, Throws, IllTyped, Past}
+use Rattle.kb_test_lines.specs.declared.lines.Line.{Line}
+use Rattle.kb_test_lines.specs.declared.lines.Line.TheVariants.{Method, Limit, Arg, In, Ends, Out, New, End}
 use Rattle.kb_test.specs.declared.script.Script.{Script}
 use Rattle.kb_test.specs.declared.script.Begun.{Begun}
 use Rattle.kb_test.specs.declared.test_case.Test.{Test}
 use Rattle.kb_test.specs.declared.fronts.Open.{Open}
 use Rattle.kb_test.specs.declared.fronts.Open.TheVariants.{Between, Named, Started, Ended}
 use Rattle.kb_test.specs.declared.fronts.Front.{Front}
-use Rattle.kb_test.specs.Words.{is_below, word_below, words_below}
-use Rattle.kb_test.specs.Lines.{listed_below, outcome_below}
+use Rattle.kb_test_lines.specs.Words.{is_below, word_below, words_below}
+use Rattle.kb_test_lines.specs.Lines.{listed_below, outcome_below}
 use Rattle.kb_test.specs.Scripts.{in_lines, out_lines, new_lines, last_lines, script_lines, script_below, limits_of, IsScript, AreScripts, scripts_lines}
 use Rattle.kb_test.specs.Tests.{test_of, tests_of}
 use Rattle.kb_test.specs.Fronts.{open_limits, ended_limits, with_arg, with_input, with_outcome, with_out, with_new, may_have_arg, may_have_input, may_end_so, may_have_out, may_have_new, may_be_whole, if_may, begun_step, ended_step, between_step, named_step, with_open, step, begun_lines, ended_lines, open_lines, IsBegun, IsEnded, IsOpen}

@@ -4,9 +4,10 @@ use Rattle.kb_grammar.specs.Lines.{AreLines, lines_text}
 use Rattle.kb_grammar.proofs.LineLaws.{lines_text-++, lines_beyond, no_lines}
 use Rattle.kb_test.specs.declared.script.Script.{Script}
 use Rattle.kb_test.specs.declared.test_case.Test.{Test}
-use Rattle.kb_test.specs.Scripts.{AreScripts, scripts_lines, texts_of}
+use Rattle.kb_test.specs.Scripts.{AreScripts, scripts_lines}
+use Rattle.kb_test_lines.specs.Lines.{texts_of}
 use Rattle.kb_test.specs.Tests.{SpellsTests, tests_of}
-use Rattle.kb_test.proofs.Texts.{are_lines, texts_of-++}
+use Rattle.kb_test_lines.proofs.Texts.{are_lines, texts_of-++}
 use Rattle.kb_test.proofs.Accepts.{scripts_are_lines}
 use Rattle.kb_test.proofs.Sound.{AreScripts-++, scripts_lines-++, tests_of-++}
 use Rattle.kb_test.proofs.Format.{spelled_once}

@@ -19,21 +19,21 @@ use Rattle.kb_heap.specs.declared.bounds.RunBounds.{RunBounds}
 use Rattle.kb_heap.specs.declared.bounds.Bound.TheVariants.{K, Array, Alloc, Loops, Depth, Steps}
 use Rattle.kb_heap.specs.declared.ending.Ending.{Ending}
 use Rattle.kb_heap.specs.declared.ending.Ending.TheVariants.{Returned, Threw, IllTyped, Past}
-use Rattle.kb_test.specs.declared.words.Reference.{Reference}
-use Rattle.kb_test.specs.declared.words.Reference.TheVariants.{Input as input_object, Literal, Made}
-use Rattle.kb_test.specs.declared.words.Word.{Word}
-use Rattle.kb_test.specs.declared.words.Word.TheVariants.{Object as object_word}
-use Rattle.kb_test.specs.declared.words.Limits.{Limits}
-use Rattle.kb_test.specs.declared.lines.Listed.{Listed}
-use Rattle.kb_test.specs.declared.outcomes.RunBound.TheVariants.{Alloc as alloc_bound, Loops as loops_bound, Depth as depth_bound, Steps as steps_bound}
-use Rattle.kb_test.specs.declared.outcomes.Outcome.{Outcome}
-use Rattle.kb_test.specs.declared.outcomes.Outcome.TheVariants.{Returns, Throws, IllTyped as ill_typed_at, Past as past_bound}
-use Rattle.kb_test.specs.declared.lines.Line.{Line}
+use Rattle.kb_test_lines.specs.declared.words.Reference.{Reference}
+use Rattle.kb_test_lines.specs.declared.words.Reference.TheVariants.{Input as input_object, Literal, Made}
+use Rattle.kb_test_lines.specs.declared.words.Word.{Word}
+use Rattle.kb_test_lines.specs.declared.words.Word.TheVariants.{Object as object_word}
+use Rattle.kb_test_lines.specs.declared.words.Limits.{Limits}
+use Rattle.kb_test_lines.specs.declared.lines.Listed.{Listed}
+use Rattle.kb_test_lines.specs.declared.outcomes.RunBound.TheVariants.{Alloc as alloc_bound, Loops as loops_bound, Depth as depth_bound, Steps as steps_bound}
+use Rattle.kb_test_lines.specs.declared.outcomes.Outcome.{Outcome}
+use Rattle.kb_test_lines.specs.declared.outcomes.Outcome.TheVariants.{Returns, Throws, IllTyped as ill_typed_at, Past as past_bound}
+use Rattle.kb_test_lines.specs.declared.lines.Line.{Line}
 use Rattle.kb_test.specs.declared.script.Script.{Script}
 use Rattle.kb_test.specs.declared.test_case.Test.{Test}
-use Rattle.kb_test.specs.Words.{IsReference, IsWord, AreWords, AreWordLists, is_below, word_below, words_below}
-use Rattle.kb_test.specs.Lines.{AreListed, IsOutcome, listed_below, outcome_below}
-use Rattle.kb_test.specs.Scripts.{script_lines, script_below, limits_of, IsScript, scripts_lines, texts_of}
+use Rattle.kb_test_lines.specs.Words.{IsReference, IsWord, AreWords, AreWordLists, is_below, word_below, words_below}
+use Rattle.kb_test_lines.specs.Lines.{AreListed, IsOutcome, listed_below, outcome_below, texts_of}
+use Rattle.kb_test.specs.Scripts.{script_lines, script_below, limits_of, IsScript, scripts_lines}
 use Rattle.kb_test.specs.Tests.{number_of, value_of, values_of, object_of, objects_of, last_objects, ending_of, literal_objects, test_of, SpellsTests, IsValue, AreValues, AreObjects, kinds_of, IsEnding, IsFinal, IsTest}
 use Rattle.kb_test.specs.Writing.{reference_of, word_of, words_of, listed_of, listeds_of, outs_of, news_of, test_text}
 use Rattle.kb_test.proofs.Stated.{outcome_of, script_of, test_text-is}

@@ -4,16 +4,16 @@ use Rattle.std.specs.List.{list_all}
 use Rattle.kb_names.specs.Targets.{IsTarget}
 use Rattle.kb_names.specs.declared.types.Target.{Target}
 use Rattle.kb_heap.specs.declared.bounds.RunBounds.{RunBounds}
-use Rattle.kb_test.specs.Words.{AreWords, AreWordLists, word_below, words_below}
-use Rattle.kb_test.specs.Lines.{IsRunBounds, AreListed, IsOutcome, SpellsLine, listed_below, outcome_below}
-use Rattle.kb_test.specs.Scripts.{in_lines, out_lines, new_lines, script_below, limits_of, AreScripts, scripts_lines, texts_of}
+use Rattle.kb_test_lines.specs.Words.{AreWords, AreWordLists, word_below, words_below}
+use Rattle.kb_test_lines.specs.Lines.{IsRunBounds, AreListed, IsOutcome, SpellsLine, listed_below, outcome_below, texts_of}
+use Rattle.kb_test.specs.Scripts.{in_lines, out_lines, new_lines, script_below, limits_of, AreScripts, scripts_lines}
 use Rattle.kb_test.specs.Tests.{test_of, tests_of}
-use Rattle.kb_test.specs.declared.words.Word.{Word}
-use Rattle.kb_test.specs.declared.words.Limits.{Limits}
-use Rattle.kb_test.specs.declared.lines.Listed.{Listed}
-use Rattle.kb_test.specs.declared.outcomes.Outcome.{Outcome}
-use Rattle.kb_test.specs.declared.lines.Line.{Line}
-use Rattle.kb_test.specs.declared.lines.Line.TheVariants.{Method, Limit, Arg, In, Ends, Out, New, End}
+use Rattle.kb_test_lines.specs.declared.words.Word.{Word}
+use Rattle.kb_test_lines.specs.declared.words.Limits.{Limits}
+use Rattle.kb_test_lines.specs.declared.lines.Listed.{Listed}
+use Rattle.kb_test_lines.specs.declared.outcomes.Outcome.{Outcome}
+use Rattle.kb_test_lines.specs.declared.lines.Line.{Line}
+use Rattle.kb_test_lines.specs.declared.lines.Line.TheVariants.{Method, Limit, Arg, In, Ends, Out, New, End}
 use Rattle.kb_test.specs.declared.script.Script.{Script}
 use Rattle.kb_test.specs.declared.script.Begun.{Begun}
 use Rattle.kb_test.specs.declared.test_case.Test.{Test}

@@ -1,5 +1,3 @@
-pub mod Words
-pub mod Lines
 pub mod Scripts
 pub mod Tests
 pub mod Fronts

@@ -2,13 +2,13 @@
 use Rattle.std.specs.Prelude.{ℕ, suc, ◌+◌, ◌≤◌, ◌^◌, ◌≡◌, Bool, ◌&&◌, IsTrue, List, [], ◌∷◌, ◌++◌, length, map}
 use Rattle.std.specs.List.{flat_map, list_all}
 use Rattle.kb_names.specs.Targets.{IsTarget}
-use Rattle.kb_test.specs.Words.{AreWords, AreWordLists, words_below}
-use Rattle.kb_test.specs.Lines.{AreListed, IsRunBounds, IsOutcome, line_text, listed_below, outcome_below}
-use Rattle.kb_test.specs.declared.words.Word.{Word}
-use Rattle.kb_test.specs.declared.words.Limits.{Limits}
-use Rattle.kb_test.specs.declared.lines.Listed.{Listed}
-use Rattle.kb_test.specs.declared.lines.Line.{Line}
-use Rattle.kb_test.specs.declared.lines.Line.TheVariants.{Method, Limit, Arg, In, Ends, Out, New, End}
+use Rattle.kb_test_lines.specs.Words.{AreWords, AreWordLists, words_below}
+use Rattle.kb_test_lines.specs.Lines.{AreListed, IsRunBounds, IsOutcome, listed_below, outcome_below}
+use Rattle.kb_test_lines.specs.declared.words.Word.{Word}
+use Rattle.kb_test_lines.specs.declared.words.Limits.{Limits}
+use Rattle.kb_test_lines.specs.declared.lines.Listed.{Listed}
+use Rattle.kb_test_lines.specs.declared.lines.Line.{Line}
+use Rattle.kb_test_lines.specs.declared.lines.Line.TheVariants.{Method, Limit, Arg, In, Ends, Out, New, End}
 use Rattle.kb_test.specs.declared.script.Script.{Script}
 
 -- the objects are numbered from that number on, without gaps
@@ -62,9 +62,6 @@ abbrev pub AreScripts : ℕ → List Script → Type 0
 AreScripts literals [] = Unit {0}
 AreScripts literals (script ∷ scripts) = IsScript literals script × AreScripts literals scripts
 
--- all lines, and their texts
+-- all lines
 abbrev pub scripts_lines : List Script → List Line
 scripts_lines scripts = flat_map script_lines scripts
-
-abbrev pub texts_of : List Line → List (List ℕ)
-texts_of lines = map line_text lines

@@ -1,30 +1,30 @@
 -- Tests, and the texts that spell them.
-use Rattle.std.specs.Prelude.{ℕ, ◌+◌, ◌<◌, ◌≤◌, ◌^◌, ◌≡◌, Option, None, Some, List, [], ◌∷◌, ◌++◌, length, map, take, drop, replicate, codes}
+use Rattle.std.specs.Prelude.{ℕ, ◌+◌, ◌<◌, ◌≤◌, ◌^◌, ◌≡◌, Option, None, Some, List, [], ◌∷◌, ◌++◌, length, map, take, drop, replicate}
 use Rattle.std.specs.Int.RustNames.{FitsSigned}
 use mir.Syntax.{w32}
 use Rattle.kb_grammar.specs.Lines.{lines_text}
 use Rattle.kb_names.specs.Targets.{IsTarget}
 use Rattle.kb_names.specs.declared.types.ExactType.{ExactType}
-use Rattle.kb_names.specs.declared.types.ExactType.TheVariants.{Class}
 use Rattle.kb_heap.specs.declared.heap.Value.{Value}
 use Rattle.kb_heap.specs.declared.heap.Value.TheVariants.{Int, Null, Ref}
 use Rattle.kb_heap.specs.declared.heap.Object.{Object}
 use Rattle.kb_heap.specs.declared.heap.Heap.{Heap}
+use Rattle.kb_heap.specs.Heap.{literal}
 use Rattle.kb_heap.specs.declared.bounds.Bound.{Bound}
 use Rattle.kb_heap.specs.declared.bounds.Bound.TheVariants.{K, Array, Alloc, Loops, Depth, Steps}
 use Rattle.kb_heap.specs.declared.ending.Ending.{Ending}
 use Rattle.kb_heap.specs.declared.ending.Ending.TheVariants.{Returned, Threw, IllTyped, Past}
-use Rattle.kb_test.specs.Lines.{IsExact, IsRunBounds, IsPlace}
-use Rattle.kb_test.specs.Scripts.{AreScripts, scripts_lines, texts_of}
-use Rattle.kb_test.specs.declared.words.Reference.{Reference}
-use Rattle.kb_test.specs.declared.words.Reference.TheVariants.{Input, Literal, Made}
-use Rattle.kb_test.specs.declared.words.Word.{Word}
-use Rattle.kb_test.specs.declared.words.Word.TheVariants.{Int as int_word, Null as null_word, Object as object_word}
-use Rattle.kb_test.specs.declared.lines.Listed.{Listed}
-use Rattle.kb_test.specs.declared.outcomes.RunBound.{RunBound}
-use Rattle.kb_test.specs.declared.outcomes.RunBound.TheVariants.{Alloc as alloc_bound, Loops as loops_bound, Depth as depth_bound, Steps as steps_bound}
-use Rattle.kb_test.specs.declared.outcomes.Outcome.{Outcome}
-use Rattle.kb_test.specs.declared.outcomes.Outcome.TheVariants.{Returns, Throws, IllTyped as ill_typed_at, Past as past_bound}
+use Rattle.kb_test_lines.specs.Lines.{IsExact, IsRunBounds, IsPlace, texts_of}
+use Rattle.kb_test.specs.Scripts.{AreScripts, scripts_lines}
+use Rattle.kb_test_lines.specs.declared.words.Reference.{Reference}
+use Rattle.kb_test_lines.specs.declared.words.Reference.TheVariants.{Input, Literal, Made}
+use Rattle.kb_test_lines.specs.declared.words.Word.{Word}
+use Rattle.kb_test_lines.specs.declared.words.Word.TheVariants.{Int as int_word, Null as null_word, Object as object_word}
+use Rattle.kb_test_lines.specs.declared.lines.Listed.{Listed}
+use Rattle.kb_test_lines.specs.declared.outcomes.RunBound.{RunBound}
+use Rattle.kb_test_lines.specs.declared.outcomes.RunBound.TheVariants.{Alloc as alloc_bound, Loops as loops_bound, Depth as depth_bound, Steps as steps_bound}
+use Rattle.kb_test_lines.specs.declared.outcomes.Outcome.{Outcome}
+use Rattle.kb_test_lines.specs.declared.outcomes.Outcome.TheVariants.{Returns, Throws, IllTyped as ill_typed_at, Past as past_bound}
 use Rattle.kb_test.specs.declared.script.Script.{Script}
 use Rattle.kb_test.specs.declared.test_case.Test.{Test}
 
@@ -68,13 +68,9 @@ ending_of inputs literals (Throws reference) = Threw (number_of inputs literals 
 ending_of inputs literals (ill_typed_at place) = IllTyped place
 ending_of inputs literals (past_bound bound) = Past (bound_of bound)
 
--- a literal of the world: a String without values
-abbrev pub string_object : Object
-string_object = record { kind = Class (codes "java/lang/String"); values = [] }
-
 -- so many literals, which no text lists
 abbrev pub literal_objects : ℕ → List Object
-literal_objects literals = replicate literals string_object
+literal_objects literals = replicate literals literal
 
 abbrev pub final_heap_of : ℕ → ℕ → Script → Heap
 final_heap_of inputs literals script = record {

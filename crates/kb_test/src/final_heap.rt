@@ -1,11 +1,11 @@
 //! The heap that a test states at the end of its run.
 ghost use Rattle.std.specs.Prelude.{◌≡◌, ◌↔◌, ◌++◌, IsTrue, IfOk, List, Some, None, MatchOption, slice_get};
 ghost use Rattle.kb_heap.specs.declared.heap.Object.{Object};
-ghost use Rattle.kb_test.specs.Tests.{string_object, literal_objects};
+ghost use Rattle.kb_heap.specs.Heap.{literal};
+ghost use Rattle.kb_test.specs.Tests.{literal_objects};
 
 use crate::NoMemory;
 use kb_heap::{Heap, Object, Row};
-use kb_names::{ExactType, Name};
 use kb_rows::Held;
 use std::alloc::Global;
 use std::marker::Model;
@@ -47,17 +47,11 @@ impl Model for FinalHeap {
     ghost view = { λ heap. record { objects = heap.inputs ++ (replicate heap.literals heap.literal ++ heap.made) } };
 }
 
-fn string_object(alloc: Global) -> Result<Held<Object>, NoMemory>
-    ensures { IfOk result (λ object. object ≡ string_object) }
+/// The object of a literal, held.
+fn held_literal(alloc: Global) -> Result<Held<Object>, NoMemory>
+    ensures { IfOk result (λ object. object ≡ literal) }
 {
-    let name = Name::from_slice(alloc, b"java/lang/String")?;
-    Held::new(
-        alloc,
-        Object {
-            kind: ExactType::Class(name),
-            values: Row::new(alloc),
-        },
-    )
+    Held::new(alloc, Object::literal(alloc)?)
 }
 
 impl FinalHeap {
@@ -70,7 +64,7 @@ impl FinalHeap {
     ) -> Result<FinalHeap, NoMemory>
         ensures { IfOk result (λ heap. heap.objects ≡ inputs ++ (literal_objects literals ++ made)) }
     {
-        let literal = string_object(alloc)?;
+        let literal = held_literal(alloc)?;
         Ok(FinalHeap {
             inputs,
             literals: literals as usize,

@@ -4,15 +4,13 @@ ghost use Rattle.kb_test.specs.Tests.{test_of};
 ghost use Rattle.kb_test.specs.Scripts.{script_below};
 ghost use Rattle.kb_test.specs.Fronts.{between_step, named_step, begun_step, ended_step, step, may_have_arg, may_have_input, may_end_so, may_have_out, may_have_new, may_be_whole, open_limits, ended_limits, with_arg, with_input, with_outcome, with_out, with_new, with_open, if_may};
 
-use crate::lines::{Line, Listed};
-use crate::outcomes::Outcome;
 use crate::script::{Begun, Script};
 use crate::settling::settled;
-use crate::words::{Limits, Word};
 use crate::{NoMemory, Test};
 use kb_heap::{Row, RunBounds};
 use kb_names::Target;
 use kb_rows::Held;
+use kb_test_lines::{Limits, Line, Listed, Outcome, Word};
 use std::alloc::Global;
 
 // How far a test is read.

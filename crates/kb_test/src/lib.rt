@@ -3,13 +3,10 @@
 
 mod final_heap;
 mod fronts;
-mod lines;
-mod outcomes;
 mod reading;
 mod script;
 mod settling;
 mod test_case;
-mod words;
 mod writing;
 
 pub use final_heap::{FinalHeap, Objects};

@@ -6,14 +6,14 @@ ghost use Rattle.kb_test.specs.Refusals.{ReadsTests, RefusesTestText};
 ghost use Rattle.kb_test.specs.declared.test_case.Test.{Test};
 
 use crate::fronts::{Front, Open, with_line};
-use crate::lines::read_line;
 use crate::{NoMemory, Test};
 use kb_grammar::{LineFormat, LineRefusal, read_lines};
 use kb_heap::Row;
+use kb_test_lines::read_line;
 use std::alloc::Global;
 
 /// Why tests were not read.
-#[derive(Clone, Copy, Debug, PartialEq, Eq)]
+#[derive(Clone, Copy, PartialEq, Eq)]
 pub enum TestRefusal {
     /// The first line, from 1, at which no list of tests goes on. A line that is cut short, and one that is missing
     /// at the end, count as lines.

@@ -1,16 +1,11 @@
 //! What the text of a test says.
 ghost use Rattle.std.specs.Prelude.{◌≡◌};
-ghost use Rattle.std.specs.List.{list_all};
-ghost use Rattle.kb_test.specs.Words.{words_below};
-ghost use Rattle.kb_test.specs.Lines.{listed_below};
 ghost use Rattle.kb_test.specs.Scripts.{script_below, limits_of};
 
-use crate::lines::Listed;
-use crate::outcomes::Outcome;
-use crate::words::{Limits, Word};
 use kb_heap::{Row, RunBounds};
 use kb_names::Target;
 use kb_rows::Held;
+use kb_test_lines::{Limits, Listed, Outcome, Word};
 
 // What is read of a test before its ending.
 #[derive(Drop)]
@@ -33,34 +28,6 @@ pub(crate) struct Script {
     pub outs: Row<Row<Word>>,
     // The objects that the run has made.
     pub news: Row<Listed>,
-}
-
-impl Limits {
-    pub(crate) fn has_listed(self, objects: &[Listed]) -> bool
-        ensures { result ≡ list_all (listed_below self) objects.now }
-    {
-        let mut rest = objects;
-        while let [first, others @ ..] = rest {
-            if !self.has_words(first.values.as_slice()) {
-                return false;
-            }
-            rest = others;
-        }
-        true
-    }
-
-    fn has_lists(self, lists: &[Row<Word>]) -> bool
-        ensures { result ≡ list_all (words_below self) lists.now }
-    {
-        let mut rest = lists;
-        while let [first, others @ ..] = rest {
-            if !self.has_words(first.as_slice()) {
-                return false;
-            }
-            rest = others;
-        }
-        true
-    }
 }
 
 impl Script {

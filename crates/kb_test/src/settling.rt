@@ -2,14 +2,12 @@
 ghost use Rattle.std.specs.Prelude.{◌≡◌, IfOk};
 ghost use Rattle.kb_test.specs.Tests.{number_of, value_of, values_of, objects_of, last_objects, bound_of, ending_of, final_heap_of, test_with, test_of};
 
-use crate::lines::Listed;
-use crate::outcomes::{Outcome, RunBound};
 use crate::script::Script;
-use crate::words::{Reference, Word};
 use crate::{FinalHeap, NoMemory, Test};
 use kb_heap::{Bound, Ending, Heap, Input, Object, Row, RunBounds, Value};
 use kb_names::Target;
 use kb_rows::Held;
+use kb_test_lines::{Listed, Outcome, Reference, RunBound, Word};
 use std::alloc::Global;
 
 // How many input objects and how many literals stand in the heap before the objects of the run.

@@ -2,19 +2,19 @@
 ghost use Rattle.std.specs.Prelude.{◌≡◌, ◌≤◌, ◌∷◌, [], ◌++◌, length, map, take, codes, ◌<◌, ◌^◌, ℕ, List, IsTrue, OnOk, OnErr};
 ghost use Rattle.std.specs.Fmt.{decimal};
 ghost use Rattle.kb_grammar.specs.Lines.{lines_text};
-ghost use Rattle.kb_test.specs.Words.{reference_text, word_text, words_text};
-ghost use Rattle.kb_test.specs.Lines.{exact_text, listed_text, place_text, line_text};
-ghost use Rattle.kb_test.specs.Scripts.{in_lines, out_lines, new_lines, texts_of};
+ghost use Rattle.kb_test_lines.specs.Words.{reference_text, word_text, words_text};
+ghost use Rattle.kb_test_lines.specs.Lines.{exact_text, listed_text, place_text, line_text, texts_of};
+ghost use Rattle.kb_test.specs.Scripts.{in_lines, out_lines, new_lines};
 ghost use Rattle.kb_test.specs.Tests.{IsTest, SpellsTests};
 ghost use Rattle.kb_test.specs.declared.test_case.Test.{Test};
 ghost use Rattle.kb_test.specs.Refusals.{Appends};
 ghost use Rattle.kb_test.specs.Writing.{reference_of, word_of, words_of, listed_of, listeds_of, outs_of, news_of, ending_text, run_text, test_text};
-ghost use Rattle.kb_test.specs.declared.lines.Line.TheVariants.{Method, Limit, Arg, In, Out, New};
+ghost use Rattle.kb_test_lines.specs.declared.lines.Line.TheVariants.{Method, Limit, Arg, In, Out, New};
 
-use crate::words::Reference;
 use crate::{FinalHeap, NoMemory, Objects, Test};
 use kb_heap::{Bound, Ending, Object, Place, RunBounds, Value};
 use kb_names::{ExactType, Spelling, Target, write_name, write_target, write_type};
+use kb_test_lines::Reference;
 use std::alloc::Global;
 
 // The last number of 32 bits.
@@ -145,7 +145,7 @@ fn append_number(alloc: Global, number: u32, into: &mut Vec<u8>) -> Result<(), N
     append(digits.as_bytes(), into)
 }
 
-#[tactic(auto, unfolding(crate::specs::Lines::line_text))]
+#[tactic(auto, unfolding(kb_test_lines::specs::Lines::line_text))]
 fn append_method_line(target: &Target, into: &mut Vec<u8>) -> Result<(), NoMemory>
     ensures ok { OnOk result (into.new.items ≡ into.old.items ++ (line_text (Method target.now) ++ 10 ∷ [])) }
     ensures kept { take (length into.old.items) into.new.items ≡ into.old.items }
@@ -155,7 +155,7 @@ fn append_method_line(target: &Target, into: &mut Vec<u8>) -> Result<(), NoMemor
     append(b"\n", into)
 }
 
-#[tactic(auto, unfolding(crate::specs::Lines::line_text, crate::specs::Lines::bounds_text))]
+#[tactic(auto, unfolding(kb_test_lines::specs::Lines::line_text, kb_test_lines::specs::Lines::bounds_text))]
 fn append_bounds_line(alloc: Global, bounds: &RunBounds, into: &mut Vec<u8>) -> Result<(), NoMemory>
     ensures ok { OnOk result (into.new.items ≡ into.old.items ++ (line_text (Limit bounds.now) ++ 10 ∷ [])) }
     ensures kept { take (length into.old.items) into.new.items ≡ into.old.items }
@@ -197,7 +197,7 @@ impl Counts {
         Reference::Made(behind - self.literals)
     }
 
-    #[tactic(auto, unfolding(crate::specs::Words::reference_text))]
+    #[tactic(auto, unfolding(kb_test_lines::specs::Words::reference_text))]
     fn append_reference(self, object: u32, into: &mut Vec<u8>) -> Result<(), NoMemory>
         ensures ok { OnOk result (into.new.items ≡ into.old.items ++ reference_text (reference_of self.inputs self.literals object)) }
         ensures kept { take (length into.old.items) into.new.items ≡ into.old.items }
@@ -218,7 +218,7 @@ impl Counts {
         }
     }
 
-    #[tactic(auto, unfolding(crate::specs::Words::word_text))]
+    #[tactic(auto, unfolding(kb_test_lines::specs::Words::word_text))]
     fn append_value(self, value: &Value, into: &mut Vec<u8>) -> Result<(), NoMemory>
         ensures ok { OnOk result (into.new.items ≡ into.old.items ++ word_text (word_of self.inputs self.literals value.now)) }
         ensures kept { take (length into.old.items) into.new.items ≡ into.old.items }
@@ -247,7 +247,7 @@ impl Counts {
         Ok(())
     }
 
-    #[tactic(auto, unfolding(crate::specs::Lines::line_text))]
+    #[tactic(auto, unfolding(kb_test_lines::specs::Lines::line_text))]
     fn append_arg_line(self, value: &Value, into: &mut Vec<u8>) -> Result<(), NoMemory>
         ensures ok { OnOk result (into.new.items ≡ into.old.items ++ (line_text (Arg (word_of self.inputs self.literals value.now)) ++ 10 ∷ [])) }
         ensures kept { take (length into.old.items) into.new.items ≡ into.old.items }
@@ -278,7 +278,7 @@ impl Counts {
         self.append_values(object.values.as_slice(), into)
     }
 
-    #[tactic(auto, unfolding(crate::specs::Lines::line_text))]
+    #[tactic(auto, unfolding(kb_test_lines::specs::Lines::line_text))]
     fn append_in_line(
         self,
         number: u32,
@@ -295,7 +295,7 @@ impl Counts {
         append(b"\n", into)
     }
 
-    #[tactic(auto, unfolding(crate::specs::Lines::line_text))]
+    #[tactic(auto, unfolding(kb_test_lines::specs::Lines::line_text))]
     fn append_new_line(
         self,
         number: u32,
@@ -362,7 +362,7 @@ impl Counts {
         }
     }
 
-    #[tactic(auto, unfolding(crate::specs::Lines::line_text))]
+    #[tactic(auto, unfolding(kb_test_lines::specs::Lines::line_text))]
     fn append_out_line(
         self,
         number: u32,

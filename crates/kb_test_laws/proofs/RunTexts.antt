@@ -9,11 +9,11 @@ use Rattle.kb_format.proofs.Lists.{all_joined}
 use Rattle.kb_class.specs.declared.ids.MethodId.{MethodId}
 use Rattle.kb_heap.specs.declared.heap.Input.{Input}
 use Rattle.kb_link.specs.Links.{IsLinked}
+use Rattle.kb_heap.specs.Heap.{literal}
 use Rattle.kb_semantics.specs.Config.{Config, Ended, Ends, Goes, Outcome, Setting, instruction_at}
 use Rattle.kb_semantics.specs.Inputs.{IsInputObject, IsTypeCorrect}
 use Rattle.kb_semantics.specs.Instructions.{here}
 use Rattle.kb_semantics.specs.Step.{follow, run, run_of, start_of, step}
-use Rattle.kb_semantics.specs.Values.{literal}
 use Rattle.kb_world.specs.Reach.{IsAccepted}
 use Rattle.kb_test_laws.specs.Texts.{EndHasTexts, EndingHasText, NamesHaveTexts}
 use Rattle.kb_test_laws.proofs.BroughtLaws.{IsReachedMethod, IsRunType, brought}

@@ -6,4 +6,9 @@ pub mod SelectionLaws
 mod Inside
 mod Marking
 mod Reaching
+mod ChainPlaces
+mod Settling
+mod ReceiverLaws
+mod Asking
+mod Items
 pub mod ReachLaws

@@ -8,7 +8,7 @@ use Rattle.std.proofs.lemmas.Option.{same_Some, none-some, slice_get_within}
 use Rattle.std.proofs.lemmas.Bool.Decides.{Decides-eqb}
 use Rattle.kb_world.specs.Found.{weight, AreMarked}
 
-any_pushed : (p : ℕ → Bool) (xs : List ℕ) (x : ℕ) → list_any p (xs ++ x ∷ []) ≡ (list_any p xs || p x)
+pub any_pushed : (p : ℕ → Bool) (xs : List ℕ) (x : ℕ) → list_any p (xs ++ x ∷ []) ≡ (list_any p xs || p x)
 any_pushed p [] x = go (p x) refl where
   go : (b : Bool) → p x ≡ b → list_any p (x ∷ []) ≡ (false || p x)
   go true e = rw e refl
@@ -18,7 +18,7 @@ any_pushed p (y ∷ xs) x = go (any_pushed p xs x) (p y) refl where
   go later true e = rw e refl
   go later false e = rw e later
 
-any_there : (xs : List ℕ) (place n : ℕ) → slice_get xs place ≡ Some n → list_any (λ other. other == n) xs ≡ true
+pub any_there : (xs : List ℕ) (place n : ℕ) → slice_get xs place ≡ Some n → list_any (λ other. other == n) xs ≡ true
 any_there [] place n at = absurd (none-some n at)
 any_there (y ∷ xs) place n at = go (λ q h. any_there xs q n h) (y == n) refl place at where
   go : ((q : ℕ) → slice_get xs q ≡ Some n → list_any (λ other. other == n) xs ≡ true) → (b : Bool) → (y == n) ≡ b → (q : ℕ) → slice_get (y ∷ xs) q ≡ Some n → list_any (λ other. other == n) (y ∷ xs) ≡ true

@@ -14,13 +14,13 @@ use Rattle.kb_world.specs.Walks.{Tells, StopsAt, IsFaultOfMethod}
 
 -- ---- what is found stays in front
 
-new_front : (found : List ℕ) (number : ℕ) → (more : List ℕ) × (with_new found number ≡ found ++ more)
+pub new_front : (found : List ℕ) (number : ℕ) → (more : List ℕ) × (with_new found number ≡ found ++ more)
 new_front found number = go (list_any (λ other. other == number) found) refl where
   go : (b : Bool) → list_any (λ other. other == number) found ≡ b → (more : List ℕ) × (with_new found number ≡ found ++ more)
   go true e = ([], rw e (sym (append-nil found)))
   go false e = (number ∷ [], rw e refl)
 
-all_front : (numbers found : List ℕ) → (more : List ℕ) × (fold with_new found numbers ≡ found ++ more)
+pub all_front : (numbers found : List ℕ) → (more : List ℕ) × (fold with_new found numbers ≡ found ++ more)
 all_front [] found = ([], sym (append-nil found))
 all_front (n ∷ numbers) found =
     let one = new_front found n in

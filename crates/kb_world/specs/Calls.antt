@@ -124,6 +124,14 @@ fault_of world class (instrs.Cast entry) = cast_fault world class entry
 fault_of world class (instrs.InstanceOf entry) = cast_fault world class entry
 fault_of world class _ = None
 
+-- the kind of call that an instruction is, and the entry that it names
+abbrev pub call_of : Instr → Option (Call × ℕ)
+call_of (instrs.Virtual entry) = Some (calls.Virtual, entry)
+call_of (instrs.Special entry) = Some (calls.Special, entry)
+call_of (instrs.Static entry) = Some (calls.Static, entry)
+call_of (instrs.Interface entry) = Some (calls.Interface, entry)
+call_of _ = None
+
 -- ---- mentions
 
 abbrev pub has_code_at : World → ℕ → Bool

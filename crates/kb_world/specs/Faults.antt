@@ -2,7 +2,6 @@
 use Rattle.std.specs.Prelude.{ℕ, Bool, true, false, ◌==◌, ◌||◌, not, nat_le, is_some, List, Option, Some, None, slice_get, if◌then◌else◌}
 use Rattle.std.specs.List.{list_any}
 use Rattle.std.specs.Option.{option_and_then, option_map_or}
-use Rattle.kb_names.specs.Shape.{Base, class_base}
 use Rattle.kb_names.specs.declared.types.ExactType.{ExactType}
 use Rattle.kb_names.specs.declared.types.ExactType.TheVariants as exact
 use Rattle.kb_names.specs.declared.types.JType.{JType}
@@ -18,6 +17,7 @@ use Rattle.kb_link.specs.Subtypes.{shape_of_exact}
 use Rattle.kb_link.specs.Universe.{is_concrete}
 use Rattle.kb_link.specs.Initialisers.{is_initialised}
 use Rattle.kb_link.specs.declared.slots.FieldSlot.{FieldSlot}
+use Rattle.kb_universe.specs.Marks.{name_of_base}
 use Rattle.kb_world.specs.Lookup.{or_else, only_where, sought_at, resolved_field_class, resolved_field}
 use Rattle.kb_world.specs.declared.faults.Fault.{Fault as FaultOfCode}
 use Rattle.kb_world.specs.declared.faults.Fault.TheVariants as faults
@@ -52,11 +52,6 @@ is_left_out _ = false
 
 abbrev pub has_left_out : MethodType → Bool
 has_left_out kind = list_any is_left_out kind.params || option_map_or is_left_out kind.result false
-
--- the name of a class
-abbrev pub name_of_base : Base → Option (List ℕ)
-name_of_base (class_base name) = Some name
-name_of_base _ = None
 
 -- the class that a type names, by itself or as an array's element
 abbrev pub class_in_type : ExactType → Option (List ℕ)

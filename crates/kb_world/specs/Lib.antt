@@ -5,3 +5,4 @@ pub mod Lookup
 pub mod Reach
 pub mod Tables
 pub mod Walks
+pub mod Receivers

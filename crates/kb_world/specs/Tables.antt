@@ -26,6 +26,10 @@ use Rattle.kb_world.specs.declared.resolving.Resolved.{Resolved}
 use Rattle.kb_world.specs.declared.selection.Selection.{Selection}
 use Rattle.kb_world.specs.declared.tables.MemberTables.{MemberTables}
 
+-- whether the number stands at a place
+abbrev pub stands_at : List ℕ → ℕ → ℕ → Bool
+stands_at chain place number = option_map_or (λ (above : ℕ). above == number) (slice_get chain place) false
+
 -- ---- fields and slots by their names
 
 -- the places, from a number on, of the items of that name

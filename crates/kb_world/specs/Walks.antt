@@ -1,22 +1,22 @@
 -- The walk over the methods that are reached, and what it tells.
-use Rattle.std.specs.Prelude.{◌≡◌, ◌⊎◌, ℕ, List, fold, Some}
+use Rattle.std.specs.Prelude.{◌≡◌, ◌⊎◌, ℕ, Bool, true, ◌==◌, List, fold, Some, None}
+use Rattle.std.specs.List.{AllByRecursion, list_any}
+use Rattle.kb_class.specs.Naming.{Has}
+use Rattle.kb_code.specs.declared.instruction.Instr.{Instr}
 use Rattle.kb_names.specs.declared.types.Target.{Target}
 use Rattle.kb_link.specs.declared.linking.LinkRefusal.{LinkRefusal}
 use Rattle.kb_link.specs.declared.linking.LinkRefusal.TheVariants as refusals
 use Rattle.kb_link.specs.World.{World}
 use Rattle.kb_link.specs.Targets.{Declares}
-use Rattle.kb_world.specs.declared.faults.Fault.{Fault as FaultOfCode}
-use Rattle.kb_world.specs.Faults.{Fault, NoField, Missing, Outside, Initialiser, told}
+use Rattle.kb_world.specs.Calls.{fault_of, call_fault, call_mentions}
+use Rattle.kb_world.specs.Faults.{Fault, NoField, Missing, Outside, Initialiser}
 use Rattle.kb_world.specs.Found.{FoundMethods}
-use Rattle.kb_world.specs.Reach.{with_new, method_fault}
+use Rattle.kb_world.specs.declared.looked.Asked.{Asked}
+use Rattle.kb_world.specs.Reach.{with_new, method_fault, fault_in}
 
 -- methods that are found, with others behind them
 abbrev pub with_all : FoundMethods → List ℕ → FoundMethods
 with_all found numbers = record { all = found.all; numbers = fold with_new found.numbers numbers }
-
--- a fault of the code with its offset
-abbrev pub told_at : (ℕ × FaultOfCode) → ℕ × Fault
-told_at found = (found.0, told found.1)
 
 -- The refusal tells the fault of the method at the offset.
 abbrev pub Tells : World → ℕ → ℕ → Fault → LinkRefusal → Type 0
@@ -40,3 +40,29 @@ StopsAt world IsFirst refusal = (refusal ≡ refusals.NoMemory) ⊎ TellsFirst w
 -- the first fault of the code of that method
 abbrev pub IsFaultOfMethod : World → ℕ → ℕ → ℕ → Fault → Type 0
 IsFaultOfMethod world number method at fault = (method ≡ number) × (method_fault world number ≡ Some (at, fault))
+
+-- the first fault of these instructions, in code of the class
+abbrev pub IsFaultIn : World → ℕ → ℕ → List (ℕ × Instr) → ℕ → ℕ → Fault → Type 0
+IsFaultIn world number class items method at fault = (method ≡ number) × (fault_in world class items ≡ Some (at, fault))
+
+-- the fault of this instruction
+abbrev pub IsFaultAt : World → ℕ → ℕ → (ℕ × Instr) → ℕ → ℕ → Fault → Type 0
+IsFaultAt world number class item method at fault = (method ≡ number) × (at ≡ item.0) × (fault_of world class item.1 ≡ Some fault)
+
+-- ---- entries that are looked at
+
+-- the fault of this call at that offset
+abbrev pub IsFaultOfCall : World → ℕ → ℕ → Asked → ℕ → ℕ → Fault → Type 0
+IsFaultOfCall world number place asked method at fault = (method ≡ number) × (at ≡ place) × (call_fault world asked.class asked.call asked.entry ≡ Some fault)
+
+-- these numbers are all found
+abbrev pub AreFound : List ℕ → List ℕ → Type 0
+AreFound found numbers = AllByRecursion (λ number. list_any (λ other. other == number) found ≡ true) numbers
+
+-- Nothing is wrong with such a call of the entry, and what it mentions is found.
+pub record IsSettled (world : World) (found : List ℕ) (asked : Asked) : Type 0 where
+  pub faultless : call_fault world asked.class asked.call asked.entry ≡ None
+  pub mentioned : AreFound found (call_mentions world asked.class asked.call asked.entry)
+
+abbrev pub AreSettled : World → List ℕ → List Asked → Type 0
+AreSettled world found looked = (asked : Asked) → Has looked asked → IsSettled world found asked

@@ -1,11 +1,14 @@
 //! What a call may call, and what is wrong with it.
 ghost use Rattle.std.specs.Prelude.{◌≡◌, ◌<◌, length, not, option_map, IfSome};
 ghost use Rattle.std.specs.List.{list_any};
-ghost use Rattle.kb_link.specs.World.{methods_in};
+ghost use Rattle.kb_class.specs.Platform.{object_name};
+ghost use Rattle.kb_link.specs.World.{methods_in, number_in};
 ghost use Rattle.kb_link.specs.Slots.{is_static};
+ghost use Rattle.kb_universe.specs.Marks.{class_types};
 ghost use Rattle.kb_world.specs.Lookup.{class_of, resolved_method};
 ghost use Rattle.kb_world.specs.declared.calls.Call.TheVariants as calls;
 ghost use Rattle.kb_world.specs.Faults.{told};
+ghost use Rattle.kb_world.specs.Receivers.{called_among, selected_on_array};
 ghost use Rattle.kb_world.specs.Calls.{takes, selected_on, called_on, called, is_callable_method, is_callable, is_for, fault_of_kind, fault_of_number, call_fault};
 
 use crate::faults::{Fault, has_left_out};
@@ -17,7 +20,7 @@ use kb_link::What;
 use kb_names::ExactType;
 
 /// How a method is called: by invokevirtual, invokeinterface, invokespecial or invokestatic.
-#[derive(Clone, Copy)]
+#[derive(Clone, Copy, PartialEq, Eq, Hash)]
 pub(crate) enum Call {
     Virtual,
     Interface,
@@ -155,7 +158,21 @@ impl World {
         requires { method.0 < length (methods_in self.now.classes) }
         ensures { result ≡ list_any (λ found. not (is_callable self.now found)) (called_on self.now of.now method.0) }
     {
-        let mut rest = self.universe();
+        if self.is_any_class_uncallable(of, method) {
+            return true;
+        }
+        if !self.has_array_receiver(of) {
+            return false;
+        }
+        !self.is_callable(self.select_on_array(method))
+    }
+
+    // Whether for some receiver that is a class what is called in place of the method is no callable method.
+    fn is_any_class_uncallable(&self, of: &ExactType, method: MethodId) -> bool
+        requires { method.0 < length (methods_in self.now.classes) }
+        ensures { result ≡ list_any (λ found. not (is_callable self.now found)) (called_among self.now of.now method.0 (class_types self.now.universe)) }
+    {
+        let mut rest = self.class_receivers();
         while let [receiver, others @ ..] = rest {
             if self.linked().exact_subtype(receiver, of) {
                 if !self.is_callable(self.select_on(method, receiver)) {
@@ -165,6 +182,24 @@ impl World {
             rest = others;
         }
         false
+    }
+
+    /// The method that is called in place of another one where the receiver is an array: an array selects as java/lang/Object
+    /// does.
+    pub(crate) fn select_on_array(&self, method: MethodId) -> Option<MethodId>
+        requires { method.0 < length (methods_in self.now.classes) }
+        ensures { option_map (λ (id : MethodId). id.0) result ≡ selected_on_array self.now method.0 }
+    {
+        let class = self.object_class()?;
+        self.select(class, method)
+    }
+
+    // The number of java/lang/Object.
+    fn object_class(&self) -> Option<ClassId>
+        ensures number { option_map (λ (id : ClassId). id.0) result ≡ number_in self.now.classes object_name }
+        ensures inside { IfSome result (λ id. id.0 < length self.now.classes) }
+    {
+        self.linked().class_of_text(OBJECT)
     }
 
     /// The method that is called in place of another one where the receiver is of the exact type.
@@ -183,7 +218,7 @@ impl World {
     {
         match of {
             ExactType::Class(name) => self.linked().class_of_text(name.as_slice()),
-            ExactType::Array(_) => self.linked().class_of_text(OBJECT),
+            ExactType::Array(_) => self.object_class(),
         }
     }
 

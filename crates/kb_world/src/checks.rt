@@ -1,12 +1,12 @@
-//! The first fault of a method's code, and its refusal.
+//! What is wrong with a target and with instructions, and its refusal.
 ghost use Rattle.std.specs.Prelude.{◌≡◌, ◌⊎◌, ◌<◌, length, option_map, IfOk};
 ghost use Rattle.kb_link.specs.World.{methods_in};
 ghost use Rattle.kb_link.specs.Targets.{Declares};
 ghost use Rattle.kb_link.specs.declared.linking.LinkRefusal.TheVariants as refusals;
 ghost use Rattle.kb_world.specs.Faults.{told};
 ghost use Rattle.kb_world.specs.Calls.{fault_of};
-ghost use Rattle.kb_world.specs.Reach.{fault_in, method_fault, static_fault, fault_of_target};
-ghost use Rattle.kb_world.specs.Walks.{told_at, Tells};
+ghost use Rattle.kb_world.specs.Reach.{static_fault, fault_of_target};
+ghost use Rattle.kb_world.specs.Walks.{Tells};
 
 use crate::calls::{Call, is_static};
 use crate::faults::{Fault, has_left_out, primitive_fault};
@@ -44,36 +44,9 @@ impl World {
         self.initialiser_fault(method.class)
     }
 
-    /// The first fault of the code of a method, with its offset.
-    pub(crate) fn first_fault(&self, method: MethodId) -> Option<(u32, Fault<'_>)>
-        requires { method.0 < length (methods_in self.now.classes) }
-        ensures { option_map told_at result ≡ method_fault self.now method.0 }
-    {
-        let info = self.method_of(method);
-        match &info.code {
-            Some(code) => self.fault_in(info.class, code.listing.items.as_slice()),
-            None => None,
-        }
-    }
-
-    // The first fault of instructions of a class, with its offset.
-    fn fault_in(&self, class: ClassId, items: &[(u32, Instr)]) -> Option<(u32, Fault<'_>)>
-        requires { class.0 < length self.now.classes }
-        ensures { option_map told_at result ≡ fault_in self.now class.0 items.now }
-    {
-        let mut rest = items;
-        while let [item, others @ ..] = rest {
-            if let Some(fault) = self.fault_of(class, &item.1) {
-                return Some((item.0, fault));
-            }
-            rest = others;
-        }
-        None
-    }
-
-    // What is wrong with an instruction of a class.
+    /// What is wrong with an instruction of a class.
     #[tactic(auto, unfolding(crate::specs::Calls::fault_of))]
-    fn fault_of(&self, class: ClassId, instr: &Instr) -> Option<Fault<'_>>
+    pub(crate) fn fault_of(&self, class: ClassId, instr: &Instr) -> Option<Fault<'_>>
         requires { class.0 < length self.now.classes }
         ensures { option_map told result ≡ fault_of self.now class.0 instr.now }
     {

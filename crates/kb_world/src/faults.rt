@@ -4,12 +4,13 @@ ghost use Rattle.std.specs.List.{list_any};
 ghost use Rattle.std.specs.Option.{option_copied};
 ghost use Rattle.kb_names.specs.Types.{shape_of};
 ghost use Rattle.kb_world.specs.Lookup.{resolved_field_class, resolved_field};
-ghost use Rattle.kb_world.specs.Faults.{told, is_left_out, has_left_out, name_of_base, class_in_type, missing_class, entry_at, constant_fault, fault_of_slot, field_fault, cast_fault, fault_of_initialiser, fault_of_object, fault_of_new_type, new_fault, is_deepest, array_fault, component_of_code, primitive_fault};
+ghost use Rattle.kb_world.specs.Faults.{told, is_left_out, has_left_out, class_in_type, missing_class, entry_at, constant_fault, fault_of_slot, field_fault, cast_fault, fault_of_initialiser, fault_of_object, fault_of_new_type, new_fault, is_deepest, array_fault, component_of_code, primitive_fault};
 
 use crate::world::World;
 use kb_class::{ClassId, ReferenceKind};
 use kb_link::{What, is_concrete};
 use kb_names::{ExactType, JType, MethodType, Name};
+use kb_universe::element_class;
 
 /// What is wrong with an instruction.
 #[derive(Clone, Copy)]
@@ -228,20 +229,6 @@ fn class_in_type(of: &ExactType) -> Option<&Name>
     match of {
         ExactType::Class(name) => Some(name),
         ExactType::Array(component) => element_class(component),
-    }
-}
-
-// The class that the type is, or that its elements are.
-fn element_class(of: &JType) -> Option<&Name>
-    ensures { option_copied result ≡ name_of_base (shape_of of.now).base }
-{
-    let mut element = of;
-    while let JType::Array(component) = element {
-        element = component.get();
-    }
-    match element {
-        JType::Class(name) => Some(name),
-        _ => None,
     }
 }
 

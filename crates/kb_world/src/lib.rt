@@ -14,6 +14,7 @@ mod fields;
 mod found;
 mod laws;
 mod linking;
+mod looked;
 mod lookup;
 mod mentions;
 mod methods;
@@ -24,6 +25,7 @@ mod selection;
 mod signatures;
 mod special;
 mod tables;
+mod walking;
 mod world;
 
 pub use faults::component_of_code;

@@ -1,68 +1,20 @@
-//! The methods that code mentions.
+//! The methods that calls mention.
 ghost use Rattle.std.specs.Prelude.{◌≡◌, ◌<◌, ◌∷◌, [], length, filter_map, option_map, OnOk, IfSome};
 ghost use Rattle.kb_link.specs.World.{methods_in};
-ghost use Rattle.kb_world.specs.Calls.{called, called_on, if_code, call_mentions, mentions};
-ghost use Rattle.kb_world.specs.Reach.{mentions_in, method_mentions};
+ghost use Rattle.kb_universe.specs.Marks.{class_types};
+ghost use Rattle.kb_world.specs.Calls.{called, called_on, if_code, call_mentions};
+ghost use Rattle.kb_world.specs.Receivers.{called_among};
 ghost use Rattle.kb_world.specs.Walks.{with_all};
 
 use crate::calls::{Call, takes};
 use crate::found::Found;
 use crate::world::World;
 use kb_class::{ClassId, MethodId};
-use kb_code::Instr;
 use kb_names::{ExactType, NoMemory};
 
 impl World {
-    /// Adds the methods that the code of a method mentions, in order.
-    pub(crate) fn add_mentions(&self, method: MethodId, found: &mut Found) -> Result<(), NoMemory>
-        requires method { method.0 < length (methods_in self.now.classes) }
-        requires all { found.old.all ≡ length (methods_in self.now.classes) }
-        ensures { OnOk result (found.new ≡ with_all found.old (method_mentions self.now method.0)) }
-    {
-        let info = self.method_of(method);
-        match &info.code {
-            Some(code) => self.add_listed(info.class, code.listing.items.as_slice(), found),
-            None => Ok(()),
-        }
-    }
-
-    // Adds the methods that instructions of a class mention.
-    fn add_listed(
-        &self,
-        class: ClassId,
-        items: &[(u32, Instr)],
-        found: &mut Found,
-    ) -> Result<(), NoMemory>
-        requires class { class.0 < length self.now.classes }
-        requires all { found.old.all ≡ length (methods_in self.now.classes) }
-        ensures { OnOk result (found.new ≡ with_all found.old (mentions_in self.now class.0 items.now)) }
-    {
-        let mut rest = items;
-        while let [item, others @ ..] = rest {
-            self.add_of(class, &item.1, found)?;
-            rest = others;
-        }
-        Ok(())
-    }
-
-    // Adds the methods that an instruction of a class mentions.
-    #[tactic(auto, unfolding(crate::specs::Calls::mentions))]
-    fn add_of(&self, class: ClassId, instr: &Instr, found: &mut Found) -> Result<(), NoMemory>
-        requires class { class.0 < length self.now.classes }
-        requires all { found.old.all ≡ length (methods_in self.now.classes) }
-        ensures { OnOk result (found.new ≡ with_all found.old (mentions self.now class.0 instr.now)) }
-    {
-        match instr {
-            Instr::Virtual(entry) => self.add_called(class, Call::Virtual, *entry, found),
-            Instr::Special(entry) => self.add_called(class, Call::Special, *entry, found),
-            Instr::Static(entry) => self.add_called(class, Call::Static, *entry, found),
-            Instr::Interface(entry) => self.add_called(class, Call::Interface, *entry, found),
-            _ => Ok(()),
-        }
-    }
-
-    // Adds the methods that a call of the entry may call, in code of the class.
-    fn add_called(
+    /// Adds the methods that a call of the entry may call, in code of the class.
+    pub(crate) fn add_called(
         &self,
         class: ClassId,
         call: Call,
@@ -118,7 +70,25 @@ impl World {
         requires all { found.old.all ≡ length (methods_in self.now.classes) }
         ensures { OnOk result (found.new ≡ with_all found.old (filter_map (if_code self.now) (called_on self.now of.now method.0))) }
     {
-        let mut rest = self.universe();
+        self.add_for_classes(of, method, found)?;
+        if !self.has_array_receiver(of) {
+            return Ok(());
+        }
+        self.add_method(self.select_on_array(method), found)
+    }
+
+    // Adds for each receiver that is a class what is called in place of the method.
+    fn add_for_classes(
+        &self,
+        of: &ExactType,
+        method: MethodId,
+        found: &mut Found,
+    ) -> Result<(), NoMemory>
+        requires method { method.0 < length (methods_in self.now.classes) }
+        requires all { found.old.all ≡ length (methods_in self.now.classes) }
+        ensures { OnOk result (found.new ≡ with_all found.old (filter_map (if_code self.now) (called_among self.now of.now method.0 (class_types self.now.universe)))) }
+    {
+        let mut rest = self.class_receivers();
         while let [receiver, others @ ..] = rest {
             if self.linked().exact_subtype(receiver, of) {
                 self.add_method(self.select_on(method, receiver), found)?;

@@ -3,10 +3,11 @@ ghost use Rattle.std.specs.Prelude.{◌≡◌, ◌⊎◌, ◌<◌, length, None,
 ghost use Rattle.kb_link.specs.World.{methods_in};
 ghost use Rattle.kb_link.specs.Targets.{IsTargetOf};
 ghost use Rattle.kb_link.specs.declared.linking.LinkRefusal.TheVariants as refusals;
-ghost use Rattle.kb_world.specs.Reach.{HasNoFault, HasNoFaults, IsFirstFault, IsAccepted, Refuses, fault_of_target, method_mentions};
-ghost use Rattle.kb_world.specs.Walks.{with_all, StopsAt, IsFaultOfMethod};
+ghost use Rattle.kb_world.specs.Reach.{HasNoFaults, IsFirstFault, IsAccepted, Refuses, fault_of_target};
+ghost use Rattle.kb_world.specs.Walks.{StopsAt};
 
 use crate::found::Found;
+use crate::looked::Looked;
 use crate::world::World;
 use kb_class::MethodId;
 use kb_link::LinkRefusal;
@@ -54,36 +55,15 @@ impl World {
         let Ok(mut found) = Found::new(alloc, self.linked().method_count(), id.0) else {
             return Err(LinkRefusal::NoMemory);
         };
+        let mut looked = Looked::new(alloc);
         let mut place = 0;
         while let Some(number) = found.at(place) {
-            match self.check_method(alloc, MethodId(number), &mut found) {
+            match self.check_method(alloc, MethodId(number), &mut found, &mut looked) {
                 Ok(()) => place += 1,
                 Err(refusal) => return Err(refusal),
             }
         }
         Ok(())
-    }
-
-    // Refuses the first fault of a method, and adds the methods that it mentions.
-    fn check_method(
-        &self,
-        alloc: Global,
-        method: MethodId,
-        found: &mut Found,
-    ) -> Result<(), LinkRefusal>
-        requires there { method.0 < length (methods_in self.now.classes) }
-        requires all { found.old.all ≡ length (methods_in self.now.classes) }
-        ensures none { OnOk result (HasNoFault self.now method.0) }
-        ensures added { OnOk result (found.new ≡ with_all found.old (method_mentions self.now method.0)) }
-        ensures refused { IfErr result (StopsAt self.now (IsFaultOfMethod self.now method.0)) }
-    {
-        if let Some((at, fault)) = self.first_fault(method) {
-            return Err(self.refusal(alloc, method, at, fault));
-        }
-        match self.add_mentions(method, found) {
-            Ok(()) => Ok(()),
-            Err(_) => Err(LinkRefusal::NoMemory),
-        }
     }
 }
 

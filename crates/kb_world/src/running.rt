@@ -12,6 +12,7 @@ ghost use Rattle.kb_link.specs.Subtypes.{fits, type_of_exact};
 ghost use Rattle.kb_link.specs.World.{chain_of, method_at, number_in, type_entry_of, int_entry_of};
 ghost use Rattle.kb_world.specs.Calls.{is_without_file, selected_on};
 ghost use Rattle.kb_world.specs.Lookup.{resolved_field, resolved_method, selected_special, sought_at};
+ghost use Rattle.kb_world.specs.Tables.{stands_at};
 
 use crate::world::World;
 use kb_class::{ClassId, MethodCode, MethodId, MethodInfo, Reference};
@@ -179,8 +180,30 @@ impl World {
         ensures { result ≡ list_any (λ above. above == class.0) (option_map_or (chain_of self.now) (number_in self.now.classes name.now) []) }
     {
         match self.class_named(name) {
-            Some(low) => self.chain_at(low.0).contains(&class.0),
+            Some(low) => self.stands_above(low.0, class.0),
             None => false,
         }
+    }
+
+    // Whether the second class is the first one or a superclass of it: one look, where the lengths of their chains tell.
+    fn stands_above(&self, low: u32, high: u32) -> bool
+        ensures { result ≡ list_any (λ above. above == high) (chain_of self.now low) }
+    {
+        let chain = self.chain_at(low);
+        stands_at(
+            chain,
+            chain.len().saturating_sub(self.chain_at(high).len()),
+            high,
+        )
+    }
+}
+
+// Whether the number stands at the place.
+fn stands_at(chain: &[u32], place: usize, number: u32) -> bool
+    ensures { result ≡ stands_at chain.now place number }
+{
+    match chain.get(place) {
+        Some(above) => *above == number,
+        None => false,
     }
 }

@@ -1,15 +1,18 @@
 //! The world of classes, and what it knows of them.
-ghost use Rattle.std.specs.Prelude.{◌≡◌, ◌<◌, length, Some, slice_get, option_map, IfSome, IfNone, IfOk};
+ghost use Rattle.std.specs.Prelude.{◌≡◌, ◌<◌, ◌↔◌, length, Some, slice_get, option_map, IsTrue, IfSome, IfNone, IfOk};
+ghost use Rattle.std.specs.List.{list_any};
 ghost use Rattle.std.specs.Option.{option_copied, option_and_then};
 ghost use Rattle.kb_class.specs.Class.{Class};
+ghost use Rattle.kb_class.specs.Naming.{Has};
 ghost use Rattle.kb_link.specs.World.{World as PlainWorld, chain_of, method_at, methods_in, number_in, type_entry_of, int_entry_of, literal_entry_of};
 ghost use Rattle.kb_link.specs.Links.{IsLinked};
 ghost use Rattle.kb_link.specs.Placing.{place_in};
 ghost use Rattle.kb_link.specs.Slots.{slots_of};
 ghost use Rattle.kb_link.specs.Subtypes.{fits};
 ghost use Rattle.kb_link.specs.Targets.{IsTargetOf};
+ghost use Rattle.kb_universe.specs.Marks.{class_types, is_array_below, HaveMarks};
 ghost use Rattle.kb_world.specs.Lookup.{selected};
-ghost use Rattle.kb_world.specs.Tables.{IsResolved};
+ghost use Rattle.kb_world.specs.Tables.{AreRows, AreSelected, IsResolved};
 
 use crate::chains::{chain_at, slots_at};
 use crate::resolving::{Resolved, resolved_at, rows_of};
@@ -18,6 +21,7 @@ use kb_class::{ClassId, LoadedClass, MethodId, MethodInfo};
 use kb_classfile::ClassFile;
 use kb_link::{FieldSlot, Linked};
 use kb_names::{ExactType, JType, Name, NoMemory, Row, Target};
+use kb_universe::Marks;
 use std::alloc::Global;
 use std::marker::Model;
 
@@ -29,6 +33,33 @@ pub struct World {
     // Of each class what each entry of its constant pool stands for.
     rows: Vec<Row<Resolved>>,
     selection: Selection,
+    // Which types are of the universe.
+    marks: Marks,
+}
+
+// What is known of linked classes.
+#[derive(Drop)]
+struct Tables {
+    rows: Vec<Row<Resolved>>,
+    selection: Selection,
+    marks: Marks,
+}
+
+// What is known of these classes.
+fn tables_of(alloc: Global, linked: &Linked) -> Result<Tables, NoMemory>
+    requires { IsLinked linked.now }
+    ensures rows { IfOk result (λ tables. AreRows linked.now tables.rows.items) }
+    ensures selection { IfOk result (λ tables. AreSelected linked.now tables.selection) }
+    ensures marks { IfOk result (λ tables. HaveMarks linked.now tables.marks) }
+{
+    let rows = rows_of(alloc, linked)?;
+    let selection = selection_of(alloc, linked)?;
+    let marks = Marks::of(alloc, linked)?;
+    Ok(Tables {
+        rows,
+        selection,
+        marks,
+    })
 }
 
 impl Model for World {
@@ -39,9 +70,10 @@ impl Model for World {
 
     ghost view = { λ w. w.linked };
 
+    ghost use Rattle.kb_universe.specs.Marks.{HaveMarks};
     ghost use Rattle.kb_world.specs.Tables.{AreRows, AreSelected};
 
-    ghost invariant = { λ w. IsLinked w.linked × AreRows w.linked w.rows.items × AreSelected w.linked w.selection };
+    ghost invariant = { λ w. IsLinked w.linked × AreRows w.linked w.rows.items × AreSelected w.linked w.selection × HaveMarks w.linked w.marks };
 }
 
 impl World {
@@ -50,12 +82,17 @@ impl World {
         requires { IsLinked linked }
         ensures { IfOk result (λ world. world ≡ linked) }
     {
-        let rows = rows_of(alloc, &linked)?;
-        let selection = selection_of(alloc, &linked)?;
+        let tables = tables_of(alloc, &linked)?;
+        let Tables {
+            rows,
+            selection,
+            marks,
+        } = tables;
         Ok(World {
             linked,
             rows,
             selection,
+            marks,
         })
     }
 
@@ -84,9 +121,25 @@ impl World {
         &self.linked
     }
 
+    /// Those types of the universe that are classes, in its order.
+    pub(crate) fn class_receivers(&self) -> &[ExactType]
+        ensures { result.now ≡ class_types self.now.universe }
+    {
+        self.marks.class_types(&self.linked)
+    }
+
+    /// Whether an array of the universe is a subtype of the type.
+    pub(crate) fn has_array_receiver(&self, of: &ExactType) -> bool
+        ensures told { result ≡ list_any (is_array_below self.now of.now) self.now.universe }
+        ensures linked { IsLinked self.now }
+    {
+        self.marks.has_array_below(&self.linked, of)
+    }
+
     /// The numbers of a class and of its superclasses; none where no class has the number.
     pub(crate) fn chain_at(&self, number: u32) -> &[u32]
-        ensures { result.now ≡ chain_of self.now number }
+        ensures chain { result.now ≡ chain_of self.now number }
+        ensures linked { IsLinked self.now }
     {
         chain_at(&self.linked, number)
     }
@@ -162,6 +215,13 @@ impl World {
         ensures { result.now ≡ self.now.universe }
     {
         self.linked.universe()
+    }
+
+    /// Whether it is one of the exact types that an object of an input may have: looks into tables, without a search.
+    pub fn is_in_universe(&self, of: &ExactType) -> bool
+        ensures { IsTrue result ↔ Has self.now.universe of.now }
+    {
+        self.marks.has(&self.linked, of)
     }
 
     /// How many string literals there are.

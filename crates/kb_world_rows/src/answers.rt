@@ -4,9 +4,11 @@ ghost use Rattle.std.specs.Prelude.{◌<◌, length, IfSome};
 ghost use Rattle.kb_link.specs.World.{methods_in};
 
 use kb_class::{ClassId, MethodId};
-use kb_names::{ExactType, JType, Name, Spelling, read_target, read_type, write_name, write_type};
+use kb_names::{
+    ExactType, JType, Name, Spelling, Target, read_target, read_type, write_name, write_type,
+};
 use kb_table::{RowResult, RowStop, kept};
-use kb_world::{FieldSlot, World};
+use kb_world::{FieldSlot, LinkRefusal, What, World};
 use std::alloc::Global;
 
 /// Writes the answer to a question, which is the first of the three words, about the other two.
@@ -26,6 +28,8 @@ pub fn write_answer(
         "entry" => write_entry(alloc, world, first, second, text),
         "method" => write_method(alloc, world, first, text),
         "place" => write_place(alloc, world, first, second, text),
+        "reach" => write_reach(alloc, world, first, text),
+        "within" => write_within(alloc, world, first, text),
         _ => Err(RowStop::Malformed),
     }
 }
@@ -154,6 +158,46 @@ fn write_place(
         Some(place) => write_number(alloc, place, text),
         None => write_none(text),
     }
+}
+
+/// Whether all that a target reaches can be carried out.
+enum Reach {
+    Whole,
+    // No method may be called at that offset.
+    Uncallable(u32),
+    Refused,
+}
+
+/// Whether what the target reaches can be carried out, or which call cannot.
+fn write_reach(alloc: Global, world: &World, target: &str, text: &mut Vec<u8>) -> RowResult<()> {
+    let Ok(target) = read_target(alloc, target.as_bytes()) else {
+        return Err(RowStop::Malformed);
+    };
+    match reach_of(alloc, world, &target) {
+        Reach::Whole => Ok(text.extend_from_slice(b"reached\n")?),
+        Reach::Uncallable(at) => {
+            text.extend_from_slice(b"no such call at ")?;
+            write_number(alloc, at, text)
+        }
+        Reach::Refused => Ok(text.extend_from_slice(b"refused\n")?),
+    }
+}
+
+fn reach_of(alloc: Global, world: &World, target: &Target) -> Reach {
+    match world.reach(alloc, target) {
+        Ok(_) => Reach::Whole,
+        Err(LinkRefusal::Outside(_, at, What::Method)) => Reach::Uncallable(at),
+        Err(_) => Reach::Refused,
+    }
+}
+
+/// Whether the exact type is of the universe.
+fn write_within(alloc: Global, world: &World, of: &str, text: &mut Vec<u8>) -> RowResult<()> {
+    let Some(of) = exact_type(alloc, of.as_bytes()) else {
+        return Err(RowStop::Malformed);
+    };
+    let answer = world.is_in_universe(&of);
+    Ok(text.extend_from_slice(format!(in alloc; "{answer}\n")?.as_bytes())?)
 }
 
 /// The class of that name.

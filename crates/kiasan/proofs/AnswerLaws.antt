@@ -9,7 +9,8 @@ use Rattle.kiasan.specs.declared.refusals.Answer.{Answer}
 use Rattle.kiasan.specs.declared.refusals.Stop.{Stop}
 use Rattle.kiasan.specs.declared.refusals.Stop.TheVariants.{Refused, ReadFault, NoMemory}
 use Rattle.kb_words.specs.declared.orders.Order.{Order}
-use Rattle.kiasan.specs.Answers.{AreClasses, Carries, IsReadFault, RefusesClasses, Replies, RepliesIn, RepliesOn, RepliesTo, SomeUnsound, WordsRefuse, WorldRefuses}
+use Rattle.kb_class.specs.Given.{AreGivenBy}
+use Rattle.kiasan.specs.Answers.{Carries, IsReadFault, RefusesClasses, Replies, RepliesIn, RepliesOn, RepliesTo, SomeUnsound, WordsRefuse, WorldRefuses}
 use Rattle.kiasan.specs.Orders.{OrdersBuilt, files_of}
 use Rattle.kiasan.specs.Refusals.{Gives}
 use Rattle.kiasan.proofs.StageLaws.{stage_goes}
@@ -30,14 +31,14 @@ classes_stop order contents Passes (Refused refusal) given = inl given
 classes_stop order contents Passes ReadFault given = given
 classes_stop order contents Passes NoMemory given = tt
 
-pub world_stops : {A : Type 0} (order : Order) (contents : Contents) (given : List GivenClass) (Passes : A → Type 0) (stop : Stop) → AreClasses contents.classes given →
+pub world_stops : {A : Type 0} (order : Order) (contents : Contents) (given : List GivenClass) (Passes : A → Type 0) (stop : Stop) → AreGivenBy contents.classes given →
     Gives {A = A} ⊥ (WorldRefuses given) Passes (Err stop) → Carries ⊥ (RepliesOn order contents) (Err stop)
 unfolding RepliesOn
 world_stops order contents given Passes (Refused refusal) are refuses = inr (given, are, inl refuses)
 world_stops order contents given Passes ReadFault are refuses = refuses
 world_stops order contents given Passes NoMemory are refuses = tt
 
-pub world_goes : (order : Order) (contents : Contents) (given : List GivenClass) (world : World) (result : Result Answer Stop) → AreClasses contents.classes given → Links given world →
+pub world_goes : (order : Order) (contents : Contents) (given : List GivenClass) (world : World) (result : Result Answer Stop) → AreGivenBy contents.classes given → Links given world →
     Carries ⊥ (RepliesIn order contents.texts world) result → Carries ⊥ (RepliesOn order contents) result
 unfolding RepliesOn
 world_goes order contents given world (Ok answer) are is carried = (given, are, (world, is, carried))

@@ -17,7 +17,8 @@ use Rattle.kb_code.specs.declared.refusal.CodeRefusal.TheVariants as codes_of
 use Rattle.kb_code.specs.Answers.{Refuses as RefusesCode, fault_in, first_fault}
 use Rattle.kb_code.proofs.ListingLaws.{listed_decodes}
 use Rattle.kb_class.specs.declared.given.GivenClass.{GivenClass}
-use Rattle.kb_class.specs.Given.{AreGiven, AreListings, handlers_of}
+use Rattle.kb_class.specs.Given.{AreListings, IsGivenBy, AreGivenBy, handlers_of}
+use Rattle.kb_class.proofs.GivenLaws.{given_pushed}
 use Rattle.kb_class.proofs.Listings.{listings_pushed}
 use Rattle.kb_link.specs.declared.linking.LinkRefusal.{LinkRefusal}
 use Rattle.kb_link.specs.declared.linking.LinkRefusal.TheVariants as links
@@ -25,7 +26,7 @@ use Rattle.kb_link.specs.Links.{RefusesLink}
 use Rattle.kb_test_laws.specs.Texts.{IsOfBytes}
 use Rattle.kiasan.specs.declared.refusals.Refusal.{Refusal}
 use Rattle.kiasan.specs.declared.refusals.Stop.{Stop}
-use Rattle.kiasan.specs.Answers.{AreClasses, ClassRefuses, FileRefuses, IsClassOf, RefusesClasses, WorldRefuses}
+use Rattle.kiasan.specs.Answers.{ClassRefuses, FileRefuses, RefusesClasses, WorldRefuses}
 use Rattle.kiasan.specs.CodeFaults.{CodeRefuses, MethodsRefuse, fault_of, methods_fault}
 use Rattle.kiasan.specs.Refusals.{Gives, class_refusal, code_refusal, link_refusal}
 use Rattle.kiasan.proofs.StageLaws.{gives_by}
@@ -138,30 +139,23 @@ pub methods_stop : {A B : Type 0} (number : ℕ) (bytes : List ℕ) (file : Clas
 methods_stop number bytes file stop Passes Also is given =
     gives_by ⊥ ⊥ (MethodsRefuse number file.methods) (ClassRefuses number bytes) Passes Also stop (λ wrong. wrong) (λ refusal refused. inr (file, is, refused)) given
 
-classes_more : (classes : List (List ℕ)) (given : List GivenClass) (bytes : List ℕ) (class : GivenClass) → AreClasses classes given → IsClassOf bytes class →
-    AreClasses (classes ++ bytes ∷ []) (given ++ class ∷ [])
-classes_more [] [] bytes class are is = (is, tt)
-classes_more (c ∷ classes) (g ∷ given) bytes class are is = (are.0, classes_more classes given bytes class are.1 is)
-classes_more [] (g ∷ given) bytes class are is = absurd are
-classes_more (c ∷ classes) [] bytes class are is = absurd are
-
-as_many : (classes : List (List ℕ)) (given : List GivenClass) → AreClasses classes given → length classes ≡ length given
+as_many : (classes : List (List ℕ)) (given : List GivenClass) → AreGivenBy classes given → length classes ≡ length given
 as_many [] [] are = refl
 as_many (c ∷ classes) (g ∷ given) are = ap suc (as_many classes given are.1)
 as_many [] (g ∷ given) are = absurd are
 as_many (c ∷ classes) [] are = absurd are
 
 pub class_next : (classes : List (List ℕ)) (i : ℕ) (bytes : List ℕ) (given : List GivenClass) (class : GivenClass) → i < length classes → bytes ≡ get_or classes i bytes →
-    AreClasses (take i classes) given → IsClassOf bytes class → AreClasses (take (i + 1) classes) (given ++ class ∷ [])
+    AreGivenBy (take i classes) given → IsGivenBy bytes class → AreGivenBy (take (i + 1) classes) (given ++ class ∷ [])
 class_next classes i bytes given class inside at are is =
     let next : i + 1 ≡ suc i = omega arith in
-    rw (next, take-suc classes i bytes inside, ← at) (classes_more (take i classes) given bytes class are is)
+    rw (next, take-suc classes i bytes inside, ← at) (given_pushed (take i classes) given bytes class are is)
 
 pub first_class : (classes : List (List ℕ)) (given : List GivenClass) (i : ℕ) (bytes : List ℕ) (number : ℕ) (stop : Stop) → i < length classes → bytes ≡ get_or classes i bytes →
-    AreClasses (take i classes) given → number ≡ length given → Gives {A = GivenClass} ⊥ (ClassRefuses number bytes) (IsClassOf bytes) (Err stop) →
+    AreGivenBy (take i classes) given → number ≡ length given → Gives {A = GivenClass} ⊥ (ClassRefuses number bytes) (IsGivenBy bytes) (Err stop) →
     {A : Type 0} (Passes : A → Type 0) → Gives {A = A} ⊥ (RefusesClasses classes) Passes (Err stop)
 first_class classes given i bytes number stop inside at are n told Passes =
-    gives_by ⊥ ⊥ (ClassRefuses number bytes) (RefusesClasses classes) (IsClassOf bytes) Passes stop (λ wrong. wrong) more told
+    gives_by ⊥ ⊥ (ClassRefuses number bytes) (RefusesClasses classes) (IsGivenBy bytes) Passes stop (λ wrong. wrong) more told
   where
     more : (refusal : Refusal) → ClassRefuses number bytes refusal → RefusesClasses classes refusal
     more refusal bad =
@@ -181,15 +175,8 @@ first_class classes given i bytes number stop inside at are n told Passes =
 
 -- ---- their world
 
--- classes that are spelled may be given
-pub are_given : (classes : List (List ℕ)) (given : List GivenClass) → AreClasses classes given → AreGiven given
-are_given [] [] are = tt
-are_given (bytes ∷ classes) (class ∷ given) are = (record { bytes = bytes; spelled = are.0.file.spelled; listed = are.0.listed }, are_given classes given are.1)
-are_given [] (class ∷ given) are = absurd are
-are_given (bytes ∷ classes) [] are = absurd are
-
--- and where the files are of bytes, they are spelled by bytes
-pub are_of_bytes : (classes : List (List ℕ)) (given : List GivenClass) → AreClasses classes given → AllByRecursion AreBytes classes → AllByRecursion IsOfBytes given
+-- where the files are of bytes, the classes are spelled by bytes
+pub are_of_bytes : (classes : List (List ℕ)) (given : List GivenClass) → AreGivenBy classes given → AllByRecursion AreBytes classes → AllByRecursion IsOfBytes given
 are_of_bytes [] [] are bytes = tt
 are_of_bytes (file ∷ classes) (class ∷ given) are bytes = (record { bytes = file; are_bytes = bytes.0; spelled = are.0.file.spelled }, are_of_bytes classes given are.1 bytes.1)
 are_of_bytes [] (class ∷ given) are bytes = absurd are

@@ -21,7 +21,7 @@ use Rattle.kb_picture.specs.declared.path.Leaf.TheVariants.{Ended as EndedLeaf, 
 use Rattle.kb_picture.specs.declared.path.Path.{Path}
 use Rattle.kb_report.specs.declared.report.Report.{Report}
 use Rattle.kb_names.specs.Targets.{IsTarget}
-use Rattle.kb_test.specs.Lines.{IsRunBounds}
+use Rattle.kb_test_lines.specs.Lines.{IsRunBounds}
 use Rattle.kb_test.specs.Tests.{SpellsTests}
 use Rattle.kb_test_laws.specs.Laws.{RunsHaveNames}
 use Rattle.kb_test_laws.specs.Texts.{EndHasTexts, NamesHaveTexts}

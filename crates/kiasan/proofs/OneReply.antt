@@ -4,7 +4,7 @@ use Rattle.std.specs.List.{AllByRecursion}
 use Rattle.std.proofs.lemmas.Option.{none-some, same_Some}
 use Rattle.kb_class.specs.declared.given.GivenClass.{GivenClass}
 use Rattle.kb_class.specs.declared.ids.MethodId.{MethodId}
-use Rattle.kb_class.specs.Given.{AreListings}
+use Rattle.kb_class.specs.Given.{AreListings, IsGivenBy, AreGivenBy}
 use Rattle.kb_classfile.specs.declared.file.ClassFile.{ClassFile}
 use Rattle.kb_classfile.specs.declared.file.Method.{Method as ClassMethod}
 use Rattle.kb_classfile.specs.declared.refusal.ClassRefusal.{ClassRefusal}
@@ -41,7 +41,7 @@ use Rattle.kiasan.specs.declared.status.Status.{Status}
 use Rattle.kb_words.specs.declared.orders.Job.{Job}
 use Rattle.kb_words.specs.declared.orders.Order.{Order}
 use Rattle.kb_words.specs.declared.orders.Order.TheVariants.{Explore, Tests, Diagrams, Replay, Assemble, Sample}
-use Rattle.kiasan.specs.Answers.{Reply, refuses, ends, Last, RefusesNothing, Replies, RepliesTo, RepliesOn, RepliesIn, RepliesJob, RepliesReplay, WordsRefuse, IsRead, AreRead, IsContents, RefusesClasses, ClassRefuses, FileRefuses, AreClasses, IsClassOf, WorldRefuses, TextRefuses, TextOf, AreTestsOf, EndsReplay, EndsJob, AreTold, IsReplay, IsSameReply, class_limit, text_limit}
+use Rattle.kiasan.specs.Answers.{Reply, refuses, ends, Last, RefusesNothing, Replies, RepliesTo, RepliesOn, RepliesIn, RepliesJob, RepliesReplay, WordsRefuse, IsRead, AreRead, IsContents, RefusesClasses, ClassRefuses, FileRefuses, WorldRefuses, TextRefuses, TextOf, AreTestsOf, EndsReplay, EndsJob, AreTold, IsReplay, IsSameReply, class_limit, text_limit}
 use Rattle.kiasan.specs.Orders.{OrdersBuilt, files_of, texts_of, classes_of}
 use Rattle.kiasan.specs.Reach.{TargetRefuses}
 use Rattle.kiasan.specs.CodeFaults.{MethodsRefuse, methods_fault}
@@ -114,7 +114,7 @@ spelled_one a b bytes p q =
     read_as file = Ok file
 
 abbrev IsClass : List ℕ → Type 0
-IsClass bytes = (class : GivenClass) × IsClassOf bytes class
+IsClass bytes = (class : GivenClass) × IsGivenBy bytes class
 
 abbrev IsBadClass : List ℕ → Type 0
 IsBadClass bytes = (number : ℕ) × (refusal : Refusal) × ClassRefuses number bytes refusal
@@ -132,7 +132,7 @@ class_apart bytes (class, is) (number, refusal, inr (file, spelled, (found, faul
     let none : methods_fault 0 file.methods ≡ None = ap (λ (f : ClassFile). methods_fault 0 f.methods) same ∙ no_faults 0 class.file.methods class.listings is.listed in
     none-some found (sym none ∙ fault)
 
-each_class : (classes : List (List ℕ)) (given : List GivenClass) → AreClasses classes given → AllByRecursion IsClass classes
+each_class : (classes : List (List ℕ)) (given : List GivenClass) → AreGivenBy classes given → AllByRecursion IsClass classes
 each_class [] [] are = tt
 each_class (c ∷ classes) (g ∷ given) are = ((g, are.0), each_class classes given are.1)
 each_class [] (g ∷ given) are = absurd are
@@ -168,19 +168,19 @@ classes_refusal classes r s a b =
     one_class_refusal (length b.before) b.bytes r s
     (subst (λ (bytes : List ℕ). ClassRefuses (length b.before) bytes r) same.1 (subst (λ (n : ℕ). ClassRefuses n a.bytes r) same.0 a.bad)) b.bad
 
-classes_apart : (classes : List (List ℕ)) (r : Refusal) (given : List GivenClass) → RefusesClasses classes r → AreClasses classes given → ⊥
+classes_apart : (classes : List (List ℕ)) (r : Refusal) (given : List GivenClass) → RefusesClasses classes r → AreGivenBy classes given → ⊥
 classes_apart classes r given a are =
     class_apart a.bytes (all_at IsClass a.before a.bytes a.after (subst (AllByRecursion IsClass) a.classes_are (each_class classes given are))) (length a.before, r, a.bad)
 
 same_given : (a b : GivenClass) → a.file ≡ b.file → a.listings ≡ b.listings → a ≡ b
 same_given a b e f = λ i. record { file = e i; listings = f i }
 
-one_class : (bytes : List ℕ) (a b : GivenClass) → IsClassOf bytes a → IsClassOf bytes b → a ≡ b
+one_class : (bytes : List ℕ) (a b : GivenClass) → IsGivenBy bytes a → IsGivenBy bytes b → a ≡ b
 one_class bytes a b p q =
     let files : a.file ≡ b.file = spelled_one a.file b.file bytes p.file q.file in
     same_given a b files (listings_one b.file.methods a.listings b.listings (subst (λ (f : ClassFile). AreListings f.methods a.listings) files p.listed) q.listed)
 
-one_classes : (classes : List (List ℕ)) (xs ys : List GivenClass) → AreClasses classes xs → AreClasses classes ys → xs ≡ ys
+one_classes : (classes : List (List ℕ)) (xs ys : List GivenClass) → AreGivenBy classes xs → AreGivenBy classes ys → xs ≡ ys
 one_classes [] [] [] a b = refl
 one_classes [] (x ∷ xs) ys a b = absurd a
 one_classes [] [] (y ∷ ys) a b = absurd b
@@ -344,7 +344,7 @@ order_one words (Sample blocks) ordered texts world given = λ one other p q. ab
 contents_one : (words : List (List ℕ)) (order : Order) → OrdersBuilt words order → (contents : Contents) → HasOne (SameEnd words) (RepliesOn order contents)
 unfolding RepliesOn
 contents_one words order ordered contents =
-    stage_one (SameEnd words) (RefusesClasses contents.classes) (AreClasses contents.classes) _ (classes_refusal contents.classes) (classes_apart contents.classes)
+    stage_one (SameEnd words) (RefusesClasses contents.classes) (AreGivenBy contents.classes) _ (classes_refusal contents.classes) (classes_apart contents.classes)
     (one_classes contents.classes) (λ given are.
     stage_one (SameEnd words) (WorldRefuses given) (Links given) (λ world. RepliesIn order contents.texts world) (world_refusal given) (world_apart given)
     (λ a b p q. one_world_is given a b p q) (λ world links. order_one words order ordered contents.texts world links.linked))

@@ -26,7 +26,7 @@ use Rattle.kb_picture.specs.Laws.{FinalHeapsAreWhole, HasWholeHeap, IsEndingWith
 use Rattle.kb_picture.specs.Places.{places_of}
 use Rattle.kb_picture.specs.WellFormed.{IsClosed, IsLeaf, IsWithin}
 use Rattle.kb_report.specs.declared.report.Report.{Report}
-use Rattle.kb_test.specs.Lines.{IsExact, IsRunBounds}
+use Rattle.kb_test_lines.specs.Lines.{IsExact, IsRunBounds}
 use Rattle.kb_test.specs.Tests.{AreObjects, AreValues, IsEnding, IsTest, IsValue, kinds_of, literal_objects}
 use Rattle.kb_test_laws.specs.Texts.{EndHasTexts, EndingHasText}
 use Rattle.kiasan.specs.Exploring.{IsCarried, test_of}

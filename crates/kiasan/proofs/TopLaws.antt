@@ -1,8 +1,12 @@
 -- What the top call owes.
-use Rattle.std.proofs.Common.{◌≡◌, ℕ, List, [], ◌∷◌, Option, refl, sym, ◌∙◌, ap, subst, inl, inr, nat_eq, Bool, true, false, cond}
+use Rattle.std.proofs.Common.{◌≡◌, ℕ, List, [], ◌∷◌, Option, Result, Ok, Err, IfOk, refl, sym, ◌∙◌, ap, subst, inl, inr, nat_eq, Bool, true, false, cond}
 use Rattle.kb_outside.specs.Outside.{Rose, Grows, GrowsByPart}
 use Rattle.kb_link.specs.World.{World}
 use Rattle.kiasan.specs.declared.refusals.Answer.{Answer}
+use Rattle.kiasan.specs.declared.refusals.Fault.{Fault}
+use Rattle.kiasan.specs.declared.refusals.Fault.TheVariants as faults
+use Rattle.kiasan.specs.declared.refusals.Stop.{Stop}
+use Rattle.kiasan.specs.declared.refusals.Stop.TheVariants as stops
 use Rattle.kiasan.specs.declared.refusals.Refusal.{Refusal}
 use Rattle.kiasan.specs.declared.refusals.Refusal.TheVariants as refusals
 use Rattle.kb_drive.specs.Counts.{is_partial}
@@ -13,7 +17,7 @@ use Rattle.kb_words.specs.declared.orders.Order.{Order}
 use Rattle.kb_words.specs.declared.orders.Order.TheVariants.{Explore, Tests, Diagrams, Replay, Assemble, Sample}
 use Rattle.kiasan.specs.declared.status.Status.{Status}
 use Rattle.kiasan.specs.declared.status.Status.TheVariants.{Complete, Partial, Words, Class, Link, Outside, ReadFault, WriteFault, Memory, Text, Differs}
-use Rattle.kiasan.specs.Answers.{Reply, refuses, ends, Replies, RepliesTo, RepliesOn, RepliesIn, RepliesJob, RepliesReplay, Answers, IsAnswer, IsOfReport, IsOfVerdicts, IsReplay, IsSameReply, EndsAs, EndsOrder, Owes, SomeUnsound, TextOf, WritesNothing, reply_status}
+use Rattle.kiasan.specs.Answers.{Reply, refuses, ends, Carries, ComesTo, Replies, RepliesTo, RepliesOn, RepliesIn, RepliesJob, RepliesReplay, Answers, IsAnswer, IsOfReport, IsOfVerdicts, IsReplay, IsSameReply, EndsAs, EndsOrder, Owes, SomeUnsound, TextOf, WritesNothing, reply_status}
 use Rattle.kiasan.specs.Exploring.{status_of}
 use Rattle.kiasan.specs.Orders.{OrdersBuilt}
 use Rattle.kiasan.specs.Refusals.{refusal_status, refusal_line}
@@ -118,6 +122,19 @@ pub refused : (words : List (List ℕ)) (holds : List ℕ → Option (List ℕ))
     status ≡ refusal_status refusal → text ≡ refusal_line refusal → Answers words holds status text × IsAnswer status
 refused words holds refusal status text replied is line =
     (record { reply = refuses refusal; replied = replied; status_is = is; text_is = line }, rw is (refusal_answers refusal))
+
+-- what a stop comes to is an answer, or the fault that is known
+pub stop_comes : (words : List (List ℕ)) (holds : List ℕ → Option (List ℕ)) (Missed : Type 0) (stop : Stop) (result : Result Answer Fault) →
+    Carries Missed (Replies words holds) (Err stop) → ComesTo stop result →
+    IfOk result (λ (a : Answer). Answers words holds a.status a.text.items) × IfOk result (λ (a : Answer). IsAnswer a.status) × (result ≡ Err faults.Read → Missed)
+stop_comes words holds Missed (stops.Refused refusal) (Ok a) replied is =
+    let answered = refused words holds refusal a.status a.text.items replied is.0 is.1 in
+    (answered.0, answered.1, λ e. absurd cc)
+stop_comes words holds Missed (stops.Refused refusal) (Err fault) replied is = (tt, tt, λ e. absurd cc)
+stop_comes words holds Missed stops.ReadFault (Ok a) given is = absurd cc
+stop_comes words holds Missed stops.ReadFault (Err fault) given is = (tt, tt, λ e. given)
+stop_comes words holds Missed stops.NoMemory (Ok a) given is = absurd cc
+stop_comes words holds Missed stops.NoMemory (Err fault) given is = (tt, tt, λ e. absurd cc)
 
 -- ---- where neither count rises
 

@@ -1,10 +1,10 @@
 -- What the program answers. It goes by stages: the words, the reading of their files, the classes, their world, the texts, the
 -- methods that are reached, and the exploration or the runs. The first stage that refuses gives the answer.
-use Rattle.std.specs.Prelude.{◌≡◌, ℕ, ◌+◌, ◌<◌, ◌≤◌, ◌⊎◌, List, [], ◌∷◌, ◌++◌, length, take, Option, Some, IfSome, IsSome, Result, Err}
+use Rattle.std.specs.Prelude.{◌≡◌, ℕ, ◌+◌, ◌<◌, ◌≤◌, ◌⊎◌, List, [], ◌∷◌, ◌++◌, length, take, Option, Some, IfSome, IsSome, Result, Ok, Err}
 use Rattle.std.specs.List.{AllByRecursion}
 use Rattle.kb_class.specs.declared.given.GivenClass.{GivenClass}
 use Rattle.kb_class.specs.declared.ids.MethodId.{MethodId}
-use Rattle.kb_class.specs.Given.{AreListings}
+use Rattle.kb_class.specs.Given.{AreGivenBy}
 use Rattle.kb_classfile.specs.declared.file.ClassFile.{ClassFile}
 use Rattle.kb_classfile.specs.declared.refusal.ClassRefusal.{ClassRefusal}
 use Rattle.kb_classfile.specs.Reading.{first_fault}
@@ -20,6 +20,8 @@ use Rattle.kb_link.specs.Links.{Links, RefusesLink}
 use Rattle.kb_link.specs.World.{World}
 use Rattle.kiasan.specs.declared.answer.Contents.{Contents}
 use Rattle.kiasan.specs.declared.refusals.Answer.{Answer}
+use Rattle.kiasan.specs.declared.refusals.Fault.{Fault}
+use Rattle.kiasan.specs.declared.refusals.Fault.TheVariants as faults
 use Rattle.kiasan.specs.declared.refusals.Refusal.{Refusal}
 use Rattle.kiasan.specs.declared.refusals.Refusal.TheVariants.{AssemblyLine, TestLine, LongText, Unbuilt}
 use Rattle.kiasan.specs.declared.refusals.Stop.{Stop}
@@ -175,18 +177,6 @@ FileRefuses number bytes refusal = (found : ClassRefusal) × HasClassFault bytes
 abbrev pub ClassRefuses : ℕ → List ℕ → Refusal → Type 0
 ClassRefuses number bytes refusal = FileRefuses number bytes refusal ⊎ ((file : ClassFile) × IsClassFile file bytes × MethodsRefuse number file.methods refusal)
 
--- the bytes spell the class's file, and each method has its listing
-pub record IsClassOf (bytes : List ℕ) (class : GivenClass) : Type 0 where
-  pub file : IsClassFile class.file bytes
-  pub listed : AreListings class.file.methods class.listings
-
--- each spells a class
-abbrev pub AreClasses : List (List ℕ) → List GivenClass → Type 0
-AreClasses [] [] = Unit {0}
-AreClasses (bytes ∷ classes) (class ∷ given) = IsClassOf bytes class × AreClasses classes given
-AreClasses [] (class ∷ given) = ⊥
-AreClasses (bytes ∷ classes) [] = ⊥
-
 -- The first class file that is refused, and its number.
 pub record RefusesClasses (classes : List (List ℕ)) (refusal : Refusal) : Type 0 where
   pub before : List (List ℕ)
@@ -194,7 +184,7 @@ pub record RefusesClasses (classes : List (List ℕ)) (refusal : Refusal) : Type
   pub after : List (List ℕ)
   pub classes_are : classes ≡ before ++ bytes ∷ after
   pub given : List GivenClass
-  pub good : AreClasses before given
+  pub good : AreGivenBy before given
   pub bad : ClassRefuses (length before) bytes refusal
 
 -- what refuses the world of classes: the first rule that they break
@@ -232,6 +222,13 @@ IsReadFault before now files sound = Rose before now × HasUnsound files sound
 abbrev pub IsOf : {A : Type 0} → Type 0 → (A → Type 0) → Result A Stop → Type 0
 IsOf Fault Passes result = Gives Fault RefusesNothing Passes result
 
+-- what a stop comes to: the answer of its refusal, unless memory ran out; or the fault for which there is none
+abbrev pub ComesTo : Stop → Result Answer Fault → Type 0
+ComesTo (Refused refusal) (Ok answer) = (answer.status ≡ refusal_status refusal) × (answer.text.items ≡ refusal_line refusal)
+ComesTo (Refused refusal) (Err fault) = fault ≡ faults.NoMemory
+ComesTo stops.ReadFault result = result ≡ Err faults.Read
+ComesTo stops.NoMemory result = result ≡ Err faults.NoMemory
+
 abbrev pub IsReadFaultOrNoMemory : Stop → Type 0
 IsReadFaultOrNoMemory (Refused refusal) = ⊥
 IsReadFaultOrNoMemory stops.ReadFault = Unit {0}
@@ -241,7 +238,7 @@ IsReadFaultOrNoMemory stops.NoMemory = Unit {0}
 
 unfoldable pub RepliesOn : Order → Contents → Reply → Type 0
 RepliesOn order contents =
-    Stage (RefusesClasses contents.classes) (AreClasses contents.classes) (λ given.
+    Stage (RefusesClasses contents.classes) (AreGivenBy contents.classes) (λ given.
     Stage (WorldRefuses given) (Links given) (λ world.
     RepliesIn order contents.texts world))
 

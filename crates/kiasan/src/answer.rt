@@ -11,8 +11,8 @@ use crate::assembly::answer_assembly;
 use crate::classes::{link_classes, read_classes};
 use crate::methods::{answer_report, answer_tests};
 use crate::orders::{classes_of, read_order, texts_of};
-use crate::ranges::look_at_files;
-use crate::refusals::{Answer, Stop, answer_refusal};
+use crate::ranges::tell_files;
+use crate::refusals::{Answer, Fault, Stop, settle};
 use crate::replay::replay;
 use kb_outside::{Shelf, ShelfStop};
 use kb_rows::Row;
@@ -35,21 +35,20 @@ pub struct Contents {
 }
 
 /// What the program answers to its words.
-#[tactic(auto, using(crate::proofs::TopLaws::ends_answer, crate::proofs::TopLaws::refusal_answers))]
+#[tactic(auto, using(crate::proofs::TopLaws::ends_answer))]
 pub fn answer_words<S: Shelf>(
     alloc: Global,
     words: &[String],
     shelf: &mut S,
-) -> Result<Answer, Stop>
+) -> Result<Answer, Fault>
     ensures answers { IfOk result (λ a. Answers (map string_bytes words.now) (S.holds shelf.old) a.status a.text.items) }
     ensures answer { IfOk result (λ a. IsAnswer a.status) }
-    ensures stops { IfErr result IsReadFaultOrNoMemory }
-    ensures counted { IsErrOf result Stop.ReadFault → Rose (S.faults shelf.old) (S.faults shelf.new) }
-    ensures unsound { IsErrOf result Stop.ReadFault → SomeUnsound (map string_bytes words.now) (S.sound shelf.old) }
+    ensures counted { IsErrOf result Fault.Read → Rose (S.faults shelf.old) (S.faults shelf.new) }
+    ensures unsound { IsErrOf result Fault.Read → SomeUnsound (map string_bytes words.now) (S.sound shelf.old) }
 {
     match carry_out(alloc, words, shelf) {
-        Err(Stop::Refused(refusal)) => Ok(answer_refusal(alloc, &refusal)?),
-        carried => carried,
+        Ok(answer) => Ok(answer),
+        Err(stop) => settle(alloc, stop),
     }
 }
 
@@ -134,7 +133,7 @@ fn answer_on(alloc: Global, order: &Order, contents: &Contents) -> Result<Answer
     ensures { Carries ⊥ (RepliesOn order.now contents.now) result }
 {
     let classes = contents.classes.as_slice();
-    look_at_files(classes);
+    tell_files(classes);
     worlds_have_names();
     let given = read_classes(alloc, classes)?;
     let world = link_classes(alloc, given)?;

@@ -2,9 +2,9 @@
 
 ghost use Rattle.std.specs.Prelude.{[], ◌∷◌, IfOk};
 ghost use Rattle.kb_classfile.specs.Spelling.{IsClassFile};
-ghost use Rattle.kb_class.specs.Given.{AreGiven, AreListings};
+ghost use Rattle.kb_class.specs.Given.{AreGiven, AreListings, IsGivenBy, AreGivenBy};
 ghost use Rattle.kb_link.specs.Links.{Links};
-ghost use Rattle.kiasan.specs.Answers.{AreClasses, ClassRefuses, FileRefuses, IsClassOf, RefusesClasses, WorldRefuses};
+ghost use Rattle.kiasan.specs.Answers.{ClassRefuses, FileRefuses, RefusesClasses, WorldRefuses};
 ghost use Rattle.kiasan.specs.CodeFaults.{CodeRefuses, MethodsRefuse};
 ghost use Rattle.kiasan.specs.Refusals.{Gives};
 
@@ -18,7 +18,7 @@ use std::alloc::Global;
 
 /// The classes that these bytes spell, in order, each with the listings of its methods.
 pub fn read_classes(alloc: Global, classes: &[Row<u8>]) -> Result<Vec<GivenClass>, Stop>
-    ensures { Gives ⊥ (RefusesClasses classes.now) (λ given. AreClasses classes.now given.items) result }
+    ensures { Gives ⊥ (RefusesClasses classes.now) (λ given. AreGivenBy classes.now given.items) result }
 {
     let mut given = Vec::new(alloc);
     for bytes in classes {
@@ -30,7 +30,7 @@ pub fn read_classes(alloc: Global, classes: &[Row<u8>]) -> Result<Vec<GivenClass
 
 /// The class of the file of that number.
 fn read_one(alloc: Global, number: usize, bytes: &[u8]) -> Result<GivenClass, Stop>
-    ensures { Gives ⊥ (ClassRefuses number bytes.now) (λ class. IsClassOf bytes.now class) result }
+    ensures { Gives ⊥ (ClassRefuses number bytes.now) (λ class. IsGivenBy bytes.now class) result }
 {
     let file = read_file(alloc, number, bytes)?;
     let listings = list_methods(alloc, number, file.get().methods.as_slice())?;

@@ -6,7 +6,7 @@ ghost use Rattle.kb_drive.specs.Covers.{EachPath};
 ghost use Rattle.kb_link.specs.Links.{IsLinked};
 ghost use Rattle.kb_names.specs.Targets.{IsTarget};
 ghost use Rattle.kb_report.specs.Report.{report_text};
-ghost use Rattle.kb_test.specs.Lines.{IsRunBounds};
+ghost use Rattle.kb_test_lines.specs.Lines.{IsRunBounds};
 ghost use Rattle.kb_test.specs.Tests.{SpellsTests};
 ghost use Rattle.kb_test_laws.specs.Texts.{NamesHaveTexts};
 ghost use Rattle.kiasan.specs.Answers.{Carries, IsReportText, IsTestsTextOf, RepliesJob};

@@ -12,83 +12,83 @@ use kb_heap::{Ending, Heap, Input, Object, Value};
 use kb_rows::Row;
 
 /// The numbers of a test have the ranges of their types.
-pub fn look_at_numbers(input: &Input, ending: &Ending, heap: &Heap)
+pub fn tell_numbers(input: &Input, ending: &Ending, heap: &Heap)
     ensures { HaveRanges input.now ending.now heap.now }
 {
-    look_at_values(input.args.as_slice());
-    look_at_objects(input.heap.objects.as_slice());
-    look_at_objects(heap.objects.as_slice());
-    look_at_ending(ending);
+    tell_values(input.args.as_slice());
+    tell_objects(input.heap.objects.as_slice());
+    tell_objects(heap.objects.as_slice());
+    tell_ending(ending);
 }
 
-fn look_at_objects(objects: &[Object])
+fn tell_objects(objects: &[Object])
     ensures { AllByRecursion HasRanges objects.now }
 {
     let mut rest = objects;
     while let [object, others @ ..] = rest {
-        look_at_values(object.values.as_slice());
+        tell_values(object.values.as_slice());
         rest = others;
     }
 }
 
-fn look_at_values(values: &[Value])
+fn tell_values(values: &[Value])
     ensures { AllByRecursion HasRange values.now }
 {
     let mut rest = values;
     while let [value, others @ ..] = rest {
-        look_at_value(*value);
+        tell_value(*value);
         rest = others;
     }
 }
 
-fn look_at_value(value: Value)
+fn tell_value(value: Value)
     ensures { HasRange value }
 {
     match value {
-        Value::Int(number) => look_at_int(number),
+        Value::Int(number) => tell_int(number),
         Value::Null | Value::Ref(_) => {}
     }
 }
 
-fn look_at_int(_value: i32)
+fn tell_int(_value: i32)
     ensures { FitsSigned w32 _value }
 {}
 
-fn look_at_ending(ending: &Ending)
+fn tell_ending(ending: &Ending)
     ensures { EndingHasRange ending.now }
 {
     match ending {
-        Ending::Returned(Some(value)) => look_at_value(*value),
-        Ending::IllTyped(place) => look_at_offset(place.at),
+        Ending::Returned(Some(value)) => tell_value(*value),
+        Ending::IllTyped(place) => tell_offset(place.at),
         Ending::Returned(None) | Ending::Threw(_) | Ending::Past(_) => {}
     }
 }
 
-fn look_at_offset(_at: u32)
+fn tell_offset(_at: u32)
     ensures { _at < 2 ^ 32 }
 {}
 
 /// The items of these files are bytes.
-pub fn look_at_files(files: &[Row<u8>])
+pub fn tell_files(files: &[Row<u8>])
     ensures { AllByRecursion AreBytes files.now }
 {
     let mut rest = files;
     while let [file, others @ ..] = rest {
-        look_at_bytes(file.as_slice());
+        tell_bytes(file.as_slice());
         rest = others;
     }
 }
 
-fn look_at_bytes(bytes: &[u8])
+fn tell_bytes(bytes: &[u8])
     ensures { AreBytes bytes.now }
 {
     let mut rest = bytes;
     while let [byte, others @ ..] = rest {
-        look_at_byte(*byte);
+        tell_byte(*byte);
         rest = others;
     }
 }
 
-fn look_at_byte(_byte: u8)
+fn tell_byte(_byte: u8)
     ensures { _byte < 256 }
 {}

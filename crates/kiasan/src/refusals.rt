@@ -3,6 +3,7 @@
 ghost use Rattle.std.specs.Prelude.{◌≡◌, ◌≢◌, ◌<◌, false, ◌++◌, [], ◌∷◌, codes, IfOk, OnOk};
 ghost use Rattle.std.specs.Fmt.{digit_glyph};
 ghost use Rattle.kb_names.specs.Targets.{target_text};
+ghost use Rattle.kiasan.specs.Answers.{ComesTo};
 ghost use Rattle.kiasan.specs.Refusals.{class_refusal, refusal_line, code_refusal, refusal_status, file_line, offset_line, entry_line, code_line, opcode_front, opcode_line, target_line, handler_line, pool_line, class_front, class_line, method_line, instruction_front, what_text, word_line, hexadecimal};
 
 use crate::NoMemory;
@@ -258,8 +259,37 @@ pub struct Answer {
     pub text: Vec<u8>,
 }
 
+/// Why there is no answer.
+#[derive(Clone, Copy)]
+pub enum Fault {
+    /// A file could not be read.
+    Read,
+    NoMemory,
+}
+
+/// What a stop comes to: the answer of its refusal, or no answer.
+pub fn settle(alloc: Global, stop: Stop) -> Result<Answer, Fault>
+    ensures { ComesTo stop result }
+{
+    answer_stop(alloc, &stop)
+}
+
+// What a stop that is lent comes to.
+fn answer_stop(alloc: Global, stop: &Stop) -> Result<Answer, Fault>
+    ensures { ComesTo stop.now result }
+{
+    match stop {
+        Stop::Refused(refusal) => match answer_refusal(alloc, refusal) {
+            Ok(answer) => Ok(answer),
+            Err(NoMemory) => Err(Fault::NoMemory),
+        },
+        Stop::ReadFault => Err(Fault::Read),
+        Stop::NoMemory => Err(Fault::NoMemory),
+    }
+}
+
 /// What the program answers where it refuses.
-pub fn answer_refusal(alloc: Global, refusal: &Refusal) -> Result<Answer, NoMemory>
+fn answer_refusal(alloc: Global, refusal: &Refusal) -> Result<Answer, NoMemory>
     ensures status { IfOk result (λ a. a.status ≡ refusal_status refusal.now) }
     ensures text { IfOk result (λ a. a.text.items ≡ refusal_line refusal.now) }
 {

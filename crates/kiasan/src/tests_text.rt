@@ -5,15 +5,16 @@ ghost use Rattle.kb_class.specs.declared.ids.MethodId.{MethodId};
 ghost use Rattle.kb_drive.specs.Covers.{EachPath};
 ghost use Rattle.kb_names.specs.Targets.{IsTarget};
 ghost use Rattle.kb_picture.specs.declared.path.Leaf.TheVariants.{Ended as EndedLeaf};
-ghost use Rattle.kb_test.specs.Lines.{IsRunBounds};
+ghost use Rattle.kb_test_lines.specs.Lines.{IsRunBounds};
 ghost use Rattle.kb_test.specs.Refusals.{Appends};
 ghost use Rattle.kb_test.specs.Tests.{IsTest, SpellsTests, literal_objects};
 ghost use Rattle.kiasan.specs.Exploring.{IsCarried, path_tests, test_of, tests_of};
 ghost use Rattle.kiasan.specs.Tests.{literals_in};
 
 use crate::NoMemory;
-use crate::ranges::look_at_numbers;
+use crate::ranges::tell_numbers;
 use kb_heap::{Ending, Heap, Input, Object};
+use kb_names::Target;
 use kb_picture::{Ended, Leaf, Path, ending_at, final_heaps_are_whole, places};
 use kb_report::Report;
 use kb_rows::{Held, Row};
@@ -78,7 +79,7 @@ fn test_of(
         unreachable!()
     };
     let (ending, heap) = ending_at(alloc, world, path, &ended.input, &places)?;
-    look_at_numbers(&ended.input, &ending, &heap);
+    tell_numbers(&ended.input, &ending, &heap);
     let test = test_with(alloc, report, &ended.input, ending, &heap, world.literals())?;
     Ok(test)
 }
@@ -96,16 +97,51 @@ fn test_with(
     requires parts { heap.now.objects ≡ take (length input.now.heap.objects) heap.now.objects ++ (literal_objects literals ++ drop (length input.now.heap.objects + literals) heap.now.objects) }
     ensures { IfOk result (λ test. test ≡ record { target = report.now.target; bounds = report.now.bounds.run; input = input.now; ending = ending; heap = heap.now }) }
 {
+    let parts = parts_of(alloc, report, input, heap, literals)?.into_inner();
+    Held::new(
+        alloc,
+        Test {
+            target: parts.target,
+            bounds: report.bounds.run,
+            input: parts.input,
+            ending,
+            heap: parts.heap,
+        },
+    )
+}
+
+/// What a test has of its method, its input and the heap at its end.
+#[derive(Drop)]
+struct Parts {
+    target: Target,
+    input: Input,
+    heap: FinalHeap,
+}
+
+/// Copies of these. The first objects of the heap are those of the input, and the next so many literals.
+fn parts_of(
+    alloc: Global,
+    report: &Report,
+    input: &Input,
+    heap: &Heap,
+    literals: u32,
+) -> Result<Held<Parts>, NoMemory>
+    requires room { length input.now.heap.objects + literals ≤ length heap.now.objects }
+    requires parts { heap.now.objects ≡ take (length input.now.heap.objects) heap.now.objects ++ (literal_objects literals ++ drop (length input.now.heap.objects + literals) heap.now.objects) }
+    ensures { IfOk result (λ parts. parts ≡ record { target = report.now.target; input = input.now; heap = heap.now }) }
+{
     let inputs = input.heap.objects.as_slice().len();
-    let test = Test {
-        target: report.target.copied(alloc)?,
-        bounds: report.bounds.run,
-        input: input.copied(alloc)?,
-        ending,
-        heap: final_heap(alloc, heap, inputs, literals)?,
-    };
-    let held = Held::new(alloc, test)?;
-    Ok(held)
+    let heap = final_heap(alloc, heap, inputs, literals)?;
+    let target = report.target.copied(alloc)?;
+    let input = input.copied(alloc)?;
+    Held::new(
+        alloc,
+        Parts {
+            target,
+            input,
+            heap,
+        },
+    )
 }
 
 /// The heap of a test, whose first objects are so many of the input, and the next so many literals.

@@ -4,7 +4,7 @@ ghost use Rattle.std.specs.Prelude.{ℕ, List, Option, map, string_bytes};
 ghost use Rattle.kiasan.specs.Answers.{AreTold, IsSameReply, Owes, Replies, Reply};
 
 use crate::answer::answer_words;
-use crate::refusals::Stop;
+use crate::refusals::Fault;
 use crate::status::Status;
 use kb_outside::{Shelf, Sink, SinkFailed, send_all};
 use std::alloc::Global;
@@ -25,8 +25,8 @@ pub fn kiasan<S: Shelf, K: Sink>(
 {
     let answer = match answer_words(alloc, words, shelf) {
         Ok(answer) => answer,
-        Err(Stop::ReadFault) => return Status::ReadFault,
-        Err(_) => return Status::Memory,
+        Err(Fault::Read) => return Status::ReadFault,
+        Err(Fault::NoMemory) => return Status::Memory,
     };
     match send_all(out, answer.text.as_slice()) {
         Ok(()) => answer.status,

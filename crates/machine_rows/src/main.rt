@@ -13,8 +13,9 @@ ghost use Rattle.kb_world.specs.Reach.{IsAccepted};
 
 use endings::append_ending;
 use kb_class::MethodId;
+use kb_fits::fits_types;
 use kb_load::{InWorlds, WorldRows};
-use kb_machine::{fits_types, run};
+use kb_machine::run;
 use kb_outside::{FileShelf, OutSink, Sink};
 use kb_table::{RowResult, RowStop, send, write_rows};
 use kb_world::World;

@@ -5,8 +5,9 @@ ghost use Rattle.kb_picture.specs.Places.{places_of};
 
 use crate::asked::Asked;
 use crate::texts::add;
+use kb_fits::fits_types;
 use kb_heap::{Ending, Heap, Input, RunBounds};
-use kb_machine::{fits_types, run};
+use kb_machine::run;
 use kb_names::Target;
 use kb_picture::{Leaf, Path, PlaceLists, ending_at, is_instance, places};
 use kb_rows::Held;

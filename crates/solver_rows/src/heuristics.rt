@@ -17,7 +17,7 @@ pub fn order_text(alloc: Global, text: &str) -> RowResult<String> {
     let Some((variables, pieces)) = text.split_once(' ') else {
         return Err(RowStop::Malformed);
     };
-    let mut order = kept(ActivityOrder::new(alloc, read_number(variables)?))?;
+    let mut order = kept(ActivityOrder::new(alloc, read_number(variables)?, &[]))?;
     let mut text = String::new(alloc);
     for piece in pieces.split(", ") {
         take_piece(alloc, &mut order, piece, &mut text)?;

@@ -1,5 +1,5 @@
+use Rattle.kb_class.proofs.GivenLaws.{are_given}
 use Rattle.kb_load.specs.Worlds.{contents_of}
-use Rattle.kb_load.proofs.ClassLaws.{are_given}
 use Rattle.kb_load.proofs.world_of.Goals as goal
 
 pub link-requires : goal.link-requires

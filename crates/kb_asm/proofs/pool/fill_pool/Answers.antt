@@ -2,7 +2,6 @@ use Rattle.std.proofs.Common.{◌≡◌, [], List, flat_map, ap, ◌∙◌}
 use Rattle.kb_asm_pool.specs.Says.{Says, all_added}
 use Rattle.kb_asm_pool.specs.Needs.{line_needs}
 use Rattle.kb_asm_check.specs.Limits.{ldc_says}
-use Rattle.kb_asm.specs.Needs.{says_of}
 use Rattle.kb_asm.proofs.CodeLaws.{on_ok}
 use Rattle.kb_asm.proofs.pool.fill_pool.Goals as goal
 

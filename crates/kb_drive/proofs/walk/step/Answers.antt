@@ -8,7 +8,7 @@ use Rattle.kb_frames.proofs.FormedPaths.{roots_are_terms}
 use Rattle.kb_picture.specs.declared.path.Leaf.TheVariants.{Open as OpenLeaf}
 use Rattle.kb_drive.proofs.CountLaws.{keeps_count}
 use Rattle.kb_drive.proofs.StepLaws.{can_be_taken}
-use Rattle.kb_drive.proofs.TakenLaws.{can_follow, none_waits, oracle_unserved, refined_same, same_walk, step_holds, step_sources, was_taken}
+use Rattle.kb_drive.proofs.TakenLaws.{can_follow, none_waits, oracle_unserved, refined_same, same_walk, step_holds, step_sources, stood_met, was_taken}
 use Rattle.kb_drive.proofs.walk.step.Goals as goal
 
 pub take_next-requires : goal.take_next-requires
@@ -42,6 +42,13 @@ pub ask_within-requires-clause-conditions : goal.ask_within-requires-clause-cond
 ask_within-requires-clause-conditions g c =
     let reached : IsReached c.args.world.now c.in-Some.taken.piece.state = search rules in
     reached.sound.conditions
+
+pub ask_within-requires-clause-met : goal.ask_within-requires-clause-met
+ask_within-requires-clause-met g c =
+    let from : IsTakenFrom c.args.world.now c.args.bounds.now c.args.walk.now.waiting c.take_next.new.self (Some c.in-Some.taken) = search rules in
+    let reached : IsReached c.args.world.now c.in-Some.taken.piece.state = search rules in
+    stood_met c.args.world.now c.args.walk.now.target c.args.bounds.now c.args.walk.now.waiting c.take_next.new.self c.in-Some.taken (was_taken c.args.world.now c.args.walk.now.target c.args.bounds.now c.args.walk.now.waiting c.take_next.new.self c.in-Some.taken c.requires.waits from)
+    c.requires.explorable reached
 
 pub returns-in-Err-clause-unserved : goal.returns-in-Err-clause-unserved
 returns-in-Err-clause-unserved g c =

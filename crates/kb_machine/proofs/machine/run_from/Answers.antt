@@ -1,7 +1,7 @@
 use Rattle.std.proofs.Common.{◌≡◌, ℕ, ◌-◌, Some, None, option_map, sym, ap, ◌∙◌, arith}
 use Rattle.kb_code.specs.declared.instruction.Instr.{Instr}
 use Rattle.kb_semantics.specs.Config.{Setting, instruction_at}
-use Rattle.kb_machine.specs.Listings.{plain_found}
+use Rattle.kb_stack.specs.Listings.{plain_found}
 use Rattle.kb_machine.specs.Turns.{reached}
 use Rattle.kb_machine.specs.declared.turn.Step.TheVariants as steps
 use Rattle.kb_machine.specs.declared.turn.Turn.{Turn}

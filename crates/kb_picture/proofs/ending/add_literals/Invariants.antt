@@ -1,5 +1,5 @@
 use Rattle.std.proofs.Common.{◌≡◌, ◌++◌, replicate}
-use Rattle.kb_semantics.specs.Values.{literal}
+use Rattle.kb_heap.specs.Heap.{literal}
 use Rattle.kb_picture.proofs.ending.add_literals.Given as goal
 
 abbrev pub invariant-loop : goal.invariant-loop

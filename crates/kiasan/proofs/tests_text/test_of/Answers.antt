@@ -26,7 +26,7 @@ returns-clause-is c =
     rw c.in_ok-test.ensures
     (test_is c.args.world.now c.args.report.now c.args.path.now c.args.ended.now c.args.report.now.target c.args.ended.now.input c.in_ok-ending.ending c.in_ok-ending.heap
     c.in_ok-ending.heap refl refl (c.in_ok-ending.ensures.ending c.args.ended.now c.requires.leaf)
-    (c.in_ok-ending.ensures.heap c.args.ended.now c.requires.leaf) refl states c.requires.target c.requires.bounds c.look_at_numbers.ensures)
+    (c.in_ok-ending.ensures.heap c.args.ended.now c.requires.leaf) refl states c.requires.target c.requires.bounds c.tell_numbers.ensures)
 
 pub returns-clause-test : goal.returns-clause-test
 returns-clause-test c =

@@ -1,4 +1,4 @@
-use Rattle.std.proofs.Common.{◌≡◌, ◌-◌, ℕ, true, false, List, ◌∷◌, length, take, drop, subst}
+use Rattle.std.proofs.Common.{◌≡◌, ◌-◌, true, false, List, ◌∷◌, length, take, drop, subst}
 use Rattle.std.specs.List.{AllZip, list_any}
 use Rattle.std.proofs.lemmas.Bool.{or_parts}
 use Rattle.kb_asm_text.specs.declared.line.Case.{Case}

@@ -4,7 +4,7 @@ use Rattle.kb_semantics.specs.Instructions.{load_element}
 use Rattle.kb_semantics.specs.Values.{takes_component}
 use Rattle.kb_semantics.specs.Ways.{index_outside, null_pointer, throws}
 use Rattle.kb_machine.specs.Turns.{config_of, setting_of}
-use Rattle.kb_machine.specs.declared.arrays.Loaded.TheVariants as loaded
+use Rattle.kb_values.specs.declared.arrays.Loaded.TheVariants as loaded
 use Rattle.kb_machine.proofs.ArrayLaws.{load_is}
 use Rattle.kb_machine.proofs.Steps.{thrown_from}
 use Rattle.kb_machine.proofs.state.State.load_element.Goals as goal

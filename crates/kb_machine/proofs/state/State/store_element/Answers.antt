@@ -6,7 +6,7 @@ use Rattle.kb_semantics.specs.Instructions.{store_element}
 use Rattle.kb_semantics.specs.Values.{takes_component}
 use Rattle.kb_semantics.specs.Ways.{array_store, goes_with, index_outside, null_pointer, throws}
 use Rattle.kb_machine.specs.Turns.{config_of, setting_of}
-use Rattle.kb_machine.specs.declared.arrays.Stored.TheVariants as stored
+use Rattle.kb_values.specs.declared.arrays.Stored.TheVariants as stored
 use Rattle.kb_machine.proofs.ArrayLaws.{is_place, store_is}
 use Rattle.kb_machine.proofs.Steps.{goes_on_stack, thrown_from}
 use Rattle.kb_machine.proofs.state.State.store_element.Goals as goal

@@ -9,7 +9,8 @@ use Rattle.kb_semantics.specs.Config.{Setting, Config, Frame, Outcome}
 use Rattle.kb_semantics.specs.Instructions.{throw, with}
 use Rattle.kb_semantics.specs.Operands.{a_reference}
 use Rattle.kb_semantics.specs.Ways.{ill_typed, null_pointer, throws, throws_object}
-use Rattle.kb_machine.specs.Turns.{as_taken, config_of, setting_of, told}
+use Rattle.kb_machine.specs.Turns.{config_of, setting_of, told}
+use Rattle.kb_stack.specs.Taken.{as_taken}
 use Rattle.std.specs.declared.alloc.AllocError.{AllocError as NoMemory}
 use Rattle.kb_machine.specs.declared.state.State.{State}
 use Rattle.kb_machine.specs.declared.turn.Step.{Step}

@@ -1,7 +1,7 @@
 use Rattle.std.proofs.Common.{◌≡◌, ◌++◌, length, map, take}
 use Rattle.kb_grammar.specs.Lines.{lines_text}
-use Rattle.kb_test.specs.declared.lines.Line.TheVariants.{Arg}
-use Rattle.kb_test.specs.Scripts.{texts_of}
+use Rattle.kb_test_lines.specs.declared.lines.Line.TheVariants.{Arg}
+use Rattle.kb_test_lines.specs.Lines.{texts_of}
 use Rattle.kb_test.specs.Writing.{words_of}
 use Rattle.kb_test.proofs.writing.Counts.append_args.Given as goal
 

@@ -1,6 +1,7 @@
 use Rattle.std.proofs.Common.{◌≡◌, ◌++◌, ◌+◌, length, take}
 use Rattle.kb_grammar.specs.Lines.{lines_text}
-use Rattle.kb_test.specs.Scripts.{in_lines, texts_of}
+use Rattle.kb_test.specs.Scripts.{in_lines}
+use Rattle.kb_test_lines.specs.Lines.{texts_of}
 use Rattle.kb_test.specs.Writing.{listeds_of}
 use Rattle.kb_test.proofs.writing.Counts.append_inputs.Given as goal
 

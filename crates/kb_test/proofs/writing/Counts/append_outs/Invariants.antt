@@ -1,6 +1,7 @@
 use Rattle.std.proofs.Common.{◌≡◌, ◌++◌, ◌≤◌, ◌-◌, length, take, drop}
 use Rattle.kb_grammar.specs.Lines.{lines_text}
-use Rattle.kb_test.specs.Scripts.{out_lines, texts_of}
+use Rattle.kb_test.specs.Scripts.{out_lines}
+use Rattle.kb_test_lines.specs.Lines.{texts_of}
 use Rattle.kb_test.specs.Writing.{outs_of}
 use Rattle.kb_test.proofs.Appending.{lists_of}
 use Rattle.kb_test.proofs.writing.Counts.append_outs.Given as goal

@@ -1,5 +1,5 @@
 use Rattle.std.proofs.Common.{◌≡◌, ◌++◌, length, take}
-use Rattle.kb_test.specs.Words.{words_text}
+use Rattle.kb_test_lines.specs.Words.{words_text}
 use Rattle.kb_test.specs.Writing.{words_of}
 use Rattle.kb_test.proofs.writing.Counts.append_values.Given as goal
 

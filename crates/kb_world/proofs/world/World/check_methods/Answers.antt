@@ -1,8 +1,10 @@
-use Rattle.std.proofs.Common.{◌≡◌, ℕ, ◌+◌, ◌-◌, ◌<◌, [], ◌∷◌, length, Some, None, slice_get, sym, ap, subst, ◌∙◌, arith}
+use Rattle.std.proofs.Common.{◌≡◌, List, ℕ, ◌+◌, ◌-◌, ◌<◌, [], ◌∷◌, length, Some, None, slice_get, sym, ap, subst, ◌∙◌, arith}
 use Rattle.kb_link.specs.World.{World, methods_in}
 use Rattle.kb_world.specs.Found.{FoundMethods}
 use Rattle.kb_world.specs.Reach.{method_mentions}
-use Rattle.kb_world.specs.Walks.{with_all}
+use Rattle.kb_world.specs.Walks.{with_all, AreSettled}
+use Rattle.kb_world.specs.declared.looked.Asked.{Asked}
+use Rattle.kb_world.proofs.Settling.{none_settled}
 use Rattle.kb_world.proofs.Reaching.{IsWalked, walk_starts, walk_goes, walk_ends, walk_stops}
 use Rattle.kb_world.proofs.world.World.check_methods.Goals as goal
 
@@ -11,12 +13,16 @@ loop-number-init c =
     let found : c.in-Ok.found ≡ record { all = c.method_count.result; numbers = c.args.id.0 ∷ [] } = c.in-Ok.ensures in (
       ap (λ (f : FoundMethods). f.all) found ∙ c.method_count.ensures ∙ ap (λ (w : World). length (methods_in w.classes)) c.linked.ensures,
       subst (λ (f : FoundMethods). IsWalked c.args.self.now c.args.id.0 0 f.numbers) (sym found) (walk_starts c.args.self.now c.args.id.0),
+      subst (λ (ks : List Asked). AreSettled c.args.self.now c.in-Ok.found.numbers ks) (sym c.new-looked.ensures) (none_settled c.args.self.now c.in-Ok.found.numbers),
     )
 
 pub check_method-requires-clause-there : goal.check_method-requires-clause-there
 check_method-requires-clause-there c =
     let inside : (c.in-Some.number < c.loop-number.found.all) × (c.loop-number.place < c.loop-number.found.all) = c.in-Some.ensures.inside in
     subst (λ (n : ℕ). c.in-Some.number < n) c.loop-number.invariant.0 inside.0
+
+pub check_method-requires-clause-settled : goal.check_method-requires-clause-settled
+check_method-requires-clause-settled c = c.loop-number.invariant.2
 
 pub check_method-requires-clause-all : goal.check_method-requires-clause-all
 check_method-requires-clause-all c = c.loop-number.invariant.0
@@ -36,6 +42,7 @@ loop-number-preserved c =
       ap (λ (f : FoundMethods). f.all) added ∙ c.loop-number.invariant.0,
       subst (λ (f : FoundMethods). IsWalked c.args.self.now c.args.id.0 (c.loop-number.place + 1) f.numbers) (sym added)
           (walk_goes c.args.self.now c.args.id.0 c.loop-number.place c.loop-number.found.numbers c.in-Some.number c.loop-number.invariant.1 there c.in-Ok-check_method.ensures.none),
+      c.in-Ok-check_method.ensures.settled,
     )
 
 pub returns-in-Err-clause-refused : goal.returns-in-Err-clause-refused

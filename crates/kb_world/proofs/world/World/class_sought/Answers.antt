@@ -2,7 +2,6 @@ use Rattle.std.proofs.Common.{◌≡◌, List, ℕ, sym, ap, ◌∙◌}
 use Rattle.std.specs.Option.{option_map}
 use Rattle.kb_names.specs.declared.types.ExactType.{ExactType}
 use Rattle.kb_class.specs.declared.ids.ClassId.{ClassId}
-use Rattle.kb_class.specs.Platform.{object_name}
 use Rattle.kb_link.specs.World.{World, number_in}
 use Rattle.kb_world.specs.Lookup.{class_of}
 use Rattle.kb_world.proofs.Inside.{class_told}
@@ -14,11 +13,3 @@ returns-in-Class-clause-inside c =
     c.class_of_text.ensures ∙ ap (λ (w : World). number_in w.classes c.as_slice.result.now) c.linked.ensures ∙ ap (λ (n : List ℕ). number_in c.args.self.now.classes n) c.as_slice.ensures.same
     ∙ ap (λ (t : ExactType). class_of c.args.self.now t) (sym c.in-Class.is) in
     class_told c.args.self.now c.args.of.now c.class_of_text.result named
-
-pub returns-in-Array-clause-number : goal.returns-in-Array-clause-number
-returns-in-Array-clause-number c =
-    let sought : option_map (λ (id : ClassId). id.0) c.class_of_text-in-Array.result ≡ number_in c.linked-in-Array.result.now.classes object_name = c.class_of_text-in-Array.ensures in
-    sought ∙ ap (λ (w : World). number_in w.classes object_name) c.linked-in-Array.ensures ∙ ap (λ (t : ExactType). class_of c.args.self.now t) (sym c.in-Array.is)
-
-pub returns-in-Array-clause-inside : goal.returns-in-Array-clause-inside
-returns-in-Array-clause-inside c = class_told c.args.self.now c.args.of.now c.class_of_text-in-Array.result (returns-in-Array-clause-number c)

@@ -1,0 +1,3 @@
+pub mod ListingLaws
+pub mod LocalLaws
+pub mod Stacks

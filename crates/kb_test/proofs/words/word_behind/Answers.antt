@@ -1,6 +1,0 @@
-use Rattle.kb_test.specs.Words.{word_text, IsWord}
-use Rattle.kb_test.proofs.ReadLaws.{behind_read}
-use Rattle.kb_test.proofs.words.word_behind.Goals as goal
-
-pub returns : goal.returns
-returns c = behind_read IsWord word_text c.args.front.now c.in_ok-behind.field-0.now c.args.text.now c.read_word.result c.in_ok-behind.ensures c.read_word.ensures

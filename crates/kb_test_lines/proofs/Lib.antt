@@ -1,0 +1,7 @@
+pub mod Texts
+pub mod ReadLaws
+pub mod SameWords
+pub mod WordLists
+pub mod BoundsLine
+pub mod SameLines
+pub mod Parts

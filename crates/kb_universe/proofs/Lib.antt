@@ -1,0 +1,5 @@
+pub mod Lists
+pub mod Members
+pub mod Reaching
+pub mod ArraysBelow
+pub mod MarkLaws

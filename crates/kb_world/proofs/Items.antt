@@ -1,0 +1,78 @@
+-- Instructions one by one: calls by their entries, and what is first wrong.
+use Rattle.std.proofs.Common.{◌≡◌, ℕ, ◌-◌, ◌≤◌, ◌<◌, inl, inr, List, [], ◌∷◌, ◌++◌, length, take, drop, get_or, fold, Option, Some, None, Result, Ok, Err, IfErr, refl, sym, ap, ◌∙◌, subst}
+use Rattle.std.specs.Option.{option_map}
+use Rattle.std.proofs.lemmas.Option.{same_Some, none-some}
+use Rattle.std.proofs.lemmas.Grind.{fold-append}
+use Rattle.kb_code.specs.declared.instruction.Instr.{Instr}
+use Rattle.kb_code.specs.declared.instruction.Instr.TheVariants as instrs
+use Rattle.kb_link.specs.declared.linking.LinkRefusal.{LinkRefusal}
+use Rattle.kb_link.specs.World.{World}
+use Rattle.kb_link.proofs.Walks.{next_rest}
+use Rattle.kb_world.specs.declared.calls.Call.{Call}
+use Rattle.kb_world.specs.Calls.{call_of, call_fault, call_mentions, fault_of, mentions}
+use Rattle.kb_world.specs.Faults.{Fault}
+use Rattle.kb_world.specs.Found.{FoundMethods}
+use Rattle.kb_world.specs.Lookup.{or_else}
+use Rattle.kb_world.specs.Reach.{with_new, fault_in, mentions_in}
+use Rattle.kb_world.specs.Walks.{with_all, StopsAt, IsFaultIn, IsFaultAt, IsFaultOfCall}
+use Rattle.kb_world.proofs.Settling.{stops_as}
+
+-- what is wrong with a call, and what it mentions
+pub call_is : (world : World) (class : ℕ) (instr : Instr) (told : Call × ℕ) → Some told ≡ call_of instr
+    → (fault_of world class instr ≡ call_fault world class told.0 told.1) × (mentions world class instr ≡ call_mentions world class told.0 told.1)
+unfolding fault_of mentions
+call_is world class (instrs.Virtual entry) told e = (let same = same_Some _ _ e in (ap (λ (t : Call × ℕ). call_fault world class t.0 t.1) (sym same), ap (λ (t : Call × ℕ). call_mentions world class t.0 t.1) (sym same)))
+call_is world class (instrs.Special entry) told e = (let same = same_Some _ _ e in (ap (λ (t : Call × ℕ). call_fault world class t.0 t.1) (sym same), ap (λ (t : Call × ℕ). call_mentions world class t.0 t.1) (sym same)))
+call_is world class (instrs.Static entry) told e = (let same = same_Some _ _ e in (ap (λ (t : Call × ℕ). call_fault world class t.0 t.1) (sym same), ap (λ (t : Call × ℕ). call_mentions world class t.0 t.1) (sym same)))
+call_is world class (instrs.Interface entry) told e = (let same = same_Some _ _ e in (ap (λ (t : Call × ℕ). call_fault world class t.0 t.1) (sym same), ap (λ (t : Call × ℕ). call_mentions world class t.0 t.1) (sym same)))
+call_is world class instr told e = absurd cc
+
+-- no other instruction mentions a method
+pub none_mentioned : (world : World) (class : ℕ) (instr : Instr) → None ≡ call_of instr → mentions world class instr ≡ []
+unfolding mentions
+none_mentioned world class (instrs.Virtual entry) e = absurd cc
+none_mentioned world class (instrs.Special entry) e = absurd cc
+none_mentioned world class (instrs.Static entry) e = absurd cc
+none_mentioned world class (instrs.Interface entry) e = absurd cc
+none_mentioned world class instr e = refl
+
+-- ---- the rest of a listing
+
+module _ (world : World) (class : ℕ) (rest : List (ℕ × Instr)) (item : ℕ × Instr) (some : 1 ≤ length rest) (at : item ≡ get_or rest 0 item) where
+  pub fault_later : fault_of world class item.1 ≡ None → fault_in world class (take (length rest - 1) (drop 1 rest)) ≡ fault_in world class rest
+  fault_later none =
+      sym (ap (fault_in world class) (next_rest rest item some at)
+      ∙ ap (λ (o : Option Fault). or_else (option_map (λ (fault : Fault). (item.0, fault)) o) (fault_in world class (take (length rest - 1) (drop 1 rest)))) none)
+
+  pub fault_here : (fault : Fault) → fault_of world class item.1 ≡ Some fault → fault_in world class rest ≡ Some (item.0, fault)
+  fault_here fault is =
+      ap (fault_in world class) (next_rest rest item some at)
+      ∙ ap (λ (o : Option Fault). or_else (option_map (λ (f : Fault). (item.0, f)) o) (fault_in world class (take (length rest - 1) (drop 1 rest)))) is
+
+  -- what it mentions comes before what the rest mentions
+  pub mention_next : (before after : FoundMethods) → after ≡ with_all before (mentions world class item.1)
+      → with_all after (mentions_in world class (take (length rest - 1) (drop 1 rest))) ≡ with_all before (mentions_in world class rest)
+  mention_next before after added =
+      ap (λ (f : FoundMethods). with_all f (mentions_in world class (take (length rest - 1) (drop 1 rest)))) added
+      ∙ ap (λ (ns : List ℕ). record { all = before.all; numbers = ns })
+      (sym (fold-append with_new before.numbers (mentions world class item.1) (mentions_in world class (take (length rest - 1) (drop 1 rest)))))
+      ∙ ap (λ (is : List (ℕ × Instr)). with_all before (mentions_in world class is)) (sym (next_rest rest item some at))
+
+  pub stops_here : (number : ℕ) (items : List (ℕ × Instr)) (refusal : LinkRefusal) → fault_in world class rest ≡ fault_in world class items → StopsAt world (IsFaultAt world number class item) refusal
+      → StopsAt world (IsFaultIn world number class items) refusal
+  stops_here number items refusal goes =
+      stops_as world (IsFaultAt world number class item) (IsFaultIn world number class items) refusal
+      (λ method place fault is. (is.0, sym goes ∙ fault_here fault is.2 ∙ ap (λ (p : ℕ). Some (p, fault)) (sym is.1)))
+
+-- ---- calls
+
+pub if_err : {A E : Type 0} (result : Result A E) (P Q : E → Type 0) → ((error : E) → P error → Q error) → IfErr result P → IfErr result Q
+if_err (Ok value) P Q f p = p
+if_err (Err error) P Q f p = f error p
+
+-- the fault of a call is that of the instruction
+pub call_stops : (world : World) (number class : ℕ) (item : ℕ × Instr) (told : Call × ℕ) (refusal : LinkRefusal) → Some told ≡ call_of item.1
+    → StopsAt world (IsFaultOfCall world number item.0 (record { class = class; entry = told.1; call = told.0 })) refusal → StopsAt world (IsFaultAt world number class item) refusal
+call_stops world number class item told refusal is =
+    stops_as world (IsFaultOfCall world number item.0 (record { class = class; entry = told.1; call = told.0 })) (IsFaultAt world number class item) refusal
+    (λ method place fault stops. (stops.0, stops.1, (call_is world class item.1 told is).0 ∙ stops.2))
