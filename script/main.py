@@ -1,0 +1,78 @@
+"""What the words are for: words of the script's own, or words of the program."""
+
+from . import words as page
+from .program import Interrupted, Signals, ask, die, hold_low_files, run
+from .say import Fault, say
+from .words import Order
+
+OWN = ("explain", "targets")
+
+
+def begin(ignored, program, words):
+    """Does what the words ask for. The exit status."""
+    hold_low_files()
+    signals = Signals(ignored)
+    try:
+        status = dispatch(signals, program, words)
+    except Fault as fault:
+        for line in fault.lines:
+            say(line)
+        status = fault.status
+    except Interrupted as interrupted:
+        status = -interrupted.number
+    if status < 0:
+        die(-status)
+    return status
+
+
+def dispatch(signals, program, words):
+    if words[0] in OWN or (len(words) == 2 and words[1] == "--help"):
+        from .own import answer
+
+        return answer(signals, program, words)
+    try:
+        return Call(signals, program, words).run()
+    except OSError as error:
+        raise Fault(70, f"cannot run {program}: {error.strerror}") from error
+
+
+class Call:
+    """A call of the program, with what is said before and behind it."""
+
+    def __init__(self, signals, program, words):
+        self.signals, self.program, self.words = signals, program, words
+        self.commands, self.options = page.read_page()
+        self.order = Order(words, self.options)
+        self.handed = None
+
+    def run(self):
+        from .handing import Handed
+
+        with Handed(self.order) as self.handed:
+            for line in self.handed.lines:
+                say(line)
+            self.remark()
+            status = run(self.signals, self.program, self.handed.words)
+            if status > 0:
+                from .explanations import explain
+
+                return explain(self, status)
+            return status
+
+    def remark(self):
+        """Says where a report would be narrower than it looks, unless it is refused."""
+        remarks = self.handed.remarks()
+        if remarks and self.is_taken():
+            for line in remarks:
+                say(line)
+
+    def is_taken(self):
+        """Whether the program refuses nothing, asked with all bounds at their least."""
+        least = []
+        for name, option in self.options.items():
+            if option.low is not None:
+                least += [name, str(option.low)]
+        words = [self.order.command, *least, "--method", self.order.value("--method"), *self.handed.files]
+        if self.order.value("--init"):
+            words[1:1] = ["--init", self.order.value("--init")]
+        return ask(self.signals, self.program, words)[0] in (0, 1)
