@@ -7,27 +7,36 @@ from .program import ask, die
 from .say import reason, say
 
 REFUSED = (2, 3, 4, 5, 9)
+# Words are judged before any file is read.
+WORDS = 2
 
 
 def explain(call, status):
-    """Explains the status of a call. The status that the script ends with."""
-    if status in REFUSED and all(word is None or is_regular(word) for word in texts_and_files(call)):
-        again, output = ask(call.signals, call.program, call.handed.words)
-        if again < 0:
-            die(-again)
-        row = refusal_of(output.decode("latin-1").rstrip("\n"))
-        if again == status and row:
-            for line in refused.lines(call, row, output.decode("latin-1").rstrip("\n")):
-                say(line)
-            return status
-    for line in status_lines(call, status):
+    """Says in words what a call came to."""
+    lines = refusal_lines(call, status) if status in REFUSED and may_ask_again(call, status) else []
+    for line in lines or status_lines(call, status):
         say(line)
-    return status
+
+
+def may_ask_again(call, status):
+    """Whether the program answers the same words once more, since what it reads is still there."""
+    return status == WORDS or all(map(is_regular, texts_and_files(call)))
+
+
+def refusal_lines(call, status):
+    """The lines on the refusal of a call, which is made once more; none where it answers something else."""
+    again, output = ask(call.signals, call.program, call.handed.words)
+    if again < 0:
+        die(-again)
+    line = output.decode("latin-1").rstrip("\n")
+    row = refusal_of(line)
+    return refused.lines(call, row, line) if again == status and row else []
 
 
 def texts_and_files(call):
-    """The words that name files, but for a text that is not there at all."""
-    return [call.order.text, *call.handed.files]
+    """The words that name files."""
+    text = call.order.text
+    return [*([] if text is None else [text]), *call.handed.files]
 
 
 def status_lines(call, status):
@@ -45,8 +54,6 @@ def status_lines(call, status):
 def unread(call):
     """Which file could not be read: the first that cannot be opened now."""
     for word in texts_and_files(call):
-        if word is None:
-            continue
         try:
             with open(word, "rb") as file:
                 file.read(1)

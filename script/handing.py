@@ -5,7 +5,7 @@ import os
 from .names import class_of_entry, lowest, read_name, read_target, spelled, spelled_method
 from .needs import CODE, Needs
 from .places import Finder, is_regular, is_utf8, read_single
-from .say import Fault, listed
+from .say import Fault, counted, listed
 from .words import EXPLORING
 
 MOST_FILES = 64
@@ -121,7 +121,8 @@ class Handed:
                 names.append(spelled(source.file.name))
                 self._add(source.path or self._unpacked(source), source)
         if names or place.kind != "beside":
-            self.lines.append(f"of {place.word} ({len(place.sources)} class files): {listed(names) if names else 'nothing'}")
+            there = counted(len(place.sources), "class file", "class files")
+            self.lines.append(f"of {place.word} ({there}): {listed(names) if names else 'nothing'}")
 
     def _add(self, word, source):
         self.files.append(word)

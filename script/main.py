@@ -56,7 +56,7 @@ class Call:
             if status > 0:
                 from .explanations import explain
 
-                return explain(self, status)
+                explain(self, status)
             return status
 
     def remark(self):

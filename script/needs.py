@@ -15,7 +15,8 @@ class Needs:
     """The classes that methods need, of those that are given and of those that lie in places.
 
     `given` are all given classes, which count as needed; `offered` are those of places, of which classes are taken as they
-    are needed. `taken` says of each that was taken why: CODE, or the name of the class below which it stands.
+    are needed. `taken` says of each that was taken why: CODE, or the name of the class below which it stands. `reached` are the
+    methods that are carried out, each with its class file, and `fields` the slots that they access.
     """
 
     def __init__(self, given, offered=()):
@@ -29,7 +30,8 @@ class Needs:
         self._below = {}
         self._roots = set()
         self._calls = {}
-        self._reached = set()
+        self.reached = []
+        self._seen = set()
         self._waiting = []
         self._present = []
         self._note_below()
@@ -92,8 +94,9 @@ class Needs:
 
     def reach(self, owner, method):
         """The method is carried out."""
-        if method.code and (owner, method.name, method.kind) not in self._reached:
-            self._reached.add((owner, method.name, method.kind))
+        if method.code and id(method) not in self._seen:
+            self._seen.add(id(method))
+            self.reached.append((self.world.get(owner).file, method))
             self._waiting.append((owner, method))
 
     def finish(self):

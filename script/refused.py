@@ -1,8 +1,8 @@
 """A refusal in words: the cause and what to do, by the page, and between them what the parts of the line stand for."""
 
 from .class_file import UTF8, Unfit
-from .instructions import first_unexplored, in_words, mnemonic
-from .names import guessed, read_name, read_target, spelled, spelled_method, spelled_target
+from .instructions import CLASS_USES, entry_of, first_unexplored, in_words, instructions, mnemonic
+from .names import class_of_entry, guessed, read_name, read_target, spelled, spelled_method, spelled_target
 from .remarks import beside
 from .say import MOST_NAMES
 
@@ -126,10 +126,18 @@ class Parts:
         found = next(filter(None, (beside(source, name) for source in self.handed.given)), None)
         if found:
             return [f"class {text} lies in {found}"]
-        for place in self.handed.places:
-            for source in place.sources:
-                if source.file.name == name:
-                    return [f"class {text} lies in {source.shown}"]
+        return self._named_by(text, name)
+
+    def _named_by(self, text, name):
+        """What names a class that is missing: a class below it, or the first instruction that is reached."""
+        for source in self.handed.given:
+            if name == source.file.parent or name in source.file.interfaces:
+                return [f"class {text} is a superclass or an interface of {spelled(source.file.name)}"]
+        for file, method in self.handed.needs.reached if self.handed.needs else ():
+            for at, opcode in instructions(method.code.bytes):
+                if opcode in CLASS_USES and named_class(file, method.code.bytes, at) == name:
+                    target = spelled_target(file.name, method.name, method.kind)
+                    return place_lines(target, file, method.code, at, True)
         return []
 
     def _found(self, text):
@@ -204,6 +212,14 @@ class Parts:
             return []
         place = place_lines(text, file, method.code, at, False)
         return [f"{text} at {at} is {in_words(file, method.code.bytes, at)}, which is not explored yet", *place]
+
+
+def named_class(file, code, at):
+    """The class that the instruction at that offset names, by itself or as an array's element, or None."""
+    try:
+        return class_of_entry(file.class_name(entry_of(code, at)))
+    except Unfit:
+        return None
 
 
 def place_lines(text, file, code, at, with_instruction):

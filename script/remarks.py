@@ -4,8 +4,8 @@ import os
 
 from .class_file import STATIC, argument_name
 from .names import class_of_type, spelled
-from .say import MOST_NAMES, listed
-from .world import BOUNDLESS, PLATFORM, Universe, parameter_types
+from .say import MOST_NAMES, counted, listed
+from .world import BOUNDLESS, PLATFORM, PLATFORM_INTERFACES, Universe, parameter_types
 
 # More classes than that are worth a note.
 FEW = 4
@@ -35,11 +35,11 @@ class Given:
     def __init__(self, handed):
         self.handed = handed
         self.world = handed.needs.world
-        self.classes = []
+        sources = {}
         for source in handed.given:
-            if source.file.name is not None and all(source.file.name != known.name for known in self.classes):
-                self.classes.append(self.world.get(source.file.name) or source.known())
-        self.names = {known.name for known in self.classes}
+            sources.setdefault(source.file.name, source)
+        self.names = {name for name in sources if name is not None}
+        self.classes = [source.known() for name, source in sources.items() if name is not None]
         self._universe = None
 
     @property
@@ -50,9 +50,8 @@ class Given:
 
     def has_below(self, name):
         """Whether an object may be of that class or of one below it."""
-        known = self.world.get(name)
-        if known.is_concrete or name in PLATFORM:
-            return True
+        if name in PLATFORM:
+            return any(self.universe.fitting(name))
         return any(each.is_concrete and self.world.is_below(each.name, name) for each in self.classes)
 
     def beside(self, name):
@@ -89,9 +88,9 @@ def read_name_of(path):
 def warning(given, slot):
     """What is to be said of a slot that can only be null, or None."""
     named = class_of_type(slot.kind)
-    if named is None or named in PLATFORM:
+    if named is None or named in PLATFORM and named not in PLATFORM_INTERFACES:
         return None
-    if named not in given.names:
+    if named not in given.names and named not in PLATFORM:
         path = given.beside(named)
         found = f"; it lies in {path}" if path else ""
         return f"warning: class {spelled(named)} is not given, so {slot.words} can only be null{found}"
@@ -108,7 +107,8 @@ def note(given, slot):
     classes, arrays = given.universe.fitting(named)
     if len(classes) + len(arrays) <= FEW and not given.handed.looked_into:
         return None
-    kinds = f"{len(classes)} classes" + (f" and {len(arrays)} array types" if arrays else "")
+    kinds = counted(len(classes), "class", "classes")
+    kinds += f" and {counted(len(arrays), 'array type', 'array types')}" if arrays else ""
     names = [*map(spelled, classes), *arrays]
     return f"note: {slot.words} may hold each of {kinds}: {listed(names) if names else 'none'}"
 

@@ -36,6 +36,10 @@ def listed(names, between=", ", most=MOST_NAMES):
     return between.join(names[:most]) + more
 
 
+def counted(number, one, many):
+    return f"{number} {one if number == 1 else many}"
+
+
 class Fault(Exception):
     """The script ends with a line and a status."""
 

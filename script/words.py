@@ -103,7 +103,7 @@ class Order:
         """The word that names a text, or None."""
         if self.command == "assemble":
             return self.words[1] if len(self.words) > 1 else None
-        return self.value("--tests")
+        return self.value("--tests") if self.command == "replay" else None
 
     def option_at(self, place):
         """The name of the option whose value stands at that place, or None."""

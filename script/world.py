@@ -1,7 +1,7 @@
 """The classes that are known, given or of the platform, and the rules of lookup (docs/USING.md, docs/REFUSALS.md)."""
 
-from .class_file import ABSTRACT, INTERFACE, PRIVATE, STATIC, Unfit
-from .names import class_of_entry, class_of_type, element, split_method, type_end
+from .class_file import ABSTRACT, INTERFACE, PRIVATE, STATIC
+from .names import class_of_type, element, split_method, type_end
 
 OBJECT = "java/lang/Object"
 PLATFORM_INTERFACES = ("java/lang/Cloneable", "java/lang/Comparable", "java/io/Serializable")
@@ -169,6 +169,7 @@ class Universe:
         for known in given:
             self._note(known.file, named, arrays)
         self.world = world
+        self._names = {known.name for known in given}.union(PLATFORM)
         self.classes = [known.name for known in given if known.is_concrete]
         self.classes += [name for name in PLATFORM if name in named and PLATFORM_CLASSES[name].is_concrete]
         self.arrays = sorted(kind for kind in arrays if self._is_known(element(kind)))
@@ -185,17 +186,10 @@ class Universe:
                 kind = kind[1:]
 
     def _is_known(self, kind):
-        return kind in ("Z", "I") or class_of_type(kind) in self.world.classes
+        return kind in ("Z", "I") or class_of_type(kind) in self._names
 
     def fitting(self, name):
         """The classes, and the arrays, that may stand in a slot of that class."""
         fits = name in (OBJECT, "java/lang/Cloneable", SERIALIZABLE)
         return [each for each in self.classes if self.world.is_below(each, name)], self.arrays if fits else []
 
-
-def entry_class(file, number):
-    """The class that a Class entry names, by itself or as an array's element, or None."""
-    try:
-        return class_of_entry(file.class_name(number))
-    except Unfit:
-        return None
