@@ -61,7 +61,7 @@ class Handed:
             return
         parts = [self.finder.part(word) for word in self.files]
         self.places = [place for _, place in parts if place]
-        singles = [single.known() for single, _ in parts if single and single.file.name is not None]
+        singles = [single.known() for single, _ in parts if single and single.name is not None]
         offered = [source.known() for place in self.places for source in place.sources]
         self.needs = Needs(singles, offered)
         self._ask(targets)
@@ -96,7 +96,7 @@ class Handed:
         """No class of the target's name is there: a fault, where a folder or an archive was named."""
         named = [place for place in self.places if place.kind != "beside"]
         if named:
-            names = {source.file.name for place in self.places for source in place.sources}
+            names = {source.name for place in self.places for source in place.sources}
             near = lowest(map(spelled, names), spelled(owner))
             lines = [f"near names: {', '.join(near)}"] if near else []
             raise Fault(6, f"no class {spelled(owner)} in {', '.join(place.word for place in named)}", *lines)
@@ -117,8 +117,8 @@ class Handed:
     def _take(self, place, taken):
         names = []
         for source in place.sources:
-            if source.file.name in taken and self.needs.world.get(source.file.name).source is source:
-                names.append(spelled(source.file.name))
+            if source.name in taken and self.needs.world.get(source.name).source is source:
+                names.append(spelled(source.name))
                 self._add(source.path or self._unpacked(source), source)
         if names or place.kind != "beside":
             there = counted(len(place.sources), "class file", "class files")

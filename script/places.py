@@ -10,14 +10,18 @@ ARCHIVES = (".jar", ".zip")
 
 
 class Source:
-    """A class file: what it is called to a reader, its bytes, and its path, or None where it has none to hand on."""
+    """A class file: what it is called to a reader, its bytes, and its path, or None where it has none to hand on.
 
-    def __init__(self, shown, data, path=None):
+    Of a damaged one whose name cannot be read the name is `called`, by its place in a folder or archive, or None.
+    """
+
+    def __init__(self, shown, data, path=None, called=None):
         self.shown, self.path = shown, path
         self.file = ClassFile(data)
+        self.name = called if self.file.name is None else self.file.name
 
     def known(self):
-        return Known(self.file.name, self.file, self)
+        return Known(self.name, self.file, self)
 
 
 class Place:
@@ -25,7 +29,7 @@ class Place:
 
     def __init__(self, word, sources, kind):
         self.word, self.kind = word, kind
-        self.sources = sorted((each for each in sources if each.file.name is not None), key=lambda each: each.file.name)
+        self.sources = sorted((each for each in sources if each.name is not None), key=lambda each: each.name)
 
 
 def is_regular(path):
@@ -71,6 +75,11 @@ def is_utf8(path):
     return True
 
 
+def called_by(path):
+    """The name of the class whose file lies at that path from the top of a place."""
+    return os.fsencode(path[: -len(".class")]).decode("latin-1")
+
+
 class Finder:
     """Looks into places, into each once. `faults` are lines about what could not be looked at there."""
 
@@ -104,7 +113,7 @@ class Finder:
         folder, name = os.path.split(word)
         front = name[: -len(".class")] + "$"
         found = [each for each in self._listing(folder) if each.startswith(front) and each.endswith(".class")]
-        sources = self._read_all(os.path.join(folder, each) for each in sorted(found))
+        sources = self._read_all([os.path.join(folder, each) for each in sorted(found)], folder)
         return Place(os.path.join(folder, f"{front}*.class"), sources, "beside") if sources else None
 
     def _listing(self, folder):
@@ -121,15 +130,16 @@ class Finder:
         for folder, folders, files in os.walk(word, onerror=self._note):
             folders.sort()
             paths += [os.path.join(folder, name) for name in sorted(files) if name.endswith(".class")]
-        return self._read_all(paths)
+        return self._read_all(paths, word)
 
-    def _read_all(self, paths):
-        """The class files of those paths."""
-        sources = []
+    def _read_all(self, paths, folder):
+        """The class files of those paths, which lie in that folder."""
+        front, sources = os.path.join(folder, ""), []
         for path in paths:
             try:
                 if is_regular(path):
-                    self._add(sources, Source(path, read_file(path), path if is_utf8(path) else None))
+                    called = called_by(path[len(front) :])
+                    self._add(sources, Source(path, read_file(path), path if is_utf8(path) else None, called))
             except OSError as error:
                 self._note(error)
         return sources
@@ -166,7 +176,7 @@ class Finder:
             shown = f"{word}!/{entry.filename}"
             try:
                 with archive.open(entry) as stream:
-                    self._add(sources, Source(shown, stream.read(MOST_BYTES + 1)))
+                    self._add(sources, Source(shown, stream.read(MOST_BYTES + 1), None, called_by(entry.filename)))
             except (BadZipFile, ZlibError, ValueError, RuntimeError, EOFError, OSError) as error:
                 self.faults.append(f"warning: cannot read {shown}: {str(error) or 'it ends too early'}")
         return sources

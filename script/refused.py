@@ -132,7 +132,7 @@ class Parts:
         """What names a class that is missing: a class below it, or the first instruction that is reached."""
         for source in self.handed.given:
             if name == source.file.parent or name in source.file.interfaces:
-                return [f"class {text} is a superclass or an interface of {spelled(source.file.name)}"]
+                return [f"class {text} is a superclass or an interface of {spelled(source.name)}"]
         for file, method in self.handed.needs.reached if self.handed.needs else ():
             for at, opcode in instructions(method.code.bytes):
                 if opcode in CLASS_USES and named_class(file, method.code.bytes, at) == name:
@@ -144,7 +144,7 @@ class Parts:
         """The class file and the method that a TARGET names, among those that are given, or None."""
         target = read_target(text)
         for source in self.handed.given if target else ():
-            if source.file.name == target[0]:
+            if source.name == target[0]:
                 for method in source.file.methods:
                     if method.name == target[1] and spelled_method(method.kind) == target[2]:
                         return source.file, method
@@ -166,11 +166,11 @@ class Parts:
         ranked = []
         for source in self._all_sources():
             for target in targets_of(source.file):
-                simple = source.file.name.rpartition("/")[2] == owner.rpartition("/")[2]
-                ranked.append((target[1] != name, source.file.name != owner, not simple, len(ranked), target))
+                simple = source.name.rpartition("/")[2] == owner.rpartition("/")[2]
+                ranked.append((target[1] != name, source.name != owner, not simple, len(ranked), target))
         ranked = sorted(each for each in ranked if not all(each[:3]))
         there = [spelled_target(*each[-1]) for each in ranked]
-        missing = [] if any(source.file.name == owner for source in self._all_sources()) or self.row.number == 98 else [owner]
+        missing = [] if any(source.name == owner for source in self._all_sources()) or self.row.number == 98 else [owner]
         lines = [f"class {spelled(name)} is not given" for name in missing]
         lines += [f"there is {target}" for target in there[:MOST_NAMES]]
         return lines + ([f"and {len(there) - MOST_NAMES} more"] if len(there) > MOST_NAMES else [])
@@ -188,7 +188,7 @@ class Parts:
                 sources += Finder().look_into(word).sources if is_place(word) else []
             except Fault:
                 continue
-        return [source for source in sources if source.file.name is not None]
+        return [source for source in sources if source.name is not None]
 
     def _in_the_way(self):
         """The first thing that is not explored today. This goes where everything is."""

@@ -37,7 +37,7 @@ class Given:
         self.world = handed.needs.world
         sources = {}
         for source in handed.given:
-            sources.setdefault(source.file.name, source)
+            sources.setdefault(source.name, source)
         self.names = {name for name in sources if name is not None}
         self.classes = [source.known() for name, source in sources.items() if name is not None]
         self._universe = None
@@ -65,9 +65,9 @@ class Given:
 
 def beside(source, name):
     """The path at which the class file of that name would lie, by that of another one, if there is a file."""
-    if source.path is None or source.file.name is None:
+    if source.path is None or source.name is None:
         return None
-    end = source.file.name + ".class"
+    end = source.name + ".class"
     candidates = [os.path.join(os.path.dirname(source.path), name.rpartition("/")[2] + ".class")]
     if source.path == end or source.path.endswith("/" + end):
         candidates.insert(0, source.path[: -len(end)] + name + ".class")
@@ -82,7 +82,7 @@ def read_name_of(path):
     from .places import read_single
 
     source = read_single(path)
-    return source.file.name if source else None
+    return source.name if source else None
 
 
 def warning(given, slot):
