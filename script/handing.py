@@ -149,9 +149,8 @@ class Handed:
         by_code = reasons.pop(CODE, 0)
         singly = len(self.files) - by_code - sum(reasons.values())
         parts = [f"{singly} named singly"] * (singly > 0) + [f"{by_code} by the code"] * (by_code > 0)
-        parts += [
-            f"{count} since they are below {spelled(name)}" for name, count in sorted(reasons.items(), key=lambda pair: -pair[1])
-        ]
+        below = sorted(reasons.items(), key=lambda pair: -pair[1])
+        parts += [f"{count} since they are below {spelled(name)}" for name, count in below]
         return [f"{len(self.files)} class files are needed: {listed(parts)}; name singly those that are to count"]
 
     def remarks(self):

@@ -103,7 +103,8 @@ class Finder:
         else:
             place = Place(word, self._in_archive(word), "archive")
         if not place.sources:
-            raise Fault(6, f"cannot read {word}: is {'a folder' if place.kind == 'folder' else 'an archive'} without class files")
+            kind = "a folder" if place.kind == "folder" else "an archive"
+            raise Fault(6, f"cannot read {word}: is {kind} without class files")
         return place
 
     def beside(self, word):
