@@ -5,11 +5,9 @@ from .program import Interrupted, Signals, ask, die, hold_low_files, run
 from .say import Fault, say
 from .words import Order
 
-OWN = ("explain", "targets")
-
 
 def begin(ignored, program, words):
-    """Does what the words ask for. The exit status."""
+    """Does what the words ask for. Words of the script's own come without a program, but `targets --check`. The exit status."""
     hold_low_files()
     signals = Signals(ignored)
     try:
@@ -26,7 +24,7 @@ def begin(ignored, program, words):
 
 
 def dispatch(signals, program, words):
-    if words[0] in OWN or (len(words) == 2 and words[1] == "--help"):
+    if not program or words[0] == "targets":
         from .own import answer
 
         return answer(signals, program, words)
