@@ -5,6 +5,7 @@ import os
 from .names import class_of_entry, lowest, read_name, read_target, spelled, spelled_method
 from .needs import CODE, Needs
 from .places import Finder, is_regular, is_utf8, read_single
+from .program import Undisturbed
 from .say import Fault, counted, listed
 from .words import EXPLORING
 
@@ -41,8 +42,9 @@ class Handed:
         if self._folder:
             import shutil
 
-            shutil.rmtree(self._folder, ignore_errors=True)
-            self._folder = None
+            with Undisturbed():
+                shutil.rmtree(self._folder, ignore_errors=True)
+                self._folder = None
 
     @property
     def given(self):
@@ -133,7 +135,8 @@ class Handed:
         if self._folder is None:
             import tempfile
 
-            self._folder = tempfile.mkdtemp(prefix="kiasan.")
+            with Undisturbed():
+                self._folder = tempfile.mkdtemp(prefix="kiasan.")
         path = os.path.join(self._folder, f"{len(self.files)}.class")
         with open(path, "wb") as file:
             file.write(source.file.data)

@@ -51,7 +51,7 @@ class Call:
                 say(line)
             self.remark()
             status = run(self.signals, self.program, self.handed.words)
-            if status > 0:
+            if status > 0 and not self.signals.came:
                 from .explanations import explain
 
                 explain(self, status)

@@ -21,12 +21,13 @@ class Signals:
 
     def __init__(self, ignored):
         self.ignored = ignored
-        self.program = None
+        self.program, self.came = None, False
         for number in FORWARDED:
             if signal.getsignal(number) is not signal.SIG_IGN:
                 signal.signal(number, self._come)
 
     def _come(self, number, _frame):
+        self.came = True
         if self.program is None:
             raise Interrupted(number)
         os.kill(self.program, number)
@@ -34,6 +35,17 @@ class Signals:
     def of_program(self):
         """The signals that the program begins with as the script was started with them."""
         return [number for number in SET_ASIDE if not self.ignored >> (number - 1) & 1]
+
+
+class Undisturbed:
+    """A context in which signals wait."""
+
+    def __enter__(self):
+        self.before = signal.pthread_sigmask(signal.SIG_BLOCK, FORWARDED)
+        return self.before
+
+    def __exit__(self, *_):
+        signal.pthread_sigmask(signal.SIG_SETMASK, self.before)
 
 
 def hold_low_files():
@@ -47,18 +59,15 @@ def hold_low_files():
 
 def start(signals, program, words, actions=()):
     """Starts the program. A signal that comes meanwhile waits until it is known which program it is for."""
-    blocked = signal.pthread_sigmask(signal.SIG_BLOCK, FORWARDED)
-    try:
+    with Undisturbed() as mask:
         signals.program = os.posix_spawn(
             program,
             [program, *words],
             os.environ,
             file_actions=actions,
-            setsigmask=blocked,
+            setsigmask=mask,
             setsigdef=signals.of_program(),
         )
-    finally:
-        signal.pthread_sigmask(signal.SIG_SETMASK, blocked)
 
 
 def end(signals):
