@@ -1,9 +1,7 @@
 """The stored rows with a folder in the place of their class files."""
 
 import shutil
-from concurrent.futures import ThreadPoolExecutor
-
-from script.tests.tools import DATA, call, folder, rows, same
+from script.tests.tools import DATA, call, folder, judge_all, rows, same
 
 ENDINGS = ("returns", "throws", "illtyped", "cut", "undecided", "open", "past")
 # Class files that are none, or whose name cannot be read or is not that of the target's class: in their folder no class has
@@ -69,5 +67,4 @@ def test_folders_answer_as_their_class_files_do():
     found = [row for row in rows() if row[0][:1] in (["explore"], ["tests"]) and files_of(row[0])]
     found = [row for row in found if is_without_platform(row[0])]
     same(len(found) > 300, True, "the rows")
-    with ThreadPoolExecutor(3) as pool:
-        list(pool.map(judge, found))
+    judge_all(judge, found)

@@ -1,9 +1,7 @@
 """All stored rows by the script, and the page's row of each refusal."""
 
-from concurrent.futures import ThreadPoolExecutor
-
 from script import pages
-from script.tests.tools import call, rows, same, status_lines
+from script.tests.tools import call, judge_all, rows, same, status_lines
 
 NO_RECEIVER = "warning: no class below {} is given, so there is no receiver and no path"
 NO_CLASS = "warning: no class below {} is given, so {} can only be null"
@@ -54,8 +52,7 @@ def judge(row):
 def test_rows_are_answered_as_they_are_stored():
     found = rows()
     same(len(found) > 400, True, "the rows")
-    with ThreadPoolExecutor(3) as pool:
-        list(pool.map(judge, found))
+    judge_all(judge, found)
 
 
 def test_each_refusal_has_one_row():

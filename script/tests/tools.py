@@ -4,6 +4,7 @@ import os
 import signal
 import subprocess
 import tempfile
+from concurrent.futures import ThreadPoolExecutor
 from contextlib import contextmanager
 from pathlib import Path
 
@@ -11,6 +12,7 @@ ROOT = Path(__file__).resolve().parent.parent.parent
 SCRIPT = ROOT / "kiasan"
 ROWS = ROOT / "crates" / "kiasan_rows"
 DATA = ROWS / "data"
+AT_ONCE, MOST_CHARACTERS = 3, 300
 # The program that the tests are run on; `run` sets it.
 PROGRAM = ""
 
@@ -35,6 +37,22 @@ class Ran:
 def same(found, wanted, what):
     if found != wanted:
         raise AssertionError(f"{what}: {found!r} in place of {wanted!r}")
+
+
+def judge_all(judge, items):
+    """Judges all items, several at once, and tells of all that fail."""
+
+    def failure(item):
+        try:
+            judge(item)
+        except AssertionError as error:
+            return str(error)[:MOST_CHARACTERS]
+        return None
+
+    with ThreadPoolExecutor(AT_ONCE) as pool:
+        failures = list(filter(None, pool.map(failure, items)))
+    if failures:
+        raise AssertionError("\n".join([f"{len(failures)} of {len(items)}", *failures]))
 
 
 def environment(**more):
