@@ -8,7 +8,7 @@ import time
 
 from script.tests import tools
 from script.tests.test_alone import FIRST, change_a_source, copy, without_program
-from script.tests.tools import call, same, signals_as_by_hand
+from script.tests.tools import call, same
 
 CRATES = subprocess.run([tools.ROOT / "release/sum", "--crates"], stdout=subprocess.PIPE, check=True).stdout.decode().split()
 SLOW = """#!/bin/sh
@@ -104,7 +104,6 @@ def test_an_interrupt_leaves_nothing_behind():
                 env=env,
                 stdout=subprocess.PIPE,
                 stderr=subprocess.DEVNULL,
-                preexec_fn=signals_as_by_hand,
             )
             told = top.parent / "told"
             while not told.exists():
@@ -126,7 +125,6 @@ def test_on_a_terminal_one_line_is_written_anew():
             env=environment_of(top, MAKES),
             stdout=subprocess.PIPE,
             stderr=theirs,
-            preexec_fn=signals_as_by_hand,
         )
         os.close(theirs)
         said = b""

@@ -7,7 +7,7 @@ import time
 
 from script.tests.maker import ICONST_0, IRETURN, Maker
 from script.tests.test_places import write_archive
-from script.tests.tools import DATA, SCRIPT, environment, folder, same, signals_as_by_hand
+from script.tests.tools import DATA, SCRIPT, environment, folder, same
 
 # A program that tells that it runs, and which signal came.
 TELLS = """#!/bin/sh
@@ -58,7 +58,6 @@ def begin(path, text, *words, **more):
         env=environment(KIASAN_PROGRAM=write_program(path, text), **more),
         stdout=subprocess.PIPE,
         stderr=subprocess.PIPE,
-        preexec_fn=signals_as_by_hand,
         start_new_session=True,
     )
 
@@ -125,7 +124,6 @@ def test_a_reader_that_ends():
                 cwd=DATA,
                 env=environment(),
                 stderr=subprocess.PIPE,
-                preexec_fn=signals_as_by_hand,
                 check=False,
             )
             answers.append(run.stderr.decode().splitlines()[-1])
@@ -145,7 +143,6 @@ def test_ignored_signals_stay_ignored():
                     ["sh", "-c", how + words, SCRIPT],
                     env=environment(KIASAN_PROGRAM=program),
                     stdout=subprocess.PIPE,
-                    preexec_fn=signals_as_by_hand,
                     check=False,
                 )
                 found.append(int(run.stdout or b"0", 16) & ~OF_THE_LIBRARY)

@@ -1,7 +1,6 @@
 """What tests of the script share: calls, the stored rows, and what the pages say."""
 
 import os
-import signal
 import subprocess
 import tempfile
 from concurrent.futures import ThreadPoolExecutor
@@ -60,18 +59,12 @@ def environment(**more):
     return {**os.environ, "KIASAN_PROGRAM": PROGRAM, **more}
 
 
-def signals_as_by_hand():
-    """A call from a terminal ignores no signal."""
-    for number in (signal.SIGINT, signal.SIGTERM, signal.SIGHUP, signal.SIGQUIT, signal.SIGPIPE):
-        signal.signal(number, signal.SIG_DFL)
-
-
 def call(*words, cwd=DATA, script=SCRIPT, **more):
     """Runs the script on words."""
     more.setdefault("env", environment())
     more.setdefault("stdin", subprocess.DEVNULL)
     more.setdefault("stdout", subprocess.PIPE)
-    ran = subprocess.run([script, *words], cwd=cwd, stderr=subprocess.PIPE, preexec_fn=signals_as_by_hand, check=False, **more)
+    ran = subprocess.run([script, *words], cwd=cwd, stderr=subprocess.PIPE, check=False, **more)
     return Ran(ran.returncode, ran.stdout, ran.stderr.decode("utf-8", "surrogateescape"))
 
 
