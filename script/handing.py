@@ -57,12 +57,12 @@ class Handed:
 
     def _find(self):
         """Looks for what the targets need, and puts it in the place of the words that are places."""
-        targets = self._read_targets()
-        if not targets:
-            self.sources = [read_single(word) for word in self.files]
-            return
         parts = [self.finder.part(word) for word in self.files]
         self.places = [place for _, place in parts if place]
+        self.sources = [single for single, _ in parts]
+        targets = self._read_targets()
+        if not targets:
+            return
         singles = [single.known() for single, _ in parts if single and single.name is not None]
         offered = [source.known() for place in self.places for source in place.sources]
         self.needs = Needs(singles, offered)
@@ -71,9 +71,11 @@ class Handed:
         self._put_together(parts)
 
     def _read_targets(self):
-        """The targets, each with the types of objects that it names besides."""
+        """The targets, each with the classes of objects that it names besides; none where nobody asks for them."""
         if self.order.command in EXPLORING:
             return [(self.order.target, [])]
+        if not self.places:
+            return []
         try:
             return read_tests(self.order.text) if is_regular(self.order.text) else []
         except OSError:

@@ -40,6 +40,8 @@ def answer(signals, program, words):
 
 def command_help(command):
     """The words, options, statuses and an example of a command."""
+    if command not in COMMANDS:
+        raise Fault(2, f"{command} is no command; the commands with a page of help are {', '.join(COMMANDS)}")
     forms, options = read_page()
     numbers, example = COMMANDS[command]
     lines = [line for form, says in forms[command] for line in (form, f"    {says}")]
