@@ -159,8 +159,8 @@ class Handed:
         return [f"{len(self.files)} class files are needed: {listed(parts)}; name singly those that are to count"]
 
     def remarks(self):
-        """Where the report of an exploration would be narrower than it looks."""
-        if self.order.command not in EXPLORING or not self.targets or None in self.sources:
+        """Where the report of an exploration would be narrower than it looks; nothing where more files are given than may be."""
+        if self.order.command not in EXPLORING or not self.targets or len(self.files) > MOST_FILES or None in self.sources:
             return []
         from .remarks import remarks
 

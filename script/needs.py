@@ -16,24 +16,23 @@ class Needs:
 
     `given` are all given classes, which count as needed; `offered` are those of places, of which classes are taken as they
     are needed. `taken` says of each that was taken why: CODE, or the name of the class below which it stands. `reached` are the
-    methods that are carried out, each with its class file, and `fields` the slots that they access.
+    methods that are carried out, each with its class file, and `fields` the slots that they access. `_calls` are the calls that
+    select, and `_receivers` the classes that an object may be of, both by the name of a class that these name or stand below.
     """
 
     def __init__(self, given, offered=()):
         self.world = World()
         self.given = [known for known in given if self.world.add(known)]
         self.offered = [known for known in offered if self.world.add(known)]
-        self.is_given = {known.name for known in self.given}
         self.is_offered = {known.name for known in self.offered}
         self.taken = {}
         self.fields = {}
         self._below = {}
         self._roots = set()
-        self._calls = {}
+        self._calls, self._receivers = {}, {}
         self.reached = []
         self._seen = set()
         self._waiting = []
-        self._present = []
         self._note_below()
         for known in self.given:
             self._come(known, CODE)
@@ -66,11 +65,12 @@ class Needs:
         """The class is among those that count: calls may select its methods."""
         for above in known.above:
             self.need(above, why)
-        if known.is_concrete:
-            self._present.append(known.name)
-            for owner, name, kind in list(self._calls):
-                if self.world.is_below(known.name, owner):
-                    self._select(known.name, name, kind)
+        if not known.is_concrete:
+            return
+        for above in self.world.supertypes(known.name):
+            self._receivers.setdefault(above, []).append(known.name)
+            for name, kind in list(self._calls.get(above, ())):
+                self._select(known.name, name, kind)
 
     def need_type(self, kind):
         """A declared type of a slot: its class, and all that stand below it."""
@@ -138,13 +138,13 @@ class Needs:
             self.reach(found[0].name, found[1])
 
     def _call_selected(self, named, name, kind):
-        if named.startswith("[") or (named, name, kind) in self._calls:
+        calls = self._calls.setdefault(named, {})
+        if named.startswith("[") or (name, kind) in calls:
             return
-        self._calls[(named, name, kind)] = None
+        calls[(name, kind)] = None
         self.look_below(named)
-        for receiver in list(self._present):
-            if self.world.is_below(receiver, named):
-                self._select(receiver, name, kind)
+        for receiver in list(self._receivers.get(named, ())):
+            self._select(receiver, name, kind)
 
     def _select(self, receiver, name, kind):
         found = self.world.select(receiver, name, kind)
