@@ -160,7 +160,9 @@ class Handed:
 
     def remarks(self):
         """Where the report of an exploration would be narrower than it looks; nothing where more files are given than may be."""
-        if self.order.command not in EXPLORING or not self.targets or len(self.files) > MOST_FILES or None in self.sources:
+        if self.order.command not in EXPLORING or not self.targets:
+            return []
+        if len(self.files) > MOST_FILES or None in self.sources:
             return []
         from .remarks import remarks
 

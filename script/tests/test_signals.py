@@ -20,12 +20,12 @@ while :; do sleep 0.05; done
 # A program that a signal ends.
 DIES = """#!/bin/sh
 echo runs >>told
-exec sleep 60
+exec sleep 250
 """
 REFUSES_SLOWLY = """#!/bin/sh
 if [ -e told ]; then
     echo again >>told
-    exec sleep 60
+    exec sleep 250
 fi
 echo runs >>told
 echo refused 96
@@ -33,6 +33,7 @@ exit 2
 """
 # The C library ignores two signals of its own, 32 and 33, in what it starts.
 OF_THE_LIBRARY = 0x180000000
+MOST_WAITS = 5000
 
 
 def write_program(path, text):
@@ -43,7 +44,7 @@ def write_program(path, text):
 
 def wait_for(path, line):
     """Waits until the program has told that."""
-    for _ in range(1000):
+    for _ in range(MOST_WAITS):
         if (path / "told").exists() and line in (path / "told").read_text(encoding="ascii"):
             return
         time.sleep(0.02)
@@ -68,7 +69,7 @@ def test_signals_reach_the_program():
             script = begin(path, TELLS, "explore")
             wait_for(path, "runs")
             script.send_signal(number)
-            script.communicate(timeout=60)
+            script.communicate(timeout=150)
             told = (path / "told").read_text(encoding="ascii").split()
             same(told[:2], ["runs", signal.Signals(number).name[3:]], f"signal {number}")
             same(script.returncode, status, f"signal {number}")
@@ -80,14 +81,14 @@ def test_a_signal_ends_program_and_script():
             script = begin(path, DIES, "explore")
             wait_for(path, "runs")
             script.send_signal(number)
-            same(script.communicate(timeout=60)[1], b"", f"signal {number}")
+            same(script.communicate(timeout=150)[1], b"", f"signal {number}")
             same(script.returncode, -number, f"signal {number}")
 
 
 def test_a_program_that_ends_itself():
     with folder() as path:
         script = begin(path, "#!/bin/sh\nkill -s SEGV $$\n", "explore")
-        script.communicate(timeout=60)
+        script.communicate(timeout=150)
         same(script.returncode, -signal.SIGSEGV, "a program that a signal ended")
 
 
@@ -96,7 +97,7 @@ def test_a_signal_while_it_is_asked_again():
         script = begin(path, REFUSES_SLOWLY, "explore")
         wait_for(path, "again")
         script.send_signal(signal.SIGTERM)
-        same(script.communicate(timeout=60), (b"refused 96\n", b""), "a signal while the script asks again")
+        same(script.communicate(timeout=150), (b"refused 96\n", b""), "a signal while the script asks again")
         same(script.returncode, -signal.SIGTERM, "a signal while the script asks again")
 
 
@@ -109,7 +110,7 @@ def test_nothing_is_left_of_an_archive():
         wait_for(path, "runs")
         same(len(list((path / "tmp").iterdir())), 1, "class files of an archive while the program runs")
         script.send_signal(signal.SIGTERM)
-        script.communicate(timeout=60)
+        script.communicate(timeout=150)
         same((script.returncode, list((path / "tmp").iterdir())), (-signal.SIGTERM, []), "what is left")
 
 
