@@ -3,7 +3,7 @@
 from . import refused
 from .pages import refusal_of, status_of
 from .places import is_place, is_regular
-from .program import ask, die
+from .program import ask
 from .say import reason, say
 
 REFUSED = (2, 3, 4, 5, 9)
@@ -26,8 +26,6 @@ def may_ask_again(call, status):
 def refusal_lines(call, status):
     """The lines on the refusal of a call, which is made once more; none where it answers something else."""
     again, output = ask(call.signals, call.program, call.handed.words)
-    if again < 0:
-        die(-again)
     line = output.decode("latin-1").rstrip("\n")
     row = refusal_of(line)
     return refused.lines(call, row, line) if again == status and row else []

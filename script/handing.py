@@ -6,7 +6,7 @@ from .names import class_of_entry, lowest, read_name, read_target, spelled, spel
 from .needs import CODE, Needs
 from .places import Finder, is_regular, is_utf8, read_single
 from .program import Undisturbed
-from .say import Fault, counted, listed
+from .say import Fault, counted, listed, reason
 from .words import EXPLORING
 
 MOST_FILES = 64
@@ -126,7 +126,7 @@ class Handed:
                 self._add(source.path or self._unpacked(source), source)
         if names or place.kind != "beside":
             there = counted(len(place.sources), "class file", "class files")
-            self.lines.append(f"of {place.word} ({there}): {listed(names) if names else 'nothing'}")
+            self.lines.append(f"of {place.word} ({there}): {listed(names) or 'nothing'}")
 
     def _add(self, word, source):
         self.files.append(word)
@@ -134,14 +134,17 @@ class Handed:
 
     def _unpacked(self, source):
         """The path of a copy of a class file of an archive."""
-        if self._folder is None:
-            import tempfile
+        try:
+            if self._folder is None:
+                import tempfile
 
-            with Undisturbed():
-                self._folder = tempfile.mkdtemp(prefix="kiasan.")
-        path = os.path.join(self._folder, f"{len(self.files)}.class")
-        with open(path, "wb") as file:
-            file.write(source.file.data)
+                with Undisturbed():
+                    self._folder = tempfile.mkdtemp(prefix="kiasan.")
+            path = os.path.join(self._folder, f"{len(self.files)}.class")
+            with open(path, "wb") as file:
+                file.write(source.file.data)
+        except OSError as error:
+            raise Fault(70, f"cannot unpack {source.shown}: {reason(error)}") from error
         return path
 
     def why_so_many(self):
@@ -159,7 +162,7 @@ class Handed:
         return [f"{len(self.files)} class files are needed: {listed(parts)}; name singly those that are to count"]
 
     def remarks(self):
-        """Where the report of an exploration would be narrower than it looks; nothing where more files are given than may be."""
+        """Where the report of an exploration would be narrower than it looks; nothing where too many files are given."""
         if self.order.command not in EXPLORING or not self.targets:
             return []
         if len(self.files) > MOST_FILES or None in self.sources:

@@ -1,9 +1,8 @@
 """What the words are for: words of the script's own, or words of the program."""
 
-from . import words as page
 from .program import Interrupted, Signals, ask, die, hold_low_files, run
 from .say import Fault, say
-from .words import Order
+from .words import Order, least, read_page
 
 
 def begin(ignored, program, words):
@@ -28,10 +27,7 @@ def dispatch(signals, program, words):
         from .own import answer
 
         return answer(signals, program, words)
-    try:
-        return Call(signals, program, words).run()
-    except OSError as error:
-        raise Fault(70, f"cannot run {program}: {error.strerror}") from error
+    return Call(signals, program, words).run()
 
 
 class Call:
@@ -39,7 +35,7 @@ class Call:
 
     def __init__(self, signals, program, words):
         self.signals, self.program, self.words = signals, program, words
-        self.commands, self.options = page.read_page()
+        self.options = read_page()[1]
         self.order = Order(words, self.options)
         self.handed = None
 
@@ -66,11 +62,7 @@ class Call:
 
     def is_taken(self):
         """Whether the program refuses nothing, asked with all bounds at their least."""
-        least = []
-        for name, option in self.options.items():
-            if option.low is not None:
-                least += [name, str(option.low)]
-        words = [self.order.command, *least, "--method", self.order.value("--method"), *self.handed.files]
+        words = [self.order.command, *least(self.options), "--method", self.order.value("--method")]
         if self.order.value("--init"):
-            words[1:1] = ["--init", self.order.value("--init")]
-        return ask(self.signals, self.program, words)[0] in (0, 1)
+            words += ["--init", self.order.value("--init")]
+        return ask(self.signals, self.program, [*words, *self.handed.files])[0] in (0, 1)

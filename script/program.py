@@ -3,13 +3,15 @@
 import os
 import signal
 
+from .say import Fault, reason
+
 FORWARDED = (signal.SIGINT, signal.SIGTERM, signal.SIGHUP, signal.SIGQUIT)
 # Signals that python3 ignores whatever it was started with.
 SET_ASIDE = (signal.SIGPIPE, signal.SIGXFSZ)
 
 
 class Interrupted(BaseException):
-    """A signal came while no program ran."""
+    """A signal came while no program ran, or ended one that ran for the script."""
 
     def __init__(self, number):
         super().__init__(number)
@@ -60,14 +62,11 @@ def hold_low_files():
 def start(signals, program, words, actions=()):
     """Starts the program. A signal that comes meanwhile waits until it is known which program it is for."""
     with Undisturbed() as mask:
-        signals.program = os.posix_spawn(
-            program,
-            [program, *words],
-            os.environ,
-            file_actions=actions,
-            setsigmask=mask,
-            setsigdef=signals.of_program(),
-        )
+        more = {"file_actions": actions, "setsigmask": mask, "setsigdef": signals.of_program()}
+        try:
+            signals.program = os.posix_spawn(program, [program, *words], os.environ, **more)
+        except OSError as error:
+            raise Fault(70, f"cannot run {program}: {reason(error)}") from error
 
 
 def end(signals):
@@ -84,7 +83,7 @@ def run(signals, program, words):
 
 
 def ask(signals, program, words):
-    """Runs the program. Its status, and what it writes."""
+    """Runs the program for the script. Its status, and what it writes. A signal that ends it ends the script."""
     reading, writing = os.pipe()
     try:
         start(signals, program, words, [(os.POSIX_SPAWN_DUP2, writing, 1)])
@@ -94,7 +93,10 @@ def ask(signals, program, words):
     while piece := os.read(reading, 65536):
         pieces.append(piece)
     os.close(reading)
-    return end(signals), b"".join(pieces)
+    status = end(signals)
+    if status < 0:
+        raise Interrupted(-status)
+    return status, b"".join(pieces)
 
 
 def die(number):

@@ -163,17 +163,16 @@ class Parts:
         """Methods of the given class files that may be meant."""
         wanted = self.order.value("--method") or ""
         owner, name = (read_target(wanted) or guessed(wanted))[:2]
-        ranked = []
-        for source in self._all_sources():
+        sources, ranked = self._all_sources(), []
+        for source in sources:
             for target in targets_of(source.file):
                 simple = source.name.rpartition("/")[2] == owner.rpartition("/")[2]
                 ranked.append((target[1] != name, source.name != owner, not simple, len(ranked), target))
-        ranked = sorted(each for each in ranked if not all(each[:3]))
-        there = [spelled_target(*each[-1]) for each in ranked]
-        missing = [] if any(source.name == owner for source in self._all_sources()) or self.row.number == 98 else [owner]
-        lines = [f"class {spelled(name)} is not given" for name in missing]
-        lines += [f"there is {target}" for target in there[:MOST_NAMES]]
-        return lines + ([f"and {len(there) - MOST_NAMES} more"] if len(there) > MOST_NAMES else [])
+        there = [spelled_target(*each[-1]) for each in sorted(ranked) if not all(each[:3])]
+        is_missing = self.row.number == 45 and all(source.name != owner for source in sources)
+        said = [f"class {spelled(owner)} is not given"] if is_missing else []
+        said += [f"there is {target}" for target in there[:MOST_NAMES]]
+        return said + ([f"and {len(there) - MOST_NAMES} more"] if len(there) > MOST_NAMES else [])
 
     def _all_sources(self):
         """The given class files, and those of places where no target says which are needed."""

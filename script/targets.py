@@ -2,10 +2,10 @@
 
 from .names import spelled_target
 from .places import Finder, Source, is_place, is_regular, read_file
-from .program import ask, die
+from .program import ask
 from .refused import targets_of
 from .say import Fault, put, reason, say
-from .words import Order, read_page
+from .words import Order, least, read_page
 
 
 def list_targets(signals, program, words):
@@ -52,12 +52,9 @@ def check(signals, program, finder, target, files):
     """Whether the target can be explored today: `explored`, or the line that refuses it."""
     from .handing import Handed
 
-    _, options = read_page()
-    least = [word for option in options.values() if option.low is not None for word in (option.name, str(option.low))]
-    with Handed(Order(["explore", *least, "--method", target, *files], options), finder) as handed:
+    options = read_page()[1]
+    with Handed(Order(["explore", *least(options), "--method", target, *files], options), finder) as handed:
         status, output = ask(signals, program, handed.words)
-    if status < 0:
-        die(-status)
     if status in (0, 1):
         return "explored"
     line = output.decode("latin-1").partition("\n")[0]

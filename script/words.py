@@ -44,6 +44,11 @@ def read_page():
     return commands, options
 
 
+def least(options):
+    """Words that set all bounds to their least."""
+    return [word for option in options.values() if option.low is not None for word in (option.name, str(option.low))]
+
+
 def options_of(command, options):
     """The options that the command takes."""
     if command in EXPLORING:

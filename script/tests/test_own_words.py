@@ -18,11 +18,7 @@ FAULTS = [
     (["targets"], 2, ["targets: give class files, folders or jars, behind `--check` or alone"]),
     (["targets", "--check"], 2, ["targets: give class files, folders or jars, behind `--check` or alone"]),
     (["targets", "--chek", "A.class"], 2, ["targets: give class files, folders or jars, behind `--check` or alone"]),
-    (
-        ["COMMAND", "--help"],
-        2,
-        ["COMMAND is no command; the commands with a page of help are explore, tests, replay, assemble, explain, targets, build"],
-    ),
+    (["COMMAND", "--help"], 2, [f"COMMAND is no command; the commands with a page of help are {', '.join(COMMANDS)}"]),
     (["targets", "gone.class"], 6, ["cannot read gone.class: No such file or directory"]),
     (["targets", "a.tests"], 2, ["a.tests is no class file"]),
 ]

@@ -1,7 +1,7 @@
 """All stored rows by the script, and the page's row of each refusal."""
 
 from script import pages
-from script.tests.tools import call, judge_all, rows, same, status_lines
+from script.tests.tools import ROOT, call, judge_all, rows, same, status_lines
 
 NO_RECEIVER = "warning: no class below {} is given, so there is no receiver and no path"
 NO_CLASS = "warning: no class below {} is given, so {} can only be null"
@@ -62,6 +62,11 @@ def test_each_refusal_has_one_row():
             line = output.decode("latin-1").rstrip("\n")
             fitting = [row for row in table if row.parts(line) is not None]
             same([int(row.status) for row in fitting], [status], f"rows of {line}")
+
+
+def test_each_row_of_the_page_is_read():
+    lines = (ROOT / "docs/REFUSALS.md").read_text(encoding="utf-8").split("\n")
+    same(len(pages.refusals()), sum(line.startswith("| `refused ") for line in lines), "rows of docs/REFUSALS.md")
 
 
 def test_each_status_has_a_row():

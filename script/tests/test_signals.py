@@ -92,21 +92,27 @@ def test_a_program_that_ends_itself():
         same(script.returncode, -signal.SIGSEGV, "a program that a signal ended")
 
 
+def begin_on_an_archive(path, text):
+    """Starts the script on a class file of an archive, with a folder of its own for what is unpacked."""
+    Maker("M").method("f", "()I", ICONST_0 + IRETURN).write(path / "all")
+    write_archive(path / "all")
+    (path / "tmp").mkdir()
+    return begin(path, text, "explore", "--method", "M.f()I", "lib.jar", TMPDIR=str(path / "tmp"))
+
+
 def test_a_signal_while_it_is_asked_again():
     with folder() as path:
-        script = begin(path, REFUSES_SLOWLY, "explore")
+        script = begin_on_an_archive(path, REFUSES_SLOWLY)
         wait_for(path, "again")
         script.send_signal(signal.SIGTERM)
-        same(script.communicate(timeout=150), (b"refused 96\n", b""), "a signal while the script asks again")
-        same(script.returncode, -signal.SIGTERM, "a signal while the script asks again")
+        said = b"kiasan: of lib.jar (1 class file): M\n"
+        same(script.communicate(timeout=150), (b"refused 96\n", said), "a signal while the script asks again")
+        same((script.returncode, list((path / "tmp").iterdir())), (-signal.SIGTERM, []), "what is left")
 
 
 def test_nothing_is_left_of_an_archive():
     with folder() as path:
-        Maker("M").method("f", "()I", ICONST_0 + IRETURN).write(path / "all")
-        write_archive(path / "all")
-        (path / "tmp").mkdir()
-        script = begin(path, DIES, "explore", "--method", "M.f()I", "lib.jar", TMPDIR=str(path / "tmp"))
+        script = begin_on_an_archive(path, DIES)
         wait_for(path, "runs")
         same(len(list((path / "tmp").iterdir())), 1, "class files of an archive while the program runs")
         script.send_signal(signal.SIGTERM)
