@@ -6,7 +6,8 @@ file that is taken), by the script, and the time in which `python3` starts is ta
 clock and of the processor, the least of all runs, and how far what is added stays below its goal.
 
 Usage: bench/script.py [--runs N] [--program FILE]
-Build the program first, by running ./kiasan once.
+Build the program first, by running ./kiasan once. With --program the script does not look whether the program is of the
+sources, which takes a part of the time.
 """
 
 import argparse
@@ -21,6 +22,7 @@ from pathlib import Path
 from link import class_file
 
 ROOT = Path(__file__).resolve().parent.parent
+BUILT = str(ROOT / "build" / "kiasan")
 TARGET = "p/C0.method0()I"
 MEMBERS = 24
 FEW, MANY = 64, 2000
@@ -68,7 +70,7 @@ def write_archive(folder, files):
 
 def print_added(name, goal, words, alone, options):
     """One line: what the script adds on these words to the program on those."""
-    environment = {**os.environ, "KIASAN_PROGRAM": options.program}
+    environment = {**os.environ, "KIASAN_PROGRAM": options.program if options.program != BUILT else ""}
     explore = ["explore", "--method", TARGET]
     program = least([options.program, *explore, *alone], environment, options.runs)
     script = least([str(ROOT / "kiasan"), *explore, *words], environment, options.runs)
@@ -83,7 +85,7 @@ def print_added(name, goal, words, alone, options):
 def main():
     parser = argparse.ArgumentParser(description=__doc__.split("\n\n")[0])
     parser.add_argument("--runs", type=int, default=20)
-    parser.add_argument("--program", default=str(ROOT / "build" / "kiasan"))
+    parser.add_argument("--program", default=BUILT)
     options = parser.parse_args()
     options.program = str(Path(options.program).resolve())
     print("milliseconds by the clock and of the processor:")

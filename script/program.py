@@ -1,7 +1,11 @@
 """Runs the program: its output and status are its own, and signals reach it."""
 
 import os
-import signal
+
+try:
+    import _signal as signal  # without the names of signals, which take most of the time of `import signal`
+except ImportError:
+    import signal
 
 from .say import Fault, reason
 
@@ -25,7 +29,7 @@ class Signals:
         self.ignored = ignored
         self.program, self.came = None, False
         for number in FORWARDED:
-            if signal.getsignal(number) is not signal.SIG_IGN:
+            if signal.getsignal(number) != signal.SIG_IGN:
                 signal.signal(number, self._come)
 
     def _come(self, number, _frame):

@@ -5,10 +5,14 @@ nothing where the words need none. This file alone is read by any python3, also 
 """
 
 import os
-import signal
 import sys
 
-if signal.getsignal(signal.SIGINT) is signal.default_int_handler:
+try:
+    import _signal as signal
+except ImportError:
+    import signal
+
+if signal.getsignal(signal.SIGINT) == signal.default_int_handler:
     signal.signal(signal.SIGINT, signal.SIG_DFL)
 
 
