@@ -2,7 +2,7 @@
 
 import os
 
-from .names import class_of_entry, lowest, read_name, read_target, spelled, spelled_method
+from .names import class_of_entry, nearest, read_name, read_target, spelled, spelled_method
 from .needs import CODE, Needs
 from .places import Finder, is_regular, is_utf8, read_single
 from .program import Undisturbed
@@ -101,7 +101,7 @@ class Handed:
         named = [place for place in self.places if place.kind != "beside"]
         if named:
             names = {source.name for place in self.places for source in place.sources}
-            near = lowest(map(spelled, names), spelled(owner))
+            near = nearest(map(spelled, names), spelled(owner))
             lines = [f"near names: {', '.join(near)}"] if near else []
             raise Fault(6, f"no class {spelled(owner)} in {', '.join(place.word for place in named)}", *lines)
 

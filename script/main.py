@@ -26,6 +26,7 @@ def dispatch(signals, program, words):
     if not program or words[0] == "targets":
         from .own import answer
 
+        signals.as_begun()
         return answer(signals, program, words)
     return Call(signals, program, words).run()
 

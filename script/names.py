@@ -124,8 +124,15 @@ def guessed(text):
     return owner.replace(".", "/"), name
 
 
-def lowest(texts, wanted):
-    """The texts, those first that have most in common with the wanted one: at most 8."""
+def is_near(name, wanted):
+    """Whether the one name may be a slip for the other."""
+    from difflib import SequenceMatcher
+
+    return SequenceMatcher(None, name, wanted).ratio() >= 0.7
+
+
+def nearest(texts, wanted):
+    """The texts that may be meant, those first that have most in common with the wanted one: at most 8."""
     from difflib import SequenceMatcher
 
     last = wanted.rpartition("/")[2]

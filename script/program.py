@@ -38,6 +38,11 @@ class Signals:
             raise Interrupted(number)
         os.kill(self.program, number)
 
+    def as_begun(self):
+        """The script itself goes on with the signals that python3 ignores as it was started with them."""
+        for number in self.of_program():
+            signal.signal(number, signal.SIG_DFL)
+
     def of_program(self):
         """The signals that the program begins with as the script was started with them."""
         return [number for number in SET_ASIDE if not self.ignored >> (number - 1) & 1]

@@ -2,7 +2,7 @@
 
 from .class_file import UTF8, Unfit
 from .instructions import CLASS_USES, entry_of, first_unexplored, in_words, instructions, mnemonic
-from .names import class_of_entry, guessed, read_name, read_target, spelled, spelled_method, spelled_target
+from .names import class_of_entry, guessed, is_near, read_name, read_target, spelled, spelled_method, spelled_target
 from .remarks import beside
 from .say import MOST_NAMES
 
@@ -166,8 +166,9 @@ class Parts:
         sources, ranked = self._all_sources(), []
         for source in sources:
             for target in targets_of(source.file):
-                simple = source.name.rpartition("/")[2] == owner.rpartition("/")[2]
-                ranked.append((target[1] != name, source.name != owner, not simple, len(ranked), target))
+                other = source.name.rpartition("/")[2] != owner.rpartition("/")[2]
+                rank = (target[1] != name, source.name != owner, other, not is_near(target[1], name))
+                ranked.append((*rank, len(ranked), target))
         there = [spelled_target(*each[-1]) for each in sorted(ranked) if not all(each[:3])]
         is_missing = self.row.number == 45 and all(source.name != owner for source in sources)
         said = [f"class {spelled(owner)} is not given"] if is_missing else []

@@ -63,6 +63,18 @@ def test_refusals_and_statuses_are_explained():
         same(call(*words.split(" ")).said, wanted, words)
 
 
+def test_a_slip_in_a_method():
+    """Near names come first of those of the class."""
+    made = Maker("Q")
+    for name in ("a", "b", "c", "d", "e", "f", "g", "h", "size", "sized"):
+        made.method(name, "()I", ICONST_0 + IRETURN)
+    with folder() as path:
+        made.write(path)
+        ran = call("explore", "--method", "Q.sizes()I", "Q.class", cwd=path)
+        there = [f"there is Q.{name}()I" for name in ("size", "sized", "a", "b", "c", "d", "e", "f")]
+        same(ran.said, explained("refused 45 TARGET", *there, "and 2 more"), "a slip in a method's name")
+
+
 def test_no_words():
     ran = call()
     same((ran.status, ran.out), (2, b"refused 90\n"), "no words")

@@ -142,3 +142,9 @@ def test_standard_input_is_the_programs():
     run = subprocess.run([ROOT / "kiasan", *words], input=data, capture_output=True, env=environment(), check=False)
     last = b"total 1 ended 1 cut 0 undecided 0 open 0"
     same((run.returncode, run.stdout.split(b"\n")[-2], run.stderr), (0, last, b""), "a pipe")
+
+
+def test_a_reader_that_has_seen_enough():
+    text = '{ sleep 0.3; exec "$0" targets A.class; } | true'
+    run = subprocess.run(["sh", "-c", text, ROOT / "kiasan"], cwd=DATA, env=environment(), stderr=subprocess.PIPE, check=False)
+    same(run.stderr, b"", "a closed pipe")
