@@ -1,0 +1,1 @@
+"""What the script `kiasan` says in words, and where it finds class files: Python of the standard library alone."""

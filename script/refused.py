@@ -1,0 +1,242 @@
+"""A refusal in words: the cause and what to do, by the page, and between them what the parts of the line stand for."""
+
+from .class_file import UTF8, Unfit
+from .instructions import CLASS_USES, entry_of, first_unexplored, in_words, instructions, mnemonic
+from .names import class_of_entry, guessed, is_near, read_name, read_target, spelled, spelled_method, spelled_target
+from .remarks import beside
+from .say import MOST_NAMES
+
+MOST_BYTES = 200
+# The commands that explore and are built.
+BUILT = ("explore", "tests")
+
+
+def lines(call, row, line):
+    """The lines on a refusal of a call."""
+    parts = row.parts(line)
+    explain = Parts(call, row, {part: text for _, part, text in parts})
+    said = [text for word, part, text in parts for text in explain.part(word, part, text)]
+    return [f"refused {row.number}: {row.cause}", *said, *explain.besides(), f"to do: {row.to_do}"]
+
+
+def quoted(data):
+    """Bytes of a text, in quotes: at most the first 200, and all but printable ASCII as `%XX`."""
+    text = "".join(chr(byte) if 32 <= byte < 127 else f"%{byte:02X}" for byte in data[:MOST_BYTES])
+    return f'"{text}"' + (" .." if len(data) > MOST_BYTES else "")
+
+
+class Parts:
+    """What the parts of a refusal's line stand for."""
+
+    def __init__(self, call, row, texts):
+        self.call, self.row, self.texts = call, row, texts
+        self.handed, self.order = call.handed, call.order
+        number = texts.get("F")
+        self.source = self._source(int(number)) if number is not None else None
+
+    def _source(self, number):
+        sources = self.handed.sources
+        return sources[number] if number < len(sources) else None
+
+    def part(self, word, part, text):
+        """The lines on one part of the line, behind that word."""
+        about = {
+            "file": self._file,
+            "method": self._method,
+            "word": self._word,
+            "line": self._line,
+            "test": self._test,
+            "entry": self._entry,
+            "opcode": self._opcode,
+            "class": self._class,
+        }.get(word)
+        if part == "TARGET":
+            about = self._target
+        return [] if about is None or part == "NAME" and word != "class" else about(text)
+
+    def besides(self):
+        """Lines that belong to a number and to no part of its line."""
+        about = {45: self._methods_there, 98: self._methods_there, 49: self._so_many, 50: self._in_the_way}.get(self.row.number)
+        return about() if about else []
+
+    def _file(self, number):
+        files = self.handed.files
+        shown = self.source.shown if self.source else files[int(number)]
+        return [f"file {number} is {shown}"]
+
+    def _method(self, number):
+        methods = self.source.file.methods if self.source else []
+        if int(number) >= len(methods):
+            return []
+        method = methods[int(number)]
+        return [f"method {number} is {spelled(method.name)}{spelled_method(method.kind)}"]
+
+    def _entry(self, number):
+        """Of the entries of a constant pool those that are texts are shown."""
+        if self.source is None or self.row.number not in (37, 38, 39):
+            return []
+        try:
+            if self.source.file.tag(int(number)) == UTF8:
+                return [f"entry {number} is {quoted(self.source.file.text(int(number)).encode('latin-1'))}"]
+        except Unfit:
+            pass
+        return []
+
+    @staticmethod
+    def _opcode(text):
+        return [f"opcode {text} is {mnemonic(int(text, 16))}"]
+
+    def _word(self, number):
+        word = self.call.words[int(number)]
+        name = self.order.option_at(int(number))
+        behind = ""
+        if self.row.number == 94:
+            option = self.call.options.get(name)
+            behind = f", {name} takes {option.range}" if option else ", sample takes 0 to 64"
+        return [f"word {number} is {f'{name} ' if name else ''}{word}{behind}"]
+
+    def _text_lines(self):
+        """The lines of the text of the call, without their ends, or none where it cannot be read."""
+        try:
+            with open(self.order.text, "rb") as file:
+                return file.read().split(b"\n")
+        except (OSError, TypeError):
+            return []
+
+    def _line(self, number):
+        found = self._text_lines()
+        at = int(number) - 1
+        if at < len(found) - 1:
+            return [f"line {number} is {quoted(found[at])}"]
+        if found and at == len(found) - 1 and found[at]:
+            return [f"line {number} is {quoted(found[at])}, without a line feed"]
+        return [f"line {number} is behind the last one"] if found else []
+
+    def _test(self, number):
+        heads = [line for line in self._text_lines() if line.startswith(b"test ")]
+        if int(number) >= len(heads):
+            return []
+        return [f"test {number} is {heads[int(number)][5:].decode('latin-1')}"]
+
+    def _class(self, text):
+        """Where a class file of that name lies beside the given ones."""
+        name = read_name(text)
+        if self.row.number != 41 or name is None:
+            return []
+        found = next(filter(None, (beside(source, name) for source in self.handed.given)), None)
+        if found:
+            return [f"class {text} lies in {found}"]
+        return self._named_by(text, name)
+
+    def _named_by(self, text, name):
+        """What names a class that is missing: a class below it, or the first instruction that is reached."""
+        for source in self.handed.given:
+            if name == source.file.parent or name in source.file.interfaces:
+                return [f"class {text} is a superclass or an interface of {spelled(source.name)}"]
+        for file, method in self.handed.needs.reached if self.handed.needs else ():
+            for at, opcode in instructions(method.code.bytes):
+                if opcode in CLASS_USES and named_class(file, method.code.bytes, at) == name:
+                    target = spelled_target(file.name, method.name, method.kind)
+                    return place_lines(target, file, method.code, at, True)
+        return []
+
+    def _found(self, text):
+        """The class file and the method that a TARGET names, among those that are given, or None."""
+        target = read_target(text)
+        for source in self.handed.given if target else ():
+            if source.name == target[0]:
+                for method in source.file.methods:
+                    if method.name == target[1] and spelled_method(method.kind) == target[2]:
+                        return source.file, method
+        return None
+
+    def _target(self, text):
+        found = self._found(text)
+        if found is None or "N" not in self.texts or found[1].code is None:
+            return []
+        return place_lines(text, found[0], found[1].code, int(self.texts["N"]), "HH" not in self.texts)
+
+    def _so_many(self):
+        return self.handed.why_so_many()
+
+    def _methods_there(self):
+        """Methods of the given class files that may be meant."""
+        wanted = self.order.value("--method") or ""
+        owner, name = (read_target(wanted) or guessed(wanted))[:2]
+        sources, ranked = self._all_sources(), []
+        for source in sources:
+            for target in targets_of(source.file):
+                other = source.name.rpartition("/")[2] != owner.rpartition("/")[2]
+                rank = (target[1] != name, source.name != owner, other, not is_near(target[1], name))
+                ranked.append((*rank, len(ranked), target))
+        there = [spelled_target(*each[-1]) for each in sorted(ranked) if not all(each[:3])]
+        is_missing = self.row.number == 45 and all(source.name != owner for source in sources)
+        said = [f"class {spelled(owner)} is not given"] if is_missing else []
+        said += [f"there is {target}" for target in there[:MOST_NAMES]]
+        return said + ([f"and {len(there) - MOST_NAMES} more"] if len(there) > MOST_NAMES else [])
+
+    def _all_sources(self):
+        """The given class files, and those of places where no target says which are needed."""
+        if self.handed.places or self.row.number != 98:
+            return self.handed.given
+        from .places import Finder, is_place
+        from .say import Fault
+
+        sources = list(self.handed.given)
+        for word in self.handed.files:
+            try:
+                sources += Finder().look_into(word).sources if is_place(word) else []
+            except Fault:
+                continue
+        return [source for source in sources if source.name is not None]
+
+    def _in_the_way(self):
+        """The first thing that is not explored today. This goes where everything is."""
+        if self.order.command not in BUILT:
+            return [f"word 0 is {self.order.command}"]
+        if self.order.value("--init") == "lazier":
+            return [f"word {self.order.values['--init']} is --init lazier"]
+        text = self.order.value("--method")
+        found = self._found(text)
+        if found is None or found[1].code is None:
+            return []
+        file, method = found
+        if method.code.handlers:
+            handler = method.code.handlers[0]
+            caught = spelled(handler.caught) if handler.caught else "anything"
+            line = method.code.line_at(handler.target)
+            where = f" ({file.source}:{line})" if file.source and line else ""
+            return [f"{text} at {handler.target} handles {caught}{where}, which is not explored yet"]
+        at = first_unexplored(file, method.code.bytes)
+        if at is None:
+            return []
+        place = place_lines(text, file, method.code, at, False)
+        return [f"{text} at {at} is {in_words(file, method.code.bytes, at)}, which is not explored yet", *place]
+
+
+def named_class(file, code, at):
+    """The class that the instruction at that offset names, by itself or as an array's element, or None."""
+    try:
+        return class_of_entry(file.class_name(entry_of(code, at)))
+    except Unfit:
+        return None
+
+
+def place_lines(text, file, code, at, with_instruction):
+    """The lines on an offset of a method: the instruction there, and the line of the source."""
+    said = []
+    if with_instruction and at < len(code.bytes):
+        said.append(f"{text} at {at} is {in_words(file, code.bytes, at)}")
+    line = code.line_at(at)
+    if line is not None and file.source:
+        said.append(f"{text} at {at} is {file.source}:{line}")
+    return said
+
+
+def targets_of(file):
+    """Class, name and descriptor of each method with code whose name does not begin with `<`, in order."""
+    return [
+        (file.name, method.name, method.kind)
+        for method in (file.methods if file.name is not None else ())
+        if method.code is not None and not method.name.startswith("<")
+    ]

@@ -1,0 +1,188 @@
+"""A copy of the tracked files, where there is little else than a shell: what answers, and what starts a build."""
+
+import hashlib
+import shutil
+import subprocess
+from contextlib import contextmanager
+from pathlib import Path
+
+from script.tests.tools import ROOT, call, environment, folder, same
+
+COREUTILS = """
+basename cat chmod cp cut dirname echo env false head ln ls mkdir mktemp mv printf pwd readlink rm rmdir sha256sum sleep sort
+stat tac tail tee test timeout touch tr true uname wc
+""".split()
+NO_TOOLCHAIN = 'the program is not built, and building it needs the toolchain (rt on the path): README.md, "What is needed"'
+FIRST = ("explore", "--method", "A.f(II)I", "examples/A.class")
+
+
+# What is built and not tracked, and what a program is not made of.
+NOT_TRACKED = ("out", "build", ".git", "__pycache__")
+NOT_MADE_OF = ("specs", "proofs", "must-fail", "data", "bench")
+
+
+@contextmanager
+def copy(whole=False):
+    """A copy of the tracked files, or of those alone that a program is made of and that the script reads."""
+    left_out = NOT_TRACKED if whole else NOT_TRACKED + NOT_MADE_OF
+    with folder() as path:
+        top = path / "top"
+        shutil.copytree(ROOT, top, ignore=lambda _, names: set(left_out).intersection(names), symlinks=True)
+        (path / "bin").mkdir()
+        yield top
+
+
+def bare(top, *programs):
+    """A path that holds the shell, coreutils, gzip, and these programs."""
+    for name in ("sh", "gzip", *COREUTILS, *programs):
+        found = shutil.which(name)
+        if found:
+            (top.parent / "bin" / name).symlink_to(Path(found).resolve() if name == "python3" else found)
+    return str(top.parent / "bin")
+
+
+def without_program(**more):
+    """An environment in which no program is named."""
+    named = environment(**more)
+    del named["KIASAN_PROGRAM"]
+    return named
+
+
+def sum_of(top):
+    """The checksum over the sources of the program, as release/sum tells it."""
+    below = {}
+    for line in (top / "crates.txt").read_text(encoding="utf-8").split("\n"):
+        name, colon, names = line.partition("#")[0].partition(":")
+        if colon:
+            below[name.strip()] = names.split()
+    found, waiting = set(), ["kiasan_main"]
+    while waiting:
+        name = waiting.pop()
+        if name in below and name not in found:
+            found.add(name)
+            waiting += below[name]
+    files = [Path("crates.txt")]
+    for name in found:
+        files += [file.relative_to(top) for file in (top / "crates" / name / "src").rglob("*") if file.is_file()]
+    lines = [f"{hashlib.sha256((top / file).read_bytes()).hexdigest()}  {file}\n" for file in sorted(map(str, files))]
+    return hashlib.sha256("".join(lines).encode()).hexdigest()
+
+
+def kept_is_of(top):
+    """Whether the kept program is of these sources."""
+    built = top / "release/BUILT"
+    return built.exists() and built.read_text(encoding="ascii").split("\n")[1] == sum_of(top)
+
+
+def keep(top):
+    """Makes the program that the tests are run on the kept one of the copy."""
+    from script.tests import tools
+
+    (top / "release").mkdir(exist_ok=True)
+    shutil.copy(tools.PROGRAM, top / "release/kiasan-linux-x86_64")
+    (top / "release/BUILT").write_text(f"a toolchain\n{sum_of(top)}\n", encoding="ascii")
+
+
+def change_a_source(top):
+    with open(top / "crates.txt", "a", encoding="ascii") as file:
+        file.write("# changed\n")
+
+
+def test_the_sum_is_that_of_the_sources():
+    run = subprocess.run([ROOT / "release/sum"], stdout=subprocess.PIPE, check=True)
+    same(run.stdout.decode().strip(), sum_of(ROOT), "release/sum")
+
+
+def test_with_the_shell_and_coreutils_alone():
+    with copy(whole=True) as top:
+        ran = call(*FIRST, script=top / "kiasan", cwd=top, env=without_program(PATH=bare(top)))
+        if kept_is_of(top):
+            same((ran.status, ran.err), (0, ""), "the kept program")
+            same(ran.out.decode().split("\n")[1], "target A.f(II)I", "the kept program")
+        else:
+            same((ran.status, ran.out, ran.said), (70, b"", [NO_TOOLCHAIN]), "no kept program")
+
+
+def test_with_a_kept_program():
+    with copy() as top:
+        keep(top)
+        path = bare(top)
+        wanted = call(*FIRST, cwd=ROOT).out
+        for _ in range(2):
+            ran = call(*FIRST, script=top / "kiasan", cwd=top, env=without_program(PATH=path))
+            same((ran.status, ran.out, ran.err), (0, wanted, ""), "without python3")
+        ran = call("explore", script=top / "kiasan", cwd=top, env=without_program(PATH=path))
+        same((ran.status, ran.out, ran.err), (2, b"refused 95\n", ""), "a refusal without python3")
+        for words in (["explain", "47"], ["targets", "examples/A.class"], ["explore", "--help"], ["targets", "--check", "x"]):
+            ran = call(*words, script=top / "kiasan", cwd=top, env=without_program(PATH=path))
+            named = "explore --help" if words[1] == "--help" else words[0]
+            same((ran.status, ran.out, ran.said), (70, b"", [f"{named} needs python3 of version 3.9 or later"]), words)
+        same(call("--help", script=top / "kiasan", env=without_program(PATH=path)).status, 0, "--help without python3")
+        ran = call(script=top / "kiasan", env=without_program(PATH=path))
+        same((ran.status, ran.out), (2, b"refused 90\n"), "no words without python3")
+
+
+def test_with_python3():
+    with copy() as top:
+        keep(top)
+        path = bare(top, "python3")
+        ran = call("explore", script=top / "kiasan", cwd=top, env=without_program(PATH=path))
+        same((ran.status, ran.out, ran.said[-1].split(":")[0]), (2, b"refused 95\n", "to do"), "a refusal with python3")
+
+
+OLD = """#!/bin/sh
+while [ "${{1#-}}" != "$1" ]; do
+    [ "$1" != -X ] || shift
+    shift
+done
+exec {} -I -c '
+import sys
+sys.version_info = (3, 8, 18, "final", 0)
+sys.argv = sys.argv[1:]
+exec(compile(open(sys.argv[0]).read(), sys.argv[0], "exec"))' "$@"
+"""
+
+
+def test_with_an_old_python3():
+    with copy() as top:
+        keep(top)
+        path = bare(top)
+        old = Path(path) / "python3"
+        old.write_text(OLD.format(Path(shutil.which("python3")).resolve()), encoding="ascii")
+        old.chmod(0o755)
+        ran = call("explore", script=top / "kiasan", cwd=top, env=without_program(PATH=path))
+        same((ran.status, ran.out, ran.err), (2, b"refused 95\n", ""), "a refusal with an old python3")
+        for words in (["explain", "47"], ["targets", "--check", "examples/A.class"], ["explore", "--help"]):
+            ran = call(*words, script=top / "kiasan", cwd=top, env=without_program(PATH=path))
+            named = "explore --help" if words[1] == "--help" else words[0]
+            same((ran.status, ran.out, ran.said), (70, b"", [f"{named} needs python3 of version 3.9 or later"]), words)
+
+
+def test_what_starts_a_build():
+    """A stand-in for rt tells that it was called, and builds nothing."""
+    with copy() as top:
+        change_a_source(top)
+        path = bare(top, "python3", "grep", "sed", "awk", "find", "tar", "xargs")
+        told = top.parent / "told"
+        stand_in = top.parent / "bin/rt"
+        stand_in.write_text(f"#!/bin/sh\necho called >>'{told}'\nexit 1\n", encoding="ascii")
+        stand_in.chmod(0o755)
+        env = without_program(PATH=path)
+        none = ["", "--help", "-h", "explore --help", "targets --help", "explain 47", "explain status 6", "explain"]
+        for words in [*none, "targets examples/A.class", "targets none.class", "build x", "--help x"]:
+            ran = call(*words.split(), script=top / "kiasan", cwd=top, env=env)
+            same((told.exists(), ran.status in (0, 2, 6)), (False, True), f"a build by {words!r}")
+        for words in ("build", "targets --check examples/A.class", "explore", "-- explore"):
+            ran = call(*words.split(), script=top / "kiasan", cwd=top, env=env)
+            same((told.exists(), ran.status, ran.out), (True, 70, b""), f"no build by {words!r}")
+            told.unlink()
+
+
+def test_without_a_toolchain():
+    with copy() as top:
+        change_a_source(top)
+        env = without_program(PATH=bare(top, "python3"))
+        for words in (["build"], ["explore"], ["--", "explore"], ["targets", "--check", "examples/A.class"]):
+            ran = call(*words, script=top / "kiasan", cwd=top, env=env)
+            same((ran.status, ran.out, ran.said), (70, b"", [NO_TOOLCHAIN]), words)
+            same((top / "build/kiasan").exists(), False, words)

@@ -1,0 +1,255 @@
+"""What is said of refusals and statuses, word for word: causes and what to do by the pages, the parts between them by hand."""
+
+import os
+import struct
+import subprocess
+
+from script.tests.maker import ALOAD_0, ARETURN, GETFIELD, ICONST_0, IRETURN, NEW, STATIC, STATIC_CALL, Maker
+from script.tests.tools import DATA, call, environment, explained, folder, same, status_lines
+
+# Words in the folder of the stored rows' files, and what is said of them.
+TABLE = [
+    ("explore --k 17", explained("refused 94 word W", "word 2 is --k 17, --k takes 0 to 16")),
+    ("explore --k 01", explained("refused 93 word W", "word 2 is --k 01")),
+    ("explore --k", explained("refused 92 word W", "word 1 is --k")),
+    ("explore --k 3 --k 3 A.class", explained("refused 97 word W", "word 3 is --k")),
+    ("explore --targt A.f(II)I A.class", explained("refused 91 word W", "word 1 is --targt")),
+    ("help", explained("refused 91 word W", "word 0 is help")),
+    ("assemble Unfit.asm A.class", explained("refused 91 word W", "word 2 is A.class")),
+    ("explore A.class", explained("refused 95")),
+    ("replay A.class", explained("refused 89")),
+    ("explore --method A.f(II)I", explained("refused 96")),
+    ("explore --paths 2000 --method A.f(II)I A.class", explained("refused 99")),
+    (
+        "explore --method A.f(II A.class",
+        explained("refused 98 word W", "word 2 is --method A.f(II", "there is A.f(II)I"),
+    ),
+    ("explore --method A.g()I A.class", explained("refused 45 TARGET", "there is A.f(II)I")),
+    ("explore --method B.f(II)I A.class", explained("refused 45 TARGET", "class B is not given", "there is A.f(II)I")),
+    (
+        "explore --method List.remove(LList;)LList; List.class",
+        explained(
+            "refused 45 TARGET",
+            "there is List.remove(LList;I)LList;",
+            "there is List.contains(I)Z",
+            "there is List.insert(LList;LList;)LList;",
+            "there is List.reverse(LList;)LList;",
+            "there is List.rotate(LList;)LList;",
+        ),
+    ),
+    ("explore --method G.g()V G.class", explained("refused 47 TARGET at N opcode HH", "opcode 62 is fadd")),
+    (
+        "explore --method A.f(II)I A.class name.class",
+        explained("refused 38 file F entry N", "file 1 is name.class", 'entry 1 is ";"'),
+    ),
+    ("explore --method A.f(II)I version_53.class", explained("refused 11 file F version N", "file 0 is version_53.class")),
+    (
+        "explore --method A.f(II)I missing.class",
+        explained("refused 41 class NAME", "class Missing is a superclass or an interface of A"),
+    ),
+    ("explore --method B.abs(I)I A.class cut_flags.class", explained("refused 12 file F at N", "file 1 is cut_flags.class")),
+    ("explore --init lazier --method A.f(II)I A.class", explained("refused 50", "word 2 is --init lazier")),
+    ("diagrams --method A.f(II)I A.class", explained("refused 50", "word 0 is diagrams")),
+    ("sample 6", explained("refused 50", "word 0 is sample")),
+    ("explore --method A.f(II)I Lst.class", ["cannot read Lst.class: No such file or directory"]),
+    ("replay --tests gone.tests A.class", ["cannot read gone.tests: No such file or directory"]),
+    ("replay --tests sums.tests A.class", status_lines(10)),
+    ("explore --paths 1 --method Choice.flag(Z)I Choice.class", status_lines(1)),
+]
+
+
+def test_refusals_and_statuses_are_explained():
+    for words, wanted in TABLE:
+        same(call(*words.split(" ")).said, wanted, words)
+
+
+def test_a_slip_in_a_method():
+    """Near names come first of those of the class."""
+    made = Maker("Q")
+    for name in ("a", "b", "c", "d", "e", "f", "g", "h", "size", "sized"):
+        made.method(name, "()I", ICONST_0 + IRETURN)
+    with folder() as path:
+        made.write(path)
+        ran = call("explore", "--method", "Q.sizes()I", "Q.class", cwd=path)
+        there = [f"there is Q.{name}()I" for name in ("size", "sized", "a", "b", "c", "d", "e", "f")]
+        same(ran.said, explained("refused 45 TARGET", *there, "and 2 more"), "a slip in a method's name")
+
+
+def test_no_words():
+    ran = call()
+    same((ran.status, ran.out), (2, b"refused 90\n"), "no words")
+    same(ran.err, call("--help").out.decode(), "the page of usage")
+
+
+def test_a_folder_without_class_files():
+    with folder() as path:
+        (path / "target").mkdir()
+        ran = call("explore", "--method", "A.f(II)I", "target", cwd=path)
+        same((ran.status, ran.out), (6, b""), "an empty folder")
+        same(ran.said, ["cannot read target: is a folder without class files"], "an empty folder")
+
+
+def test_a_folder_where_a_text_belongs():
+    with folder() as path:
+        same(call("assemble", path).said, [f"cannot read {path}: Is a directory"], "a text that is a folder")
+
+
+def test_a_cut_class_file():
+    with folder() as path:
+        (path / "A.class").write_bytes((DATA / "A.class").read_bytes()[:-1])
+        ran = call("explore", "--method", "A.f(II)I", "A.class", cwd=path)
+        same((ran.status, ran.out), (3, b"refused 12 file 0 at 100\n"), "a cut class file")
+        same(ran.said, explained("refused 12 file F at N", "file 0 is A.class"), "a cut class file")
+
+
+def test_a_file_without_rights():
+    """As root every file may be read, so the call is made as nobody; then only where nobody may run the script."""
+    with folder() as path:
+        path.chmod(0o755)
+        (path / "A.class").write_bytes((DATA / "A.class").read_bytes())
+        (path / "A.class").chmod(0)
+        other = {"user": 65534, "group": 65534} if os.geteuid() == 0 else {}
+        words = ("explore", "--method", "A.f(II)I", "A.class")
+        try:
+            ran = call(*words, cwd=path, **other)
+        except PermissionError:
+            return
+        same((ran.status, ran.said), (6, ["cannot read A.class: Permission denied"]), "a file without rights")
+
+
+def test_a_method_that_uses_what_is_left_out():
+    made = Maker("p/Names", source="Names.java")
+    code = NEW + made.class_ref("java/lang/StringBuilder") + ARETURN
+    made.method("join", "()Ljava/lang/Object;", code, lines=[(0, 12)])
+    made.method("number", "()I", b"\xb2" + made.field_ref("p/Names", "count", "I") + IRETURN, lines=[(0, 15), (3, 16)])
+    code = ICONST_0 + IRETURN + STATIC_CALL + made.method_ref("p/Names", "none", "()V")
+    made.method("gone", "()I", code, lines=[(0, 20), (2, 21)])
+    with folder() as path:
+        made.write(path)
+        file = "p/Names.class"
+        target = "p/Names.join()Ljava/lang/Object;"
+        ran = call("explore", "--method", target, file, cwd=path)
+        parts = [f"{target} at 0 is new java/lang/StringBuilder", f"{target} at 0 is Names.java:12"]
+        same(ran.said, explained("refused 41 class NAME", *parts), "a class that is left out")
+        ran = call("explore", "--method", "p/Names.number()I", file, cwd=path)
+        parts = ["p/Names.number()I at 0 is Names.java:15", "opcode b2 is getstatic"]
+        same(ran.said, explained("refused 47 TARGET at N opcode HH", *parts), "an opcode that is left out")
+        ran = call("explore", "--method", "p/Names.gone()I", file, cwd=path)
+        parts = ["p/Names.gone()I at 2 is invokestatic p/Names.none()V", "p/Names.gone()I at 2 is Names.java:21"]
+        same(ran.said, explained("refused 47 TARGET at N method", *parts), "a method that is not there")
+
+
+def test_what_is_not_explored_yet():
+    made = Maker("Q", source="Q.java")
+    call_none = STATIC_CALL + made.method_ref("Q", "one", "()I")
+    made.method("one", "()I", ICONST_0 + IRETURN)
+    made.method("two", "()I", b"\x00" + call_none + IRETURN, lines=[(0, 3), (1, 4)])
+    handler = (0, 1, 2, made.named("java/lang/Exception"))
+    made.method("three", "()I", ICONST_0 + IRETURN + b"\x57" + ICONST_0 + IRETURN, handlers=[handler], lines=[(0, 7), (2, 9)])
+    made.method("four", "([I)I", ALOAD_0 + ICONST_0 + b"\x2e" + IRETURN)
+    with folder() as path:
+        made.write(path)
+        for target, *parts in [
+            ("Q.two()I", "Q.two()I at 1 is invokestatic Q.one()I, which is not explored yet", "Q.two()I at 1 is Q.java:4"),
+            ("Q.three()I", "Q.three()I at 2 handles java/lang/Exception (Q.java:9), which is not explored yet"),
+            ("Q.four([I)I", "Q.four([I)I at 2 is iaload, which is not explored yet"),
+        ]:
+            ran = call("explore", "--method", target, "Q.class", cwd=path)
+            same(ran.said, explained("refused 50", *parts), target)
+
+
+def test_a_field_that_is_not_there():
+    made = Maker("Q", source="Q.java")
+    made.method("f", "(LQ;)I", ALOAD_0 + GETFIELD + made.field_ref("Q", "gone", "I") + IRETURN, lines=[(0, 5)])
+    with folder() as path:
+        made.write(path)
+        parts = ["Q.f(LQ;)I at 1 is getfield Q.gone I", "Q.f(LQ;)I at 1 is Q.java:5"]
+        ran = call("explore", "--method", "Q.f(LQ;)I", "Q.class", cwd=path)
+        same(ran.said, explained("refused 46 TARGET at N", *parts), "a field that is not there")
+
+
+def test_places_in_a_class_file():
+    """The method of a fault of code, and the text of an entry that is no name or stands twice."""
+    with folder() as path:
+        made = Maker("Q").method("f", "()I", ICONST_0 + IRETURN).method("g", "(LQ;I)V", b"\xcb")
+        made.write(path)
+        ran = call("explore", "--method", "Q.f()I", "Q.class", cwd=path)
+        parts = ["file 0 is Q.class", "method 1 is g(LQ;I)V", "opcode cb is no opcode"]
+        same(ran.said, explained("refused 20 file F method M at N opcode HH", *parts), "an opcode that is none")
+        Maker("Q").method("twice", "()I", ICONST_0 + IRETURN).method("twice", "()I", ICONST_0 + IRETURN).write(path)
+        ran = call("explore", "--method", "Q.f()I", "Q.class", cwd=path)
+        parts = ["file 0 is Q.class", 'entry 6 is "twice"']
+        same(ran.said, explained("refused 37 file F entry N", *parts), "a method that is there twice")
+
+
+def test_where_a_missing_class_lies():
+    with folder() as path:
+        Maker("p/Below", "p/Above").method("f", "()I", ICONST_0 + IRETURN).write(path, "out/p/Below.class")
+        Maker("p/Above").write(path, "out/p/Above.class")
+        ran = call("explore", "--method", "p/Below.f()I", "out/p/Below.class", cwd=path)
+        same(ran.said, explained("refused 41 class NAME", "class p/Above lies in out/p/Above.class"), "a superclass")
+
+
+TEST = "test A.f(II)I\nbounds alloc 16 loops 10 depth 16 steps 2000\narg 1\narg 2\nreturns 3\nend\n"
+# A text of tests, and the refusal with its parts.
+TEXTS = [
+    (TEST + TEST[:-1], "refused 60 line N", 'line 12 is "end", without a line feed'),
+    (TEST[: -len("end\n")], "refused 60 line N", "line 6 is behind the last one"),
+    (TEST.replace("arg 2", "arg  2\t\xe9"), "refused 60 line N", 'line 4 is "arg  2%09%C3%A9"'),
+    ("x" * 300 + "\n", "refused 60 line N", f'line 1 is "{"x" * 200}" ..'),
+    (TEST + TEST.replace("A.f", "A.g"), "refused 61 test N", "test 1 is A.g(II)I"),
+    (TEST.replace("arg 2\n", ""), "refused 62 test N", "test 0 is A.f(II)I"),
+]
+
+
+def test_texts_of_tests():
+    with folder() as path:
+        for text, form, part in TEXTS:
+            (path / "a.tests").write_bytes(text.encode("utf-8"))
+            ran = call("replay", "--tests", path / "a.tests", "A.class")
+            same((ran.status, ran.said), (9, explained(form, part)), part)
+
+
+def test_an_assembler_text():
+    with folder() as path:
+        (path / "a.asm").write_text("class 0021 A java/lang/Object\nnothing\nend\n", encoding="ascii")
+        ran = call("assemble", path / "a.asm")
+        same((ran.status, ran.said), (9, explained("refused 30 line N", 'line 2 is "nothing"')), "an assembler text")
+
+
+def test_words_that_are_not_utf_8():
+    ran = call("explore", "--method", "A.f(II)I", b"\xff.class")
+    same((ran.status, ran.out, ran.said), (71, b"", status_lines(71)), "a word that is not UTF-8")
+
+
+def test_a_full_disk():
+    if os.path.exists("/dev/full"):
+        with open("/dev/full", "wb") as full:
+            ran = call("explore", "--method", "A.f(II)I", "A.class", stdout=full)
+        same((ran.status, ran.said), (7, status_lines(7)), "a full disk")
+
+
+def test_closed_output():
+    words = ["sh", "-c", '"$0" explore --method "A.f(II)I" A.class >&-', "./kiasan"]
+    words[3] = str(DATA.parent.parent.parent / "kiasan")
+    ran = subprocess.run(words, cwd=DATA, env=environment(), stderr=subprocess.PIPE, check=False)
+    said = [f"kiasan: {line}" for line in status_lines(7)]
+    same((ran.returncode, ran.stderr.decode().splitlines()), (7, said), "a closed output")
+
+
+def test_what_cannot_be_asked_again():
+    """The second call would find nothing to read where a file is a pipe, so only the status is told."""
+    with folder() as path:
+        os.mkfifo(path / "pipe")
+        words = ["sh", "-c", 'printf x >pipe & exec "$0" explore --method "A.f(II)I" pipe']
+        ran = subprocess.run(
+            [*words, str(DATA.parent.parent.parent / "kiasan")], cwd=path, env=environment(), capture_output=True, check=False
+        )
+        said = [f"kiasan: {line}" for line in status_lines(3)]
+        same((ran.returncode, ran.stdout, ran.stderr.decode().splitlines()), (3, b"refused 12 file 0 at 0\n", said), "a pipe")
+
+
+def test_numbers_are_big_endian():
+    """The class files that tests make are such as are stored."""
+    made = Maker("A").method("f", "(II)I", b"\x1a\x1b\x60\xac", access=STATIC | 1)
+    same(struct.unpack(">IHH", made.data()[:8]), (0xCAFEBABE, 0, 52), "the head of a class file")

@@ -1,0 +1,150 @@
+"""The script's own words."""
+
+import subprocess
+
+from script.own import COMMANDS
+from script.tests.maker import ABSTRACT, ICONST_0, IRETURN, NEW, POP, Maker
+from script.tests.tools import DATA, ROOT, call, cells, environment, folder, same
+
+FAULTS = [
+    (["--help", "x"], 2, ["--help stands alone"]),
+    (["-h", "--help"], 2, ["-h stands alone"]),
+    (["build", "x"], 2, ["build stands alone"]),
+    (["explain"], 2, ["explain: give the number of a refusal, a whole line `refused N ..`, or `status N`"]),
+    (["explain", "x"], 2, ["explain: give the number of a refusal, a whole line `refused N ..`, or `status N`"]),
+    (["explain", "7"], 2, ["explain: no refusal has the number 7: docs/REFUSALS.md"]),
+    (["explain", "refused", "47"], 2, ["explain: give the number of a refusal, a whole line `refused N ..`, or `status N`"]),
+    (["explain", "status", "12"], 2, ['explain: no status is 12: docs/USING.md, "Statuses"']),
+    (["targets"], 2, ["targets: give class files, folders or jars, behind `--check` or alone"]),
+    (["targets", "--check"], 2, ["targets: give class files, folders or jars, behind `--check` or alone"]),
+    (["targets", "--chek", "A.class"], 2, ["targets: give class files, folders or jars, behind `--check` or alone"]),
+    (["COMMAND", "--help"], 2, [f"COMMAND is no command; the commands with a page of help are {', '.join(COMMANDS)}"]),
+    (["targets", "gone.class"], 6, ["cannot read gone.class: No such file or directory"]),
+    (["targets", "a.tests"], 2, ["a.tests is no class file"]),
+]
+
+
+def test_faults():
+    for words, status, said in FAULTS:
+        ran = call(*words)
+        same((ran.status, ran.out, ran.said), (status, b"", said), words)
+
+
+def test_the_page():
+    page = (ROOT / "script/page.txt").read_bytes()
+    for word in ("--help", "-h"):
+        ran = call(word)
+        same((ran.status, ran.out, ran.err), (0, page, ""), word)
+
+
+def row_text(form, number, *more):
+    """The text on a row, by the page."""
+    status, cause, to_do = cells("REFUSALS.md", f"`{form}`")[1:]
+    same(form.split()[1], str(number), form)
+    return "\n".join([form, f"  status: {status}", f"  cause: {cause}", *more, f"  to do: {to_do}", ""])
+
+
+def test_explain_a_number():
+    forms = [f"refused 47 TARGET at N {kind}" for kind in ("opcode HH", "constant", "operand", "kind", "method")]
+    same(call("explain", "47").out.decode(), "".join(row_text(form, 47) for form in forms), "explain 47")
+    same(call("explain", "96").out.decode(), row_text("refused 96", 96), "explain 96")
+
+
+def test_explain_a_line():
+    wanted = row_text("refused 47 TARGET at N opcode HH", 47, "  opcode b2: getstatic")
+    line = "refused 47 A.f(II)I at 7 opcode b2"
+    same(call("explain", *line.split()).out.decode(), wanted, "a line")
+    same(call("explain", line).out.decode(), wanted, "a line as one word")
+    wanted = row_text("refused 22 file F method M at N to N", 22)
+    same(call("explain", *"refused 22 file 0 method 0 at 0 to -1".split()).out.decode(), wanted, "an offset below 0")
+
+
+def test_explain_a_status():
+    output, comes, to_do = cells("USING.md", "6")[1:]
+    wanted = f"status 6\n  standard output: {output}\n  comes: {comes}\n  to do: {to_do}\n"
+    same(call("explain", "status", "6").out.decode(), wanted, "explain status 6")
+
+
+def test_help_of_a_command():
+    for command, (statuses, example) in COMMANDS.items():
+        ran = call(command, "--help")
+        text = ran.out.decode()
+        same((ran.status, ran.err), (0, ""), command)
+        for part in [f"kiasan {command}", example, *(f"\n  {number:<4}" for number in statuses)]:
+            same(part in text, True, f"{part!r} in the help of {command}")
+        for number in statuses:
+            same(cells("USING.md", number)[2] in text, True, f"status {number} in the help of {command}")
+    same("--budget N       1 to 100,000, else 2,000" in call("tests", "--help").out.decode(), True, "options of tests")
+    same("--budget" in call("replay", "--help").out.decode(), False, "options of replay")
+
+
+def test_help_of_what_is_no_command():
+    ran = call("none", "--help")
+    same((ran.status, ran.out), (2, b"refused 91 word 0\n"), "none --help")
+
+
+def test_targets():
+    made = Maker("p/a b").method("<init>", "()V", b"\xb1", access=1).method("none", "()I", access=0x0401)
+    made.method("second", "([[Lp/a b;J)Z", ICONST_0 + IRETURN).method("a+b", "()V", b"\xb1")
+    with folder() as path:
+        made.write(path, "x.class")
+        Maker("A").method("first", "()I", ICONST_0 + IRETURN).write(path, "in/z.class")
+        Maker("B").method("next", "()I", ICONST_0 + IRETURN).write(path, "in/a.class")
+        ran = call("targets", "x.class", "in", cwd=path)
+        wanted = ["p/a%20b.second([[Lp/a%20b;J)Z", "p/a%20b.a%2Bb()V", "A.first()I", "B.next()I"]
+        same((ran.status, ran.out.decode().splitlines(), ran.said), (0, wanted, []), "targets")
+        (path / "x.class").write_bytes(made.data()[:-8])
+        ran = call("targets", "x.class", cwd=path)
+        same((ran.status, ran.out.decode().splitlines()[0]), (2, wanted[0]), "targets of a damaged class file")
+
+
+def test_targets_are_what_the_program_wants():
+    """Each is found: none is answered by 45 or 98."""
+    for line in call("targets", "--check", "Odd+One.class", "Bits.class").out.decode().splitlines():
+        same(line.endswith(" explored"), True, line)
+
+
+def test_targets_checked():
+    made = Maker("M", access=ABSTRACT).method("f", "(LM;)I", ICONST_0 + IRETURN)
+    made.method("g", "()I", b"\xb2\0\1" + POP + ICONST_0 + IRETURN)
+    made.method("h", "()I", NEW + made.class_ref("M") + POP + ICONST_0 + IRETURN)
+    with folder() as path:
+        made.write(path)
+        wanted = ["M.f(LM;)I explored", "M.g()I refused 47 M.g()I at 0 opcode b2", "M.h()I refused 47 M.h()I at 0 kind"]
+        for word in ("M.class", "."):
+            ran = call("targets", "--check", word, cwd=path)
+            same((ran.status, ran.out.decode().splitlines()), (0, wanted), word)
+
+
+def test_words_as_they_are():
+    ran = call("--", "explore", "--method", "A.g()I", "A.class")
+    same((ran.status, ran.out, ran.err), (4, b"refused 45 A.g()I\n", ""), "-- WORDS")
+    ran = call("--")
+    same((ran.status, ran.out, ran.err), (2, b"refused 90\n", ""), "--")
+    ran = call("--", "explain", "47")
+    same((ran.status, ran.out, ran.err), (2, b"refused 91 word 0\n", ""), "-- explain")
+
+
+def test_a_program_that_is_named():
+    ran = call("explore", env=environment(KIASAN_PROGRAM="/nowhere/kiasan"))
+    same((ran.status, ran.said), (70, ["KIASAN_PROGRAM is /nowhere/kiasan, and no program can be run there"]), "no program")
+    ran = call(env=environment(KIASAN_PROGRAM="/nowhere/kiasan"))
+    same((ran.status, ran.out), (2, b""), "no words and no program")
+    with folder() as path:
+        (path / "own").symlink_to(environment()["KIASAN_PROGRAM"])
+        ran = call("explore", cwd=path, env=environment(KIASAN_PROGRAM="own"))
+        same((ran.status, ran.out), (2, b"refused 95\n"), "a program in this folder")
+
+
+def test_standard_input_is_the_programs():
+    data = (DATA / "A.class").read_bytes()
+    words = ("explore", "--method", "A.f(II)I", "/dev/stdin")
+    run = subprocess.run([ROOT / "kiasan", *words], input=data, capture_output=True, env=environment(), check=False)
+    last = b"total 1 ended 1 cut 0 undecided 0 open 0"
+    same((run.returncode, run.stdout.split(b"\n")[-2], run.stderr), (0, last, b""), "a pipe")
+
+
+def test_a_reader_that_has_seen_enough():
+    text = '{ sleep 0.3; exec "$0" targets A.class; } | true'
+    run = subprocess.run(["sh", "-c", text, ROOT / "kiasan"], cwd=DATA, env=environment(), stderr=subprocess.PIPE, check=False)
+    same(run.stderr, b"", "a closed pipe")

@@ -1,0 +1,304 @@
+"""Folders, archives, and the files beside a class file: what is taken of them, and what is said of it."""
+
+import os
+import zipfile
+
+from script.tests.maker import (
+    ABSTRACT,
+    ACONST_NULL,
+    ALOAD_0,
+    CAST,
+    GETFIELD,
+    ICONST_0,
+    INTERFACE,
+    INTERFACE_CALL,
+    IRETURN,
+    NEW,
+    POP,
+    STATIC_CALL,
+    Maker,
+    taking,
+)
+from script.tests.tools import DATA, call, environment, explained, folder, same, status_lines
+
+SIZE = "p/List.size(Lp/List;)I"
+
+
+def write_list(path):
+    """A class with a field of a nested class, a method that reads it, and a class that it does not need."""
+    made = Maker("p/List").field("head", "Lp/List$Node;").field("other", "Lp/Other;")
+    read = ALOAD_0 + GETFIELD + made.field_ref("p/List", "head", "Lp/List$Node;") + POP
+    made.method("size", "(Lp/List;)I", read + ICONST_0 + IRETURN)
+    made.write(path)
+    Maker("p/List$Node").write(path)
+    Maker("p/List$Other").write(path)
+    Maker("p/Other").write(path)
+
+
+def write_archive(path, name="lib.jar"):
+    """An archive of the class files in a folder."""
+    with zipfile.ZipFile(path.parent / name, "w", zipfile.ZIP_DEFLATED) as archive:
+        archive.writestr("META-INF/versions/9/p/List.class", b"not looked into")
+        for file in sorted(path.rglob("*.class")):
+            archive.write(file, file.relative_to(path))
+    return path.parent / name
+
+
+def paths_of(ran):
+    """How many paths a report has."""
+    return int(ran.out.decode("latin-1").split("\n")[-2].split()[1])
+
+
+def test_a_folder_and_an_archive():
+    with folder() as path:
+        write_list(path / "classes")
+        write_archive(path / "classes")
+        for place in ("classes", "lib.jar"):
+            ran = call("explore", "--method", SIZE, place, cwd=path)
+            # no list; one without nodes; one with a node; each node is deeper than none
+            same((ran.status, paths_of(ran)), (0, 3), place)
+            same(ran.said, [f"of {place} (4 class files): p/List, p/List$Node"], place)
+
+
+def test_files_beside_a_class_file():
+    with folder() as path:
+        write_list(path)
+        ran = call("explore", "--method", SIZE, "p/List.class", cwd=path)
+        same((ran.status, paths_of(ran)), (0, 3), "nested classes")
+        same(ran.said, ["of p/List$*.class (2 class files): p/List$Node"], "nested classes")
+        ran = call("explore", "--method", SIZE, "p/List.class", "p/List$Node.class", cwd=path)
+        same((ran.status, paths_of(ran), ran.said), (0, 3, []), "a nested class that is named")
+
+
+def test_one_class_twice():
+    """Of one name the first counts, and a class file that is named singly before all."""
+    with folder() as path:
+        write_list(path / "one")
+        Maker("p/List").write(path / "two")
+        write_archive(path / "two", "two.jar")
+        for words, said in [
+            (["one", "two.jar"], ["of one (4 class files): p/List, p/List$Node", "of two.jar (1 class file): nothing"]),
+            (["two.jar", "one"], ["of two.jar (1 class file): p/List", "of one (4 class files): nothing"]),
+            (
+                ["two", "one/p/List.class"],
+                ["of two (1 class file): nothing", "of one/p/List$*.class (2 class files): p/List$Node"],
+            ),
+        ]:
+            ran = call("explore", "--method", SIZE, *words, cwd=path)
+            form = "refused 45 TARGET" if words[0] == "two.jar" else None
+            same(ran.said, said + (explained(form) if form else []), words)
+        write_list(path / "three/a")
+        write_list(path / "three/b")
+        ran = call("explore", "--method", SIZE, "three", cwd=path)
+        same((paths_of(ran), ran.said), (3, ["of three (8 class files): p/List, p/List$Node"]), "one class twice in a folder")
+
+
+def test_where_class_files_stand():
+    """Those named singly stand in their places, those of a place where its word stood, by rising names."""
+    with folder() as path:
+        write_list(path / "classes")
+        (path / "X.class").write_bytes((DATA / "magic.class").read_bytes())
+        ran = call("explore", "--method", SIZE, "classes", "X.class", cwd=path)
+        said = ["of classes (4 class files): p/List, p/List$Node", *explained("refused 10 file F", "file 2 is X.class")]
+        same((ran.out, ran.said), (b"refused 10 file 2\n", said), "behind a folder")
+        ran = call("explore", "--method", SIZE, "X.class", "classes", cwd=path)
+        same(ran.out, b"refused 10 file 0\n", "before a folder")
+
+
+def test_a_class_file_of_an_archive_is_called_by_it():
+    with folder() as path:
+        write_list(path / "classes")
+        (path / "classes/p/List$Node.class").write_bytes(Maker("p/List$Node").data() + b"\0")
+        write_archive(path / "classes")
+        at = len(Maker("p/List$Node").data())
+        ran = call("explore", "--method", SIZE, "lib.jar", cwd=path)
+        same(ran.out.decode(), f"refused 17 file 1 at {at}\n", "a damaged class file of an archive")
+        wanted = explained("refused 17 file F at N", "file 1 is lib.jar!/p/List$Node.class")
+        same(ran.said[1:], wanted, "a damaged class file of an archive")
+
+
+def needed(classes, method, *words):
+    """What is taken of a folder with these classes for a method."""
+    with folder() as path:
+        for made in classes:
+            made.write(path / "all")
+        ran = call("explore", "--method", method, *words, "all", cwd=path)
+        line = next(line for line in ran.said if line.startswith("of all"))
+        return line.partition(": ")[2].split(", ")
+
+
+def test_what_code_names_is_needed():
+    made = Maker("M", "Above", ["Face"])
+    code = STATIC_CALL + made.method_ref("Called", "g", "()V") + NEW + made.class_ref("Made") + POP
+    code += ACONST_NULL + CAST + made.class_ref("[[LCast;") + POP + ACONST_NULL + b"\xc1" + made.class_ref("Tested") + POP
+    code += ICONST_0 + b"\xbd" + made.class_ref("Element") + POP + ALOAD_0
+    code += GETFIELD + made.field_ref("Holder", "held", "[LHeld;") + POP + ICONST_0 + IRETURN
+    made.method("f", "(LHolder;)I", code)
+    called = Maker("Called")
+    called.method("g", "()V", NEW + called.class_ref("Later") + POP + b"\xb1")
+    holder = Maker("Holder").field("held", "[LHeld;").field("unread", "LUnread;")
+    others = [Maker(name) for name in "Above Made Cast Tested Element Held Later Unread Unnamed".split()]
+    found = needed([made, called, holder, Maker("Face", access=INTERFACE), *others], "M.f(LHolder;)I")
+    # the three that are not listed are M, Made and Tested: no code names Unread and Unnamed
+    same(found, ["Above", "Called", "Cast", "Element", "Face", "Held", "Holder", "Later and 3 more"], "what code names")
+
+
+def test_what_is_below_is_needed():
+    """Below the receiver's class, the types of parameters and of accessed fields, and the class that a call names."""
+    shape = Maker("Shape", access=INTERFACE).method("area", "()I", access=0x0401)
+    made = Maker("M")
+    made.method("f", "(LObjects;)I", ICONST_0 + IRETURN)
+    made.method("g", "()I", ALOAD_0 + INTERFACE_CALL + made.interface_ref("Shape", "area", "()I") + IRETURN, access=1)
+    round_ = Maker("Round", "Base", ["Shape"])
+    round_.method("area", "()I", NEW + round_.class_ref("Pen") + POP + ICONST_0 + IRETURN, access=1)
+    classes = [shape, made, round_, Maker("Under", "M"), Maker("Less", "Objects")]
+    classes += [Maker(name) for name in ("Base", "Pen", "Objects", "Alone")]
+    same(needed(classes, "M.f(LObjects;)I"), ["Less", "M", "Objects"], "below a parameter's class")
+    found = needed(classes, "M.g()I")
+    same(found, ["Base", "M", "Pen", "Round", "Shape", "Under"], "below a receiver's class, and what a call selects")
+
+
+def test_nothing_is_looked_for_below_the_platforms_roots():
+    made = taking("M", "java/lang/Object", "java/lang/Comparable")
+    other = Maker("Other", interfaces=["java/lang/Comparable"])
+    found = needed([made, Maker("Any"), other], "M.f(Ljava/lang/Object;Ljava/lang/Comparable;)I")
+    same(found, ["M"], "below java/lang/Object")
+
+
+def test_65_class_files_are_needed():
+    with folder() as path:
+        Maker("M", "Top").method("f", "(LShape;)I", ICONST_0 + IRETURN).write(path / "all")
+        Maker("Top").write(path / "all")
+        Maker("Shape", access=ABSTRACT).write(path / "all")
+        for number in range(61):
+            Maker(f"S{number:02}", "Shape").write(path / "all")
+        same(call("explore", "--method", "M.f(LShape;)I", "all", cwd=path).status, 0, "64 class files")
+        Maker("Last", "S00").write(path / "all")
+        ran = call("explore", "--method", "M.f(LShape;)I", "all", cwd=path)
+        same((ran.status, ran.out), (4, b"refused 49\n"), "65 class files")
+        why = "65 class files are needed: 3 by the code, 62 since they are below Shape; name singly those that are to count"
+        taken = "of all (65 class files): Last, M, S00, S01, S02, S03, S04, S05 and 57 more"
+        same(ran.said, [taken, *explained("refused 49", why)], "65 class files")
+
+
+def test_the_targets_class_is_not_there():
+    with folder() as path:
+        write_list(path / "classes")
+        write_archive(path / "classes")
+        ran = call("explore", "--method", "p/Lst.f()I", "classes", "lib.jar", cwd=path)
+        same((ran.status, ran.out), (6, b""), "a slip in a class's name")
+        said = ran.said
+        same(said[0], "no class p/Lst in classes, lib.jar", "a slip in a class's name")
+        same(said[1].split(", ")[0], "near names: p/List", "a slip in a class's name")
+        ran = call("explore", "--method", "Quite.f()I", "classes", cwd=path)
+        same((ran.status, ran.said), (6, ["no class Quite in classes"]), "no near name")
+
+
+def test_a_damaged_archive():
+    with folder() as path:
+        write_list(path / "classes")
+        data = write_archive(path / "classes").read_bytes()
+        (path / "cut.jar").write_bytes(data[:-30])
+        (path / "empty.zip").write_bytes(b"")
+        for name in ("cut.jar", "empty.zip"):
+            ran = call("explore", "--method", SIZE, name, cwd=path)
+            same((ran.status, ran.out), (6, b""), name)
+            same(ran.said, [f"cannot read {name}: File is not a zip file"], name)
+        said = call("explore", "--method", SIZE, "gone.jar", cwd=path).said
+        same(said, ["cannot read gone.jar: No such file or directory"], "no archive")
+
+
+def test_a_damaged_entry_of_an_archive():
+    with folder() as path:
+        write_list(path / "classes")
+        data = bytearray(write_archive(path / "classes").read_bytes())
+        at = data.index(b"p/Other.class") + len("p/Other.class")
+        data[at : at + 4] = b"\xff\xff\xff\xff"
+        (path / "bad.jar").write_bytes(data)
+        ran = call("explore", "--method", SIZE, "bad.jar", cwd=path)
+        same((ran.status, len(ran.said)), (0, 2), "a damaged entry")
+        same(ran.said[0].startswith("warning: cannot read bad.jar!/p/Other.class: "), True, ran.said[0])
+        same(ran.said[1], "of bad.jar (3 class files): p/List, p/List$Node", "a damaged entry")
+
+
+def test_no_file_is_left_behind():
+    with folder() as path:
+        write_list(path / "classes")
+        write_archive(path / "classes")
+        (path / "tmp").mkdir()
+        for words in ([SIZE, "lib.jar"], ["p/List.none()I", "lib.jar"], ["p/Lst.f()I", "lib.jar"]):
+            call("explore", "--method", *words, cwd=path, env=environment(TMPDIR=str(path / "tmp")))
+            same(list((path / "tmp").iterdir()), [], words)
+
+
+def test_odd_names():
+    """A class file whose folder has a space, a `;`, a line feed, or bytes that are no UTF-8 in its name."""
+    odd = b"a b;c\nd$e/\xff"
+    with folder() as path:
+        write_list(path / "classes")
+        os.makedirs(os.path.join(os.fsencode(path), b"odd", odd))
+        os.rename(os.path.join(os.fsencode(path), b"classes"), os.path.join(os.fsencode(path), b"odd", odd, b"in"))
+        ran = call("explore", "--method", SIZE, "odd", cwd=path)
+        same((ran.status, paths_of(ran)), (0, 3), "odd names")
+        same(ran.said, ["of odd (4 class files): p/List, p/List$Node"], "odd names")
+        odd = os.path.join(os.fsencode(path), b"odd", b"a b;c\nd$e")
+        ran = call("explore", "--method", SIZE, odd, cwd=path)
+        shown = str(path / "odd" / "a b;c%0Ad$e")
+        same(ran.said, [f"of {shown} (4 class files): p/List, p/List$Node"], "a word with a line feed")
+
+
+def test_a_class_whose_name_is_odd():
+    with folder() as path:
+        taking("a b=c", "a b=c").write(path / "all", "x.class")
+        ran = call("explore", "--method", "a%20b%3Dc.f(La%20b%3Dc;)I", "all", cwd=path)
+        same((ran.status, ran.said), (0, ["of all (1 class file): a%20b%3Dc"]), "an odd class name")
+
+
+def test_what_is_no_class_file_is_passed_over():
+    with folder() as path:
+        write_list(path / "all")
+        (path / "all/Text.class").write_text("none", encoding="ascii")
+        (path / "all/p/Source.java").write_text("none", encoding="ascii")
+        same(call("explore", "--method", SIZE, "all", cwd=path).said, ["of all (4 class files): p/List, p/List$Node"], "others")
+
+
+def test_words_without_a_target_are_handed_on():
+    with folder() as path:
+        write_list(path / "all")
+        for words, form in [(["explore", "all"], "refused 95"), (["explore", "--k", "17", "--method", SIZE, "all"], None)]:
+            ran = call(*words, cwd=path)
+            same(ran.status, 2, words)
+            wanted = explained(form) if form else explained("refused 94 word W", "word 2 is --k 17, --k takes 0 to 16")
+            same(ran.said, wanted, words)
+        ran = call("explore", "--method", "p.List.size(Lp/List;)I", "all", cwd=path)
+        wanted = explained("refused 98 word W", "word 2 is --method p.List.size(Lp/List;)I", f"there is {SIZE}")
+        same(ran.said, wanted, "a target with dots")
+
+
+TEST = """test M.f(Ljava/lang/Object;)I
+bounds alloc 16 loops 10 depth 16 steps 2000
+arg i0
+in i0 {}{}
+returns 0
+out i0{}
+end
+"""
+
+
+def test_replay_takes_what_tests_name():
+    with folder() as path:
+        taking("M", "java/lang/Object").field("held", "[LHeld;").write(path / "all")
+        Maker("Held", "Above").write(path / "all")
+        Maker("Above").write(path / "all")
+        Maker("Other").write(path / "all")
+        (path / "a.tests").write_text(TEST.format("Held", "", "") + TEST.format("[LHeld;", " null", " null"), encoding="ascii")
+        ran = call("replay", "--tests", "a.tests", "all", cwd=path)
+        same((ran.status, ran.out), (0, b"test 0 passes\ntest 1 passes\ntests 2 passed 2 differed 0\n"), "replay")
+        same(ran.said, ["of all (4 class files): Above, Held, M"], "replay")
+
+
+def test_a_status_behind_a_place():
+    with folder() as path:
+        write_list(path / "all")
+        ran = call("explore", "--paths", "1", "--method", SIZE, "all", cwd=path)
+        same((ran.status, ran.said[1:]), (1, status_lines(1)), "open paths of a folder")

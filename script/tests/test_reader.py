@@ -1,0 +1,102 @@
+"""The reader of class files, on files that are whole, cut, or changed in a byte."""
+
+import time
+
+from script.class_file import ClassFile, argument_name
+from script.instructions import first_unexplored, in_words, instructions
+from script.places import Source
+from script.refused import targets_of
+from script.tests.maker import ALOAD_0, GETFIELD, ICONST_0, IRETURN, NEW, Maker
+from script.tests.tools import DATA, same
+from script.world import Universe, World
+
+MOST_SECONDS = 1
+
+
+def whole():
+    """A class file with all that the reader looks at: fields, handlers, switches, tables of lines and of locals."""
+    made = Maker("p/Whole", "p/Above", ["p/Face"], source="Whole.java").field("next", "Lp/Whole;")
+    code = ALOAD_0 + GETFIELD + made.field_ref("p/Whole", "next", "Lp/Whole;") + NEW + made.class_ref("[[Lp/Whole;")
+    code += b"\x12" + bytes([made.entry(3, b"\xff\xff\xff\xfe")]) + b"\x00\xaa"
+    table = b"\0\0\0\x20\0\0\0\x01\0\0\0\x02\0\0\0\x20\0\0\0\x20"
+    code += b"\0" * (-len(code) % 4) + table + b"\xc4\x15\x01\0"
+    code += b"\xb9" + made.interface_ref("p/Face", "f", "()V") + ICONST_0 + IRETURN
+    handler = (0, 4, 8, made.named("p/Gone"))
+    made.method("f", "(IJLp/Whole;)I", code, handlers=[handler], lines=[(0, 5), (4, 6)], names=[(0, "count")])
+    return made.data()
+
+
+def look(data):
+    """Looks at all that the script asks of a class file."""
+    source = Source("a", data, None, "a")
+    file = source.file
+    file.named_types()
+    targets_of(file)
+    for method in file.methods:
+        argument_name(method, 1)
+        if method.code:
+            first_unexplored(file, method.code.bytes)
+            method.code.line_at(3)
+            for at, _ in instructions(method.code.bytes):
+                in_words(file, method.code.bytes, at)
+    world, known = World(), source.known()
+    world.add(known)
+    Universe(world, [known]).fitting("java/lang/Object")
+    world.find_method(known.name, "f", "()I")
+
+
+def judge(data, what):
+    begun = time.thread_time()
+    try:
+        look(data)
+    except Exception as error:
+        raise AssertionError(f"{what}: {type(error).__name__}: {error}") from error
+    same(time.thread_time() - begun < MOST_SECONDS, True, f"{what}: its time")
+
+
+def files():
+    """Class files of javac and by hand."""
+    names = ("B", "Pair", "Choice", "Reached", "handler")
+    return {"by hand": whole(), **{name: (DATA / f"{name}.class").read_bytes() for name in names}}
+
+
+def test_cut_class_files():
+    for name, data in files().items():
+        for length in range(len(data)):
+            judge(data[:length], f"{name} cut to {length} bytes")
+
+
+def test_changed_class_files():
+    for name, data in files().items():
+        for at, byte in enumerate(data):
+            for other in {0, 1, 0xFF, byte ^ 0x80, (byte + 1) % 256} - {byte}:
+                judge(data[:at] + bytes([other]) + data[at + 1 :], f"{name} with byte {at} as {other}")
+
+
+def test_a_class_file_is_read():
+    """Class B, byte by byte: docs/USING.md and the stored rows name what is in it."""
+    file = ClassFile((DATA / "B.class").read_bytes())
+    methods = [(method.name, method.kind, len(method.code.bytes), method.code.lines) for method in file.methods]
+    same(methods, [("<init>", "()V", 5, [(0, 1)]), ("abs", "(I)I", 9, [(0, 2)])], "methods")
+    same((file.name, file.parent, file.interfaces, file.source), ("B", "java/lang/Object", [], "B.java"), "the class")
+    same((file.fields, file.stopped), ([], None), "fields, and whether it was read whole")
+
+
+def test_all_that_is_read():
+    file = ClassFile(whole())
+    method = file.methods[0]
+    same((file.interfaces, [field.kind for field in file.fields]), (["p/Face"], ["Lp/Whole;"]), "names")
+    same([(row.start, row.end, row.target, row.caught) for row in method.code.handlers], [(0, 4, 8, "p/Gone")], "handlers")
+    same([method.code.line_at(at) for at in (0, 3, 4, 9)], [5, 5, 6, 6], "lines")
+    same([argument_name(method, place) for place in (0, 1)], ["count", None], "names of arguments")
+    words = [in_words(file, method.code.bytes, at) for at, _ in instructions(method.code.bytes)]
+    wanted = ["aload_0", "getfield p/Whole.next Lp/Whole;", "new [[Lp/Whole;", "ldc -2", "nop", "tableswitch"]
+    same(words, [*wanted, "wide", "invokeinterface p/Face.f()V", "iconst_0", "ireturn"], "instructions")
+
+
+def test_where_it_stops():
+    data = (DATA / "B.class").read_bytes()
+    for length, stopped in [(3, 0), (9, 8), (len(data) - 1, len(data) - 2)]:
+        file = ClassFile(data[:length])
+        file.read_whole()
+        same(file.stopped, stopped, f"the first {length} bytes")
