@@ -1,5 +1,5 @@
-"""The shares of some parts of the program in all instructions that a run carries out, as `valgrind --tool=callgrind` counts them, and
-the command line of the scripts that print times and such shares.
+"""The shares of some parts of the program in all instructions that a run carries out, as `valgrind --tool=callgrind` counts
+them, and the command line of the scripts that print times and such shares.
 
 A part is a pattern for the names of functions. Each instruction counts once, for the part of the innermost function of a part in
 whose call it is carried out: what a part's functions do themselves, and what they have done by the libraries and by functions of
@@ -125,25 +125,24 @@ def shares_of(words, patterns):
     return whole, shares
 
 
-def print_both(description, parts, print_times, print_shares, also=()):
+def print_both(description, parts, print_times, print_shares, **besides):
     """Prints the times of the built program, and with --shares the shares of these parts too, by the words of the command line.
 
-    Each of the others also has a word of its own, what help says of it, and what prints it.
+    Each of the besides is a further word, with what help says of it and what prints from the times and the runs.
     """
     options = argparse.ArgumentParser(description=description)
     options.add_argument("--runs", type=int, default=5, help="runs of each method (5)")
     options.add_argument("--program", type=Path, default=ROOT / "build" / "kiasan", help="the built program")
     options.add_argument("--shares", action="store_true", help=f"print the shares of {parts}")
-    for word, told, _ in also:
+    for word, (told, _) in besides.items():
         options.add_argument(f"--{word}", action="store_true", help=told)
     given = options.parse_args()
     if not given.program.is_file():
         sys.exit(f"{given.program} is not there: run ./kiasan once")
     program = given.program.resolve()
     with tempfile.TemporaryDirectory() as folder:
-        print_times(program, Path(folder), given.runs)
-        for word, _, print_it in also:
-            if getattr(given, word):
-                print_it(program, Path(folder), given.runs)
+        times = print_times(program, Path(folder), given.runs)
+        for word in filter(vars(given).get, besides):
+            besides[word][1](times, given.runs)
         if given.shares:
             print_shares(program, Path(folder))
