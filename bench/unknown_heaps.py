@@ -17,7 +17,9 @@ instructions of the processor, without those of the program's start. First come 
 formulas, of solving, and of the paths that are listed: of what a path, its input and its text take. Then stand two figures
 apart: what is left of all this for one instruction of the method that is taken, and what a path that is listed takes. Beside
 the first stands what a replay of the tests takes for an instruction that it carries out, and what the machine alone does;
-beside the second what a replay takes for a test, and what the machine alone does. The ratios to both are printed.
+beside the second what a replay takes for a test, and what the machine alone does. The ratios to both are printed. What the
+machine takes is what replays of the same tests take more that are cut off later: before the last instruction of each, and
+behind the first.
 
 Usage: bench/unknown_heaps.py [--runs N] [--program FILE] [--shares]
 Build the program first, by running ./kiasan once.
@@ -26,10 +28,12 @@ Build the program first, by running ./kiasan once.
 import subprocess
 import sys
 from dataclasses import dataclass
+from functools import cache
 from pathlib import Path
 
+from cut_tests import write_cut
 from replay import processor_seconds
-from shares import COPYING, FORMULAS, PATHS, RUNNING, SOLVING, WRITING, print_both, shares_of
+from shares import COPYING, FORMULAS, PATHS, SOLVING, WRITING, print_both, shares_of
 from straight import ROOT
 
 sys.path.insert(0, str(ROOT / "examples" / "explore"))
@@ -65,9 +69,9 @@ class Load:
     def __post_init__(self):
         explorer, leaves = explored(DATA, self.words("explore"))
         self.paths, self.end, self.taken = len(leaves), report_end(leaves), explorer.instructions_taken
-        # the tests of the paths that have ended, and what the machine carries out in them
-        lengths = [leaf.length for leaf in leaves if leaf.kind == "ended"]
-        self.tests, self.run = len(lengths), sum(lengths)
+        # what the machine carries out in each test of a path that has ended
+        self.lengths = [leaf.length for leaf in leaves if leaf.kind == "ended"]
+        self.tests, self.run = len(self.lengths), sum(self.lengths)
 
     def words(self, command):
         return [command, "--method", self.target, "--k", str(self.k), *self.files]
@@ -85,10 +89,10 @@ def loads_of(family, k):
     return [Load(f"{owner}.{method}", [str(DATA / name) for name in files], k) for method in methods]
 
 
-def write_tests(program, load, file, times):
-    """Writes the tests of the load's paths, each so many times."""
-    text = subprocess.run([program, *load.words("tests")], stdin=subprocess.DEVNULL, capture_output=True, check=True).stdout
-    file.write_bytes(text * times)
+def tests_of(program, load):
+    """The text of the tests of the load's paths."""
+    words = [str(program), *load.words("tests")]
+    return subprocess.run(words, stdin=subprocess.DEVNULL, capture_output=True, text=True, check=True).stdout
 
 
 # ---- times
@@ -109,7 +113,7 @@ def least_seconds(program, words, runs, status, end):
 def seconds_of(program, folder, load, runs):
     """The times of an exploration and of the replay of its tests once, without the start of the program."""
     tests, none = folder / "some.tests", folder / "no.tests"
-    write_tests(program, load, tests, TIMES)
+    tests.write_text(tests_of(program, load) * TIMES)
     none.write_bytes(b"")
     exploring = least_seconds(program, load.words("explore"), runs, 0, load.end)
     exploring -= least_seconds(program, load.none(), runs, 4, load.none()[2])
@@ -135,11 +139,16 @@ def print_times(program, folder, runs):
 # ---- shares
 
 
+@cache
+def start_of(words):
+    """The processor's instructions of a run that does nothing but start, which is counted once."""
+    return shares_of(words, {})[0]
+
+
 def counts_of(program, words, start, patterns):
     """The processor's instructions of a run without the start of the program, and of each pattern."""
     whole, shares = shares_of([program, *words], patterns)
-    base, _ = shares_of([program, *start], {})
-    return {"all": whole - base} | {name: share * whole for name, share in shares.items()}
+    return {"all": whole - start_of((program, *start))} | {name: share * whole for name, share in shares.items()}
 
 
 def sums(counts):
@@ -154,19 +163,27 @@ def exploring(program, loads):
     return count
 
 
-def replaying(program, folder, loads):
-    """What one replay of all tests takes, and the machine in it."""
-    tests, none, replays = folder / "some.tests", folder / "no.tests", []
+def replaying(program, folder, load):
+    """What a replay of all tests takes."""
+    tests, none = folder / "some.tests", folder / "no.tests"
+    tests.write_text(tests_of(program, load) * COUNTED)
     none.write_bytes(b"")
-    for load in loads:
-        write_tests(program, load, tests, COUNTED)
-        replays.append(counts_of(program, load.replayed(tests), load.replayed(none), {"machine": RUNNING}))
-    return {name: count / COUNTED for name, count in sums(replays).items()}
+    return counts_of(program, load.replayed(tests), load.replayed(none), {})["all"] / COUNTED
+
+
+def between(program, folder, load):
+    """What the machine takes in all tests from behind the first instruction up to the last one, and how many these are."""
+    tests, text, counts = folder / "cut.tests", tests_of(program, load), []
+    for bounds in [1] * load.tests, [max(length - 1, 1) for length in load.lengths]:
+        write_cut(program, text, tests, load.files, bounds, COUNTED)
+        counts.append(shares_of([program, *load.replayed(tests)], {})[0])
+    early, late = counts
+    return (late - early) / COUNTED, sum(max(length - 2, 0) for length in load.lengths)
 
 
 @dataclass
 class Figures:
-    """The shares of the parts; and of an instruction and of a path what exploring takes, a replay, and the machine in it."""
+    """The shares of the parts; and for an instruction and for a path what exploring takes, a replay, and the machine in it."""
 
     shares: list
     instruction: list
@@ -175,12 +192,14 @@ class Figures:
 
 def figures_of(program, folder, family, k):
     loads = loads_of(family, k)
-    count, replay = exploring(program, loads), replaying(program, folder, loads)
+    count, replay = exploring(program, loads), sum(replaying(program, folder, load) for load in loads)
+    took, carried = map(sum, zip(*(between(program, folder, load) for load in loads)))
     taken, run, paths, tests = (sum(getattr(load, name) for load in loads) for name in ("taken", "run", "paths", "tests"))
+    machine = took / carried
     return Figures(
         [count[name] / count["all"] for name in SHARED],
-        [count["left"] / taken, replay["all"] / run, replay["machine"] / run],
-        [count["listing"] / paths, replay["all"] / tests, replay["machine"] / tests],
+        [count["left"] / taken, replay / run, machine],
+        [count["listing"] / paths, replay / tests, machine * run / tests],
     )
 
 
