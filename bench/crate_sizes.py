@@ -1,6 +1,7 @@
 #!/usr/bin/env python3
 """Prints the sizes of all crates: lines of code, of definitions and of proofs, functions, tests and must-fail edits, with a mark
-at what is above the rules of docs/ARCHITECTURE.md ('A crate').
+at what is above the rules of docs/ARCHITECTURE.md ('How code is written here'), or
+more than a dozen edits.
 
 Usage: bench/crate_sizes.py [--above]      (--above: only crates that are above a rule)
 """

@@ -1,7 +1,8 @@
 #!/usr/bin/env python3
 """Times the two checks of kb_chain, check_refutation and check_fresh, on logs of 1,000, 2,000, 4,000 and 8,000 entries.
 
-No program of the repository reads logs. So this script builds a small one of its own (built.py), over kb_chain and kb_rows.
+The programs of the repository that check logs do it once, of logs that a search or a row has. So this script builds a small
+one of its own (built.py), over kb_chain and kb_rows.
 The program builds a formula and a log of one of four shapes, checks the log so many times, and prints the verdict,
 which is compared with the one that is expected. The time of a run that builds both and checks nothing is taken off. All
 times are processor times, the least of the runs, so that other work on the machine disturbs them little.
@@ -16,10 +17,10 @@ import argparse
 import sys
 from dataclasses import dataclass
 
-from built import Program, with_main
+from built import Program, with_main, with_those_below
 
 SIZES = [1000, 2000, 4000, 8000]
-CRATES = "kb_rows:\nkb_chain: kb_rows smallvec\nlogs: kb_chain\n"
+CRATES = with_those_below("logs: kb_chain")
 
 
 @dataclass(frozen=True)

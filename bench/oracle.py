@@ -19,21 +19,9 @@ import sys
 import tempfile
 from dataclasses import dataclass
 
-from built import Program, processor_seconds, with_main
+from built import Program, processor_seconds, with_main, with_those_below
 
-CRATES = """\
-kb_rows:
-kb_arith:
-kb_outside:
-kb_terms: kb_arith indexmap
-kb_chain: kb_rows smallvec
-kb_eliminate: kb_chain
-kb_sat: kb_chain kb_eliminate
-kb_circuit: kb_arith kb_chain
-kb_blast: kb_arith kb_chain kb_circuit kb_terms
-kb_oracle: kb_blast kb_chain kb_outside kb_sat kb_terms
-asking: kb_blast kb_chain kb_oracle kb_terms
-"""
+CRATES = with_those_below("asking: kb_blast kb_chain kb_oracle kb_terms")
 
 SOURCE = with_main("""\
 //! Makes conditions of words, and asks the solver's oracle about them, or blasts them so many times, or writes their formula.

@@ -3,9 +3,9 @@
 
 In the first files, of one class, static method number i calls method i + 1 so many times, and the last one returns: each
 method is reached once, and all their instructions are looked at. In the others a method calls a virtual method so many
-times, in a world of so many classes that declare it, so that each call is looked at for each class. The methods are not
-straight, so the program refuses them by 50 once all is found well. The time of the same files with a target that is not
-there is taken off, since it is that of reading and linking them.
+times, in a world of so many classes that declare it, so that each call is looked at for each class. The methods are no heap
+methods, since they call others, so the program refuses them by 50 once all is found well. The time of the same files with a
+target that is not there is taken off, since it is that of reading and linking them.
 
 Where the work is linear, the time for an instruction, or for a call and a class, is about the same in each line.
 

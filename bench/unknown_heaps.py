@@ -12,10 +12,14 @@ out. The reading of the tests is in it.
 Times are of the processor, the least of several runs, of all methods of a row together. Those of runs that find no method
 and of replays without tests are taken off, since they are those of starting the program.
 
-With --shares each exploration and each replay runs under `valgrind --tool=callgrind`, where that is there. Of all
-instructions of the processor, without those of the program's start, the shares of copying states, of solving (with the
-making of formulas) and of writing the report are printed; then how many are left for one instruction of the method without
-copying and solving, how many a replay takes for one, and how many the machine alone does.
+With --shares each exploration and each replay runs under `valgrind --tool=callgrind`, where that is there. All is counted in
+instructions of the processor, without those of the program's start. First come the shares of copying states, of making
+formulas, of solving, and of the paths that are listed: of what a path, its input and its text take. Then stand two figures
+apart: what is left of all this for one instruction of the method that is taken, and what a path that is listed takes. Beside
+the first stands what a replay of the tests takes for an instruction that it carries out, and what the machine alone does;
+beside the second what a replay takes for a test, and what the machine alone does. The ratios to both are printed. What the
+machine takes is what replays of the same tests take more that are cut off later: before the last instruction of each, and
+behind the first.
 
 Usage: bench/unknown_heaps.py [--runs N] [--program FILE] [--shares]
 Build the program first, by running ./kiasan once.
@@ -24,10 +28,12 @@ Build the program first, by running ./kiasan once.
 import subprocess
 import sys
 from dataclasses import dataclass
+from functools import cache
 from pathlib import Path
 
+from cut_tests import write_cut
 from replay import processor_seconds
-from shares import COPYING, FORMULAS, RUNNING, SOLVING, WRITING, print_both, shares_of
+from shares import COPYING, FORMULAS, PATHS, SOLVING, WRITING, print_both, shares_of
 from straight import ROOT
 
 sys.path.insert(0, str(ROOT / "examples" / "explore"))
@@ -47,7 +53,9 @@ FAMILIES = {
     "queues": ("Queue", ["Queue.class", "Cell.class"], QUEUE),
 }
 TIMED = ["k", "paths", "instructions", "ms", "paths/s", "us/path", "ns/instruction", "of a replay"]
-SHARED = ["", "k", "copying", "solving", "writing", "left", "replay", "machine", "left/replay", "to k 2"]
+PARTS = {"copying": COPYING, "formulas": FORMULAS, "solving": SOLVING, "paths": PATHS, "writing": WRITING}
+SHARED = ["copying", "formulas", "solving", "listing", "left"]
+BESIDE = ["exploring", "replay", "machine", "to replay", "to machine", "to k 2"]
 
 
 @dataclass
@@ -61,8 +69,9 @@ class Load:
     def __post_init__(self):
         explorer, leaves = explored(DATA, self.words("explore"))
         self.paths, self.end, self.taken = len(leaves), report_end(leaves), explorer.instructions_taken
-        # what the machine carries out in the tests of the paths that have ended
-        self.run = sum(leaf.length for leaf in leaves if leaf.kind == "ended")
+        # what the machine carries out in each test of a path that has ended
+        self.lengths = [leaf.length for leaf in leaves if leaf.kind == "ended"]
+        self.tests, self.run = len(self.lengths), sum(self.lengths)
 
     def words(self, command):
         return [command, "--method", self.target, "--k", str(self.k), *self.files]
@@ -80,10 +89,10 @@ def loads_of(family, k):
     return [Load(f"{owner}.{method}", [str(DATA / name) for name in files], k) for method in methods]
 
 
-def write_tests(program, load, file, times):
-    """Writes the tests of the load's paths, each so many times."""
-    text = subprocess.run([program, *load.words("tests")], stdin=subprocess.DEVNULL, capture_output=True, check=True).stdout
-    file.write_bytes(text * times)
+def tests_of(program, load):
+    """The text of the tests of the load's paths."""
+    words = [str(program), *load.words("tests")]
+    return subprocess.run(words, stdin=subprocess.DEVNULL, capture_output=True, text=True, check=True).stdout
 
 
 # ---- times
@@ -104,7 +113,7 @@ def least_seconds(program, words, runs, status, end):
 def seconds_of(program, folder, load, runs):
     """The times of an exploration and of the replay of its tests once, without the start of the program."""
     tests, none = folder / "some.tests", folder / "no.tests"
-    write_tests(program, load, tests, TIMES)
+    tests.write_text(tests_of(program, load) * TIMES)
     none.write_bytes(b"")
     exploring = least_seconds(program, load.words("explore"), runs, 0, load.end)
     exploring -= least_seconds(program, load.none(), runs, 4, load.none()[2])
@@ -130,39 +139,92 @@ def print_times(program, folder, runs):
 # ---- shares
 
 
+@cache
+def start_of(words):
+    """The processor's instructions of a run that does nothing but start, which is counted once."""
+    return shares_of(words, {})[0]
+
+
 def counts_of(program, words, start, patterns):
     """The processor's instructions of a run without the start of the program, and of each pattern."""
     whole, shares = shares_of([program, *words], patterns)
-    base, _ = shares_of([program, *start], {})
-    return {"all": whole - base} | {name: share * whole for name, share in shares.items()}
+    return {"all": whole - start_of((program, *start))} | {name: share * whole for name, share in shares.items()}
 
 
 def sums(counts):
     return {name: sum(count[name] for count in counts) for name in counts[0]}
 
 
-def print_shares(program, folder):
-    none = folder / "no.tests"
+def exploring(program, loads):
+    """What the explorations take, by parts. Listing is what paths, inputs and their text take; what is of no part is left."""
+    count = sums([counts_of(program, load.words("explore"), load.none(), PARTS) for load in loads])
+    count["left"] = count["all"] - sum(count[name] for name in PARTS)
+    count["listing"] = count["paths"] + count["writing"]
+    return count
+
+
+def replaying(program, folder, load):
+    """What a replay of all tests takes."""
+    tests, none = folder / "some.tests", folder / "no.tests"
+    tests.write_text(tests_of(program, load) * COUNTED)
     none.write_bytes(b"")
-    patterns = {"copying": COPYING, "formulas": FORMULAS, "solving": SOLVING, "writing": WRITING}
-    print(" ".join(f"{name:>11}" for name in SHARED))
-    for family in FAMILIES:
-        second = None
-        for k in DEPTHS:
-            loads, tests, replays = loads_of(family, k), folder / "some.tests", []
-            count = sums([counts_of(program, load.words("explore"), load.none(), patterns) for load in loads])
-            for load in loads:
-                write_tests(program, load, tests, COUNTED)
-                replays.append(counts_of(program, load.replayed(tests), load.replayed(none), {"machine": RUNNING}))
-            solving = count["formulas"] + count["solving"]
-            left = (count["all"] - count["copying"] - solving) / sum(load.taken for load in loads)
-            replay = {name: of / COUNTED / sum(load.run for load in loads) for name, of in sums(replays).items()}
-            second = left if k == 2 else second
-            cells = [family, f"{k}"] + [f"{of / count['all']:.2%}" for of in (count["copying"], solving, count["writing"])]
-            cells += [f"{left:.0f}", f"{replay['all']:.0f}", f"{replay['machine']:.0f}", f"{left / replay['all']:.2f}"]
-            cells.append(f"{left / second:.2f}" if second else "")
-            print(" ".join(f"{cell:>11}" for cell in cells), flush=True)
+    return counts_of(program, load.replayed(tests), load.replayed(none), {})["all"] / COUNTED
+
+
+def between(program, folder, load):
+    """What the machine takes in all tests from behind the first instruction up to the last one, and how many these are."""
+    tests, text, counts = folder / "cut.tests", tests_of(program, load), []
+    for bounds in [1] * load.tests, [max(length - 1, 1) for length in load.lengths]:
+        write_cut(program, text, tests, load.files, bounds, COUNTED)
+        counts.append(shares_of([program, *load.replayed(tests)], {})[0])
+    early, late = counts
+    return (late - early) / COUNTED, sum(max(length - 2, 0) for length in load.lengths)
+
+
+@dataclass
+class Figures:
+    """The shares of the parts; and for an instruction and for a path what exploring takes, a replay, and the machine in it."""
+
+    shares: list
+    instruction: list
+    path: list
+
+
+def figures_of(program, folder, family, k):
+    loads = loads_of(family, k)
+    count, replay = exploring(program, loads), sum(replaying(program, folder, load) for load in loads)
+    took, carried = map(sum, zip(*(between(program, folder, load) for load in loads)))
+    taken, run, paths, tests = (sum(getattr(load, name) for load in loads) for name in ("taken", "run", "paths", "tests"))
+    machine = took / carried
+    return Figures(
+        [count[name] / count["all"] for name in SHARED],
+        [count["left"] / taken, replay / run, machine],
+        [count["listing"] / paths, replay / tests, machine * run / tests],
+    )
+
+
+def print_row(family, k, cells):
+    print(f"{family:<8} {k:>2} " + " ".join(f"{cell:>11}" for cell in cells))
+
+
+def print_beside(title, rows):
+    """A line of each row: what exploring, a replay and the machine take, the ratios to both, and that to k 2."""
+    print(title)
+    print_row("", "k", BESIDE)
+    for (family, k), (own, replay, machine) in rows.items():
+        ratios = [own / replay, own / machine, own / rows[family, 2][0]]
+        print_row(family, k, [f"{count:.0f}" for count in (own, replay, machine)] + [f"{of:.2f}" for of in ratios])
+
+
+def print_shares(program, folder):
+    rows = {(family, k): figures_of(program, folder, family, k) for family in FAMILIES for k in DEPTHS}
+    print("shares of all instructions of the processor")
+    print_row("", "k", SHARED)
+    for (family, k), figures in rows.items():
+        print_row(family, k, [f"{share:.2%}" for share in figures.shares])
+    print_beside("for an instruction that is taken: what is left of exploring it", {row: rows[row].instruction for row in rows})
+    print_beside("for a path that is listed, and its test: path, input and text", {row: rows[row].path for row in rows})
 
 
 if __name__ == "__main__":
-    print_both("Times explorations from unknown heaps.", "copying, solving and writing", print_times, print_shares)
+    print_both("Times explorations from unknown heaps.", "copying, formulas, solving and listing", print_times, print_shares)
