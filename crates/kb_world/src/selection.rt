@@ -20,15 +20,15 @@ pub(crate) struct Selection {
     pub(crate) tables: Vec<HashMap<u32, u32>>,
 }
 
-/// What is selected, for each class and method. Methods without numbers of 32 bits are want of memory.
+/// What is selected, for each class and method. Methods without numbers of 32 bits count as out of memory.
 pub(crate) fn selection_of(alloc: Global, linked: &Linked) -> Result<Selection, NoMemory>
     requires { IsLinked linked.now }
     ensures { IfOk result (AreSelected linked.now) }
 {
-    let Ok(count) = u32::try_from(linked.method_count()) else {
+    if linked.method_count() > u32::MAX as usize {
         return Err(NoMemory);
-    };
-    let signatures = signatures_of(alloc, linked, count)?;
+    }
+    let signatures = signatures_of(alloc, linked)?;
     let tables = tables_of(alloc, linked, signatures.as_slice())?;
     Ok(Selection { signatures, tables })
 }
