@@ -9,8 +9,9 @@ ghost use Rattle.kb_drive.specs.Taking.{choices_at};
 
 use crate::NoMemory;
 use crate::leaf::{cut_path, ended_path, path_of};
-use crate::piece::{Piece, with_values};
+use crate::piece::Piece;
 use crate::steps::choices;
+use crate::valued::Valued;
 use crate::waiting::{Taken, Waiting};
 use kb_frames::Outcome;
 use kb_heap::Bounds;
@@ -55,7 +56,7 @@ pub(crate) fn follow(
 {
     match known {
         Known::Open => lists(alloc, taken.piece.get(), Leaf::Open),
-        Known::Met => follow_outcome(alloc, world, bounds, taken.piece, taken.outcome),
+        Known::Met => follow_met(alloc, world, bounds, taken),
         Known::Answered(answer) => follow_answer(alloc, world, bounds, taken, answer),
     }
 }
@@ -71,10 +72,7 @@ fn follow_answer(
     ensures { IfOk result (λ next. next ≡ follows_answer world.now bounds.now taken answer) }
 {
     match answer {
-        Answer::Model(values) => {
-            let piece = with_values(taken.piece, values);
-            follow_outcome(alloc, world, bounds, piece, taken.outcome)
-        }
+        Answer::Model(values) => follow_met(alloc, world, bounds, taken.with_values(values)),
         Answer::Refuted(_) => Ok(Next::Leaves),
         Answer::Undecided(log) => lists(alloc, taken.piece.get(), Leaf::Undecided(log)),
     }
@@ -88,12 +86,20 @@ fn lists(alloc: Global, piece: &Piece, leaf: Leaf) -> Result<Next, NoMemory>
     Ok(Next::Lists(path_of(alloc, piece, leaf)?))
 }
 
+// What follows where the values from before the take meet all conditions behind it.
+fn follow_met(alloc: Global, world: &World, bounds: &Bounds, taken: Taken) -> Result<Next, NoMemory>
+    requires { CanFollow world.now taken }
+    ensures { IfOk result (λ next. next ≡ follows_outcome world.now bounds.now taken.piece taken.outcome) }
+{
+    follow_outcome(alloc, world, bounds, taken.piece, taken.outcome)
+}
+
 // What follows where the values of the piece meet its conditions.
 fn follow_outcome(
     alloc: Global,
     world: &World,
     bounds: &Bounds,
-    piece: Held<Piece>,
+    piece: Valued,
     outcome: Outcome,
 ) -> Result<Next, NoMemory>
     requires { CanFollowOutcome world.now piece outcome }
@@ -117,12 +123,12 @@ pub(crate) fn begin(
     requires { IsHeapReached world.now piece.state }
     ensures { IfOk result (λ next. next ≡ waits_at piece (choices_at world.now bounds.now piece.state)) }
 {
-    let held = Held::new(alloc, piece)?;
-    wait(alloc, world, bounds, held)
+    let valued = Valued::new(alloc, piece)?;
+    wait(alloc, world, bounds, valued)
 }
 
 // The piece waits at its next choice; where there is no alternative it has no inputs.
-fn wait(alloc: Global, world: &World, bounds: &Bounds, piece: Held<Piece>) -> Result<Next, NoMemory>
+fn wait(alloc: Global, world: &World, bounds: &Bounds, piece: Valued) -> Result<Next, NoMemory>
     requires { IsHeapReached world.now piece.state }
     ensures { IfOk result (λ next. next ≡ waits_at piece (choices_at world.now bounds.now piece.state)) }
 {
@@ -130,7 +136,7 @@ fn wait(alloc: Global, world: &World, bounds: &Bounds, piece: Held<Piece>) -> Re
     Ok(waits_at(piece, choices))
 }
 
-fn waits_at(piece: Held<Piece>, choices: Row<Choice>) -> Next
+fn waits_at(piece: Valued, choices: Row<Choice>) -> Next
     ensures { result ≡ waits_at piece choices }
 {
     if choices.as_slice().is_empty() {

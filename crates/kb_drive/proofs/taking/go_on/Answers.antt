@@ -1,11 +1,11 @@
-use Rattle.std.proofs.Common.{◌≡◌, ℕ, Bool, List, Some, length, slice_get, sym, ap, ◌∙◌, subst}
+use Rattle.std.proofs.Common.{◌≡◌, ℕ, List, Some, length, slice_get, sym, ap, ◌∙◌, subst}
 use Rattle.std.proofs.lemmas.Option.{slice_get-get_or}
 use Rattle.kb_picture.specs.declared.choice.Choice.{Choice}
 use Rattle.kb_stepint.specs.Ways.{Take}
 use Rattle.kb_drive.specs.declared.piece.Piece.{Piece}
 use Rattle.kb_drive.specs.Following.{IsTakenOf, alternative_next, taken_from}
 use Rattle.kb_drive.specs.Parts.{decided}
-use Rattle.kb_drive.proofs.waiting.go_on.Goals as goal
+use Rattle.kb_drive.proofs.taking.go_on.Goals as goal
 
 pub take-requires-clause-offered : goal.take-requires-clause-offered
 take-requires-clause-offered c =
