@@ -131,11 +131,14 @@ class Needs:
             self._call_selected(named, name, kind)
             return
         start = named
-        if opcode == SPECIAL and name != "<init>" and named != owner and self.world.is_below(owner, named):
+        if opcode == SPECIAL and name != "<init>" and self._is_superclass(named, owner):
             start = self.world.get(owner).parent
-        found = self.world.find_method(start or named, name, kind)
+        found = self.world.find_method(start, name, kind)
         if found:
             self.reach(found[0].name, found[1])
+
+    def _is_superclass(self, named, owner):
+        return named != owner and any(known.name == named for known in self.world.superclasses(owner))
 
     def _call_selected(self, named, name, kind):
         calls = self._calls.setdefault(named, {})

@@ -50,10 +50,6 @@ class Known:
         return not self.file.access & (INTERFACE | ABSTRACT)
 
     @property
-    def is_interface(self):
-        return self.name in PLATFORM_INTERFACES if self.file is None else bool(self.file.access & INTERFACE)
-
-    @property
     def above(self):
         """The names of the superclass and the interfaces."""
         return self.interfaces if self.parent is None else (self.parent, *self.interfaces)
@@ -125,16 +121,13 @@ class World:
         return None
 
     def find_method(self, owner, name, kind):
-        """The class that declares a method, and the method, or None: superclasses first, then superinterfaces."""
-        owner = OBJECT if owner.startswith("[") else owner
+        """The class that declares the method of a call that does not select, and the method, or None.
+
+        What a superinterface alone declares is refused there (docs/REFUSALS.md), so nothing is reached by it.
+        """
         for known in self.superclasses(owner):
             method = known.method(name, kind)
             if method:
-                return known, method
-        for above in sorted(self.supertypes(owner)):
-            known = self.classes.get(above)
-            method = known.method(name, kind) if known and known.is_interface else None
-            if method and not method.access & (PRIVATE | STATIC):
                 return known, method
         return None
 
