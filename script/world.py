@@ -4,12 +4,12 @@ from .class_file import ABSTRACT, INTERFACE, PRIVATE, STATIC
 from .names import class_of_type, element, split_method, type_end
 
 OBJECT = "java/lang/Object"
-PLATFORM_INTERFACES = ("java/lang/Cloneable", "java/lang/Comparable", "java/io/Serializable")
-SERIALIZABLE = "java/io/Serializable"
+SERIALIZABLE, CLONEABLE, COMPARABLE = "java/io/Serializable", "java/lang/Cloneable", "java/lang/Comparable"
+PLATFORM_INTERFACES = (CLONEABLE, COMPARABLE, SERIALIZABLE)
 # Superclass and interfaces, by name, in the order of docs/USING.md ('Class files').
 PLATFORM = {
     OBJECT: (None, ()),
-    "java/lang/String": (OBJECT, (SERIALIZABLE, "java/lang/Comparable")),
+    "java/lang/String": (OBJECT, (SERIALIZABLE, COMPARABLE)),
     "java/lang/Throwable": (OBJECT, (SERIALIZABLE,)),
     "java/lang/Exception": ("java/lang/Throwable", ()),
     "java/lang/RuntimeException": ("java/lang/Exception", ()),
@@ -24,8 +24,10 @@ PLATFORM = {
     "java/lang/NegativeArraySizeException": ("java/lang/RuntimeException", ()),
     "java/lang/NullPointerException": ("java/lang/RuntimeException", ()),
     "java/lang/UnsupportedOperationException": ("java/lang/RuntimeException", ()),
+    CLONEABLE: (OBJECT, ()),
+    COMPARABLE: (OBJECT, ()),
     "java/util/NoSuchElementException": ("java/lang/RuntimeException", ()),
-    **{name: (OBJECT, ()) for name in PLATFORM_INTERFACES},
+    SERIALIZABLE: (OBJECT, ()),
 }
 # Declared types below which nothing is looked for: each class fits them.
 BOUNDLESS = frozenset((OBJECT, *PLATFORM_INTERFACES))
@@ -183,6 +185,6 @@ class Universe:
 
     def fitting(self, name):
         """The classes, and the arrays, that may stand in a slot of that class."""
-        fits = name in (OBJECT, "java/lang/Cloneable", SERIALIZABLE)
+        fits = name in (OBJECT, CLONEABLE, SERIALIZABLE)
         return [each for each in self.classes if self.world.is_below(each, name)], self.arrays if fits else []
 

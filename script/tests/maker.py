@@ -25,6 +25,12 @@ class Maker:
             self.numbers[(tag, content)] = len(self.entries)
         return self.numbers[(tag, content)]
 
+    def long_entry(self):
+        """A Long, which takes two numbers (JVMS 8 section 4.4.5)."""
+        number = self.entry(5, bytes(8))
+        self.entries.append(b"")
+        return number
+
     def utf8(self, text):
         data = text.encode("latin-1")
         return self.entry(1, struct.pack(">H", len(data)) + data)
