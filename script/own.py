@@ -19,8 +19,8 @@ COMMANDS = {
         "./kiasan tests --method 'A.f(II)I' examples/A.class | ./kiasan replay --tests /dev/stdin examples/A.class",
     ),
     "assemble": ((0, 2, 6, 7, 8, 9, 70, 71), "./kiasan assemble examples/assemble/Whole.asm > Whole.class"),
-    "explain": ((0, 2), "./kiasan explain refused 47 'A.f(II)I' at 2 opcode b2"),
-    "targets": ((0, 2, 6, 70), "./kiasan targets --check examples/List.class"),
+    "explain": ((0, 2, 7, 70), "./kiasan explain refused 47 'A.f(II)I' at 2 opcode b2"),
+    "targets": ((0, 2, 6, 7, 70), "./kiasan targets --check examples/List.class"),
     "build": ((0, 2, 70), "./kiasan build"),
 }
 # Commands that the program knows and that are not built.

@@ -129,6 +129,7 @@ def test_with_python3():
         path = bare(top, "python3")
         ran = call("explore", script=top / "kiasan", cwd=top, env=without_program(PATH=path))
         same((ran.status, ran.out, ran.said[-1].split(":")[0]), (2, b"refused 95\n", "to do"), "a refusal with python3")
+        same(list((top / "script").rglob("*.pyc")), [], "what python3 keeps beside the sources")
 
 
 OLD = """#!/bin/sh

@@ -4,6 +4,7 @@ import os
 import pty
 import signal
 import subprocess
+import time
 from contextlib import contextmanager
 
 from script.tests import tools
@@ -186,3 +187,41 @@ def test_an_interrupt_leaves_nothing_behind():
                 same(told.read(), "", "the end of all that the build started")
             same((room != "", os.path.exists(room)), (True, False), "the folder of the build")
             same(stand_in.left(), [], f"files behind signal {number}")
+
+
+def test_what_is_built():
+    """The crates below kiasan_main with all that proves them, and nothing else."""
+    with building('find . -type f >"$TOLD.files"\ncp crates.txt "$TOLD.crates"\n') as stand_in:
+        top, told = stand_in.top, stand_in.top.parent
+        main = top / "crates/kiasan_main"
+        more = ["specs/A.antt", "specs/deep/B.antt", "proofs/P.antt", "src/deep/a.rt", "data/row"]
+        for name in [*more, "must-fail/x.edit", "out/log", "out/deep/log", "specs/deep/out/log"]:
+            (main / name).parent.mkdir(parents=True, exist_ok=True)
+            (main / name).touch()
+        same(build(stand_in).status, 70, "a build that makes nothing")
+        wanted = {"./HANDLES", "./crates.txt", *(f"./crates/kiasan_main/{name}" for name in more)}
+        wanted |= {f"./{file.relative_to(top)}" for name in CRATES for file in (top / "crates" / name / "src").rglob("*.rt")}
+        found = set((told / "told.files").read_text(encoding="ascii").split("\n")) - {""}
+        same((wanted - found, {name for name in found if "/out/" in name or "/must-fail/" in name}), (set(), set()), "files")
+        same({name.split("/")[2] for name in found if name.startswith("./crates/")}, set(CRATES), "crates")
+        lines = [line.partition(":")[0].strip() for line in (told / "told.crates").read_text(encoding="utf-8").splitlines()]
+        same(sorted(lines), sorted(CRATES), "lines of crates.txt")
+
+
+def test_a_source_that_is_changed_while_it_is_built():
+    """The program is as old as the moment at which its sources were taken."""
+    with building(WAITS + MAKES) as stand_in:
+        top = stand_in.top
+        script = subprocess.Popen([top / "kiasan", "build"], cwd=top, env=stand_in.env, stderr=subprocess.PIPE)
+        script.stderr.readline()
+        while not stand_in.builds():
+            time.sleep(0.05)
+        now = time.time() + 1
+        os.utime(top / "crates.txt", (now, now))
+        while time.time() < now + 1:
+            time.sleep(0.05)
+        stand_in.go_on()
+        script.communicate()
+        same((script.returncode, stand_in.builds()), (0, 1), "a build")
+        stand_in.go_on()
+        same((first(stand_in).status, stand_in.builds()), (0, 2), "a call behind it")

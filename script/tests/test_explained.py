@@ -218,9 +218,11 @@ def test_places_in_a_class_file():
     with folder() as path:
         made = Maker("Q").method("f", "()I", ICONST_0 + IRETURN).method("g", "(LQ;I)V", b"\xcb")
         made.write(path)
-        ran = call("explore", "--method", "Q.f()I", "Q.class", cwd=path)
-        parts = ["file 0 is Q.class", "method 1 is g(LQ;I)V", "opcode cb is no opcode"]
-        same(ran.said, explained("refused 20 file F method M at N opcode HH", *parts), "an opcode that is none")
+        (path / "a.tests").write_text("", encoding="ascii")
+        for words in (["explore", "--method", "Q.f()I"], ["replay", "--tests", "a.tests"]):
+            ran = call(*words, "Q.class", cwd=path)
+            parts = ["file 0 is Q.class", "method 1 is g(LQ;I)V", "opcode cb is no opcode"]
+            same(ran.said, explained("refused 20 file F method M at N opcode HH", *parts), words)
         Maker("Q").method("twice", "()I", ICONST_0 + IRETURN).method("twice", "()I", ICONST_0 + IRETURN).write(path)
         ran = call("explore", "--method", "Q.f()I", "Q.class", cwd=path)
         parts = ["file 0 is Q.class", 'entry 6 is "twice"']

@@ -6,7 +6,7 @@ import subprocess
 
 from script.own import COMMANDS
 from script.tests.maker import ABSTRACT, ICONST_0, IRETURN, NEW, POP, Maker
-from script.tests.tools import DATA, ROOT, call, cells, environment, folder, same
+from script.tests.tools import DATA, ROOT, call, cells, environment, folder, rows, same
 
 EXPLAINS = "explain: give the number of a refusal, a whole line `refused N ..`, or `status N`"
 WITH_HELP = "the commands with a page of help are explore, tests, replay, assemble, explain, targets, build"
@@ -92,6 +92,18 @@ def test_help_of_a_command():
             same(cells("USING.md", number)[2] in text, True, f"status {number} in the help of {command}")
     same("--budget N       1 to 100,000, else 2,000" in call("tests", "--help").out.decode(), True, "options of tests")
     same("--budget" in call("replay", "--help").out.decode(), False, "options of replay")
+
+
+def test_statuses_of_the_commands():
+    """Those that stored rows end with, and those that no row can have: 7, 8, 70, 71, and 0 of an assembler text."""
+    found = {command: {7, 8, 70, 71} for command in ("explore", "tests", "replay", "assemble")}
+    found["assemble"].add(0)
+    for words, _, status in rows():
+        if words and words[0] in found:
+            found[words[0]].add(status)
+    found["explore"] |= found["tests"]
+    found["tests"] = found["explore"]
+    same({command: set(COMMANDS[command][0]) for command in found}, found, "statuses of commands")
 
 
 def test_help_asks_for_no_program():
