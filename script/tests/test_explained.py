@@ -18,7 +18,7 @@ from script.tests.maker import (
     STATIC_CALL,
     Maker,
 )
-from script.tests.tools import DATA, SCRIPT, call, environment, explained, folder, same, status_lines
+from script.tests.tools import DATA, SCRIPT, call, environment, explained, folder, same, stand_in, status_lines
 
 # Words in the folder of the stored rows' files, and what is said of them.
 TABLE = [
@@ -365,8 +365,7 @@ def test_texts_that_are_pipes_are_read_by_the_program_alone():
 
 
 # A program that answers otherwise when it is asked again.
-CHANGES = """#!/bin/sh
-if [ -e asked ]; then
+CHANGES = """if [ -e asked ]; then
     echo "$AGAIN"
     exit "$STATUS"
 fi
@@ -374,13 +373,6 @@ touch asked
 echo "refused 96"
 exit 2
 """
-
-
-def stand_in(path, text, **more):
-    """An environment whose program is a stand-in."""
-    (path / "program").write_text(text, encoding="ascii")
-    (path / "program").chmod(0o755)
-    return environment(KIASAN_PROGRAM=str(path / "program"), **more)
 
 
 def test_a_second_answer_that_differs():
@@ -401,9 +393,9 @@ def test_a_second_answer_that_differs():
 def test_statuses_that_are_not_refusals():
     with folder() as path:
         for status in (7, 8, 10, 70, 71):
-            ran = call("explore", cwd=path, env=stand_in(path, f"#!/bin/sh\nexit {status}\n"))
+            ran = call("explore", cwd=path, env=stand_in(path, f"exit {status}\n"))
             same((ran.status, ran.said), (status, status_lines(status)), f"status {status}")
-        ran = call("explore", cwd=path, env=stand_in(path, "#!/bin/sh\nexit 42\n"))
+        ran = call("explore", cwd=path, env=stand_in(path, "exit 42\n"))
         same((ran.status, ran.said), (42, []), "a status that is none of the program's")
 
 
@@ -416,7 +408,7 @@ def test_numbers_of_places_that_are_not_there():
             ("refused 18 file F method M", "refused 18 file 0 method 7", 3),
             ("refused 61 test N", "refused 61 test 7", 9),
         ]:
-            ran = call(*words, cwd=path, env=stand_in(path, f"#!/bin/sh\necho {line}\nexit {status}\n"))
+            ran = call(*words, cwd=path, env=stand_in(path, f"echo {line}\nexit {status}\n"))
             parts = [f"file 0 is {DATA / 'A.class'}"] if "file" in line else []
             same((ran.status, ran.said), (status, explained(form, *parts)), line)
 

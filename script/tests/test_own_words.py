@@ -6,7 +6,7 @@ import subprocess
 
 from script.own import COMMANDS
 from script.tests.maker import ABSTRACT, ICONST_0, IRETURN, NEW, POP, Maker
-from script.tests.tools import DATA, ROOT, call, cells, environment, folder, rows, same
+from script.tests.tools import DATA, LEAST, ROOT, call, cells, environment, folder, rows, same, stand_in
 
 EXPLAINS = "explain: give the number of a refusal, a whole line `refused N ..`, or `status N`"
 WITH_HELP = "the commands with a page of help are explore, tests, replay, assemble, explain, targets, build"
@@ -157,6 +157,20 @@ def test_targets_checked():
         for word in ("M.class", "."):
             ran = call("targets", "--check", word, cwd=path)
             same((ran.status, ran.out.decode().splitlines()), (0, wanted), word)
+
+
+def test_how_targets_are_checked():
+    """One call for each, with all bounds at their least; what is no refusal is told by its status."""
+    with folder() as path:
+        made = Maker("M").method("f", "()I", ICONST_0 + IRETURN).method("g", "()I", ICONST_0 + IRETURN)
+        made.write(path)
+        env = stand_in(path, 'echo "refused $*"\necho more\nexit 5\n')
+        wanted = [f"M.{name}()I refused explore {LEAST} --method M.{name}()I M.class" for name in "fg"]
+        same(call("targets", "--check", "M.class", cwd=path, env=env).out.decode().splitlines(), wanted, "calls")
+        for status, told in [(0, "explored"), (1, "explored"), (6, "status 6")]:
+            env = stand_in(path, f"exit {status}\n")
+            ran = call("targets", "--check", "M.class", cwd=path, env=env)
+            same(ran.out.decode().splitlines(), [f"M.{name}()I {told}" for name in "fg"], f"status {status}")
 
 
 def test_words_as_they_are():

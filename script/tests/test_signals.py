@@ -10,11 +10,10 @@ import subprocess
 
 from script.tests.maker import ICONST_0, IRETURN, Maker
 from script.tests.test_places import write_archive
-from script.tests.tools import DATA, SCRIPT, environment, folder, same
+from script.tests.tools import DATA, SCRIPT, environment, folder, same, stand_in
 
 # A program that tells that it runs, and which signal came.
-TELLS = """#!/bin/sh
-trap 'echo INT >/dev/fd/$TOLD; exit 13' INT
+TELLS = """trap 'echo INT >/dev/fd/$TOLD; exit 13' INT
 trap 'echo TERM >/dev/fd/$TOLD; exit 14' TERM
 trap 'echo HUP >/dev/fd/$TOLD; exit 15' HUP
 trap 'echo QUIT >/dev/fd/$TOLD; exit 16' QUIT
@@ -22,13 +21,11 @@ echo runs >/dev/fd/$TOLD
 for tenth in $(seq 600); do sleep 0.1; done
 """
 # A program that a signal ends.
-DIES = """#!/bin/sh
-echo runs >/dev/fd/$TOLD
+DIES = """echo runs >/dev/fd/$TOLD
 exec sleep 60
 """
 # A program that refuses, and that a signal ends where it is asked again.
-REFUSES_SLOWLY = """#!/bin/sh
-if [ -e asked ]; then
+REFUSES_SLOWLY = """if [ -e asked ]; then
     echo again >/dev/fd/$TOLD
     exec sleep 60
 fi
@@ -37,19 +34,12 @@ echo refused 96
 exit 2
 """
 # A program that tells which of the files 0 to 2 are open.
-TELLS_FILES = """#!/bin/sh
-for file in 0 1 2; do
+TELLS_FILES = """for file in 0 1 2; do
     [ ! -e /proc/$$/fd/$file ] || echo $file >/dev/fd/$TOLD
 done
 """
 # The C library ignores two signals of its own, 32 and 33, in what it starts.
 OF_THE_LIBRARY = 0x180000000
-
-
-def write_program(path, text):
-    (path / "program").write_text(text, encoding="ascii")
-    (path / "program").chmod(0o755)
-    return str(path / "program")
 
 
 class Begun:
@@ -60,7 +50,7 @@ class Begun:
         self.script = subprocess.Popen(
             command,
             cwd=path,
-            env=environment(KIASAN_PROGRAM=write_program(path, text), TOLD=str(writing), **more),
+            env=stand_in(path, text, TOLD=str(writing), **more),
             stdout=subprocess.PIPE,
             stderr=subprocess.PIPE,
             pass_fds=[writing],
@@ -101,7 +91,7 @@ def test_a_signal_ends_program_and_script():
 
 def test_a_program_that_ends_itself():
     with folder() as path:
-        begun = Begun(path, "#!/bin/sh\nkill -s SEGV $$\n", SCRIPT, "explore")
+        begun = Begun(path, "kill -s SEGV $$\n", SCRIPT, "explore")
         same(begun.end(), ([], b"", b"", -signal.SIGSEGV), "a program that a signal ended")
 
 
@@ -165,14 +155,13 @@ def test_ignored_signals_stay_ignored():
     if not os.path.exists("/proc/self/status"):
         return
     with folder() as path:
-        text = "#!/bin/sh\nwhile read -r name value; do [ $name != SigIgn: ] || echo $value; done </proc/$$/status\n"
-        program = write_program(path, text)
+        env = stand_in(path, "while read -r name value; do [ $name != SigIgn: ] || echo $value; done </proc/$$/status\n")
         for how in ("", "trap '' HUP PIPE; "):
             found = []
             for words in ('"$0" explore', 'exec "$KIASAN_PROGRAM"'):
                 run = subprocess.run(
                     ["sh", "-c", how + words, SCRIPT],
-                    env=environment(KIASAN_PROGRAM=program),
+                    env=env,
                     stdout=subprocess.PIPE,
                     check=False,
                 )

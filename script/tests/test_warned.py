@@ -1,7 +1,7 @@
 """Warnings and notes before a report that is narrower than it looks."""
 
 from script.tests.maker import ABSTRACT, ALOAD_0, GETFIELD, ICONST_0, INTERFACE, IRETURN, POP, STATIC, Maker, taking
-from script.tests.tools import ROOT, call, explained, folder, same, status_lines
+from script.tests.tools import LEAST, ROOT, call, explained, folder, same, stand_in, status_lines
 
 
 def said_of(classes, method, *words, place=False):
@@ -204,6 +204,21 @@ def test_warnings_with_a_mode():
     same(said_of([made], "M.f(LNode;)I", "--init", "lazy"), (0, [wanted]), "--init lazy")
     found = said_of([made], "M.f(LNode;)I", "--init", "lazier")
     same(found, (5, explained("refused 50", "word 4 is --init lazier")), "--init lazier, which is refused")
+
+
+def test_how_it_is_asked_whether_anything_is_refused():
+    """Once, with all bounds at their least, before the call; and not at all where there is nothing to warn of."""
+    with folder() as path:
+        taking("M", "Node").write(path)
+        env = stand_in(path, 'echo "$*" >>asked\n')
+        words = ["explore", "--k", "9", "--method", "M.f(LNode;)I", "M.class"]
+        same(len(call(*words, cwd=path, env=env).said), 1, "a warning")
+        wanted = [f"explore {LEAST} --method M.f(LNode;)I M.class", " ".join(words)]
+        same((path / "asked").read_text(encoding="ascii").splitlines(), wanted, "calls of the program")
+        (path / "asked").unlink()
+        Maker("Node").write(path)
+        same(call(*words, "Node.class", cwd=path, env=env).said, [], "no warning")
+        same((path / "asked").read_text(encoding="ascii"), f"{' '.join(words)} Node.class\n", "calls of the program")
 
 
 def test_the_lines_of_the_page():
