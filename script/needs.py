@@ -121,7 +121,7 @@ class Needs:
     def _access(self, named, name, kind):
         self.need(class_of_entry(named), CODE)
         found = self.world.find_field(named, name, kind)
-        if found and not found[1].access & STATIC:
+        if found:
             self.fields.setdefault((found[0].name, name, kind), None)
             self.need_type(kind)
 

@@ -201,6 +201,13 @@ def is_used(top, env):
     return False
 
 
+def make_old(file, top):
+    """The file and the folders that it lies in are older than all that is written today."""
+    while file != top:
+        os.utime(file, (0, 0))
+        file = file.parent
+
+
 def test_a_source_that_is_newer_asks_for_a_build():
     """Each file that says what the program does, or what is proved of it, and no other."""
     sources = ["crates.txt", "release/BUILT", "crates/kiasan_main/src/a.rt", "crates/kiasan_main/src/deep/a.rt"]
@@ -208,17 +215,20 @@ def test_a_source_that_is_newer_asks_for_a_build():
     others = ["crates/kiasan_main/proofs/A.antt", "README.md", "crates/kiasan_main/out/log", "script/page.txt"]
     with copy() as top:
         env = without_program(PATH=bare(top, "python3"))
-        keep(top)
-        same(is_used(top, env), True, "the kept program")
-        (top / "release/kiasan-linux-x86_64").unlink()
-        same(is_used(top, env), True, "a copy of it")
-        behind = (top / "build/kiasan").stat().st_mtime + 2
         for name in [*others, *sources]:
             (top / name).parent.mkdir(parents=True, exist_ok=True)
             (top / name).touch()
+            make_old(top / name, top)
+        keep(top)
+        same(is_used(top, env), True, "the kept program")
+        (top / "release/kiasan-linux-x86_64").unlink()
+        make_old(top / "release/BUILT", top)
+        same(is_used(top, env), True, "a copy of it")
+        behind = (top / "build/kiasan").stat().st_mtime + 2
+        for name in [*others, *sources]:
             os.utime(top / name, (behind, behind))
             same(is_used(top, env), name in others, f"a newer {name}")
-            os.utime(top / name, (0, 0))
+            make_old(top / name, top)
         (top / "build/kiasan").chmod(0o644)
         same(is_used(top, env), False, "a program that cannot be run")
 

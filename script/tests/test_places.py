@@ -139,6 +139,16 @@ def test_a_class_file_of_an_archive_is_called_by_it():
         same(ran.said[1:], wanted, "a damaged class file of an archive")
 
 
+def test_one_class_twice_in_one_folder():
+    for first, second in (("A", "B"), ("B", "A")):
+        with folder() as path:
+            write_list(path / "all")
+            (path / "all/p/List.class").rename(path / f"all/p/{first}.class")
+            Maker("p/List").write(path / "all", f"p/{second}.class")
+            ran = call("explore", "--method", SIZE, "all", cwd=path)
+            same((ran.status, ran.said[0].startswith("of all (5 class files): p/List")), (0 if first == "A" else 4, True), first)
+
+
 def test_a_class_file_whose_name_cannot_be_read():
     """It goes by its path in the place, and is refused where it is needed."""
     with folder() as path:

@@ -67,6 +67,13 @@ def test_the_type_of_a_field_that_is_accessed():
             same(found, ["Base", "Disc", "M", "Round", "Shape"], f"a field of type {kind} with flags {access}")
 
 
+def test_the_type_of_a_static_field():
+    """It is accessed too, though the method is refused for it."""
+    made = Maker("M").field("x", "LNode;", STATIC)
+    made.method("f", "()I", b"\xb2" + made.field_ref("M", "x", "LNode;") + POP + END)
+    same(needed([made, *plain("Node", "Other")], "M.f()I"), ["M", "Node"], "a static field")
+
+
 def test_a_field_of_another_descriptor():
     made = Maker("M").field("x", "LOther;").field("x", "LNode;")
     made.method("f", "()I", ACONST_NULL + GETFIELD + made.field_ref("M", "x", "LNode;") + POP + END)
