@@ -1,7 +1,7 @@
 """Words and targets: what the script takes as in order is what the program takes, so that places are looked into for it."""
 
 from script import words
-from script.names import read_target
+from script.names import read_target, split_method
 from script.tests.maker import ICONST_0, IRETURN, Maker
 from script.tests.tools import direct, folder, judge_all, same
 
@@ -70,6 +70,16 @@ def test_what_a_target_names():
         ("M.()V", ("M", "", "()V")),
     ]:
         same(read_target(text), wanted, text)
+
+
+def test_descriptors_of_methods():
+    """JVMS 8 section 4.3: a name between L and ; is not empty, V is a result alone."""
+    for text, wanted in [
+        ("()V", ([], "V")),
+        ("(I[[JLp/M;[Lp/M;D)[Z", (["I", "[[J", "Lp/M;", "[Lp/M;", "D"], "[Z")),
+        *((text, None) for text in ("(L;)V", "()L;", "(V)V", "()[V", "([)V", "()", "(I", "I)V", "(LM)V", "()II", "(Q)V", "")),
+    ]:
+        same(split_method(text), wanted, text)
 
 
 def test_places_of_words():
