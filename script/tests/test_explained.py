@@ -71,7 +71,9 @@ TABLE = [
     ("sample 6", explained("refused 50", "word 0 is sample")),
     ("sample 65", explained("refused 94 word W", "word 1 is 65, sample takes 0 to 64")),
     ("explore --method A.f(II)I Lst.class", ["cannot read Lst.class: No such file or directory"]),
+    ("explore --method A.f(II)I A.class one.class two.class", ["cannot read one.class: No such file or directory"]),
     ("replay --tests gone.tests A.class", ["cannot read gone.tests: No such file or directory"]),
+    ("replay --tests gone.tests gone.class", ["cannot read gone.tests: No such file or directory"]),
     ("replay --tests sums.tests A.class", status_lines(10)),
     ("explore --paths 1 --method Choice.flag(Z)I Choice.class", status_lines(1)),
 ]

@@ -15,6 +15,7 @@ OPTIONS = """
 --init lazy|--init lazier|--init eager|--init lazy --init lazy|--method M.f()I|--tests a.tests|--nothing 1|--k|--init
 --k --k|--init --k|--loops 0 --k 1 --init lazy --array 2
 """.strip().replace("\n", "|").split("|")
+OPTIONS += ["--k \u0663", "--k 1\u0663", "--k \u00b2"]
 OTHERS = """
 explore|explore M.class|explore --method M.f()I|explore --method|explore M.class --method M.f()I
 explore --method M.f()I M.class --k 17|explore --method M.f()I -k M.class|explore --method M.f M.class
