@@ -166,12 +166,10 @@ class Parts:
         found = self._found(text)
         if found is None or "N" not in self.texts or found[1].code is None:
             return []
-        at = int(self.texts["N"])
-        if at == 0 and self.row.form.endswith(" kind"):
-            left_out = left_out_type(found[1])
-            if left_out:
-                return [f"{text} has a parameter or result of type {left_out}"]
-        return place_lines(text, found[0], found[1].code, at, "HH" not in self.texts)
+        left_out = left_out_type(found[1])
+        if left_out:
+            return [f"{text} has a parameter or result of type {left_out}"]
+        return place_lines(text, found[0], found[1].code, int(self.texts["N"]), "HH" not in self.texts)
 
     def _so_many(self):
         return self.handed.why_so_many()
@@ -232,7 +230,7 @@ class Parts:
 
 
 def left_out_type(method):
-    """The first type of a parameter or result of a method that is left out, or None."""
+    """The first type of a parameter or result that is left out, or None: for it a method is refused before its code."""
     params, result = split_method(method.kind) or ([], "")
     return next((LEFT_OUT[kind] for kind in [*params, result] if kind in LEFT_OUT), None)
 

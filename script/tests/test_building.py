@@ -4,6 +4,7 @@ import os
 import pty
 import signal
 import subprocess
+import threading
 import time
 from contextlib import contextmanager
 
@@ -12,6 +13,7 @@ from script.tests.test_alone import FIRST, change_a_source, copy, keep, without_
 from script.tests.tools import call, same
 
 CRATES = subprocess.run([tools.ROOT / "release/sum", "--crates"], stdout=subprocess.PIPE, check=True).stdout.decode().split()
+MOST_SECONDS = 100
 HEAD = '#!/bin/sh\necho "$PWD" >>"$TOLD"\n'
 PROVES = 'echo "logic=proved functions=1"\necho "rt: one proved"\n'
 WAITS = 'read -r line <"$GO"\n'
@@ -20,7 +22,10 @@ FAILS = 'for line in 1 2 3 4 5 6 7 8 9 10 11; do echo "line $line"; done\nexit 1
 
 
 class StandIn:
-    """A stand-in for rt: the environment whose rt it is, which names no program, and how far it may go."""
+    """A stand-in for rt: the environment whose rt it is, which names no program, and how far it may go.
+
+    Where a test has not let it go on in time, as where no line of progress comes, it goes to its end.
+    """
 
     def __init__(self, top, body):
         self.top = top
@@ -31,6 +36,8 @@ class StandIn:
         (top.parent / "tmp").mkdir()
         os.mkfifo(top.parent / "go")
         self._go = os.open(top.parent / "go", os.O_RDWR)
+        self._late = threading.Timer(MOST_SECONDS, os.write, (self._go, b"late\n" * 10))
+        self._late.start()
         self._told = top.parent / "told"
         self.env = without_program(
             PATH=f"{folder}:{os.environ['PATH']}",
@@ -53,6 +60,8 @@ class StandIn:
         return sorted(path.name for place in places for path in place.rglob("*") if path.is_file())
 
     def close(self):
+        self._late.cancel()
+        self._late.join()
         os.close(self._go)
 
 

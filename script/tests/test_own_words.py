@@ -117,10 +117,11 @@ def test_help_asks_for_no_program():
 
 def test_help_where_nobody_can_be_told():
     """Words without a fault are done; the status of a fault is the same."""
-    for words, status in [([], 2), (["--help", "x"], 2), (["none", "--help"], 2), (["--help"], 0)]:
-        text = f'exec "$0" {" ".join(words)} 2>&-'
-        run = subprocess.run(["sh", "-c", text, ROOT / "kiasan"], env=environment(), stdout=subprocess.PIPE, check=False)
-        same(run.returncode, status, f"{words} with a closed standard error")
+    for end in ("2>&-", "2>/dev/full" if os.path.exists("/dev/full") else "2>&-"):
+        for words, status in [([], 2), (["--help", "x"], 2), (["none", "--help"], 2), (["--help"], 0), (["explain"], 2)]:
+            text = f'exec "$0" {" ".join(words)} {end}'
+            run = subprocess.run(["sh", "-c", text, ROOT / "kiasan"], env=environment(), stdout=subprocess.PIPE, check=False)
+            same(run.returncode, status, f"{words} {end}")
 
 
 def test_targets():

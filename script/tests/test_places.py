@@ -80,6 +80,18 @@ def test_files_beside_a_class_file():
         same(call("explore", "--method", SIZE, "List.class", cwd=path / "p").said, ["of List$*.class (2 class files): p/List$Node"], "here")
 
 
+def test_files_beside_stand_behind_their_class_file():
+    with folder() as path:
+        write_list(path)
+        (path / "Z.class").write_bytes((DATA / "magic.class").read_bytes())
+        ran = call("explore", "--method", SIZE, "p/List.class", "Z.class", cwd=path)
+        same(ran.out, b"refused 10 file 2\n", "a class file behind them")
+        same(ran.said[1:], explained("refused 10 file F", "file 2 is Z.class"), "a class file behind them")
+        (path / "p/List$Node.class").write_bytes(Maker("p/List$Node").data() + b"\0")
+        ran = call("explore", "--method", SIZE, "p/List.class", cwd=path)
+        same(ran.said[1:], explained("refused 17 file F at N", "file 1 is p/List$Node.class"), "a file beside")
+
+
 def test_one_class_twice():
     """Of one name the first counts, and a class file that is named singly before all."""
     with folder() as path:
