@@ -283,6 +283,10 @@ def test_where_a_missing_class_lies():
         Maker("p/Gone").write(path, "out/p/Gone.class")
         ran = call("explore", "--method", "p/User.f()I", "out/p/User.class", cwd=path)
         same(ran.said, explained("refused 41 class NAME", "class p/Gone lies in out/p/Gone.class"), "a class file beside")
+        Maker("p/Of", interfaces=["q/Face"]).method("f", "()I", ICONST_0 + IRETURN).write(path, "out/p/Of.class")
+        ran = call("explore", "--method", "p/Of.f()I", "out/p/Of.class", cwd=path)
+        part = "class q/Face is a superclass or an interface of p/Of"
+        same(ran.said, explained("refused 41 class NAME", part), "an interface")
         Maker("p/Below", "p/Above").method("f", "()I", ICONST_0 + IRETURN).write(path, "out/p/Below.class")
         Maker("p/Above").write(path, "out/p/Above.class")
         ran = call("explore", "--method", "p/Below.f()I", "out/p/Below.class", cwd=path)
