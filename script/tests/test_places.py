@@ -440,7 +440,11 @@ def test_what_is_no_class_file_is_passed_over():
         write_list(path / "all")
         (path / "all/Text.class").write_text("none", encoding="ascii")
         (path / "all/p/Source.java").write_text("none", encoding="ascii")
+        (path / "all/p/Gone.class").symlink_to("nowhere")
+        (path / "all/p/List$Folder.class").mkdir()
         same(call("explore", "--method", SIZE, "all", cwd=path).said, ["of all (4 class files): p/List, p/List$Node"], "others")
+        ran = call("explore", "--method", SIZE, "all/p/List.class", cwd=path)
+        same(ran.said, ["of all/p/List$*.class (2 class files): p/List$Node"], "others beside a class file")
 
 
 def test_words_without_a_target_are_handed_on():
