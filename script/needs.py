@@ -6,7 +6,7 @@ What is reached is told as in docs/REFUSALS.md; a class that is not known names 
 from .class_file import STATIC, Unfit
 from .instructions import CALLS, CLASS_USES, FIELD_ACCESSES, SELECTING, SPECIAL, entry_of, instructions
 from .names import class_of_entry, class_of_type
-from .world import BOUNDLESS, PLATFORM, World, parameter_types
+from .world import BOUNDLESS, World, parameter_types
 
 CODE = "the code"
 
@@ -55,9 +55,7 @@ class Needs:
 
     def need(self, name, why):
         """The class is needed, with all that it stands below."""
-        if name is None or name in PLATFORM or name in self.taken:
-            return
-        if name in self.is_offered:
+        if name in self.is_offered and name not in self.taken:
             self.taken[name] = why
             self._come(self.world.get(name), why)
 

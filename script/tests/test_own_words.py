@@ -19,6 +19,8 @@ FAULTS = [
     (["explain", "7"], 2, ["explain: no refusal has the number 7: docs/REFUSALS.md"]),
     (["explain", "refused", "47"], 2, [EXPLAINS]),
     (["explain", "47", "50"], 2, [EXPLAINS]),
+    (["explain", "--help", "x"], 2, [EXPLAINS]),
+    (["targets", "--help", "x"], 2, ["targets: give class files, folders or jars, behind `--check` or alone"]),
     (["explain", "status"], 2, [EXPLAINS]),
     (["explain", *"refused 47 A.f(II)I at 2 opcode B2".split()], 2, [EXPLAINS]),
     (["explain", *"refused 47 A.f(II)I at x opcode b2".split()], 2, [EXPLAINS]),
