@@ -42,7 +42,8 @@ OF_NO_LENGTH = (0xAA, 0xAB, 0xC4)
 
 def test_mnemonics():
     found = [name for names in FAMILIES.values() for name in names]
-    same([first for first in FAMILIES], [at for at, name in enumerate(found) if name in {f[0] for f in FAMILIES.values()}], "places")
+    firsts = {names[0] for names in FAMILIES.values()}
+    same(list(FAMILIES), [at for at, name in enumerate(found) if name in firsts], "where families begin")
     same(MNEMONICS, found, "mnemonics")
 
 

@@ -111,8 +111,8 @@ def test_statuses_of_the_commands():
 def test_help_asks_for_no_program():
     """Pages of help are there without a program, and so is what is said of a word that has none."""
     env = environment(KIASAN_PROGRAM="/nowhere/kiasan")
-    for words, status in [(["explore", "--help"], 0), (["build", "--help"], 0), (["diagrams", "--help"], 2), (["x", "--help"], 2)]:
-        same(call(*words, env=env).status, status, words)
+    for word, status in [("explore", 0), ("build", 0), ("diagrams", 2), ("x", 2)]:
+        same(call(word, "--help", env=env).status, status, f"{word} --help")
     ran = call("explore", "--help", "A.class")
     same((ran.status, ran.out), (2, b"refused 91 word 1\n"), "three words, which are the program's")
 

@@ -77,7 +77,8 @@ def test_files_beside_a_class_file():
             ran = call("explore", "--method", SIZE, "p/List.class", cwd=path)
             same(ran.said[0].startswith("warning: class p/List$Node is not given"), True, ran.said[0])
             (path / "p" / name).replace(path / "p/List$Node.class")
-        same(call("explore", "--method", SIZE, "List.class", cwd=path / "p").said, ["of List$*.class (2 class files): p/List$Node"], "here")
+        said = call("explore", "--method", SIZE, "List.class", cwd=path / "p").said
+        same(said, ["of List$*.class (2 class files): p/List$Node"], "class files of this folder")
 
 
 def test_files_beside_stand_behind_their_class_file():
@@ -158,7 +159,8 @@ def test_one_class_twice_in_one_folder():
             (path / "all/p/List.class").rename(path / f"all/p/{first}.class")
             Maker("p/List").write(path / "all", f"p/{second}.class")
             ran = call("explore", "--method", SIZE, "all", cwd=path)
-            same((ran.status, ran.said[0].startswith("of all (5 class files): p/List")), (0 if first == "A" else 4, True), first)
+            same(ran.said[0].startswith("of all (5 class files): p/List"), True, ran.said[0])
+            same(ran.status, 0 if first == "A" else 4, f"the class of {first}.class")
 
 
 def test_a_class_file_whose_name_cannot_be_read():
@@ -231,7 +233,8 @@ def test_words_of_diagrams():
         write_list(path / "all")
         ran = call("diagrams", "--method", SIZE, "all", cwd=path)
         same((ran.status, ran.out), (5, b"refused 50\n"), "diagrams")
-        same(ran.said, ["of all (4 class files): p/List, p/List$Node", *explained("refused 50", "word 0 is diagrams")], "diagrams")
+        of_all = "of all (4 class files): p/List, p/List$Node"
+        same(ran.said, [of_all, *explained("refused 50", "word 0 is diagrams")], "diagrams")
 
 
 def test_a_file_of_a_folder_that_cannot_be_read():
@@ -331,8 +334,9 @@ def test_why_so_many():
         same(call("explore", "--method", "M.f(LFew;LMany;)I", "M.class", "all", cwd=path).status, 5, "64 class files")
         Maker("H", "Few").write(path / "all")
         ran = call("explore", "--method", "M.f(LFew;LMany;)I", "M.class", "all", cwd=path)
-        why = "65 class files are needed: 1 named singly, 3 by the code, 40 since they are below Many, 21 since they are below Few"
-        same(ran.said[1:], explained("refused 49", f"{why}; name singly those that are to count"), "65 class files")
+        why = "65 class files are needed: 1 named singly, 3 by the code, 40 since they are below Many, "
+        why += "21 since they are below Few; name singly those that are to count"
+        same(ran.said[1:], explained("refused 49", why), "65 class files")
 
 
 def test_65_class_files_that_are_named_singly():

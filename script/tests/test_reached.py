@@ -1,4 +1,4 @@
-"""What code reaches, and which classes are needed for it: by the rules of docs/USING.md and of lookup (JVMS 8 chapters 5 and 6)."""
+"""What code reaches, and which classes are needed for it: by docs/USING.md and the rules of lookup (JVMS 8 chapters 5, 6)."""
 
 from script.tests.maker import (
     ABSTRACT,

@@ -117,7 +117,7 @@ def test_where_it_stops():
 
 
 def test_lines_of_offsets():
-    """An offset has the line of the last row that begins at it or before it, in whatever order the rows stand (JVMS 8 4.7.12)."""
+    """An offset has the line of the last row that begins at it or before it; rows have no order (JVMS 8 section 4.7.12)."""
     made = Maker("M").method("f", "()I", b"\0" * 9 + ICONST_0 + IRETURN, lines=[(8, 6), (2, 7), (4, 5)])
     code = ClassFile(made.data()).methods[0].code
     wanted = [None, None, 7, 7, 5, 5, 5, 5, 6, 6, 6]

@@ -76,6 +76,8 @@ def test_what_may_hold_many_classes():
     same(said_of([made, Maker("A"), Maker("B")], "M.f()I", "--k", "1"), (0, []), "four classes: A, B, M and java/lang/Object")
     wanted = "note: M.slot may hold each of 5 classes: M, A, B, C, java/lang/Object"
     same(said_of([made, Maker("A"), Maker("B"), Maker("C")], "M.f()I", "--k", "1"), (0, [wanted]), "five classes")
+    arrays = reading("M", "[Ljava/lang/Object;")
+    same(said_of([arrays, *(Maker(name) for name in "ABCD")], "M.f()I", "--k", "1"), (0, []), "an array of objects")
     place = ["of . (2 class files): M", "note: M.slot may hold each of 2 classes: M, java/lang/Object"]
     same(said_of([made, Maker("A")], "M.f()I", "--k", "1", place=True), (0, place), "a class of a folder that nothing names")
     arrays = reading("M", "Ljava/io/Serializable;").field("ints", "[[I").field("longs", "[J").field("gone", "[LGone;")
@@ -133,8 +135,8 @@ def test_the_order_of_what_is_said():
     """Warnings come before notes, parameters before fields, and fields as the code reads them, each once."""
     objects = "Ljava/lang/Object;"
     made = Maker("M").field("second", "LTwo;").field("first", "LOne;").field("any", objects)
-    fields = [("M", name, kind) for name, kind in [("any", objects), ("first", "LOne;"), ("second", "LTwo;"), ("first", "LOne;")]]
-    accessing(made, *fields, taken=f"({objects}LThree;)I")
+    first, second = ("M", "first", "LOne;"), ("M", "second", "LTwo;")
+    accessing(made, ("M", "any", objects), first, second, first, taken=f"({objects}LThree;)I")
     given = [made, *(Maker(name) for name in "ABC")]
     many = "may hold each of 5 classes: M, A, B, C, java/lang/Object"
     missing = [("Three", "argument 2"), ("One", "M.first"), ("Two", "M.second")]
@@ -160,7 +162,8 @@ def test_arrays_of_what_no_object_is():
     arrays = reading("M", "Ljava/io/Serializable;").field("ints", "[I")
     same(said_of([arrays], "M.f()I"), (0, []), "an interface of the platform that arrays have")
     wanted = "warning: no class below java/lang/Comparable is given, so M.slot can only be null"
-    same(said_of([reading("M", "Ljava/lang/Comparable;").field("ints", "[I")], "M.f()I"), (0, [wanted]), "one that they have not")
+    arrays = reading("M", "Ljava/lang/Comparable;").field("ints", "[I")
+    same(said_of([arrays], "M.f()I"), (0, [wanted]), "one that they have not")
 
 
 def test_a_place_beside_a_file_is_looked_into():
