@@ -19,8 +19,8 @@ OPTIONS += ["--k \u0663", "--k 1\u0663", "--k \u00b2"]
 OTHERS = """
 explore|explore M.class|explore --method M.f()I|explore --method|explore M.class --method M.f()I
 explore --method M.f()I M.class --k 17|explore --method M.f()I -k M.class|explore --method M.f M.class
-replay --tests a.tests M.class|replay M.class|replay --tests a.tests|replay --tests|replay --tests a.tests --tests a.tests M.class
-replay --tests a.tests --k 1 M.class|replay --k 1 --tests a.tests M.class|replay --method M.f()I M.class
+replay --tests a.tests M.class|replay M.class|replay --tests a.tests|replay --tests
+replay --tests a.tests --tests a.tests M.class|replay --tests a.tests --k 1 M.class|replay --k 1 --tests a.tests M.class|replay --method M.f()I M.class
 """.strip().replace("\n", "|").split("|")
 # Texts that are targets, or that look like some.
 TARGETS = """
