@@ -325,6 +325,10 @@ def test_an_assembler_text():
 def test_words_that_are_not_utf_8():
     ran = call("explore", "--method", "A.f(II)I", b"\xff.class")
     same((ran.status, ran.out, ran.said), (71, b"", status_lines(71)), "a word that is not UTF-8")
+    with folder() as path:
+        Maker("M").method("f", "()I", ICONST_0 + IRETURN).write(path / os.fsdecode(b"\xff"))
+        ran = call("explore", "--method", "M.f()I", b"\xff", cwd=path)
+        same((ran.status, ran.out, ran.said), (71, b"", status_lines(71)), "a folder whose name is not UTF-8")
 
 
 def test_a_full_disk():
