@@ -218,12 +218,12 @@ def test_a_field_that_is_not_there():
 def test_places_in_a_class_file():
     """The method of a fault of code, and the text of an entry that is no name or stands twice."""
     with folder() as path:
-        made = Maker("Q").method("f", "()I", ICONST_0 + IRETURN).method("g", "(LQ;I)V", b"\xcb")
+        made = Maker("Q").method("f", "()I", ICONST_0 + IRETURN).method("g h", "(LQ;I)V", b"\xcb")
         made.write(path)
         (path / "a.tests").write_text("", encoding="ascii")
         for words in (["explore", "--method", "Q.f()I"], ["replay", "--tests", "a.tests"]):
             ran = call(*words, "Q.class", cwd=path)
-            parts = ["file 0 is Q.class", "method 1 is g(LQ;I)V", "opcode cb is no opcode"]
+            parts = ["file 0 is Q.class", "method 1 is g%20h(LQ;I)V", "opcode cb is no opcode"]
             same(ran.said, explained("refused 20 file F method M at N opcode HH", *parts), words)
         Maker("Q").method("twice", "()I", ICONST_0 + IRETURN).method("twice", "()I", ICONST_0 + IRETURN).write(path)
         ran = call("explore", "--method", "Q.f()I", "Q.class", cwd=path)
