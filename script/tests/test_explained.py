@@ -205,6 +205,18 @@ def test_what_is_not_explored_yet():
             same(ran.said, explained("refused 50", *parts), target)
 
 
+def test_the_method_is_that_of_its_class():
+    """Another class that is given first has a method of the same name and descriptor."""
+    other = Maker("A").method("f", "()I", ICONST_0 + ICONST_0 + NEW + b"\0\1" + IRETURN)
+    made = Maker("B")
+    made.method("f", "()I", STATIC_CALL + made.method_ref("B", "f", "()I") + IRETURN)
+    with folder() as path:
+        files = [other.write(path), made.write(path)]
+        ran = call("explore", "--method", "B.f()I", *files, cwd=path)
+        part = "B.f()I at 0 is invokestatic B.f()I, which is not explored yet"
+        same(ran.said, explained("refused 50", part), "two methods of one name")
+
+
 def test_a_field_that_is_not_there():
     made = Maker("Q", source="Q.java")
     made.method("f", "(LQ;)I", ALOAD_0 + GETFIELD + made.field_ref("Q", "gone", "I") + IRETURN, lines=[(0, 5)])
