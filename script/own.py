@@ -22,6 +22,16 @@ COMMANDS = {
     "explain": ((0, 2, 7, 70), "./kiasan explain refused 47 'A.f(II)I' at 2 opcode b2"),
     "targets": ((0, 2, 6, 7, 70), "./kiasan targets --check examples/List.class"),
     "build": ((0, 2, 70), "./kiasan build"),
+    "view": (
+        (0, 2, 3, 6, 7, 9, 10, 70),
+        "./kiasan explore --method 'List.insert(LList;LList;)LList;' examples/List.class | "
+        "./kiasan view - examples/List.class > insert.html",
+    ),
+    "junit": (
+        (0, 2, 3, 6, 7, 9, 70),
+        "./kiasan explore --method 'List.insert(LList;LList;)LList;' examples/List.class | "
+        "./kiasan junit - examples/List.class > ListInsertTest.java",
+    ),
 }
 # Commands that the program knows and that are not built.
 LATER = ("diagrams", "sample")
@@ -35,6 +45,10 @@ def answer(signals, program, words):
     if words[0] == "explain":
         put(explain(words[1:]))
         return 0
+    if words[0] in ("view", "junit"):
+        from view.commands import answer as look
+
+        return look(words)
     from .targets import list_targets
 
     return list_targets(signals, program, words[1:])

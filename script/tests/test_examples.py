@@ -10,7 +10,7 @@ import subprocess
 from script.own import COMMANDS
 from script.tests.tools import ROOT, environment, folder, same
 
-PAGES = ("README.md", "docs/USING.md", "docs/REFUSALS.md")
+PAGES = ("README.md", "docs/USING.md", "docs/REFUSALS.md", "docs/FINDING_BUGS.md")
 # The page whose tables explain lines of its examples; the others have forms of lines.
 EXPLAINS = "README.md"
 # What is said of a block that stands behind commands: that the last one writes it, or says it on standard error, or that it is
@@ -33,8 +33,8 @@ OTHERS = (
 )
 # Commands within sentences that are forms, or that are told of.
 FORMS = """
-./kiasan|./kiasan WORDS|./kiasan -- WORDS|./kiasan --help|./kiasan build|./kiasan tests|./kiasan replay
-./kiasan assemble TEXT|./kiasan targets|./kiasan targets FILE|./kiasan targets --check FILE
+./kiasan|./kiasan explore|./kiasan view --fail-on returns=false --fail-on throws|./kiasan WORDS|./kiasan -- WORDS|./kiasan --help|./kiasan build|./kiasan tests|./kiasan replay
+./kiasan assemble TEXT|./kiasan view|./kiasan junit|./kiasan targets|./kiasan targets FILE|./kiasan targets --check FILE
 """.replace("\n", "|")
 
 
@@ -129,9 +129,18 @@ class Page:
         else:
             self.same(is_source(block), True, f"a block that is not known: {block!r}")
 
+    def judge_sentences(self):
+        """Commands in backquotes, which name their files, or those that the blocks have written, or are forms."""
+        text = re.sub(r"^```.*?^```$", "", read(self.page), flags=re.M | re.S)
+        for command in re.findall(r"`(\./kiasan[^`]*)`", text):
+            if command not in FORMS.split("|"):
+                status, written, _ = run(self.top, command)
+                self.same((status, written != "" or ">" in command), (0, True), command)
+
     def run(self, command):
         status, self.written, self.said = run(self.top, command)
-        self.same(status in (0, 4), True, f"{command}: status {status}")
+        wanted = (0, 10) if "--fail-on" in command else (0, 4)
+        self.same(status in wanted, True, f"{command}: status {status}")
         self.count += 1
 
     def same(self, found, wanted, what):
@@ -151,22 +160,12 @@ def everything(top, written):
 
 
 def test_examples_of_the_pages():
-    for page, least in zip(PAGES, (7, 4, 0)):
+    for page, least in zip(PAGES, (7, 4, 0, 12)):
         with folder() as path:
             judged = Page(page, make_top(path))
             judged.judge()
+            judged.judge_sentences()
             same(judged.count >= least, True, f"examples of {page}: {judged.count}")
-
-
-def test_examples_within_sentences():
-    """Commands in backquotes, which name their files, or are forms."""
-    for page in PAGES:
-        with folder() as path:
-            top = make_top(path)
-            for command in re.findall(r"`(\./kiasan[^`]*)`", re.sub(r"^```.*?^```$", "", read(page), flags=re.M | re.S)):
-                if command not in FORMS.split("|"):
-                    status, written, _ = run(top, command)
-                    same((status, written != "" or ">" in command), (0, True), f"{page}: {command}")
 
 
 def test_the_path_of_pictures():
