@@ -102,7 +102,7 @@ class Handed:
         if named:
             names = {source.name for place in self.places for source in place.sources}
             near = nearest(map(spelled, names), spelled(owner))
-            lines = [f"near names: {', '.join(near)}"] if near else []
+            lines = [*self.finder.faults, *([f"near names: {', '.join(near)}"] if near else [])]
             raise Fault(6, f"no class {spelled(owner)} in {', '.join(place.word for place in named)}", *lines)
 
     def _put_together(self, parts):

@@ -119,6 +119,22 @@ def test_a_build_tells_how_far_it_is():
         same((ran.status, ran.err, stand_in.builds()), (0, "", 1), "a program that is built")
 
 
+def test_a_build_goes_on_where_nobody_listens():
+    with building((PROVES + WAITS) * 2 + MAKES) as stand_in:
+        top = stand_in.top
+        script = subprocess.Popen(
+            [top / "kiasan", *FIRST], cwd=top, env=stand_in.env, stdout=subprocess.PIPE, stderr=subprocess.PIPE
+        )
+        script.stderr.readline()
+        script.stderr.readline()
+        script.stderr.close()
+        stand_in.go_on()
+        stand_in.go_on()
+        out = script.stdout.read()
+        same((script.wait(), out.split(b"\n")[1:2]), (0, [b"target A.f(II)I"]), "a build that nobody listens to")
+        same(list((top.parent / "tmp").iterdir()), [], "the folder of the build")
+
+
 def test_no_more_crates_than_there_are_are_told():
     """Other programs are proved too; a crate that was proved on this machine before is kept."""
     with building('cat "$TOLD.kept"\n' + WAITS + PROVES * 3 + WAITS + FAILS) as stand_in:

@@ -406,6 +406,18 @@ def test_a_damaged_entry_of_an_archive():
         same(ran.said[1], "of bad.jar (3 class files): p/List, p/List$Node", "a damaged entry")
 
 
+def test_a_damaged_entry_of_the_target():
+    with folder() as path:
+        write_list(path / "classes")
+        data = bytearray(write_archive(path / "classes").read_bytes())
+        at = data.index(b"p/List.class", data.index(b"p/List$Other.class")) + len("p/List.class")
+        data[at : at + 4] = b"\xff\xff\xff\xff"
+        (path / "bad.jar").write_bytes(data)
+        ran = call("explore", "--method", SIZE, "bad.jar", cwd=path)
+        same((ran.status, ran.said[0]), (6, "no class p/List in bad.jar"), "the target's damaged class")
+        same(ran.said[1].startswith("warning: cannot read bad.jar!/p/List.class: "), True, ran.said[1])
+
+
 def test_no_file_is_left_behind():
     with folder() as path:
         write_list(path / "classes")
