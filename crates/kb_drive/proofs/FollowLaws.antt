@@ -32,8 +32,8 @@ use Rattle.kb_drive.specs.Explorable.{IsExplorable}
 use Rattle.kb_drive.specs.Parts.{Alternative, IsInPart, Waits, decisions_of_part, taken_of}
 use Rattle.kb_drive.specs.Pieces.{AreValuesFor, IsBehind, IsPiece}
 use Rattle.kb_drive.specs.StatePaths.{IsPathOf}
-use Rattle.kb_frames.specs.Endings.{EndingsMean, HasNoLocBeyond, ended_in}
-use Rattle.kb_frames.proofs.EndingLaws.{none_beyond}
+use Rattle.kb_frames_laws.specs.Endings.{EndingsMean, HasNoLocBeyond, ended_in}
+use Rattle.kb_frames_laws.proofs.EndingLaws.{none_beyond}
 use Rattle.kb_picture.specs.declared.path.SymEnding.{SymEnding}
 use Rattle.kb_stepref.specs.Reached.{IsHeapReached}
 use Rattle.kb_drive.specs.Steps.{GoesOn, StepsLead, StepsLeadOn}

@@ -29,7 +29,7 @@ use Rattle.kb_drive.specs.Compared.{IsComparisonMade, IsSuchComparison}
 use Rattle.kb_drive.specs.Pieces.{AreMadeIn, AreValuesFor, HasOutcome, IsBehind, IsPiece}
 use Rattle.kb_drive.specs.ReadFirst.{AreReadFirst, IsReadFirst, SomeReadsAt}
 use Rattle.kb_drive.specs.Runs.{starts_of}
-use Rattle.kb_frames.specs.Meant.{with_first}
+use Rattle.kb_frames_laws.specs.Meant.{with_first}
 use Rattle.kb_drive.specs.Steps.{LeadsOn}
 use Rattle.kb_drive.proofs.FrontLaws.{at_front, front_at, front_length, values_stay, within_or_not}
 use Rattle.kb_drive.proofs.GrowLaws.{comparison_stays, met_before, seen_argument}

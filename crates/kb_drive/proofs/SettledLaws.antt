@@ -23,7 +23,7 @@ use Rattle.kb_stepref.specs.Laws.{GoesOnReached}
 use Rattle.kb_stepref.specs.Reached.{IsHeapReached}
 use Rattle.kb_drive.specs.declared.piece.Piece.{Piece}
 use Rattle.kb_drive.specs.Pieces.{AreValuesFor, HasOutcome, IsBehind, IsExplored, IsPiece, StandsForEach}
-use Rattle.kb_frames.specs.Meant.{with_first}
+use Rattle.kb_frames_laws.specs.Meant.{with_first}
 use Rattle.kb_drive.specs.Steps.{GoesOn}
 
 nothing : {A : Type 0} (i : ℕ) (x : A) → slice_get [] i ≡ Some x → ⊥

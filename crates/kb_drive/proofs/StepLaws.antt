@@ -14,7 +14,7 @@ use Rattle.kb_drive.specs.Following.{IsAskedWithin, IsKnown, IsTakenFrom, IsTake
 use Rattle.kb_drive.specs.Taking.{taken_at}
 use Rattle.kb_stepint.specs.Reached.{IsReached}
 use Rattle.kb_drive.specs.Explorable.{IsExplorable}
-use Rattle.kb_frames.specs.Endings.{EndingsMean}
+use Rattle.kb_frames_laws.specs.Endings.{EndingsMean}
 use Rattle.kb_drive.specs.Steps.{StepsLeadOn}
 use Rattle.kb_drive.specs.Walks.{CanBeTaken, EachWaiting, IsFurther, IsRefined, IsWaiting, IsWalk}
 use Rattle.kb_drive.proofs.WalkLaws.{step_further, step_refined, step_walk}

@@ -26,7 +26,7 @@ use Rattle.kb_drive.specs.declared.walk.Walk.{Walk}
 use Rattle.kb_drive.specs.Explorable.{IsExplorable}
 use Rattle.kb_drive.specs.Following.{CanFollow, CanFollowOutcome, IsAskedWithin, IsKnown, IsTakenFrom, IsTakenOf, StoodMet, alternative_next, follows, given_after, path_of_piece, taken_from, waits_on, walk_with}
 use Rattle.kb_drive.specs.Pieces.{IsBehind}
-use Rattle.kb_frames.specs.Endings.{ended_in}
+use Rattle.kb_frames_laws.specs.Endings.{ended_in}
 use Rattle.kb_drive.specs.Steps.{LeadsOn}
 use Rattle.kb_drive.specs.declared.stop.DriveStop.{DriveStop}
 use Rattle.kb_drive.specs.declared.stop.DriveStop.TheVariants.{Oracle, NoMemory}
@@ -34,7 +34,7 @@ use Rattle.kb_drive.specs.Stops.{IfOracle, IsRefused, IsUnserved}
 use Rattle.kb_drive.specs.Taking.{taken_at}
 use Rattle.kb_drive.specs.Values.{AreGiven, OfGiven}
 use Rattle.kb_drive.specs.Walks.{EachWaiting, IsFrom, IsRefined, IsWaiting, IsWalk, KeepsSources}
-use Rattle.kb_frames.proofs.EndingLaws.{endings_mean, none_beyond}
+use Rattle.kb_frames_laws.proofs.EndingLaws.{endings_mean, none_beyond}
 use Rattle.kb_drive.proofs.GivenLaws.{one_places}
 use Rattle.kb_drive.proofs.InputLaws.{inputs_of_states}
 use Rattle.kb_drive.proofs.EachLeads.{steps_lead}

@@ -30,7 +30,7 @@ use Rattle.kb_drive.specs.Covers.{is_open}
 use Rattle.kb_input.specs.Emitted.{emitted_input}
 use Rattle.kb_drive.specs.Values.{followed_by_zeros}
 use Rattle.kb_drive.specs.Parts.{Alternative, decided, taken_of}
-use Rattle.kb_frames.specs.Endings.{ended_in}
+use Rattle.kb_frames_laws.specs.Endings.{ended_in}
 use Rattle.kb_drive.specs.Taking.{choices_at}
 
 -- ---- an alternative that is taken

@@ -20,7 +20,7 @@ use Rattle.kb_frames.specs.StandsFor.{StandsFor, IsInstanceOf}
 use Rattle.kb_frames.specs.State.{State}
 use Rattle.kb_frames.specs.States.{IsState}
 use Rattle.kb_frames.specs.Comparing.{comparison_of}
-use Rattle.kb_frames.specs.Meant.{with_first}
+use Rattle.kb_frames_laws.specs.Meant.{with_first}
 use Rattle.kb_stepint.specs.Reached.{IsReached}
 use Rattle.kb_stepint.specs.Simulation.{HasInputOfState, IsOutcome}
 use Rattle.kb_stepint.specs.Ways.{Take}

@@ -11,7 +11,7 @@ use Rattle.kb_picture.specs.Instances.{variable_values}
 use Rattle.kb_picture.specs.Shapes.{HasShape}
 use Rattle.kb_frames.specs.declared.value.Outcome.{Outcome}
 use Rattle.kb_frames.specs.declared.value.Outcome.TheVariants.{Asks, Goes, Ends, Cut}
-use Rattle.kb_frames.specs.Endings.{IsEndingIn}
+use Rattle.kb_frames_laws.specs.Endings.{IsEndingIn}
 use Rattle.kb_frames.specs.Measure.{choices_left}
 use Rattle.kb_frames.specs.State.{State}
 use Rattle.kb_stepint.specs.Reached.{IsReached}

@@ -7,16 +7,4 @@ pub mod StatedLaws
 pub mod BeginLaws
 pub mod StateLaws
 pub mod RunLaws
-pub mod SetLaws
-pub mod PathSteps
-pub mod Renumbering
-pub mod PathLaws
-pub mod OnceLaws
 pub mod FormedPaths
-pub mod QueryLaws
-pub mod MeaningLaws
-pub mod EachLaws
-pub mod HeapWrites
-pub mod WrittenLaws
-pub mod FinalHeaps
-pub mod EndingLaws

@@ -11,7 +11,5 @@ pub mod FirstReads
 pub mod Lent
 pub mod Paths
 pub mod Comparing
-pub mod Meant
 pub mod Measure
 pub mod Making
-pub mod Endings

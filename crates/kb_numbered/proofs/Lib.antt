@@ -1,0 +1,5 @@
+pub mod SetLaws
+pub mod PathSteps
+pub mod Renumbering
+pub mod PathLaws
+pub mod OnceLaws
