@@ -4,7 +4,7 @@ ghost use Rattle.kb_picture.specs.Growth.{after_read};
 ghost use Rattle.kb_picture.specs.Laws.{with_seen};
 ghost use Rattle.kb_picture.specs.declared.choice.Choice.TheVariants.{Fresh, Location};
 ghost use Rattle.kb_frames.specs.declared.value.Cell.TheVariants.{Untouched};
-ghost use Rattle.kb_frames.specs.FirstReads.{cells_chosen, first_int, first_reference, found_in, new_cells, value_chosen, with_read};
+ghost use Rattle.kb_frames.specs.FirstReads.{cells_chosen, HasVariablesSeen, first_int, first_reference, found_in, new_cells, value_chosen, with_read};
 
 use crate::NoMemory;
 use crate::beginning::add_equal;
@@ -37,8 +37,11 @@ impl SymState {
     }
 
     /// Reads an int or a boolean for the first time: it is a new variable, which the slot keeps; an argument is one more that
-    /// was read. After want of memory the state is only dropped.
+    /// was read. The pool must have as many variables as slots are seen as, which every state has to which [`crate::start`] and
+    /// later calls lead. After want of memory the state is only dropped.
+    #[tactic(auto, unfolding(kb_picture::specs::Growth::after_int_read))]
     pub fn first_int(&mut self, slot: Origin, kind: VarKind) -> Result<(), NoMemory>
+        requires { HasVariablesSeen self.old }
         ensures { OnOk result (self.new ≡ first_int slot kind self.old) }
     {
         let variable = self.pool.variables();
