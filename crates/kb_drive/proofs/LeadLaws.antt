@@ -1,5 +1,5 @@
 -- The int steps lead on, by the laws of kb_stepint: what is seen of an input stays, and fewer takes can follow.
-use Rattle.std.proofs.Common.{◌≡◌, ℕ, ◌+◌, ◌-◌, ◌*◌, ◌<◌, ◌≤◌, ℤ, Bool, true, false, List, [], ◌∷◌, ◌++◌, length, take, nat_le, Some, refl, sym, ap, subst, ◌∙◌, if◌then◌else◌, arith}
+use Rattle.std.proofs.Common.{◌≡◌, ℕ, ◌+◌, ◌-◌, ◌*◌, ◌<◌, ◌≤◌, ℤ, Bool, true, false, List, [], ◌∷◌, ◌++◌, length, take, nat_le, refl, sym, ap, subst, ◌∙◌, if◌then◌else◌, arith}
 use Rattle.std.specs.List.{filter_map}
 use Rattle.std.specs.Option.{option_map_or}
 use Rattle.std.proofs.lemmas.Bool.{leb-false}
@@ -11,10 +11,8 @@ use Rattle.kb_heap.specs.declared.bounds.Bound.TheVariants.{Steps}
 use Rattle.kb_heap.specs.declared.bounds.Bounds.{Bounds}
 use Rattle.kb_heap.specs.declared.heap.Input.{Input}
 use Rattle.kb_link.specs.World.{World}
-use Rattle.kb_names.specs.declared.types.JType.{JType}
 use Rattle.kb_semantics.specs.Config.{has_room, instruction_at}
 use Rattle.kb_semantics.specs.Ways.{counted}
-use Rattle.kb_terms.specs.Terms.{variables_of}
 use Rattle.kb_picture.specs.declared.choice.Choice.{Choice}
 use Rattle.kb_picture.specs.declared.picture.Origin.{Origin}
 use Rattle.kb_picture.specs.declared.picture.Origin.TheVariants.{Arg}
@@ -22,11 +20,12 @@ use Rattle.kb_picture.specs.declared.picture.Picture.{Picture}
 use Rattle.kb_picture.specs.declared.picture.PlaceLists.{PlaceLists}
 use Rattle.kb_picture.specs.declared.picture.Seen.{Seen}
 use Rattle.kb_picture.specs.declared.picture.Seen.TheVariants as seens
+use Rattle.kb_picture.specs.Growth.{after_int_read}
 use Rattle.kb_picture.specs.Instances.{variable_value, variable_values}
 use Rattle.kb_picture.specs.Laws.{with_seen}
 use Rattle.kb_picture.specs.Places.{slot_value}
-use Rattle.kb_picture.specs.Queries.{kind_for}
 use Rattle.kb_picture.specs.Shapes.{HasShape}
+use Rattle.kb_picture.specs.WellFormed.{variables_seen}
 use Rattle.kb_picture.proofs.ShapeLaws.{same_places}
 use Rattle.kb_picture.proofs.PlaceLaws.{places_seen}
 use Rattle.kb_frames.specs.declared.frame.SymFrame.{SymFrame}
@@ -34,7 +33,7 @@ use Rattle.kb_frames.specs.declared.state.Stage.{Stage}
 use Rattle.kb_frames.specs.declared.state.Stage.TheVariants.{Begins, Runs}
 use Rattle.kb_frames.specs.declared.value.Outcome.{Outcome}
 use Rattle.kb_frames.specs.declared.value.Outcome.TheVariants.{Asks, Goes, Ends, Cut}
-use Rattle.kb_frames.specs.Lent.{begun, begun_stage, read_count, read_int, stack_of, transfers_of, with_frame, with_nodes}
+use Rattle.kb_frames.specs.Lent.{begun, begun_stage, read_count, stack_of, transfers_of, with_frame, with_nodes}
 use Rattle.kb_frames.specs.Measure.{choices_left, left_of, questions_of, unread_at}
 use Rattle.kb_frames.specs.Next.{argument_next, instruction_next, method_now, next_is_int, offset_now}
 use Rattle.kb_frames.specs.State.{State}
@@ -43,7 +42,7 @@ use Rattle.kb_stepint.specs.Choices.{choices_of, conditions_of}
 use Rattle.kb_stepint.specs.Effects.{plan_of}
 use Rattle.kb_stepint.specs.Laws.{IsAtInts}
 use Rattle.kb_stepint.specs.Simulation.{GetsOn}
-use Rattle.kb_stepint.specs.Takes.{answered, taken, takes_next, takes_up}
+use Rattle.kb_stepint.specs.Takes.{answered, reads_argument, taken, takes_next, takes_up}
 use Rattle.kb_stepint.specs.Ways.{Take, Way, Goes as WayGoes, Jumps, Leaves, Throws, Fails, carries_out, ill_typed, went}
 use Rattle.kb_stepint.proofs.GrowLaws.{Grows, all_asked_grows, front_itself, if_has, option_has}
 use Rattle.kb_stepint.proofs.AddedLaws.{adds}
@@ -97,11 +96,14 @@ module _ (picture : Picture) (slot : Origin × Seen) where
         ∙ take_append (variable_values picture input before.places.objects) (further input before.places.objects);
   }
 
+pub stays_int : (picture : Picture) (slot : Origin) → StaysAtInputs picture (after_int_read picture slot)
+unfolding after_int_read
+stays_int picture slot = stays_seen picture (slot, seens.Int (length (variables_seen picture)))
+
 stays_behind : (world : World) (bounds : Bounds) (old : State) (choice : Choice) → StaysAtInputs old.picture (taken world bounds old choice).state.picture
 stays_behind world bounds old choice =
     option_has (λ (take : Take). StaysAtInputs old.picture take.state.picture) (argument_next world old.method old.stage)
-    (λ (type : JType). record { state = read_int old (kind_for (Some type)); outcome = Asks }) (takes_next world bounds choice old)
-    (λ type. stays_seen old.picture (Arg (read_count old.stage), seens.Int (variables_of old.nodes)))
+    (reads_argument old) (takes_next world bounds choice old) (λ type. stays_int old.picture (Arg (read_count old.stage)))
     (subst (StaysAtInputs old.picture) (sym (takes_next_stays world bounds choice old).picture) (stays_itself old.picture))
 
 -- ---- how many takes can follow
@@ -171,7 +173,7 @@ module _ (world : World) (bounds : Bounds) (old : State) where
 
   taken_few : (choice : Choice) → Few (taken world bounds old choice)
   taken_few choice =
-      option_has Few (argument_next world old.method old.stage) (λ (type : JType). record { state = read_int old (kind_for (Some type)); outcome = Asks }) (takes_next world bounds choice old)
+      option_has Few (argument_next world old.method old.stage) (reads_argument old) (takes_next world bounds choice old)
       (λ type. tt) (takes_next_few choice)
 
 asks_less : (steps was now before after : ℕ) → now ≡ was → after < before → 6 * (steps - now) + after < 6 * (steps - was) + before

@@ -10,7 +10,6 @@ use Rattle.kb_heap.specs.declared.bounds.Bounds.{Bounds}
 use Rattle.kb_link.specs.World.{World}
 use Rattle.kb_names.specs.declared.types.JType.{JType}
 use Rattle.kb_semantics.specs.Config.{instruction_at}
-use Rattle.kb_terms.specs.Terms.{variables_of}
 use Rattle.kb_picture.specs.declared.choice.Choice.{Choice}
 use Rattle.kb_picture.specs.declared.choice.Choice.TheVariants as choices
 use Rattle.kb_picture.specs.declared.picture.Origin.{Origin}
@@ -45,7 +44,7 @@ use Rattle.kb_stepref.proofs.SeenLaws.{read}
 use Rattle.kb_stepref.proofs.SoundLaws.{answered_stage}
 use Rattle.kb_drive.specs.Steps.{LeadsOn, StaysAtInputs}
 use Rattle.kb_drive.proofs.FrontLaws.{take_append}
-use Rattle.kb_drive.proofs.LeadLaws.{Few, IsRunning, begun_runs, less_rank, stays_itself, stays_seen, went_few}
+use Rattle.kb_drive.proofs.LeadLaws.{Few, IsRunning, begun_runs, less_rank, stays_int, stays_itself, went_few}
 use Rattle.kb_drive.proofs.ReferenceEnds.{references_end}
 
 -- ---- what stays at inputs
@@ -78,7 +77,7 @@ module _ (world : World) (bounds : Bounds) (old : State) (at : IsAtReferences wo
   stays_told slot type asks =
       if_has (λ (s : State). StaysAtInputs old.picture s.picture) (is_reference type) (first_reference world slot choice old) (first_int slot (kind_for (Some type)) old)
       (subst (StaysAtInputs old.picture) (sym (reference_tells world slot choice old).picture) (stays_read world _ old.picture slot choice (asked world bounds old at slot type asks).unread))
-      (subst (StaysAtInputs old.picture) (sym (int_tells slot (kind_for (Some type)) old).picture) (stays_seen old.picture (slot, seens.Int (variables_of old.nodes))))
+      (subst (StaysAtInputs old.picture) (sym (int_tells slot (kind_for (Some type)) old).picture) (stays_int old.picture slot))
 
   stays_behind : StaysAtInputs old.picture (taken world bounds old choice).state.picture
   stays_behind = go (question_of world old bounds) refl where

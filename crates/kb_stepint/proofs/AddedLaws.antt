@@ -8,7 +8,6 @@ use Rattle.kb_heap.specs.declared.bounds.Bounds.{Bounds}
 use Rattle.kb_heap.specs.declared.heap.Input.{Input}
 use Rattle.kb_heap.specs.declared.heap.Value.TheVariants.{Int as IntValue}
 use Rattle.kb_link.specs.World.{World}
-use Rattle.kb_names.specs.declared.types.JType.{JType}
 use Rattle.kb_semantics.specs.Config.{Setting, Config, has_room, instruction_at}
 use Rattle.kb_semantics.specs.Comparisons.{Comparison}
 use Rattle.kb_semantics.specs.Looks.{taken_up}
@@ -19,16 +18,15 @@ use Rattle.kb_terms.specs.Terms.{Extends, value_of}
 use Rattle.kb_picture.specs.declared.choice.Choice.{Choice}
 use Rattle.kb_picture.specs.declared.picture.PlaceLists.{PlaceLists}
 use Rattle.kb_picture.specs.Instances.{variable_values}
-use Rattle.kb_picture.specs.Queries.{kind_for}
 use Rattle.kb_frames.specs.declared.frame.SymFrame.{SymFrame}
 use Rattle.kb_frames.specs.declared.state.Stage.{Stage}
 use Rattle.kb_frames.specs.declared.state.Stage.TheVariants.{Begins, Runs}
-use Rattle.kb_frames.specs.declared.value.Outcome.TheVariants.{Asks, Cut}
+use Rattle.kb_frames.specs.declared.value.Outcome.TheVariants.{Cut}
 use Rattle.kb_heap.specs.declared.bounds.Bound.TheVariants.{Steps}
 use Rattle.kb_frames.specs.declared.value.SymValue.{SymValue}
 use Rattle.kb_frames.specs.declared.value.SymValue.TheVariants.{Int, Null, Obj, Literal, New, Loc}
 use Rattle.kb_frames.specs.Cuts.{setting_of}
-use Rattle.kb_frames.specs.Lent.{begun, begun_stage, read_int, stack_of, transfers_of, with_nodes}
+use Rattle.kb_frames.specs.Lent.{begun, begun_stage, stack_of, transfers_of, with_nodes}
 use Rattle.kb_frames.specs.Next.{argument_next, method_now, offset_now}
 use Rattle.kb_frames.specs.StandsFor.{StandsFor, StageStandsFor, FrameStandsFor, reading_at, value_of_sym}
 use Rattle.kb_frames.specs.State.{State}
@@ -41,7 +39,7 @@ use Rattle.kb_stepint.specs.Needs.{IsTermOf}
 use Rattle.kb_stepint.specs.Reached.{IsReached}
 use Rattle.kb_frames.specs.Comparing.{comparison_of}
 use Rattle.kb_stepint.specs.Simulation.{AddsComparisons, IsComparedBy}
-use Rattle.kb_stepint.specs.Takes.{answered, taken, takes_next, takes_up}
+use Rattle.kb_stepint.specs.Takes.{answered, reads_argument, taken, takes_next, takes_up}
 use Rattle.kb_stepint.specs.Ways.{Take, Way, Goes, Jumps, Leaves, Throws, Fails, ill_typed, went}
 use Rattle.kb_stepint.proofs.AskedLaws.{AreAskable, all_asked_adds}
 use Rattle.kb_stepint.proofs.ComparedLaws.{instr_askable}
@@ -157,5 +155,5 @@ module _ (world : World) (bounds : Bounds) (old : State) where
 
   pub adds : (choice : Choice) → IsReached world old → AddsComparisons world bounds old (taken world bounds old choice).state
   adds choice reached =
-      option_has (λ (take : Take). AddsComparisons world bounds old take.state) (argument_next world old.method old.stage) (λ (type : JType). record { state = read_int old (kind_for (Some type)); outcome = Asks })
-      (takes_next world bounds choice old) (λ type. same_when (read_int old (kind_for (Some type))) refl) (takes_next_adds choice reached)
+      option_has (λ (take : Take). AddsComparisons world bounds old take.state) (argument_next world old.method old.stage) (reads_argument old)
+      (takes_next world bounds choice old) (λ type. same_when (reads_argument old type).state refl) (takes_next_adds choice reached)

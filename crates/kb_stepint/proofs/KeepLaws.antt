@@ -24,13 +24,15 @@ use Rattle.kb_picture.specs.declared.picture.Origin.TheVariants.{Arg}
 use Rattle.kb_picture.specs.declared.picture.Seen.{Seen}
 use Rattle.kb_picture.specs.declared.picture.Seen.TheVariants as seens
 use Rattle.kb_picture.specs.declared.picture.Picture.{Picture}
+use Rattle.kb_picture.specs.Growth.{after_int_read}
 use Rattle.kb_picture.specs.Queries.{kind_for}
 use Rattle.kb_picture.specs.Shapes.{HasShape}
-use Rattle.kb_picture.proofs.GrownShapes.{before_seen}
+use Rattle.kb_picture.specs.WellFormed.{variables_seen}
+use Rattle.kb_picture.proofs.GrownShapes.{int_shape}
 use Rattle.kb_frames.specs.declared.frame.SymFrame.{SymFrame}
-use Rattle.kb_frames.specs.declared.value.Outcome.TheVariants.{Asks}
 use Rattle.kb_frames.specs.Cuts.{setting_of}
-use Rattle.kb_frames.specs.Lent.{begun, read_count, read_int, stack_of, transfers_of, with_nodes}
+use Rattle.kb_frames.specs.FirstReads.{first_int}
+use Rattle.kb_frames.specs.Lent.{begun, read_count, stack_of, transfers_of, with_nodes}
 use Rattle.kb_frames.specs.Next.{argument_next, method_now, offset_now}
 use Rattle.kb_frames.specs.State.{State}
 use Rattle.kb_terms.specs.declared.node.VarKind.{VarKind}
@@ -40,7 +42,7 @@ use Rattle.kb_stepint.specs.Choices.{conditions_of}
 use Rattle.kb_stepint.specs.Effects.{Planned, plan_of, plain, planned, pushes_int, adds, rearranges, picked, op_of, op_of_cut, computes_by, int_local, kept_int, leaves_with}
 use Rattle.kb_stepint.specs.Operands.{one_int, two_ints}
 use Rattle.kb_stepint.specs.Simulation.{Keeps, IsRead, ReadsWhatItSees}
-use Rattle.kb_stepint.specs.Takes.{answered, taken, takes_next, takes_up}
+use Rattle.kb_stepint.specs.Takes.{answered, reads_argument, taken, takes_next, takes_up}
 use Rattle.kb_stepint.specs.Ways.{Take, Way, Goes, Jumps, Leaves, Throws, Fails, carries_out, ill_typed, went}
 use Rattle.kb_stepint.proofs.GrowLaws.{Grows, if_has, option_has, all_asked_grows, front_itself, front_of_front, interned_extends, nodes_grow, GoesOn, goes_on_itself, goes_on_behind, interned_goes_on, op_goes_on}
 
@@ -197,13 +199,13 @@ kept_of_stays old new h = record {
   shapes = λ input shape. subst (λ (p : Picture). HasShape p input) h.picture shape;
 }
 
-argument_kept : (old : State) (kind : VarKind) → Keeps old (read_int old kind)
+argument_kept : (old : State) (kind : VarKind) → Keeps old (first_int (Arg (read_count old.stage)) kind old)
 argument_kept old kind = record {
   method = refl;
   init = refl;
   terms = record { kept = seam old.nodes (Var (variables_of old.nodes) kind ∷ []) };
   conditions = front_itself old.when;
-  shapes = λ input shape. (before_seen old.picture (Arg (read_count old.stage), seens.Int (variables_of old.nodes)) input shape).shape;
+  shapes = λ input shape. int_shape old.picture (Arg (read_count old.stage)) input shape;
 } where
   seam : (xs ys : List Node) → take (length xs) (xs ++ ys) ≡ xs
   seam [] ys = refl
@@ -211,7 +213,7 @@ argument_kept old kind = record {
 
 pub kept : (world : World) (bounds : Bounds) (old : State) (choice : Choice) → Keeps old (taken world bounds old choice).state
 kept world bounds old choice =
-    option_has (λ (take : Take). Keeps old take.state) (argument_next world old.method old.stage) (λ (type : JType). record { state = read_int old (kind_for (Some type)); outcome = Asks }) (takes_next world bounds choice old)
+    option_has (λ (take : Take). Keeps old take.state) (argument_next world old.method old.stage) (reads_argument old) (takes_next world bounds choice old)
     (λ type. argument_kept old (kind_for (Some type))) (kept_of_stays old _ (takes_next_stays world bounds choice old))
 
 -- ---- what is read
@@ -227,9 +229,10 @@ module _ (world : World) (bounds : Bounds) (old new : State) where
     beyond = λ lazier number loc at standing other. absurd (other (ap (λ (p : Picture). slice_get p.locs number) (sym same) ∙ at));
   }
 
-argument_reads : (world : World) (bounds : Bounds) (old : State) (kind : VarKind) → ReadsWhatItSees world bounds old (read_int old kind)
+argument_reads : (world : World) (bounds : Bounds) (old : State) (kind : VarKind) → ReadsWhatItSees world bounds old (first_int (Arg (read_count old.stage)) kind old)
+unfolding after_int_read
 argument_reads world bounds old kind input c correct stands instance_of = record {
-  seen = λ i slot from at. elim (end-cases old.picture.seen (Arg (read_count old.stage), seens.Int (variables_of old.nodes)) i slot at) [
+  seen = λ i slot from at. elim (end-cases old.picture.seen (Arg (read_count old.stage), seens.Int (length (variables_seen old.picture))) i slot at) [
     | inl before ↦ absurd (past (length old.picture.seen) i from before.0)
     | inr last ↦ subst (λ (x : Origin × Seen). IsRead (setting_of world bounds) old input c instance_of.shape.places.objects x.0) last.1 tt
   ];
@@ -239,6 +242,6 @@ argument_reads world bounds old kind input c correct stands instance_of = record
 
 pub reads : (world : World) (bounds : Bounds) (old : State) (choice : Choice) → ReadsWhatItSees world bounds old (taken world bounds old choice).state
 reads world bounds old choice =
-    option_has (λ (take : Take). ReadsWhatItSees world bounds old take.state) (argument_next world old.method old.stage) (λ (type : JType). record { state = read_int old (kind_for (Some type)); outcome = Asks })
+    option_has (λ (take : Take). ReadsWhatItSees world bounds old take.state) (argument_next world old.method old.stage) (reads_argument old)
     (takes_next world bounds choice old) (λ type. argument_reads world bounds old (kind_for (Some type)))
     (same_reads world bounds old (takes_next world bounds choice old).state (takes_next_stays world bounds choice old).picture)

@@ -15,23 +15,21 @@ use Rattle.kb_semantics.specs.Config.{info_of, has_room, instruction_at}
 use Rattle.kb_semantics.specs.Inputs.{argument_types}
 use Rattle.kb_semantics.specs.Ways.{counted}
 use Rattle.kb_picture.specs.declared.choice.Choice.{Choice}
-use Rattle.kb_picture.specs.Queries.{kind_for}
 use Rattle.kb_frames.specs.declared.frame.SymFrame.{SymFrame}
 use Rattle.kb_frames.specs.declared.state.Stage.{Stage}
 use Rattle.kb_frames.specs.declared.state.Stage.TheVariants.{Begins, Runs}
 use Rattle.kb_frames.specs.declared.value.SymValue.{SymValue}
 use Rattle.kb_frames.specs.declared.value.SymValue.TheVariants.{Int}
-use Rattle.kb_frames.specs.declared.value.Outcome.TheVariants.{Asks}
 use Rattle.kb_frames.specs.State.{State}
 use Rattle.kb_frames.specs.FirstReads.{with_read}
-use Rattle.kb_frames.specs.Lent.{begun, read_int, stack_of, transfers_of, with_nodes}
+use Rattle.kb_frames.specs.Lent.{begun, stack_of, transfers_of, with_nodes}
 use Rattle.kb_frames.specs.Measure.{questions_of, questions_of_op, unread_at, left_of, choices_left}
 use Rattle.kb_frames.specs.Next.{argument_next, instruction_next, method_now, offset_now}
 use Rattle.kb_stepint.specs.Asked.{all_asked}
 use Rattle.kb_stepint.specs.Choices.{conditions_of}
 use Rattle.kb_stepint.specs.Effects.{plan_of}
 use Rattle.kb_stepint.specs.Simulation.{GetsOn}
-use Rattle.kb_stepint.specs.Takes.{answered, taken, takes_next, takes_up}
+use Rattle.kb_stepint.specs.Takes.{answered, reads_argument, taken, takes_next, takes_up}
 use Rattle.kb_stepint.specs.Ways.{Take, Way, Goes, Jumps, Leaves, Throws, Fails, carries_out, ill_typed, went}
 use Rattle.kb_stepint.proofs.GrowLaws.{Grows, if_has, option_has, all_asked_grows}
 
@@ -85,7 +83,7 @@ module _ (world : World) (bounds : Bounds) (old : State) where
   abbrev Gets : Take → Type 0
   Gets take = GetsOn world old take.state take.outcome
 
-  pub reads_on : (stage : Stage) (type : JType) → old.stage ≡ stage → argument_next world old.method old.stage ≡ Some type → choices_left world (read_int old (kind_for (Some type))) < choices_left world old
+  pub reads_on : (stage : Stage) (type : JType) → old.stage ≡ stage → argument_next world old.method old.stage ≡ Some type → choices_left world (reads_argument old type).state < choices_left world old
   reads_on (Begins read) type is e =
       let value = Int (record { 0 = length old.nodes }) in
       let next : argument_next world old.method (Begins read) ≡ Some type = subst (λ (s : Stage). argument_next world old.method s ≡ Some type) is e in
@@ -132,6 +130,6 @@ module _ (world : World) (bounds : Bounds) (old : State) where
 
   pub gets_on : (choice : Choice) → Gets (taken world bounds old choice)
   gets_on choice = go (argument_next world old.method old.stage) refl where
-    go : (next : Option JType) → argument_next world old.method old.stage ≡ next → Gets (option_map_or (λ (type : JType). record { state = read_int old (kind_for (Some type)); outcome = Asks }) next (takes_next world bounds choice old))
+    go : (next : Option JType) → argument_next world old.method old.stage ≡ next → Gets (option_map_or (reads_argument old) next (takes_next world bounds choice old))
     go None e = takes_next_on choice
     go (Some type) e = (refl, reads_on old.stage type refl e)

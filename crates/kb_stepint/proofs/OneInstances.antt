@@ -23,13 +23,16 @@ use Rattle.kb_picture.specs.declared.picture.Seen.{Seen}
 use Rattle.kb_picture.specs.declared.picture.Seen.TheVariants as seens
 use Rattle.kb_picture.specs.declared.picture.Picture.{Picture}
 use Rattle.kb_picture.specs.declared.picture.PlaceLists.{PlaceLists}
+use Rattle.kb_picture.specs.Growth.{after_int_read}
 use Rattle.kb_picture.specs.Instances.{variable_value, variable_values}
+use Rattle.kb_picture.specs.Laws.{with_seen}
 use Rattle.kb_picture.specs.Places.{slot_value}
 use Rattle.kb_picture.specs.Shapes.{HasShape, HoldEach, HoldsSeen}
-use Rattle.kb_picture.specs.WellFormed.{variable_seen}
+use Rattle.kb_picture.specs.WellFormed.{variable_seen, variables_seen}
 use Rattle.kb_picture.proofs.PlaceLaws.{places_seen}
 use Rattle.kb_picture.proofs.ShapeLaws.{same_places}
-use Rattle.kb_frames.specs.Lent.{read_count, read_int, saw_argument}
+use Rattle.kb_frames.specs.FirstReads.{first_int}
+use Rattle.kb_frames.specs.Lent.{read_count}
 use Rattle.kb_frames.specs.Next.{is_reference}
 use Rattle.kb_frames.specs.StandsFor.{IsInstanceOf}
 use Rattle.kb_frames.specs.State.{State}
@@ -80,13 +83,14 @@ hold_last input places [] slot each = each.0
 hold_last input places (first ∷ seen) slot each = hold_last input places seen slot each.1
 
 -- the variables are those from before, and that of the argument
-pub variables_more : (picture : Picture) (input : Input) (places : List ℕ) (argument variable : ℕ) (z : ℤ) → slice_get input.args argument ≡ Some (IntValue z)
-    → variable_values (saw_argument picture argument variable) input places ≡ variable_values picture input places ++ z ∷ []
-unfolding variable_values
-variables_more picture input places argument variable z e =
-    filter_map-append (λ (slot : Origin × Seen). variable_value (slot_value input places slot.0) slot.1) picture.seen ((Arg argument, seens.Int variable) ∷ [])
+pub variables_more : (picture : Picture) (input : Input) (places : List ℕ) (argument : ℕ) (z : ℤ) → slice_get input.args argument ≡ Some (IntValue z)
+    → variable_values (after_int_read picture (Arg argument)) input places ≡ variable_values picture input places ++ z ∷ []
+unfolding after_int_read variable_values
+variables_more picture input places argument z e =
+    let how : Seen = seens.Int (length (variables_seen picture)) in
+    filter_map-append (λ (slot : Origin × Seen). variable_value (slot_value input places slot.0) slot.1) picture.seen ((Arg argument, how) ∷ [])
     ∙ ap (λ (value : Option Value). filter_map (λ (slot : Origin × Seen). variable_value (slot_value input places slot.0) slot.1) picture.seen
-    ++ cons_option (variable_value value (seens.Int variable)) []) e
+    ++ cons_option (variable_value value how) []) e
 
 pub value_inputs : (nodes : List Node) (t : TermId) (inputs more : List ℤ) → IsPool nodes → variables_of nodes ≤ length inputs → value_of nodes t (inputs ++ more) ≡ value_of nodes t inputs
 unfolding value_of
@@ -119,7 +123,8 @@ many_values world old input places sound = variables-same world old.method old.n
 pub enough_values : (world : World) (old : State) (input : Input) (places : List ℕ) → IsState world old → variables_of old.nodes ≤ length (variable_values old.picture input places)
 enough_values world old input places sound = (let many = many_values world old input places sound in omega (arith, many))
 
-abbrev pub shape_more : (picture : Picture) (input : Input) (argument variable : ℕ) (z : ℤ) → slice_get input.args argument ≡ Some (IntValue z) → HasShape picture input → HasShape (saw_argument picture argument variable) input
+abbrev pub shape_more : (picture : Picture) (input : Input) (argument variable : ℕ) (z : ℤ) → slice_get input.args argument ≡ Some (IntValue z) → HasShape picture input
+    → HasShape (with_seen picture (Arg argument, seens.Int variable)) input
 shape_more picture input argument variable z e shape = record {
   places = shape.places;
   placed = places_seen picture input (Arg argument, seens.Int variable) ∙ shape.placed;
@@ -131,19 +136,20 @@ shape_more picture input argument variable z e shape = record {
 
 -- the conditions are met as before
 pub read_met : (world : World) (old : State) (input : Input) (kind : VarKind) (argument : ℕ) (z : ℤ) → IsState world old → slice_get input.args argument ≡ Some (IntValue z) → (i : IsInstanceOf old input)
-    → AreMetInPool (old.nodes ++ Var (variables_of old.nodes) kind ∷ []) (variable_values (saw_argument old.picture argument (variables_of old.nodes)) input i.shape.places.objects) old.when
+    → AreMetInPool (old.nodes ++ Var (variables_of old.nodes) kind ∷ []) (variable_values (after_int_read old.picture (Arg argument)) input i.shape.places.objects) old.when
 read_met world old input kind argument z sound e i =
     let nodes : List Node = old.nodes ++ Var (variables_of old.nodes) kind ∷ [] in
     let variables : List ℤ = variable_values old.picture input i.shape.places.objects in
     let met : AreMetInPool old.nodes (variables ++ z ∷ []) old.when =
     met_inputs old.nodes variables (z ∷ []) old.when sound.pool (enough_values world old input i.shape.places.objects sound) i.conditions in
-    subst (λ (vs : List ℤ). AreMetInPool nodes vs old.when) (sym (variables_more old.picture input i.shape.places.objects argument (variables_of old.nodes) z e))
+    subst (λ (vs : List ℤ). AreMetInPool nodes vs old.when) (sym (variables_more old.picture input i.shape.places.objects argument z e))
     (met_later old.nodes nodes (variables ++ z ∷ []) old.when (extends-more old.nodes (Var (variables_of old.nodes) kind)) (conditions_there old.nodes old.when sound.conditions) met)
 
 pub read_instance : (world : World) (old : State) (input : Input) (kind : VarKind) (z : ℤ) → IsState world old → slice_get input.args (read_count old.stage) ≡ Some (IntValue z)
-    → IsInstanceOf old input → IsInstanceOf (read_int old kind) input
+    → IsInstanceOf old input → IsInstanceOf (first_int (Arg (read_count old.stage)) kind old) input
+unfolding after_int_read
 read_instance world old input kind z sound e i = record {
-  shape = shape_more old.picture input (read_count old.stage) (variables_of old.nodes) z e i.shape;
+  shape = shape_more old.picture input (read_count old.stage) (length (variables_seen old.picture)) z e i.shape;
   conditions = read_met world old input kind (read_count old.stage) z sound e i;
 }
 

@@ -21,14 +21,13 @@ use Rattle.kb_terms.specs.Terms.{IsPool}
 use Rattle.kb_picture.specs.declared.choice.Choice.{Choice}
 use Rattle.kb_picture.specs.declared.choice.Choice.TheVariants as choices
 use Rattle.kb_picture.specs.declared.picture.Picture.{Picture}
-use Rattle.kb_picture.specs.Queries.{kind_for}
 use Rattle.kb_picture.specs.WellTyped.{IsReceiverSeen}
 use Rattle.kb_frames.specs.declared.frame.SymFrame.{SymFrame}
 use Rattle.kb_frames.specs.declared.state.Stage.{Stage}
 use Rattle.kb_frames.specs.declared.state.Stage.TheVariants.{Begins, Runs}
 use Rattle.kb_frames.specs.declared.value.SymValue.{SymValue}
-use Rattle.kb_frames.specs.declared.value.Outcome.TheVariants.{Asks, Cut}
-use Rattle.kb_frames.specs.Lent.{begun, begun_locals, begun_stage, locals_of, read_int, stack_of, transfers_of, with_nodes}
+use Rattle.kb_frames.specs.declared.value.Outcome.TheVariants.{Cut}
+use Rattle.kb_frames.specs.Lent.{begun, begun_locals, begun_stage, locals_of, stack_of, transfers_of, with_nodes}
 use Rattle.kb_frames.specs.Next.{argument_next, method_now, offset_now}
 use Rattle.kb_frames.specs.State.{State}
 use Rattle.kb_frames.specs.States.{Each, IsLocal, IsSymValue}
@@ -42,7 +41,7 @@ use Rattle.kb_stepint.specs.Laws.{IsAtInts}
 use Rattle.kb_stepint.specs.Operands.{one_int, two_ints}
 use Rattle.kb_stepint.specs.Reached.{IsReached}
 use Rattle.kb_stepint.specs.Simulation.{HasInputOfState}
-use Rattle.kb_stepint.specs.Takes.{answered, taken, takes_next, takes_up}
+use Rattle.kb_stepint.specs.Takes.{answered, reads_argument, taken, takes_next, takes_up}
 use Rattle.kb_stepint.specs.Ways.{Take, Way, Goes, Jumps, Leaves, Throws, Fails, carries_out, ill_typed, went}
 use Rattle.kb_stepint.proofs.GrowLaws.{Grows, all_asked_grows, if_has, option_has}
 use Rattle.kb_stepint.proofs.KeepLaws.{Stays, plan_makes, takes_next_stays}
@@ -162,7 +161,7 @@ module _ (world : World) (bounds : Bounds) (choice : Choice) where
       sound (takes_up_sound (begun world old) run.0 run.1 run.2 (begun_sound world old sound none))
 
   abbrev after : State → Option JType → Take
-  after old next = option_map_or (λ (type : JType). record { state = read_int old (kind_for (Some type)); outcome = Asks }) next (takes_next world bounds choice old)
+  after old next = option_map_or (reads_argument old) next (takes_next world bounds choice old)
 
   taken_sound : (old : State) → IsAtInts world old → Sound world (taken world bounds old choice).state
   taken_sound old at = go (argument_next world old.method old.stage) refl where

@@ -37,9 +37,11 @@ use Rattle.kb_picture.specs.declared.picture.PicLoc.{PicLoc}
 use Rattle.kb_picture.specs.declared.picture.PicObject.{PicObject}
 use Rattle.kb_picture.specs.declared.picture.Picture.{Picture}
 use Rattle.kb_picture.specs.Growing.{HoldsInt, IsUnread, params_of}
+use Rattle.kb_picture.specs.Growth.{after_int_read}
 use Rattle.kb_picture.specs.Queries.{kind_for, kind_seen, kinds_seen}
-use Rattle.kb_picture.specs.WellFormed.{slots_seen}
+use Rattle.kb_picture.specs.WellFormed.{slots_seen, variables_seen}
 use Rattle.kb_picture.specs.WellTyped.{IsReceiverSeen, IsWellTyped, is_int_type}
+use Rattle.kb_picture.proofs.GrownTypes.{int_typed}
 use Rattle.kb_frames.specs.declared.frame.SymFrame.{SymFrame}
 use Rattle.kb_frames.specs.declared.state.Stage.{Stage}
 use Rattle.kb_frames.specs.declared.state.Stage.TheVariants.{Begins, Runs}
@@ -48,14 +50,13 @@ use Rattle.kb_frames.specs.declared.value.Cell.{Cell}
 use Rattle.kb_frames.specs.declared.value.Cell.TheVariants.{Untouched, Read, Written}
 use Rattle.kb_frames.specs.declared.value.SymValue.{SymValue}
 use Rattle.kb_frames.specs.declared.value.SymValue.TheVariants.{Int, Null, Obj, Literal, New, Loc}
-use Rattle.kb_frames.specs.FirstReads.{with_read}
-use Rattle.kb_frames.specs.Lent.{begun, begun_locals, begun_stage, read_count, read_int, saw_argument, with_frame, with_nodes}
+use Rattle.kb_frames.specs.FirstReads.{first_int, with_read}
+use Rattle.kb_frames.specs.Lent.{begun, begun_locals, begun_stage, read_count, with_frame, with_nodes}
 use Rattle.kb_frames.specs.Making.{default_sym, new_sym_object, with_made}
 use Rattle.kb_frames.specs.Next.{argument_next, instruction_next, is_int, is_int_next, is_reference, method_now, next_is_int}
 use Rattle.kb_frames.specs.State.{State}
 use Rattle.kb_frames.specs.States.{AreCells, Each, IsBeginning, IsCell, IsFrame, IsLocal, IsMade, IsStage, IsSymValue, IsTouched}
 use Rattle.kb_frames.specs.Truths.{truth_in}
-use Rattle.kb_frames.proofs.FormedPaths.{variables-same}
 use Rattle.kb_stepint.specs.declared.condition.Condition.{Condition}
 use Rattle.kb_stepint.specs.Asked.{all_asked, asked, interned_condition, interned_side}
 use Rattle.kb_stepint.specs.Reached.{HasNoHandlers, HasNoneLeftOut, HasReadReceiver, IsAlone, IsReached, SwitchesRise}
@@ -63,7 +64,7 @@ use Rattle.kb_stepint.specs.Ways.{carries_out}
 use Rattle.kb_stepint.proofs.AskedLaws.{interned_is_term, interned_node, later_node, no_constant, not_folded}
 use Rattle.kb_stepint.proofs.GrowLaws.{GoesOn, Grows, all_asked_grows, condition_goes_on, interned_goes_on}
 use Rattle.kb_stepint.proofs.ItemLaws.{each_append, each_cons, each_copy, each_map, each_mapped, no_items, none_passes}
-use Rattle.kb_stepint.proofs.PictureLaws.{receiver_still, saw_typed, slots_are}
+use Rattle.kb_stepint.proofs.PictureLaws.{receiver_still, slots_are}
 
 -- ---- what holds
 
@@ -445,7 +446,7 @@ module _ (world : World) (state : State) (sound : Sound world state) where
     value = Int (record { 0 = length state.nodes })
 
     abbrev seen : Picture
-    seen = saw_argument state.picture n v
+    seen = after_int_read state.picture (Arg n)
 
     abbrev read_state : State
     read_state = record state { stage = Begins (read ++ value ∷ []); picture = seen; nodes = nodes }
@@ -480,26 +481,28 @@ module _ (world : World) (state : State) (sound : Sound world state) where
       go [] e h = λ method is own.
           let first : slice_get (argument_types world method) 0 ≡ Some type = ap (option_and_then (λ (info : MethodInfo). slice_get (argument_types world info) 0)) (sym is) ∙ e in
           absurd (true≢false (sym (first_static world method (is_static method.access) type int first) ∙ own))
-      go (first ∷ values) e h = receiver_still world state.method state.picture n v h
+      go (first ∷ values) e h = receiver_still world state.method state.picture n h
 
     read_receiver : (values : List SymValue) → HasReadReceiver world state.method (Begins (values ++ value ∷ [])) seen
     read_receiver [] = read_sees
     read_receiver (first ∷ values) = read_sees
 
     read_still : Still state read_state
+    unfolding after_int_read
     read_still = record { terms = extends-more state.nodes (Var v kind); objects = refl; locs = refl; made = omega arith }
 
     new_term : IsSymValue world read_state value
     new_term = omega (arith, length-append state.nodes (Var v kind ∷ []))
 
     one_kind : kinds_of nodes ≡ kinds_seen world state.method seen
+    unfolding after_int_read
     one_kind =
         filter_map-append kind_from state.nodes (Var v kind ∷ []) ∙ ap (λ (kinds : List VarKind). kinds ++ kind ∷ []) sound.kinds
         ∙ ap (λ (o : Option JType). kinds_seen world state.method state.picture ++ kind_for o ∷ []) (sym next)
-        ∙ sym (filter_map-append (kind_seen world state.method state.picture) state.picture.seen ((Arg n, seens.Int v) ∷ []))
+        ∙ sym (filter_map-append (kind_seen world state.method state.picture) state.picture.seen ((Arg n, seens.Int (length (variables_seen state.picture))) ∷ []))
 
     touched : (i : ℕ) (slot : Origin) → slice_get (slots_seen seen) i ≡ Some slot → IsTouched state.cells slot
-    touched i slot e = elim (get_pushed (slots_seen state.picture) (Arg n) i slot (ap (λ (l : List Origin). slice_get l i) (sym (slots_are world state.method state.picture n v)) ∙ e)) [
+    touched i slot e = elim (get_pushed (slots_seen state.picture) (Arg n) i slot (ap (λ (l : List Origin). slice_get l i) (sym (slots_are world state.method state.picture n)) ∙ e)) [
       | inl h ↦ sound.cells.seen i slot h
       | inr h ↦ subst (IsTouched state.cells) h.1 tt
     ]
@@ -507,12 +510,12 @@ module _ (world : World) (state : State) (sound : Sound world state) where
     one_slot : slots_seen seen ≡ map Arg (numbers_below (length (read ++ value ∷ [])))
     one_slot =
         let longer : length (read ++ value ∷ []) ≡ suc n = omega (arith, length-append read (value ∷ [])) in
-        slots_are world state.method state.picture n v ∙ ap (λ (slots : List Origin). slots ++ Arg n ∷ []) beginning.seen ∙ sym (map-append Arg (numbers_below n) (n ∷ []))
+        slots_are world state.method state.picture n ∙ ap (λ (slots : List Origin). slots ++ Arg n ∷ []) beginning.seen ∙ sym (map-append Arg (numbers_below n) (n ∷ []))
         ∙ ap (λ (m : ℕ). map Arg (numbers_below m)) (sym longer)
 
     pub read_sound : Sound world read_state
     read_sound = record {
-      typed = saw_typed world state.method state.picture n v sound.typed unread (variables-same world state.method state.nodes state.picture sound.kinds) holds;
+      typed = int_typed world state.method state.picture (Arg n) sound.typed unread holds;
       kinds = one_kind;
       conditions = conditions_still state.nodes nodes state.when (extends-more state.nodes (Var v kind)) sound.conditions;
       stage = record {
@@ -541,11 +544,11 @@ module _ (world : World) (state : State) (sound : Sound world state) (type : JTy
   abbrev after_read : Stage → State
   after_read stage = record state {
     stage = with_read stage (Int (record { 0 = length state.nodes }));
-    picture = saw_argument state.picture (read_count stage) (variables_of state.nodes);
+    picture = after_int_read state.picture (Arg (read_count stage));
     nodes = state.nodes ++ Var (variables_of state.nodes) (kind_for (Some type)) ∷ [];
   }
 
-  pub int_sound : Sound world (read_int state (kind_for (Some type)))
+  pub int_sound : Sound world (first_int (Arg (read_count state.stage)) (kind_for (Some type)) state)
   int_sound = go state.stage refl where
     go : (stage : Stage) → state.stage ≡ stage → Sound world (after_read stage)
     go (Begins read) is = read_sound world state sound read is type (subst (λ (s : Stage). argument_next world state.method s ≡ Some type) is next) no_reference
@@ -553,7 +556,7 @@ module _ (world : World) (state : State) (sound : Sound world state) (type : JTy
       none : None ≡ Some type → ⊥
       none e = cc
 
-  pub int_receiver : IsReceiverSeen world state.method (read_int state (kind_for (Some type))).picture
+  pub int_receiver : IsReceiverSeen world state.method (first_int (Arg (read_count state.stage)) (kind_for (Some type)) state).picture
   int_receiver = go state.stage refl where
     go : (stage : Stage) → state.stage ≡ stage → IsReceiverSeen world state.method (after_read stage).picture
     go (Begins read) is = read_sees world state sound read is type (subst (λ (s : Stage). argument_next world state.method s ≡ Some type) is next) no_reference

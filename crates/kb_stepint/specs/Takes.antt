@@ -10,10 +10,12 @@ use Rattle.kb_heap.specs.declared.bounds.Bounds.{Bounds}
 use Rattle.kb_link.specs.World.{World}
 use Rattle.kb_semantics.specs.Config.{instruction_at}
 use Rattle.kb_picture.specs.declared.choice.Choice.{Choice}
+use Rattle.kb_picture.specs.declared.picture.Origin.TheVariants.{Arg}
 use Rattle.kb_picture.specs.Queries.{kind_for}
 use Rattle.kb_frames.specs.declared.value.Outcome.TheVariants.{Asks, Cut}
 use Rattle.kb_frames.specs.State.{State}
-use Rattle.kb_frames.specs.Lent.{begun, read_int, stack_of, with_nodes}
+use Rattle.kb_frames.specs.FirstReads.{first_int}
+use Rattle.kb_frames.specs.Lent.{begun, read_count, stack_of, with_nodes}
 use Rattle.kb_frames.specs.Next.{argument_next, method_now, offset_now}
 use Rattle.kb_stepint.specs.Asked.{all_asked}
 use Rattle.kb_stepint.specs.Choices.{conditions_of}
@@ -22,7 +24,7 @@ use Rattle.kb_stepint.specs.Effects.{Planned, plan_of}
 
 -- the next argument is read: a new variable
 abbrev pub reads_argument : State → JType → Take
-reads_argument state type = record { state = read_int state (kind_for (Some type)); outcome = Asks }
+reads_argument state type = record { state = first_int (Arg (read_count state.stage)) (kind_for (Some type)) state; outcome = Asks }
 
 -- a plan is followed, where `next` is the offset behind the instruction
 abbrev pub followed : World → Bounds → ℕ → State → Planned → Take

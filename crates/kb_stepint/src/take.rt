@@ -23,7 +23,7 @@ use crate::turn::Turn;
 use kb_code::{Cond, Instr, IntOp};
 use kb_frames::{Outcome, SymState, instruction_at};
 use kb_heap::{Bound, Bounds};
-use kb_picture::{Choice, SymEnding};
+use kb_picture::{Choice, Origin, SymEnding};
 use kb_terms::TermId;
 use kb_world::World;
 use std::alloc::Global;
@@ -64,7 +64,8 @@ fn read_or_take_up(
     ensures { IfOk result (λ outcome. told state.new outcome ≡ taken world.now bounds.now state.old choice.now) }
 {
     if let Some(kind) = state.next_kind(world) {
-        state.read_int(kind)?;
+        let argument = state.read_count()?;
+        state.first_int(Origin::Arg(argument), kind)?;
         return Ok(Outcome::Asks);
     }
     if bounds.run.steps <= state.carried() {

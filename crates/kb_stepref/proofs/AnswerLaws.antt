@@ -35,14 +35,15 @@ use Rattle.kb_picture.specs.declared.picture.Seen.TheVariants as seens
 use Rattle.kb_picture.specs.declared.picture.Standing.TheVariants as standings
 use Rattle.kb_picture.specs.Endings.{Reading}
 use Rattle.kb_picture.specs.Growing.{IsChoiceIn, IsUnread, params_of}
-use Rattle.kb_picture.specs.Growth.{after_read, with_open_loc}
+use Rattle.kb_picture.specs.Growth.{after_read, after_int_read, with_open_loc}
 use Rattle.kb_picture.specs.Instances.{variable_values}
 use Rattle.kb_picture.specs.Laws.{loc_placed_behind}
 use Rattle.kb_picture.specs.Places.{place_of, places_of, slot_value, value_in}
 use Rattle.kb_picture.specs.Queries.{kind_for}
 use Rattle.kb_picture.specs.Shapes.{HasShape, IsObjectOfPicture}
+use Rattle.kb_picture.specs.WellFormed.{variables_seen}
 use Rattle.kb_picture.proofs.ChainLaws.{all_below, below_at}
-use Rattle.kb_picture.proofs.GrownShapes.{as_many, locs_many, seen_places}
+use Rattle.kb_picture.proofs.GrownShapes.{as_many, int_places, locs_many}
 use Rattle.kb_picture.proofs.PlaceLaws.{places_loc, places_seen}
 use Rattle.kb_picture.proofs.ShapeLaws.{place_inside}
 use Rattle.kb_frames.specs.declared.state.Stage.{Stage}
@@ -52,7 +53,7 @@ use Rattle.kb_frames.specs.declared.value.Cell.TheVariants.{Untouched, Read}
 use Rattle.kb_frames.specs.declared.value.SymValue.{SymValue}
 use Rattle.kb_frames.specs.declared.value.SymValue.TheVariants.{Int}
 use Rattle.kb_frames.specs.Cuts.{setting_of}
-use Rattle.kb_frames.specs.FirstReads.{cells_chosen, first_int, first_reference, found_in, saw_variable, value_chosen, with_read}
+use Rattle.kb_frames.specs.FirstReads.{cells_chosen, first_int, first_reference, found_in, value_chosen, with_read}
 use Rattle.kb_frames.specs.Heaps.{find_cell, with_cell}
 use Rattle.kb_frames.specs.Next.{is_reference}
 use Rattle.kb_frames.specs.StandsFor.{IsInstanceOf, StageStandsFor, StandsFor, reading_at, value_of_sym}
@@ -250,7 +251,7 @@ module _ (world : World) (old : State) (sound : IsState world old) (input : Inpu
     term = record { 0 = length old.nodes }
 
     abbrev int_picture : Picture
-    int_picture = saw_variable old.picture slot variable
+    int_picture = after_int_read old.picture slot
 
     abbrev variables : List ℤ
     variables = variable_values old.picture input earlier.places.objects
@@ -263,7 +264,7 @@ module _ (world : World) (old : State) (sound : IsState world old) (input : Inpu
       now = reading_at world int_grown input shape.places
 
       same : shape.places ≡ earlier.places
-      same = seen_places old.picture (slot, seens.Int variable) input earlier shape
+      same = int_places old.picture slot input earlier shape
 
       many : variable ≡ length variables
       many = many_values world old input earlier.places.objects sound
@@ -271,7 +272,7 @@ module _ (world : World) (old : State) (sound : IsState world old) (input : Inpu
       module _ (z : ℤ) (at : slot_value input shape.places.objects slot ≡ Some (IntValue z)) where
         variables_are : variable_values int_picture input shape.places.objects ≡ variables ++ z ∷ []
         variables_are =
-            int_values old.picture input shape.places.objects slot variable z at
+            int_values old.picture input shape.places.objects slot z at
             ∙ ap (λ (l : PlaceLists). variable_values old.picture input l.objects ++ z ∷ []) same
 
         -- the new variable has the value of the slot
@@ -307,10 +308,12 @@ module _ (world : World) (old : State) (sound : IsState world old) (input : Inpu
         int_is : Finds world old int_grown input reading slot (Int term) shape.places
         int_is = record { grows = int_grows; held = at ∙ ap (λ (v : Value). Some v) (sym int_value) }
 
+      int_held : (z : ℤ) × (slot_value input shape.places.objects slot ≡ Some (IntValue z))
+      unfolding after_int_read
+      int_held = hold_last input shape.places.objects old.picture.seen (slot, seens.Int (length (variables_seen old.picture))) shape.seen
+
       pub int_finds : Finds world old int_grown input reading slot (Int term) shape.places
-      int_finds =
-          let held : (z : ℤ) × (slot_value input shape.places.objects slot ≡ Some (IntValue z)) = hold_last input shape.places.objects old.picture.seen (slot, seens.Int variable) shape.seen in
-          int_is held.0 held.1
+      int_finds = int_is int_held.0 int_held.1
 
 -- ---- the answer
 
@@ -339,11 +342,11 @@ module _ (world : World) (bounds : Bounds) (old : State) (sound : IsState world 
     new_int = Int (record { 0 = length old.nodes })
 
     abbrev after : List (List Cell) → State
-    after cells = found_in slot new_int (record old { picture = saw_variable old.picture slot (variables_of old.nodes); cells = cells; nodes = nodes_now })
+    after cells = found_in slot new_int (record old { picture = after_int_read old.picture slot; cells = cells; nodes = nodes_now })
 
     with_none : IsInstanceOf (after (old.cells ++ [])) input → StandsFor (setting_of world bounds) (after (old.cells ++ [])) input c
     with_none =
-        found_stands world bounds old sound input c stands new_int (saw_variable old.picture slot (variables_of old.nodes)) [] (λ n s. refl) nodes_now
+        found_stands world bounds old sound input c stands new_int (after_int_read old.picture slot) [] (λ n s. refl) nodes_now
         slot blank (int_finds world old sound input shape_now slot kind (old.cells ++ []))
 
     -- an int or a boolean was

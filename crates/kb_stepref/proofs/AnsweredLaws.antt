@@ -51,12 +51,11 @@ use Rattle.kb_frames.specs.declared.value.Cell.{Cell}
 use Rattle.kb_frames.specs.declared.value.Cell.TheVariants.{Untouched, Read}
 use Rattle.kb_frames.specs.declared.value.SymValue.{SymValue}
 use Rattle.kb_frames.specs.declared.value.SymValue.TheVariants.{Int}
-use Rattle.kb_frames.specs.FirstReads.{cells_chosen, first_int, first_reference, found_in, new_cells, saw_variable, value_chosen, with_read}
+use Rattle.kb_frames.specs.FirstReads.{cells_chosen, first_int, first_reference, found_in, new_cells, value_chosen, with_read}
 use Rattle.kb_frames.specs.Heaps.{find_cell, with_cell}
 use Rattle.kb_frames.specs.Next.{is_reference}
 use Rattle.kb_frames.specs.State.{State, cell_at}
 use Rattle.kb_frames.specs.States.{Each, HasCells, IsBeginning, IsCell, IsStage, IsSymValue, IsTouched}
-use Rattle.kb_frames.proofs.FormedPaths.{variables-same}
 use Rattle.kb_stepint.specs.Reached.{HasReadReceiver}
 use Rattle.kb_stepint.proofs.ItemLaws.{each_append, each_cons, each_copy, no_items}
 use Rattle.kb_stepint.proofs.SoundLaws.{Sound, sound_reached}
@@ -323,11 +322,6 @@ module _ (world : World) (state : State) (sound : Sound world state) (slot : Ori
 
 -- ---- answers
 
--- the picture that sees a slot as the next variable is the one after a first read of an int
-saw_is_read : (picture : Picture) (slot : Origin) (v : ℕ) → v ≡ length (variables_seen picture) → saw_variable picture slot v ≡ after_int_read picture slot
-unfolding after_int_read
-saw_is_read picture slot v next = ap (saw_variable picture slot) next
-
 module _ (world : World) (bounds : Bounds) (state : State) (at : IsAtReferences world state) (slot : Origin) (type : JType) (asks : question_of world state bounds ≡ Some (Reads slot type)) where
   abbrev typed : IsWellTyped world state.method state.picture
   typed = at.reached.reached.typed
@@ -426,23 +420,23 @@ module _ (world : World) (bounds : Bounds) (state : State) (at : IsAtReferences 
     value = Int (record { 0 = length state.nodes })
 
     abbrev seen : Picture
-    seen = saw_variable state.picture slot v
+    seen = after_int_read state.picture slot
 
     one_kind : kinds_of nodes ≡ kinds_seen world state.method seen
+    unfolding after_int_read
     one_kind =
         filter_map-append kind_from state.nodes (Var v kind ∷ [])
         ∙ (ap (λ (kinds : List VarKind). kinds ++ kind ∷ []) sound.kinds
         ∙ (ap (λ (o : Option JType). kinds_seen world state.method state.picture ++ kind_for o ∷ []) (sym is_asked.declared)
-        ∙ sym (filter_map-append (kind_seen world state.method state.picture) state.picture.seen ((slot, seens.Int v) ∷ []))))
+        ∙ sym (filter_map-append (kind_seen world state.method state.picture) state.picture.seen ((slot, seens.Int (length (variables_seen state.picture))) ∷ []))))
 
     tells_int : Tells world state slot value seen state.cells nodes
+    unfolding after_int_read
     tells_int = record {
-      typed =
-          subst (IsWellTyped world state.method) (sym (saw_is_read state.picture slot v (variables-same world state.method state.nodes state.picture sound.kinds)))
-          (int_typed world state.method state.picture slot typed is_asked.unread (holds_int world bounds state typed slot type is_asked int));
+      typed = int_typed world state.method state.picture slot typed is_asked.unread (holds_int world bounds state typed slot type is_asked int);
       terms = extends-more state.nodes (Var v kind);
       kinds = one_kind;
-      slots = slots_grown state.picture seen slot (seens.Int v) refl;
+      slots = slots_grown state.picture seen slot (seens.Int (length (variables_seen state.picture))) refl;
       objects = omega arith;
       locs = omega arith;
       count = sound.cells.count;
@@ -489,5 +483,5 @@ module _ (world : World) (bounds : Bounds) (state : State) (at : IsAtReferences 
         subst (IsReceiverSeen world state.method) (sym (found_picture slot (value_chosen state.picture choice) (record state { picture = after_read state.picture slot choice; cells = state.cells ++ cells_chosen world choice })))
         (reference_receiver choice (offered_fits choice range is has))
     go false is =
-        subst (IsReceiverSeen world state.method) (sym (found_picture slot (Int (record { 0 = length state.nodes })) (record state { picture = saw_variable state.picture slot (variables_of state.nodes); nodes = state.nodes ++ Var (variables_of state.nodes) (kind_for (Some type)) ∷ [] })))
+        subst (IsReceiverSeen world state.method) (sym (found_picture slot (Int (record { 0 = length state.nodes })) (record state { picture = after_int_read state.picture slot; nodes = state.nodes ++ Var (variables_of state.nodes) (kind_for (Some type)) ∷ [] })))
         (int_receiver is)

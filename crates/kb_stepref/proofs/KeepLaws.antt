@@ -23,19 +23,18 @@ use Rattle.kb_picture.specs.declared.choice.Choice.{Choice}
 use Rattle.kb_picture.specs.declared.picture.Origin.{Origin}
 use Rattle.kb_picture.specs.declared.picture.Origin.TheVariants.{Arg, Field, Element}
 use Rattle.kb_picture.specs.declared.picture.Picture.{Picture}
-use Rattle.kb_picture.specs.declared.picture.Seen.TheVariants as seens
 use Rattle.kb_picture.specs.Growing.{params_of}
-use Rattle.kb_picture.specs.Growth.{after_read}
+use Rattle.kb_picture.specs.Growth.{after_read, after_int_read}
 use Rattle.kb_picture.specs.Queries.{kind_for}
 use Rattle.kb_picture.specs.Shapes.{HasShape}
 use Rattle.kb_picture.specs.WellTyped.{IsWellTyped}
-use Rattle.kb_picture.proofs.GrownShapes.{before_seen, choice_shape}
+use Rattle.kb_picture.proofs.GrownShapes.{choice_shape, int_shape}
 use Rattle.kb_frames.specs.declared.state.SymObject.{SymObject}
 use Rattle.kb_frames.specs.declared.value.Cell.{Cell}
 use Rattle.kb_frames.specs.declared.value.Cell.TheVariants.{Written}
 use Rattle.kb_frames.specs.declared.value.SymValue.{SymValue}
 use Rattle.kb_frames.specs.declared.value.SymValue.TheVariants.{Int, Null, Obj, Literal, New, Loc}
-use Rattle.kb_frames.specs.FirstReads.{cells_chosen, first_int, first_reference, found_in, saw_variable, value_chosen}
+use Rattle.kb_frames.specs.FirstReads.{cells_chosen, first_int, first_reference, found_in, value_chosen}
 use Rattle.kb_frames.specs.Heaps.{with_cell, with_made_value}
 use Rattle.kb_frames.specs.Lent.{begun, local_in, stack_of, with_nodes}
 use Rattle.kb_frames.specs.Next.{is_reference, method_now, offset_now}
@@ -244,10 +243,10 @@ reference_tells world slot choice state =
     record { method = found.method; init = found.init; carried = found.carried; picture = found.picture; nodes = found.nodes; when = found.when }
 
 pub int_tells : (slot : Origin) (kind : VarKind) (state : State)
-    → Tells state (first_int slot kind state) (saw_variable state.picture slot (variables_of state.nodes)) (state.nodes ++ Var (variables_of state.nodes) kind ∷ [])
+    → Tells state (first_int slot kind state) (after_int_read state.picture slot) (state.nodes ++ Var (variables_of state.nodes) kind ∷ [])
 int_tells slot kind state =
     let found = found_tells slot (Int (record { 0 = length state.nodes }))
-    (record state { picture = saw_variable state.picture slot (variables_of state.nodes); nodes = state.nodes ++ Var (variables_of state.nodes) kind ∷ [] }) in
+    (record state { picture = after_int_read state.picture slot; nodes = state.nodes ++ Var (variables_of state.nodes) kind ∷ [] }) in
     record { method = found.method; init = found.init; carried = found.carried; picture = found.picture; nodes = found.nodes; when = found.when }
 
 -- whichever it is
@@ -307,8 +306,7 @@ module _ (world : World) (bounds : Bounds) (old : State) (choice : Choice) where
           init = tells.init;
           terms = subst (Extends old.nodes) (sym tells.nodes) (extends-more old.nodes (Var (variables_of old.nodes) kind));
           conditions = same_conditions old (first_int slot kind old) tells.when;
-          shapes = λ input shape.
-              (before_seen old.picture (slot, seens.Int (variables_of old.nodes)) input (subst (λ (p : Picture). HasShape p input) tells.picture shape)).shape;
+          shapes = λ input shape. int_shape old.picture slot input (subst (λ (p : Picture). HasShape p input) tells.picture shape);
         }
 
     pub answered_kept : Keeps old (answered world choice old (Reads slot type))

@@ -1,5 +1,5 @@
 -- Each take of a state that is reached leaves one that is reached, and a picture of which an input can be made.
-use Rattle.std.proofs.Common.{◌≡◌, ◌⊎◌, inl, inr, ℕ, ◌<◌, Bool, true, false, [], Option, Some, None, refl, sym, ap, subst, ◌∙◌, if◌then◌else◌}
+use Rattle.std.proofs.Common.{◌≡◌, ◌⊎◌, inl, inr, ℕ, ◌<◌, Bool, true, false, [], length, Option, Some, None, refl, sym, ap, subst, ◌∙◌, if◌then◌else◌}
 use Rattle.std.specs.Option.{option_map_or}
 use Rattle.std.proofs.lemmas.Bool.{leb-false}
 use Rattle.kb_class.proofs.Lists.{all_has}
@@ -9,7 +9,7 @@ use Rattle.kb_heap.specs.declared.bounds.Bounds.{Bounds}
 use Rattle.kb_link.specs.Links.{IsLinked}
 use Rattle.kb_link.specs.World.{World}
 use Rattle.kb_names.specs.declared.types.JType.{JType}
-use Rattle.kb_terms.specs.Terms.{IsPool, variables_of}
+use Rattle.kb_terms.specs.Terms.{IsPool}
 use Rattle.kb_picture.specs.declared.choice.Choice.{Choice}
 use Rattle.kb_picture.specs.declared.choice.Init.{Init}
 use Rattle.kb_picture.specs.declared.choice.Init.TheVariants.{Lazy}
@@ -17,22 +17,24 @@ use Rattle.kb_picture.specs.declared.picture.Origin.{Origin}
 use Rattle.kb_picture.specs.declared.picture.Origin.TheVariants.{Arg, Field, Element}
 use Rattle.kb_picture.specs.declared.picture.Picture.{Picture}
 use Rattle.kb_picture.specs.declared.picture.Seen.TheVariants as seens
+use Rattle.kb_picture.specs.Growth.{after_int_read}
 use Rattle.kb_picture.specs.Queries.{kind_for}
+use Rattle.kb_picture.specs.WellFormed.{variables_seen}
 use Rattle.kb_picture.specs.WellTyped.{IsReceiverSeen}
 use Rattle.kb_lazy.specs.Choices.{read_choices_of}
 use Rattle.kb_lazy.specs.Laws.{HasNoBeyond}
 use Rattle.kb_frames.specs.declared.value.Outcome.{Outcome}
 use Rattle.kb_frames.specs.declared.value.Outcome.TheVariants.{Asks, Goes, Ends, Cut}
 use Rattle.kb_frames.specs.declared.value.SymValue.{SymValue}
-use Rattle.kb_frames.specs.FirstReads.{first_int, first_reference, found_in, saw_variable}
-use Rattle.kb_frames.specs.Lent.{begun, read_count, read_int}
+use Rattle.kb_frames.specs.FirstReads.{first_int, first_reference, found_in}
+use Rattle.kb_frames.specs.Lent.{begun, read_count}
 use Rattle.kb_frames.specs.Next.{argument_next, is_reference, next_is_int}
 use Rattle.kb_frames.specs.State.{State}
 use Rattle.kb_stepint.specs.Laws.{IsAtInts}
 use Rattle.kb_stepint.specs.Needs.{CanStep}
 use Rattle.kb_stepint.specs.Reached.{IsReached}
 use Rattle.kb_stepint.specs.Simulation.{HasInputOfState, Keeps}
-use Rattle.kb_stepint.specs.Takes.{taken as int_taken, takes_next as int_takes_next}
+use Rattle.kb_stepint.specs.Takes.{reads_argument, taken as int_taken, takes_next as int_takes_next}
 use Rattle.kb_stepint.specs.Ways.{Take}
 use Rattle.kb_stepint.proofs.KeepLaws.{kept as int_kept, takes_next_stays}
 use Rattle.kb_stepint.proofs.ReachedLaws.{is_reached as int_is_reached}
@@ -103,8 +105,11 @@ IsPlain picture = (picture.locs ≡ []) × HasNoBeyond picture
 int_no_beyond : (v : ℕ) → seens.Int v ≡ seens.Beyond → ⊥
 int_no_beyond v e = cc
 
-int_plain : (picture : Picture) (slot : Origin) (v : ℕ) → IsPlain picture → IsPlain (saw_variable picture slot v)
-int_plain picture slot v plain = (plain.0, seen_no_beyond picture (saw_variable picture slot v) slot (seens.Int v) refl refl (int_no_beyond v) plain.1)
+int_plain : (picture : Picture) (slot : Origin) → IsPlain picture → IsPlain (after_int_read picture slot)
+unfolding after_int_read
+int_plain picture slot plain =
+    let v : ℕ = length (variables_seen picture) in
+    (plain.0, seen_no_beyond picture (after_int_read picture slot) slot (seens.Int v) refl refl (int_no_beyond v) plain.1)
 
 module _ (world : World) (bounds : Bounds) (state : State) (at : IsAtReferences world state) (slot : Origin) (type : JType) (asks : question_of world state bounds ≡ Some (Reads slot type))
     (choice : Choice) (range : AreInRange bounds) (has : Has (alternatives world state bounds (Reads slot type)) choice) where
@@ -128,7 +133,7 @@ module _ (world : World) (bounds : Bounds) (state : State) (at : IsAtReferences 
     go true is =
         subst IsPlain (sym (found_picture slot _ _))
         (known_locs state.picture slot choice (known_here is) ∙ at.reached.known, known_no_beyond state.picture slot choice (known_here is) passed at.reached.within)
-    go false is = subst IsPlain (sym (found_picture slot _ _)) (int_plain state.picture slot (variables_of state.nodes) (at.reached.known, at.reached.within))
+    go false is = subst IsPlain (sym (found_picture slot _ _)) (int_plain state.picture slot (at.reached.known, at.reached.within))
 
   pub now_heap : passed_by choice ≡ None → IsHeapSound world now
   now_heap passed =
@@ -222,6 +227,6 @@ ints_keep world bounds state choice h ints pool = record {
 
   plain : IsPlain (int_taken world bounds state choice).state.picture
   plain = go (argument_next world state.method state.stage) where
-    go : (type : Option JType) → IsPlain (option_map_or (λ (t : JType). record { state = read_int state (kind_for (Some t)); outcome = Asks }) type (int_takes_next world bounds choice state)).state.picture
+    go : (type : Option JType) → IsPlain (option_map_or (reads_argument state) type (int_takes_next world bounds choice state)).state.picture
     go None = subst IsPlain (sym (takes_next_stays world bounds choice state).picture) (h.known, h.within)
-    go (Some type) = int_plain state.picture (Arg (read_count state.stage)) (variables_of state.nodes) (h.known, h.within)
+    go (Some type) = int_plain state.picture (Arg (read_count state.stage)) (h.known, h.within)

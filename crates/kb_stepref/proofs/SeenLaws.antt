@@ -31,7 +31,6 @@ use Rattle.kb_semantics.specs.Operands.{Reference, Taken, a_reference, reference
 use Rattle.kb_semantics.specs.Step.{config_at, first_heap, next_config, step}
 use Rattle.kb_world.specs.Lookup.{only_where, resolved_field}
 use Rattle.kb_terms.proofs.Entries.{end-cases, slice_get-take}
-use Rattle.kb_terms.specs.Terms.{variables_of}
 use Rattle.kb_picture.specs.declared.choice.Choice.{Choice}
 use Rattle.kb_picture.specs.declared.choice.Choice.TheVariants as choices
 use Rattle.kb_picture.specs.declared.choice.Init.TheVariants.{Lazy, Lazier}
@@ -42,12 +41,12 @@ use Rattle.kb_picture.specs.declared.picture.PlaceLists.{PlaceLists}
 use Rattle.kb_picture.specs.declared.picture.Seen.{Seen}
 use Rattle.kb_picture.specs.declared.picture.Seen.TheVariants as seens
 use Rattle.kb_picture.specs.Growing.{params_of}
-use Rattle.kb_picture.specs.Growth.{after_read}
+use Rattle.kb_picture.specs.Growth.{after_read, after_int_read}
 use Rattle.kb_picture.specs.Queries.{kind_for}
 use Rattle.kb_picture.specs.Shapes.{HasShape, IsSuch}
 use Rattle.kb_picture.proofs.ChainLaws.{all_below, below_at}
 use Rattle.kb_picture.proofs.GrownPictures.{item_there}
-use Rattle.kb_picture.proofs.GrownShapes.{as_many, choice_places, seen_places}
+use Rattle.kb_picture.proofs.GrownShapes.{as_many, choice_places, int_places}
 use Rattle.kb_picture.proofs.HeldLaws.{HeldValue, held_value}
 use Rattle.kb_frames.specs.declared.state.Stage.{Stage}
 use Rattle.kb_frames.specs.declared.state.Stage.TheVariants.{Runs}
@@ -55,7 +54,6 @@ use Rattle.kb_frames.specs.declared.value.Cell.TheVariants.{Untouched, Written}
 use Rattle.kb_frames.specs.declared.value.SymValue.{SymValue}
 use Rattle.kb_frames.specs.declared.value.SymValue.TheVariants.{Obj}
 use Rattle.kb_frames.specs.Cuts.{setting_of}
-use Rattle.kb_frames.specs.FirstReads.{saw_variable}
 use Rattle.kb_frames.specs.Lent.{stack_of}
 use Rattle.kb_frames.specs.Next.{instruction_next, is_reference, method_now}
 use Rattle.kb_frames.specs.StandsFor.{FrameStandsFor, IsInstanceOf, IsLike, StageStandsFor, StandsFor, beginning_of, present_value, reading_at, value_of_sym, written_by}
@@ -287,6 +285,10 @@ last_chosen picture slot _ j x from there = absurd (none_there picture.seen j x 
   none_there : (seen : List (Origin × Seen)) (k : ℕ) (y : Origin × Seen) → length seen ≤ k → slice_get seen k ≡ Some y → ⊥
   none_there seen k y from there = let inside : k < length seen = slice_get_within seen k y there in omega (arith, from, inside)
 
+last_int : (picture : Picture) (slot : Origin) (j : ℕ) (x : Origin × Seen) → length picture.seen ≤ j → slice_get (after_int_read picture slot).seen j ≡ Some x → x.0 ≡ slot
+unfolding after_int_read
+last_int picture slot j x from there = last_seen picture.seen slot (seens.Int (length (variables_seen picture))) j x from there
+
 -- ---- all takes
 
 module _ (world : World) (bounds : Bounds) (old : State) (choice : Choice) (at : IsAtReferences world old) where
@@ -300,10 +302,9 @@ module _ (world : World) (bounds : Bounds) (old : State) (choice : Choice) (at :
   answer_reads slot type is false input c correct stands =
       let untold = take_untold world bounds old slot type false choice in
       let tells = int_tells slot (kind_for (Some type)) old in
-      let variable : ℕ = variables_of old.nodes in
-      reads_told world bounds old at input c correct stands slot type is (take_by world bounds old slot type false choice).state (saw_variable old.picture slot variable) (untold.stays.picture ∙ tells.picture)
-      (λ after. ap (λ (l : PlaceLists). take (length old.picture.objects) l.objects) (seen_places old.picture (slot, seens.Int variable) input stands.instance_of.shape after) ∙ whole input stands.instance_of.shape)
-      (last_seen old.picture.seen slot (seens.Int variable))
+      reads_told world bounds old at input c correct stands slot type is (take_by world bounds old slot type false choice).state (after_int_read old.picture slot) (untold.stays.picture ∙ tells.picture)
+      (λ after. ap (λ (l : PlaceLists). take (length old.picture.objects) l.objects) (int_places old.picture slot input stands.instance_of.shape after) ∙ whole input stands.instance_of.shape)
+      (last_int old.picture slot)
     where
       whole : (input : Input) (shape : HasShape old.picture input) → take (length old.picture.objects) shape.places.objects ≡ shape.places.objects
       whole input shape = take_all (length old.picture.objects) shape.places.objects (omega (arith, as_many old.picture input shape.places shape.placed))

@@ -1,5 +1,6 @@
 //! Answers of questions: what was chosen for a slot is put into the state.
 ghost use Rattle.std.specs.Prelude.{◌≡◌, OnOk};
+ghost use Rattle.kb_frames.specs.FirstReads.{HasVariablesSeen};
 ghost use Rattle.kb_stepref.specs.Questions.{question};
 ghost use Rattle.kb_stepref.specs.Takes.{answered, passed_by};
 
@@ -17,6 +18,7 @@ pub(crate) fn answer(
     choice: &Choice,
     first: &FirstRead,
 ) -> Result<(), NoMemory>
+    requires { HasVariablesSeen state.old }
     ensures { OnOk result (state.new ≡ answered world.now choice.now state.old (question first.now)) }
 {
     if is_reference(&first.kind) {
