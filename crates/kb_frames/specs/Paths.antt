@@ -1,12 +1,11 @@
 -- The path of a state: its picture and its conditions, with decisions and a leaf that are given. The terms are those that the
 -- conditions and the leaf meet, in the order of a walk from them; before that the leaf has the numbers of the pool.
 use Rattle.std.specs.Prelude.{ℕ, List}
-use Rattle.kb_blast.specs.Query.{listed, numbered_conditions}
-use Rattle.kb_terms.specs.Numbering.{numbering}
 use Rattle.kb_terms.specs.declared.node.TermId.{TermId}
+use Rattle.kb_terms.specs.Numbering.{numbering}
 use Rattle.kb_picture.specs.declared.path.Leaf.{Leaf}
 use Rattle.kb_picture.specs.declared.path.Path.{Path}
-use Rattle.kb_numbered.specs.Numbered.{numbered_leaf, walk_roots}
+use Rattle.kb_numbered.specs.Numbered.{numbered_path, walk_roots}
 use Rattle.kb_frames.specs.State.{State}
 
 -- from what the walk begins
@@ -17,17 +16,6 @@ path_roots state leaf = walk_roots state.when leaf
 abbrev pub path_numbering : State → Leaf → List TermId
 path_numbering state leaf = numbering state.nodes (path_roots state leaf)
 
--- the path with the terms `numbered` of the pool
-abbrev pub numbered_path : State → List ℕ → Leaf → List TermId → Path
-numbered_path state decisions leaf numbered =
-    record {
-      decisions = decisions;
-      picture = state.picture;
-      terms = listed state.nodes numbered numbered;
-      when = numbered_conditions numbered state.when;
-      leaf = numbered_leaf state.nodes numbered leaf;
-    }
-
 -- The path of a state.
 unfoldable pub path_of : State → List ℕ → Leaf → Path
-path_of state decisions leaf = numbered_path state decisions leaf (path_numbering state leaf)
+path_of state decisions leaf = numbered_path state.picture state.nodes state.when decisions leaf (path_numbering state leaf)

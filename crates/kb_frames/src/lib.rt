@@ -21,9 +21,9 @@ mod truths;
 mod value;
 
 pub use code::{Found, declaring_class, instruction_at};
+pub use kb_numbered::PathStop;
 pub use laws::{paths_are_well_formed, states_begin};
 pub use next::{is_int_instruction, is_reference, is_static, variable_kind};
-pub use path::PathStop;
 pub use state::{SymState, start};
 pub use std::alloc::AllocError as NoMemory;
 pub use value::{Cell, Outcome, SymValue};

@@ -1,9 +1,9 @@
--- The terms, the conditions and the leaf of a path in the numbering of texts (what a path's conditions and results say is said
+-- A path, with its terms, its conditions and its leaf in the numbering of texts (what a path's conditions and results say is said
 -- with terms over its variables: King, 1976; the order of their numbers is an own rule). The terms are those that the conditions
 -- and the leaf meet, in the order of a walk from them; before that the leaf has the numbers of the pool.
 use Rattle.std.specs.Prelude.{ℕ, Bool, List, ◌++◌, map, option_map}
 use Rattle.std.specs.List.{flat_map}
-use Rattle.kb_blast.specs.Query.{roots_of as condition_roots, operand_of}
+use Rattle.kb_blast.specs.Query.{roots_of as condition_roots, operand_of, listed, numbered_conditions}
 use Rattle.kb_terms.specs.Numbering.{numbering}
 use Rattle.kb_terms.specs.declared.node.TermId.{TermId}
 use Rattle.kb_terms.specs.declared.node.Node.{Node}
@@ -18,6 +18,8 @@ use Rattle.kb_picture.specs.declared.path.SymEnding.TheVariants.{Returned, Threw
 use Rattle.kb_picture.specs.declared.path.Ended.{Ended}
 use Rattle.kb_picture.specs.declared.path.Leaf.{Leaf}
 use Rattle.kb_picture.specs.declared.path.Leaf.TheVariants.{Ended as EndedLeaf, Cut, Undecided, Open}
+use Rattle.kb_picture.specs.declared.path.Path.{Path}
+use Rattle.kb_picture.specs.declared.picture.Picture.{Picture}
 use Rattle.kb_picture.specs.Numbering.{leaf_outs, terms_of_out}
 
 -- ---- from what the walk begins
@@ -80,3 +82,16 @@ numbered_leaf nodes numbered (EndedLeaf ended) = EndedLeaf (numbered_ended nodes
 numbered_leaf nodes numbered (Cut bound input) = Cut bound input
 numbered_leaf nodes numbered (Undecided log) = Undecided log
 numbered_leaf nodes numbered Open = Open
+
+-- ---- the path
+
+-- with this picture, these conditions and decisions, and this leaf, and with the terms `numbered` of the pool
+abbrev pub numbered_path : Picture → List Node → List (TermId × Bool) → List ℕ → Leaf → List TermId → Path
+numbered_path picture nodes when decisions leaf numbered =
+    record {
+      decisions = decisions;
+      picture = picture;
+      terms = listed nodes numbered numbered;
+      when = numbered_conditions numbered when;
+      leaf = numbered_leaf nodes numbered leaf;
+    }

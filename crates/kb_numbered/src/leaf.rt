@@ -8,7 +8,7 @@ use kb_rows::Row;
 use kb_terms::{Node, Numbering, Operand, TermId};
 
 /// The leaf with the numbers of the path, where its terms have their numbers in the pool. It takes no memory.
-pub fn numbered_leaf(nodes: &[Node], numbering: &Numbering, leaf: Leaf) -> Leaf
+pub(crate) fn numbered_leaf(nodes: &[Node], numbering: &Numbering, leaf: Leaf) -> Leaf
     ensures { result ≡ numbered_leaf nodes.now numbering.now leaf }
 {
     match leaf {

@@ -14,15 +14,15 @@ use std::alloc::Global;
 
 /// The terms and the conditions of a path, and the numbers of its terms.
 #[derive(Drop)]
-pub struct Numbered {
-    pub terms: Row<Term>,
-    pub when: Row<(u32, bool)>,
-    pub numbering: Numbering,
+pub(crate) struct Numbered {
+    pub(crate) terms: Row<Term>,
+    pub(crate) when: Row<(u32, bool)>,
+    pub(crate) numbering: Numbering,
 }
 
 /// The terms and the conditions, by the numbers of the terms that these and the leaf meet. In the leaf the terms have their
-/// numbers in the pool. It takes time in proportion to what it gives. Refused for want of memory alone.
-pub fn numbered_terms(
+/// numbers in the pool.
+pub(crate) fn numbered_terms(
     alloc: Global,
     pool: &Pool,
     when: &[(TermId, bool)],
