@@ -1,5 +1,4 @@
 pub mod StartLaws
-pub mod TruthLaws
 pub mod StackLaws
 pub mod CodeLaws
 pub mod NextLaws

@@ -6,7 +6,6 @@
 
 mod beginning;
 mod code;
-mod conditions;
 mod first_reads;
 mod frame;
 mod heaps;

@@ -8,11 +8,11 @@ ghost use Rattle.kb_frames.specs.State.{start_state};
 ghost use Rattle.kb_frames.specs.StandsFor.{StandsFor};
 
 use crate::NoMemory;
-use crate::conditions::Conditions;
 use crate::frame::{SymCallers, SymFrame};
 use crate::value::{Cell, SymValue};
 use kb_class::MethodId;
 use kb_names::ExactType;
+use kb_numbered::Conditions;
 use kb_picture::{Init, Picture};
 use kb_rows::{Held, Row};
 use kb_terms::Pool;

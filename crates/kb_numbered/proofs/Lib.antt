@@ -1,3 +1,4 @@
+pub mod TruthLaws
 pub mod SetLaws
 pub mod PathSteps
 pub mod Renumbering

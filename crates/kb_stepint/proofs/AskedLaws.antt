@@ -13,7 +13,8 @@ use Rattle.std.proofs.lemmas.Bool.{ltb-true, ltb-false}
 use Rattle.kb_terms.proofs.Finding.{found}
 use Rattle.kb_terms.proofs.Values.{Extends-trans, IsTerm-extends, value_of-extends, value_of-constant}
 use Rattle.kb_frames.specs.State.{State}
-use Rattle.kb_frames.specs.Truths.{decided, truth_among, truth_in}
+use Rattle.kb_numbered.specs.Conditions.{truth_among}
+use Rattle.kb_frames.specs.Truths.{decided, truth_in}
 use Rattle.kb_frames.specs.Lent.{with_nodes}
 use Rattle.kb_stepint.specs.declared.condition.Side.{Side}
 use Rattle.kb_stepint.specs.declared.condition.Side.TheVariants.{Term, Number}

@@ -15,7 +15,8 @@ use Rattle.kb_terms.specs.Op.{op_value}
 use Rattle.kb_terms.specs.Terms.{IsTerm, IsSecond, AreOperands, Extends, constant_at, made_node, node_at, value_of}
 use Rattle.kb_terms.proofs.Values.{Extends-trans, IsTerm-extends, value_of-extends, value_of-constant_at}
 use Rattle.kb_frames.specs.State.{State}
-use Rattle.kb_frames.specs.Truths.{decided, truth_among, truth_in}
+use Rattle.kb_numbered.specs.Conditions.{truth_among}
+use Rattle.kb_frames.specs.Truths.{decided, truth_in}
 use Rattle.kb_frames.specs.Lent.{with_nodes}
 use Rattle.kb_stepint.specs.declared.condition.Side.{Side}
 use Rattle.kb_stepint.specs.declared.condition.Side.TheVariants.{Term, Number}

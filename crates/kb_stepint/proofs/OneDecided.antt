@@ -14,7 +14,8 @@ use Rattle.kb_terms.specs.Terms.{IsTerm, IsSecond, AreOperands, IsPool, Extends,
 use Rattle.kb_terms.proofs.Finding.{found, found_there}
 use Rattle.kb_terms.proofs.Values.{Extends-refl, Extends-trans, value_of-constant, value_of-constant_at}
 use Rattle.kb_frames.specs.State.{State}
-use Rattle.kb_frames.specs.Truths.{decided, truth_among, truth_in}
+use Rattle.kb_numbered.specs.Conditions.{truth_among}
+use Rattle.kb_frames.specs.Truths.{decided, truth_in}
 use Rattle.kb_frames.specs.Lent.{with_nodes}
 use Rattle.kb_stepint.specs.declared.condition.Side.{Side}
 use Rattle.kb_stepint.specs.declared.condition.Side.TheVariants.{Term, Number}

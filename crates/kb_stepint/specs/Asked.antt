@@ -15,7 +15,8 @@ use Rattle.kb_terms.specs.declared.node.Node.TheVariants.{Const, Op as Apply}
 use Rattle.kb_terms.specs.Op.{op_value}
 use Rattle.kb_terms.specs.Terms.{constant_at, made_node, term_with, interned}
 use Rattle.kb_frames.specs.State.{State}
-use Rattle.kb_frames.specs.Truths.{truth_among, decided, conditioned}
+use Rattle.kb_numbered.specs.Conditions.{truth_among}
+use Rattle.kb_frames.specs.Truths.{decided, conditioned}
 use Rattle.kb_frames.specs.Lent.{with_nodes}
 use Rattle.kb_stepint.specs.declared.condition.Side.{Side}
 use Rattle.kb_stepint.specs.declared.condition.Side.TheVariants.{Term, Number}

@@ -1,8 +1,8 @@
 use Rattle.std.proofs.Common.{◌≡◌, sym, subst, ◌∙◌, OnOk}
 use Rattle.kb_terms.specs.contracts.node.TermIdPartialEq.TheImpl.{eq-value}
 use Rattle.indexmap.specs.IndexMap.{insert_entry}
-use Rattle.kb_frames.proofs.TruthLaws.{added}
-use Rattle.kb_frames.proofs.conditions.Conditions.add.Goals as goal
+use Rattle.kb_numbered.proofs.TruthLaws.{added}
+use Rattle.kb_numbered.proofs.conditions.Conditions.add.Goals as goal
 
 pub invariant_of-self-2 : goal.invariant_of-self-2
 invariant_of-self-2 c =

@@ -1,6 +1,6 @@
-//! The conditions of a state, and the truth of each term among them.
+//! Conditions on terms, and the truth of each term among them.
 ghost use Rattle.std.specs.Prelude.{◌≡◌, [], IfOk, OnOk, OnErr};
-ghost use Rattle.kb_frames.specs.Truths.{truth_among, with_condition};
+ghost use Rattle.kb_numbered.specs.Conditions.{truth_among, with_condition};
 
 use crate::NoMemory;
 use indexmap::IndexMap;
@@ -12,7 +12,7 @@ use std::marker::Model;
 /// Conditions, each a term with its truth, in the order in which they were met. A table tells the truth of a term, so that
 /// no one walks the list. Contracts see the list.
 #[derive(Drop)]
-pub(crate) struct Conditions {
+pub struct Conditions {
     list: Row<(TermId, bool)>,
     truths: IndexMap<TermId, bool>,
 }
@@ -30,7 +30,7 @@ impl Model for Conditions {
 
 impl Conditions {
     /// No conditions. It takes no memory.
-    pub(crate) fn new(alloc: Global) -> Conditions
+    pub fn new(alloc: Global) -> Conditions
         ensures { result ≡ [] }
     {
         Conditions {
@@ -40,14 +40,14 @@ impl Conditions {
     }
 
     /// The conditions, in their order.
-    pub(crate) fn as_slice(&self) -> &[(TermId, bool)]
+    pub fn as_slice(&self) -> &[(TermId, bool)]
         ensures { result.now ≡ self.now }
     {
         self.list.as_slice()
     }
 
     /// The truth that a term has among the conditions, in constant time.
-    pub(crate) fn truth_of(&self, term: TermId) -> Option<bool>
+    pub fn truth_of(&self, term: TermId) -> Option<bool>
         ensures { result ≡ truth_among self.now term }
     {
         let truth = self.truths.get(&term)?;
@@ -55,7 +55,7 @@ impl Conditions {
     }
 
     /// Adds a condition, unless its term stands among the conditions.
-    pub(crate) fn add(&mut self, term: TermId, truth: bool) -> Result<(), NoMemory>
+    pub fn add(&mut self, term: TermId, truth: bool) -> Result<(), NoMemory>
         ensures ok { OnOk result (self.new ≡ with_condition self.old term truth) }
         ensures err { OnErr result (self.new ≡ self.old) }
     {
@@ -69,7 +69,7 @@ impl Conditions {
     }
 
     /// Other conditions that equal these.
-    pub(crate) fn copied(&self, alloc: Global) -> Result<Conditions, NoMemory>
+    pub fn copied(&self, alloc: Global) -> Result<Conditions, NoMemory>
         ensures { IfOk result (λ copy. copy ≡ self.now) }
     {
         let list = self.list.as_slice().to_vec(alloc)?;
