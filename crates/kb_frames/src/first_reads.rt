@@ -1,10 +1,10 @@
 //! Slots that are read for the first time.
 ghost use Rattle.std.specs.Prelude.{◌≡◌, [], ◌∷◌, ◌++◌, replicate, IfOk, OnOk};
-ghost use Rattle.kb_picture.specs.Growth.{after_read};
+ghost use Rattle.kb_picture.specs.Growth.{after_read, after_int_read};
 ghost use Rattle.kb_picture.specs.Laws.{with_seen};
 ghost use Rattle.kb_picture.specs.declared.choice.Choice.TheVariants.{Fresh, Location};
 ghost use Rattle.kb_frames.specs.declared.value.Cell.TheVariants.{Untouched};
-ghost use Rattle.kb_frames.specs.FirstReads.{cells_chosen, HasVariablesSeen, first_int, first_reference, found_in, new_cells, value_chosen, with_read};
+ghost use Rattle.kb_frames.specs.FirstReads.{HasVariablesSeen, IsNextVariable, cells_chosen, first_int, first_reference, found_in, new_cells, value_chosen, with_read};
 
 use crate::NoMemory;
 use crate::beginning::add_equal;
@@ -39,14 +39,13 @@ impl SymState {
     /// Reads an int or a boolean for the first time: it is a new variable, which the slot keeps; an argument is one more that
     /// was read. The pool must have as many variables as slots are seen as, which every state has to which [`crate::start`] and
     /// later calls lead. After want of memory the state is only dropped.
-    #[tactic(auto, unfolding(kb_picture::specs::Growth::after_int_read))]
     pub fn first_int(&mut self, slot: Origin, kind: VarKind) -> Result<(), NoMemory>
         requires { HasVariablesSeen self.old }
         ensures { OnOk result (self.new ≡ first_int slot kind self.old) }
     {
         let variable = self.pool.variables();
         let term = self.pool.variable(kind)?;
-        self.see(slot, Seen::Int(variable))?;
+        self.see_int(slot, variable)?;
         self.keep_found(slot, SymValue::Int(term))
     }
 
@@ -85,6 +84,15 @@ impl SymState {
     {
         self.picture.seen.push((slot, seen))?;
         Ok(())
+    }
+
+    // The slot is seen as the next variable.
+    #[tactic(auto, unfolding(kb_picture::specs::Growth::after_int_read))]
+    fn see_int(&mut self, slot: Origin, variable: u32) -> Result<(), NoMemory>
+        requires { IsNextVariable self.old.picture variable }
+        ensures { OnOk result (self.new ≡ record self.old { picture = after_int_read self.old.picture slot }) }
+    {
+        self.see(slot, Seen::Int(variable))
     }
 
     // A location is found in the slot.
