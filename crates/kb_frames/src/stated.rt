@@ -70,7 +70,7 @@ fn add_object(
 }
 
 // Adds the written slots of an object of the exact type.
-#[tactic(auto, using(crate::proofs::StatedLaws::push_option))]
+#[tactic(auto, using(kb_numbered::proofs::PathSteps::push_option))]
 fn add_slots(
     locs: &[PicLoc],
     kind: &ExactType,

@@ -1,5 +1,5 @@
--- The path of a state is well-formed: its terms are those that a walk from its conditions and its leaf meets, in its order,
--- each with the operands that its operation has.
+-- The terms of a path are well-formed: they are those that a walk from its conditions and its leaf meets, in its order, each
+-- with the operands that its operation has.
 use Rattle.std.proofs.Common.{◌≡◌, ℕ, zero, suc, ◌<◌, Bool, true, false, List, [], ◌∷◌, ◌++◌, ◌+◌, length, map, take, drop, get_or, slice_get, Option, Some, None, refl, sym, ap, subst, ◌∙◌, arith, inl, inr}
 use Rattle.std.specs.Prelude.{unwrap_or, ◌==◌}
 use Rattle.std.specs.List.{flat_map}
