@@ -7,9 +7,9 @@ use Rattle.kb_picture.specs.declared.choice.Choice.{Choice}
 use Rattle.kb_frames.specs.Next.{next_is_int}
 use Rattle.kb_frames.specs.State.{State}
 use Rattle.kb_stepint.specs.Choices.{choices_of as int_choices}
-use Rattle.kb_stepint.specs.Simulation.{TakesOneWay}
+use Rattle.kb_ways.specs.Simulation.{TakesOneWay}
 use Rattle.kb_stepint.specs.Takes.{taken as int_taken}
-use Rattle.kb_stepint.specs.Ways.{Take}
+use Rattle.kb_ways.specs.Ways.{Take}
 use Rattle.kb_stepint.proofs.OneLaws.{one as one_of_ints}
 use Rattle.kb_stepref.specs.Choices.{choices_of as reference_choices}
 use Rattle.kb_stepref.specs.Laws.{IsAtReferences}

@@ -31,15 +31,15 @@ use Rattle.kb_frames.specs.Next.{argument_next, method_now, offset_now}
 use Rattle.kb_frames.specs.StandsFor.{out_of}
 use Rattle.kb_frames.specs.State.{State}
 use Rattle.kb_frames.specs.States.{Each, IsOutIn, IsStage, IsSymValue}
-use Rattle.kb_stepint.specs.Asked.{all_asked}
+use Rattle.kb_ways.specs.Asked.{all_asked}
 use Rattle.kb_stepint.specs.Choices.{conditions_of}
 use Rattle.kb_stepint.specs.Effects.{Planned, branch_way, computes_by, in_local, int_local, kept_int, leaves_with, picked, plain, plan_of, planned, pushes_int, rearranges, switch_way}
 use Rattle.kb_stepint.specs.Laws.{OfTakes}
 use Rattle.kb_stepint.specs.Operands.{int_term, one_int, two_ints}
 use Rattle.kb_stepint.specs.Takes.{answered, taken, takes_next, takes_up}
-use Rattle.kb_stepint.specs.Ways.{Take, Way, Goes as WayGoes, Jumps, Leaves, Throws, Fails, ill_typed, went}
-use Rattle.kb_stepint.proofs.AskedLaws.{interned_is_term}
-use Rattle.kb_stepint.proofs.GrowLaws.{Grows, all_asked_grows, if_has, option_has}
+use Rattle.kb_ways.specs.Ways.{Take, Way, Goes as WayGoes, Jumps, Leaves, Throws, Fails, ill_typed, went}
+use Rattle.kb_ways.proofs.AskedLaws.{interned_is_term}
+use Rattle.kb_ways.proofs.GrowLaws.{Grows, all_asked_grows, if_has, option_has}
 use Rattle.kb_drive.specs.Steps.{EndsIn}
 
 -- ---- the top of the stack

@@ -19,7 +19,6 @@ use Rattle.kb_picture.specs.declared.picture.Origin.TheVariants.{Arg}
 use Rattle.kb_picture.specs.declared.picture.Picture.{Picture}
 use Rattle.kb_picture.specs.declared.picture.PlaceLists.{PlaceLists}
 use Rattle.kb_picture.specs.declared.picture.Seen.{Seen}
-use Rattle.kb_picture.specs.declared.picture.Seen.TheVariants as seens
 use Rattle.kb_picture.specs.Growth.{after_int_read}
 use Rattle.kb_picture.specs.Instances.{variable_value, variable_values}
 use Rattle.kb_picture.specs.Laws.{with_seen}
@@ -34,20 +33,21 @@ use Rattle.kb_frames.specs.declared.state.Stage.TheVariants.{Begins, Runs}
 use Rattle.kb_frames.specs.declared.value.Outcome.{Outcome}
 use Rattle.kb_frames.specs.declared.value.Outcome.TheVariants.{Asks, Goes, Ends, Cut}
 use Rattle.kb_frames.specs.Lent.{begun, begun_stage, read_count, stack_of, transfers_of, with_frame, with_nodes}
-use Rattle.kb_frames.specs.Measure.{choices_left, left_of, questions_of, unread_at}
+use Rattle.kb_ways.specs.Measure.{choices_left, left_of, questions_of, unread_at}
 use Rattle.kb_frames.specs.Next.{argument_next, instruction_next, method_now, next_is_int, offset_now}
 use Rattle.kb_frames.specs.State.{State}
-use Rattle.kb_stepint.specs.Asked.{all_asked}
+use Rattle.kb_ways.specs.Asked.{all_asked}
 use Rattle.kb_stepint.specs.Choices.{choices_of, conditions_of}
 use Rattle.kb_stepint.specs.Effects.{plan_of}
 use Rattle.kb_stepint.specs.Laws.{IsAtInts}
-use Rattle.kb_stepint.specs.Simulation.{GetsOn}
-use Rattle.kb_stepint.specs.Takes.{answered, reads_argument, taken, takes_next, takes_up}
-use Rattle.kb_stepint.specs.Ways.{Take, Way, Goes as WayGoes, Jumps, Leaves, Throws, Fails, carries_out, ill_typed, went}
-use Rattle.kb_stepint.proofs.GrowLaws.{Grows, all_asked_grows, front_itself, if_has, option_has}
+use Rattle.kb_ways.specs.Simulation.{GetsOn}
+use Rattle.kb_stepint.specs.Takes.{answered, taken, takes_next, takes_up, reads_argument}
+use Rattle.kb_ways.specs.Ways.{Take, Way, Goes as WayGoes, Jumps, Leaves, Throws, Fails, carries_out, ill_typed, went}
+use Rattle.kb_ways.proofs.GrowLaws.{Grows, all_asked_grows, front_itself, if_has, option_has}
 use Rattle.kb_stepint.proofs.AddedLaws.{adds}
 use Rattle.kb_stepint.proofs.KeepLaws.{kept, reads, takes_next_stays}
-use Rattle.kb_stepint.proofs.MeasureLaws.{few_next, gets_on}
+use Rattle.kb_ways.proofs.MeasureLaws.{few_next}
+use Rattle.kb_stepint.proofs.MeasureLaws.{gets_on}
 use Rattle.kb_stepint.proofs.OutcomeLaws.{follows}
 use Rattle.kb_stepint.proofs.ReachedLaws.{has_input}
 use Rattle.kb_stepref.specs.Laws.{GoesOnReached}
@@ -56,6 +56,7 @@ use Rattle.kb_stepref.proofs.ReachedLaws.{ints_keep}
 use Rattle.kb_drive.specs.Steps.{GoesOn, LeadsOn, StaysAtInputs, rank_of}
 use Rattle.kb_drive.proofs.EndLaws.{endings_there}
 use Rattle.kb_drive.proofs.FrontLaws.{take_append}
+use Rattle.kb_picture.specs.declared.picture.Seen.TheVariants as seens
 
 -- ---- what stays at inputs
 

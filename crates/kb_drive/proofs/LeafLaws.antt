@@ -28,7 +28,7 @@ use Rattle.kb_numbered.specs.Numbered.{numbered_ended}
 use Rattle.kb_frames.specs.Paths.{path_numbering, path_of}
 use Rattle.kb_frames.specs.StandsFor.{IsInstanceOf, reading_at}
 use Rattle.kb_frames.specs.Comparing.{comparison_at, comparison_of}
-use Rattle.kb_stepint.specs.Ways.{Take}
+use Rattle.kb_ways.specs.Ways.{Take}
 use Rattle.kb_drive.specs.Compared.{ComparesAsRuns, IsComparisonMade, IsSuchComparison}
 use Rattle.kb_drive.specs.EmittedLaws.{InputsAreOfStates, IsOfState, input_for}
 use Rattle.kb_drive.specs.Explorable.{IsExplorable}

@@ -9,7 +9,7 @@ use Rattle.kb_link.specs.World.{World}
 use Rattle.kb_picture.specs.declared.choice.Choice.{Choice}
 use Rattle.kb_picture.specs.declared.path.Path.{Path}
 use Rattle.kb_frames.specs.StandsFor.{IsInstanceOf}
-use Rattle.kb_stepint.specs.Simulation.{ExactlyOneIs, NoneIs}
+use Rattle.kb_ways.specs.Simulation.{ExactlyOneIs, NoneIs}
 use Rattle.kb_drive.specs.declared.piece.Piece.{Piece}
 use Rattle.kb_drive.specs.declared.waiting.Waiting.{Waiting}
 use Rattle.kb_drive.specs.declared.follow.Next.{Next}

@@ -22,11 +22,10 @@ use Rattle.kb_frames.specs.Next.{method_now, offset_now}
 use Rattle.kb_frames.specs.StandsFor.{out_of}
 use Rattle.kb_frames.specs.State.{State}
 use Rattle.kb_frames.specs.States.{Each, IsOutIn, IsStage, IsSymValue}
-use Rattle.kb_stepint.specs.Effects.{with_stack}
-use Rattle.kb_stepint.specs.Ways.{Take, Leaves, Fails, ill_typed}
-use Rattle.kb_stepint.proofs.GrowLaws.{if_has, option_has}
-use Rattle.kb_stepint.proofs.ItemLaws.{option_has_at}
-use Rattle.kb_stepint.proofs.SoundLaws.{begun_sound, sound_reached}
+use Rattle.kb_ways.specs.Ways.{with_stack, Take, Leaves, Fails, ill_typed}
+use Rattle.kb_ways.proofs.GrowLaws.{if_has, option_has}
+use Rattle.kb_ways.proofs.ItemLaws.{option_has_at}
+use Rattle.kb_ways.proofs.SoundLaws.{begun_sound, sound_reached}
 use Rattle.kb_stepref.specs.Choices.{alternatives, only}
 use Rattle.kb_stepref.specs.Effects.{Planned, branch_where, got, in_local, is_local, plain, plan_of, planned, put, put_where, result_in}
 use Rattle.kb_stepref.specs.Fields.{field_named, has_place, held}

@@ -27,8 +27,8 @@ use Rattle.kb_frames.specs.FirstReads.{first_int, first_reference}
 use Rattle.kb_frames.specs.Lent.{begun}
 use Rattle.kb_frames.specs.Next.{is_reference, method_now, offset_now}
 use Rattle.kb_frames.specs.State.{State}
-use Rattle.kb_stepint.specs.Ways.{Take, ill_typed}
-use Rattle.kb_stepint.proofs.GrowLaws.{front_itself, if_has, option_has}
+use Rattle.kb_ways.specs.Ways.{Take, ill_typed}
+use Rattle.kb_ways.proofs.GrowLaws.{front_itself, if_has, option_has}
 use Rattle.kb_stepref.specs.Choices.{choices_of}
 use Rattle.kb_stepref.specs.Effects.{plan_of}
 use Rattle.kb_stepref.specs.Laws.{AreInRange, IsAtReferences}

@@ -18,7 +18,7 @@ use Rattle.kb_frames.specs.Cuts.{setting_of}
 use Rattle.kb_frames.specs.StandsFor.{IsInstanceOf}
 use Rattle.kb_frames.specs.State.{State, start_state}
 use Rattle.kb_frames.proofs.StartLaws.{start_stands}
-use Rattle.kb_stepint.specs.Ways.{Take}
+use Rattle.kb_ways.specs.Ways.{Take}
 use Rattle.kb_stepref.specs.Laws.{GoesOnReached}
 use Rattle.kb_stepref.specs.Reached.{IsHeapReached}
 use Rattle.kb_drive.specs.declared.piece.Piece.{Piece}

@@ -9,8 +9,8 @@ use Rattle.kb_picture.specs.declared.choice.Choice.{Choice}
 use Rattle.kb_picture.specs.declared.path.Leaf.{Leaf}
 use Rattle.kb_frames.specs.Paths.{path_of}
 use Rattle.kb_frames.specs.StandsFor.{IsInstanceOf}
-use Rattle.kb_stepint.specs.Simulation.{ExactlyOneIs, NoneIs}
-use Rattle.kb_stepint.specs.Ways.{Take}
+use Rattle.kb_ways.specs.Simulation.{ExactlyOneIs, NoneIs}
+use Rattle.kb_ways.specs.Ways.{Take}
 use Rattle.kb_drive.specs.declared.piece.Piece.{Piece}
 use Rattle.kb_drive.specs.Following.{waits_at}
 use Rattle.kb_drive.specs.Parts.{Alternative, IsInPart, Listed, Waits, alternatives_from, taken_of}

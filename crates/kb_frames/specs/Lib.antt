@@ -11,5 +11,4 @@ pub mod FirstReads
 pub mod Lent
 pub mod Paths
 pub mod Comparing
-pub mod Measure
 pub mod Making

@@ -1,114 +1,44 @@
 -- What a take keeps of a state, and that it sees nothing but an argument.
-use Rattle.std.proofs.Common.{◌≡◌, ℕ, ◌<◌, ◌≤◌, ℤ, pos, inl, inr, option_and_then, Bool, List, [], ◌∷◌, ◌++◌, length, take, slice_get, nat_le, Option, Some, None, refl, sym, ap, subst, ◌∙◌, arith}
-use Rattle.std.proofs.lemmas.Option.{slice_get_within}
+use Rattle.std.proofs.Common.{◌≡◌, ℕ, ℤ, pos, inl, inr, option_and_then, Bool, List, [], ◌∷◌, ◌++◌, length, take, nat_le, Option, Some, None, refl, ap, subst}
 use Rattle.kb_code.specs.declared.instruction.Instr.{Instr}
-use Rattle.kb_code.specs.declared.instruction.Instr.TheVariants as instrs
 use Rattle.kb_code.specs.declared.instruction.IntOp.{IntOp}
 use Rattle.kb_heap.specs.declared.bounds.Bounds.{Bounds}
 use Rattle.kb_link.specs.World.{World, int_entry_of}
 use Rattle.kb_names.specs.declared.types.JType.{JType}
-use Rattle.kb_names.specs.declared.types.JType.TheVariants as types
-use Rattle.kb_semantics.specs.Config.{class_number, has_room, instruction_at, result_of}
-use Rattle.kb_semantics.specs.Ways.{counted}
+use Rattle.kb_semantics.specs.Config.{class_number, instruction_at, result_of}
 use Rattle.kb_terms.specs.declared.op.Op.TheVariants.{Add, And, Neg}
 use Rattle.kb_terms.specs.declared.node.TermId.{TermId}
 use Rattle.kb_terms.specs.declared.node.Node.{Node}
 use Rattle.kb_terms.specs.declared.node.Node.TheVariants.{Const, Var}
-use Rattle.kb_terms.specs.Terms.{Extends, interned}
+use Rattle.kb_terms.specs.Terms.{interned, variables_of}
 use Rattle.kb_terms.proofs.Entries.{end-cases}
-use Rattle.kb_terms.proofs.Values.{Extends-refl, Extends-trans}
 use Rattle.kb_picture.specs.declared.choice.Choice.{Choice}
-use Rattle.kb_picture.specs.declared.choice.Choice.TheVariants as choices
 use Rattle.kb_picture.specs.declared.picture.Origin.{Origin}
 use Rattle.kb_picture.specs.declared.picture.Origin.TheVariants.{Arg}
 use Rattle.kb_picture.specs.declared.picture.Seen.{Seen}
-use Rattle.kb_picture.specs.declared.picture.Seen.TheVariants as seens
-use Rattle.kb_picture.specs.declared.picture.Picture.{Picture}
 use Rattle.kb_picture.specs.Growth.{after_int_read}
 use Rattle.kb_picture.specs.Queries.{kind_for}
-use Rattle.kb_picture.specs.Shapes.{HasShape}
 use Rattle.kb_picture.specs.WellFormed.{variables_seen}
 use Rattle.kb_picture.proofs.GrownShapes.{int_shape}
-use Rattle.kb_frames.specs.declared.frame.SymFrame.{SymFrame}
 use Rattle.kb_frames.specs.Cuts.{setting_of}
 use Rattle.kb_frames.specs.FirstReads.{first_int}
-use Rattle.kb_frames.specs.Lent.{begun, read_count, stack_of, transfers_of, with_nodes}
+use Rattle.kb_frames.specs.Lent.{begun, read_count, stack_of, with_nodes}
 use Rattle.kb_frames.specs.Next.{argument_next, method_now, offset_now}
 use Rattle.kb_frames.specs.State.{State}
 use Rattle.kb_terms.specs.declared.node.VarKind.{VarKind}
-use Rattle.kb_terms.specs.Terms.{variables_of}
-use Rattle.kb_stepint.specs.Asked.{all_asked, interned_op}
+use Rattle.kb_ways.specs.Asked.{all_asked, interned_op}
 use Rattle.kb_stepint.specs.Choices.{conditions_of}
 use Rattle.kb_stepint.specs.Effects.{Planned, plan_of, plain, planned, pushes_int, adds, rearranges, picked, op_of, op_of_cut, computes_by, int_local, kept_int, leaves_with}
 use Rattle.kb_stepint.specs.Operands.{one_int, two_ints}
-use Rattle.kb_stepint.specs.Simulation.{Keeps, IsRead, ReadsWhatItSees}
-use Rattle.kb_stepint.specs.Takes.{answered, reads_argument, taken, takes_next, takes_up}
-use Rattle.kb_stepint.specs.Ways.{Take, Way, Goes, Jumps, Leaves, Throws, Fails, carries_out, ill_typed, went}
-use Rattle.kb_stepint.proofs.GrowLaws.{Grows, if_has, option_has, all_asked_grows, front_itself, front_of_front, interned_extends, nodes_grow, GoesOn, goes_on_itself, goes_on_behind, interned_goes_on, op_goes_on}
-
--- ---- what stays
-
-pub record Stays (old new : State) : Type 0 where
-  pub method : new.method ≡ old.method
-  pub init : new.init ≡ old.init
-  pub picture : new.picture ≡ old.picture
-  pub terms : Extends old.nodes new.nodes
-  pub conditions : take (length old.when) new.when ≡ old.when
-
-pub stays_grown : (old new : State) → Grows old new → Stays old new
-stays_grown old new g = record {
-  method = ap (λ (s : State). s.method) g.rest;
-  init = ap (λ (s : State). s.init) g.rest;
-  picture = ap (λ (s : State). s.picture) g.rest;
-  terms = g.terms;
-  conditions = g.conditions;
-}
-
-pub stays_on : (a b c : State) → Stays a b → Stays b c → Stays a c
-stays_on a b c ab bc = record {
-  method = bc.method ∙ ab.method;
-  init = bc.init ∙ ab.init;
-  picture = bc.picture ∙ ab.picture;
-  terms = Extends-trans a.nodes b.nodes c.nodes ab.terms bc.terms;
-  conditions = front_of_front a.when b.when c.when ab.conditions bc.conditions;
-}
-
--- a state of which only frames and counters are others
-stays_framed : (old new : State) → new.method ≡ old.method → new.init ≡ old.init → new.picture ≡ old.picture → new.nodes ≡ old.nodes → new.when ≡ old.when → Stays old new
-stays_framed old new m i p n w = record {
-  method = m;
-  init = i;
-  picture = p;
-  terms = subst (Extends old.nodes) (sym n) (Extends-refl old.nodes);
-  conditions = subst (λ (when : List (TermId × Bool)). take (length old.when) when ≡ old.when) (sym w) (front_itself old.when);
-}
-
-pub begun_stays : (world : World) (state : State) → Stays state (begun world state)
-begun_stays world state = stays_framed state (begun world state) refl refl refl refl refl
-
--- ---- ways on
-
-module _ (world : World) (bounds : Bounds) (next : ℕ) (state : State) where
-  abbrev StaysTo : Take → Type 0
-  StaysTo take = Stays state take.state
-
-  carries_stays : (f : SymFrame → SymFrame) → StaysTo (carries_out state f)
-  carries_stays f = stays_framed state (carries_out state f).state refl refl refl refl refl
-
-  same_stays : Stays state state
-  same_stays = stays_framed state state refl refl refl refl refl
-
-  pub went_stays : (way : Way) → StaysTo (went world bounds next state way)
-  went_stays (Goes locals stack) =
-      if_has StaysTo (has_room world (method_now state.method state.stage) (length stack)) _ _
-      (carries_stays (λ (frame : SymFrame). record frame { at = next; locals = locals; stack = stack })) same_stays
-  went_stays (Jumps target stack) =
-      if_has StaysTo (has_room world (method_now state.method state.stage) (length stack)) _ _
-      (option_has StaysTo (counted bounds.run (offset_now state.stage) target (transfers_of state.stage)) _ _
-      (λ n. carries_stays (λ (frame : SymFrame). record frame { at = target; stack = stack; transfers = n })) same_stays) same_stays
-  went_stays (Leaves value) = same_stays
-  went_stays (Throws class) = record { method = refl; init = refl; picture = refl; terms = interned_extends state.nodes _; conditions = front_itself state.when }
-  went_stays Fails = same_stays
+use Rattle.kb_ways.specs.Simulation.{Keeps, IsRead, ReadsWhatItSees}
+use Rattle.kb_stepint.specs.Takes.{answered, taken, takes_next, takes_up, reads_argument}
+use Rattle.kb_ways.specs.Ways.{Take, Fails, ill_typed}
+use Rattle.kb_ways.proofs.GrowLaws.{if_has, option_has, all_asked_grows, front_itself, nodes_grow, GoesOn, goes_on_itself, goes_on_behind, interned_goes_on, op_goes_on}
+use Rattle.kb_ways.proofs.KeepLaws.{Stays, stays_grown, stays_on, begun_stays, same_stays, went_stays, kept_of_stays, past, same_reads}
+use Rattle.kb_code.specs.declared.instruction.Instr.TheVariants as instrs
+use Rattle.kb_names.specs.declared.types.JType.TheVariants as types
+use Rattle.kb_picture.specs.declared.choice.Choice.TheVariants as choices
+use Rattle.kb_picture.specs.declared.picture.Seen.TheVariants as seens
 
 -- ---- plans
 
@@ -190,15 +120,6 @@ module _ (world : World) (bounds : Bounds) (choice : Choice) where
 
 -- ---- what is kept
 
-kept_of_stays : (old new : State) → Stays old new → Keeps old new
-kept_of_stays old new h = record {
-  method = h.method;
-  init = h.init;
-  terms = h.terms;
-  conditions = h.conditions;
-  shapes = λ input shape. subst (λ (p : Picture). HasShape p input) h.picture shape;
-}
-
 argument_kept : (old : State) (kind : VarKind) → Keeps old (first_int (Arg (read_count old.stage)) kind old)
 argument_kept old kind = record {
   method = refl;
@@ -217,17 +138,6 @@ kept world bounds old choice =
     (λ type. argument_kept old (kind_for (Some type))) (kept_of_stays old _ (takes_next_stays world bounds choice old))
 
 -- ---- what is read
-
-past : (n i : ℕ) → n ≤ i → i < n → ⊥
-past n i le lt = omega (arith, le, lt)
-
-module _ (world : World) (bounds : Bounds) (old new : State) where
-  pub same_reads : new.picture ≡ old.picture → ReadsWhatItSees world bounds old new
-  same_reads same input c correct stands instance_of = record {
-    seen = λ i slot from at. absurd (past (length old.picture.seen) i from (slice_get_within old.picture.seen i slot (ap (λ (p : Picture). slice_get p.seen i) (sym same) ∙ at)));
-    objects = λ lazier number from below. absurd (past (length old.picture.objects) number from (subst (λ (p : Picture). number < length p.objects) same below));
-    beyond = λ lazier number loc at standing other. absurd (other (ap (λ (p : Picture). slice_get p.locs number) (sym same) ∙ at));
-  }
 
 argument_reads : (world : World) (bounds : Bounds) (old : State) (kind : VarKind) → ReadsWhatItSees world bounds old (first_int (Arg (read_count old.stage)) kind old)
 unfolding after_int_read

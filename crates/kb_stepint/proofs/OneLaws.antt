@@ -26,33 +26,32 @@ use Rattle.kb_frames.specs.declared.state.Stage.{Stage}
 use Rattle.kb_frames.specs.declared.state.Stage.TheVariants.{Begins, Runs}
 use Rattle.kb_frames.specs.declared.value.Outcome.TheVariants.{Cut}
 use Rattle.kb_frames.specs.declared.value.SymValue.{SymValue}
-use Rattle.kb_frames.specs.declared.value.SymValue.TheVariants.{Int, Null, Obj, Literal, New, Loc}
 use Rattle.kb_frames.specs.Cuts.{setting_of}
 use Rattle.kb_frames.specs.Lent.{begun, begun_stage, read_count, stack_of, with_nodes}
 use Rattle.kb_frames.specs.Next.{argument_next, instruction_next, is_int, is_int_next, is_reference, method_now, offset_now}
 use Rattle.kb_frames.specs.StandsFor.{IsInstanceOf, StandsFor}
 use Rattle.kb_frames.specs.State.{State}
-use Rattle.kb_frames.specs.States.{Each, IsStage, IsSymValue}
-use Rattle.kb_stepint.specs.declared.condition.Condition.{Condition}
-use Rattle.kb_stepint.specs.Asked.{all_asked, is_refuted}
+use Rattle.kb_ways.specs.declared.condition.Condition.{Condition}
+use Rattle.kb_ways.specs.Asked.{all_asked, is_refuted}
 use Rattle.kb_stepint.specs.Choices.{choices_of, conditions_of, listed, offered, only}
 use Rattle.kb_stepint.specs.Effects.{Planned, plan_of}
 use Rattle.kb_stepint.specs.Laws.{IsAtInts}
 use Rattle.kb_stepint.specs.Operands.{int_term, one_int, two_ints}
-use Rattle.kb_stepint.specs.Needs.{IsTermOf}
-use Rattle.kb_stepint.specs.Reached.{IsAlone, IsReached}
-use Rattle.kb_stepint.specs.Simulation.{ExactlyOneIs, NoneIs, TakesOneWay}
+use Rattle.kb_ways.specs.Reached.{IsReached}
+use Rattle.kb_ways.specs.Simulation.{ExactlyOneIs, NoneIs, TakesOneWay}
 use Rattle.kb_stepint.specs.Takes.{answered, reads_argument, taken, takes_next, takes_up}
-use Rattle.kb_stepint.specs.Ways.{ill_typed}
-use Rattle.kb_stepint.proofs.AddedLaws.{went_when}
-use Rattle.kb_stepint.proofs.ComparedLaws.{int_is_term, two_parts}
-use Rattle.kb_stepint.proofs.GrowLaws.{Grows, all_asked_grows}
-use Rattle.kb_stepint.proofs.KeepLaws.{plan_makes, went_stays}
-use Rattle.kb_stepint.proofs.OneAsked.{AllHold, AllSides, IsReady, conditions_there}
-use Rattle.kb_stepint.proofs.OneDecided.{all_hold, all_met, all_open, all_ready, not_refuted}
-use Rattle.kb_stepint.proofs.OneInstances.{argument_is, instance_of_met, int_argument, met_of_instance, read_instance}
+use Rattle.kb_ways.specs.Ways.{ill_typed}
+use Rattle.kb_ways.proofs.KeepLaws.{went_when, went_stays}
+use Rattle.kb_stepint.proofs.ComparedLaws.{int_is_term}
+use Rattle.kb_ways.proofs.ItemLaws.{two_parts}
+use Rattle.kb_ways.proofs.GrowLaws.{Grows, all_asked_grows}
+use Rattle.kb_stepint.proofs.KeepLaws.{plan_makes}
+use Rattle.kb_ways.proofs.OneAsked.{AllHold, AllSides, IsReady, conditions_there}
+use Rattle.kb_ways.proofs.OneDecided.{all_hold, all_met, all_open, all_ready, not_refuted}
+use Rattle.kb_ways.proofs.OneInstances.{argument_is, instance_of_met, int_argument, met_of_instance, read_instance}
 use Rattle.kb_stepint.proofs.OneListed.{conditions_alike, conditions_sides, listed_one, wanted_of}
-use Rattle.kb_stepint.proofs.ValueLaws.{pool_ordered}
+use Rattle.kb_ways.proofs.ValueLaws.{pool_ordered}
+use Rattle.kb_ways.proofs.BegunLaws.{AreStackTerms, begun_terms, place_same, stack_same, method_same}
 
 -- ---- one of those that are left
 
@@ -82,10 +81,6 @@ module _ {A : Type 0} (P Q : A → Type 0) (keep : A → Bool) (kept : (x : A) �
 
 -- ---- the operands are terms
 
--- each int of a stack is a term of the pool
-abbrev pub AreStackTerms : List Node → List SymValue → Type 0
-AreStackTerms nodes stack = (depth : ℕ) → IsTermOf nodes (slice_get stack depth)
-
 pub one_term : (nodes : List Node) (stack : List SymValue) (x : TermId) → AreStackTerms nodes stack → one_int stack ≡ Some x → IsTerm nodes x
 one_term nodes stack x terms e = int_is_term nodes (slice_get stack 0) x (terms 0) e
 
@@ -93,42 +88,6 @@ pub two_terms : (nodes : List Node) (stack : List SymValue) (p : TermId × TermI
 two_terms nodes stack p terms e =
     let parts = two_parts (int_term (slice_get stack 0)) (int_term (slice_get stack 1)) p e in
     (int_is_term nodes (slice_get stack 1) p.0 (terms 1) parts.1, int_is_term nodes (slice_get stack 0) p.1 (terms 0) parts.0)
-
-pub sym_term : (world : World) (state : State) (value : SymValue) → IsSymValue world state value → IsTermOf state.nodes (Some value)
-sym_term world state (Int t) is = is
-sym_term world state Null is = tt
-sym_term world state (Obj n) is = tt
-sym_term world state (Literal n) is = tt
-sym_term world state (New n) is = tt
-sym_term world state (Loc n) is = tt
-
-pub sym_terms : (world : World) (state : State) (stack : List SymValue) → Each (IsSymValue world state) stack → AreStackTerms state.nodes stack
-sym_terms world state stack each depth = go (slice_get stack depth) refl where
-  go : (it : Option SymValue) → slice_get stack depth ≡ it → IsTermOf state.nodes it
-  go None e = tt
-  go (Some value) e = sym_term world state value (each depth value e)
-
--- those of the frame with which a run goes on
-pub begun_terms : (world : World) (state : State) → IsStage world state state.stage → AreStackTerms state.nodes (stack_of (begun_stage world state state.stage))
-begun_terms world state = go state.stage where
-  go : (stage : Stage) → IsStage world state stage → AreStackTerms state.nodes (stack_of (begun_stage world state stage))
-  go (Begins read) is = λ depth. tt
-  go (Runs frame callers) is = sym_terms world state frame.stack is.0.stack
-
--- ---- where a run stands
-
-pub place_same : (world : World) (old : State) (stage : Stage)
-    → instruction_at world (method_now old.method (begun_stage world old stage)) (offset_now (begun_stage world old stage)) ≡ instruction_at world (method_now old.method stage) (offset_now stage)
-place_same world old (Begins read) = refl
-place_same world old (Runs frame callers) = refl
-
-pub stack_same : (world : World) (old : State) (stage : Stage) → stack_of (begun_stage world old stage) ≡ stack_of stage
-stack_same world old (Begins read) = refl
-stack_same world old (Runs frame callers) = refl
-
-pub method_same : (world : World) (old : State) (stage : Stage) → IsAlone old.method stage → method_now old.method (begun_stage world old stage) ≡ old.method
-method_same world old (Begins read) alone = refl
-method_same world old (Runs frame callers) alone = alone.0
 
 -- ---- an instruction that is taken up
 

@@ -21,18 +21,18 @@ use Rattle.kb_terms.specs.Terms.{IsTerm, value_of}
 use Rattle.kb_picture.specs.declared.choice.Choice.{Choice}
 use Rattle.kb_picture.specs.declared.choice.Choice.TheVariants.{Branch, Key, Default, Zero, NotZero}
 use Rattle.kb_frames.specs.declared.value.SymValue.{SymValue}
-use Rattle.kb_stepint.specs.declared.condition.Condition.{Condition}
-use Rattle.kb_stepint.specs.declared.condition.Side.{Side}
-use Rattle.kb_stepint.specs.declared.condition.Side.TheVariants.{Term, Number}
-use Rattle.kb_stepint.specs.Asked.{branch_condition, equal_sides}
+use Rattle.kb_ways.specs.declared.condition.Condition.{Condition}
+use Rattle.kb_ways.specs.declared.condition.Side.{Side}
+use Rattle.kb_ways.specs.declared.condition.Side.TheVariants.{Term, Number}
+use Rattle.kb_ways.specs.Asked.{branch_condition, equal_sides}
 use Rattle.kb_stepint.specs.Choices.{only, both_ways, keys_from, divisors, listed, branch_conditions, key_conditions, divisor_conditions, division_conditions, conditions_of}
-use Rattle.kb_stepint.specs.Needs.{IsSide}
+use Rattle.kb_ways.specs.Needs.{IsSide}
 use Rattle.kb_stepint.specs.Operands.{one_int, two_ints}
-use Rattle.kb_stepint.specs.Simulation.{NoneIs, ExactlyOneIs}
-use Rattle.kb_stepint.proofs.AskedLaws.{side_value}
-use Rattle.kb_stepint.proofs.OneAsked.{Holds, AllHold, AllSides, IsTruth}
-use Rattle.kb_stepint.proofs.SideLaws.{branch_sides, key_sides}
-use Rattle.kb_stepint.proofs.OneDecided.{AreAlike, truth_same}
+use Rattle.kb_ways.specs.Simulation.{NoneIs, ExactlyOneIs}
+use Rattle.kb_ways.proofs.AskedLaws.{side_value}
+use Rattle.kb_ways.proofs.OneAsked.{Holds, AllHold, AllSides, IsTruth}
+use Rattle.kb_ways.proofs.SideLaws.{branch_sides, key_sides}
+use Rattle.kb_ways.proofs.OneDecided.{AreAlike, truth_same}
 
 -- ---- keys that rise
 

@@ -4,9 +4,10 @@ use Rattle.kb_terms.specs.declared.node.TermId.{TermId}
 use Rattle.kb_terms.specs.Terms.{IsTerm}
 use Rattle.kb_frames.specs.Lent.{stack_of}
 use Rattle.kb_frames.specs.State.{State}
-use Rattle.kb_stepint.specs.Needs.{HasTerms}
+use Rattle.kb_ways.specs.Needs.{HasTerms}
 use Rattle.kb_stepint.specs.Operands.{int_term, one_int, two_ints}
-use Rattle.kb_stepint.proofs.ComparedLaws.{int_is_term, two_parts}
+use Rattle.kb_ways.proofs.ItemLaws.{two_parts}
+use Rattle.kb_stepint.proofs.ComparedLaws.{int_is_term}
 
 pub one_there : (state : State) (t : TermId) → HasTerms state → Some t ≡ one_int (stack_of state.stage) → IsTerm state.nodes t
 one_there state t has e = int_is_term state.nodes (slice_get (stack_of state.stage) 0) t (has.stack 0) (sym e)

@@ -16,7 +16,6 @@ use Rattle.kb_semantics.specs.Config.{Setting, Config, instruction_at}
 use Rattle.kb_semantics.specs.Inputs.{IsTypeCorrect}
 use Rattle.kb_semantics.specs.Looks.{if_some, stored_by, stores}
 use Rattle.kb_semantics.specs.Step.{effect, step}
-use Rattle.kb_semantics.specs.Ways.{past}
 use Rattle.kb_semantics.specs.Ways.{ill_typed as ill_typed_step}
 use Rattle.kb_terms.specs.declared.node.TermId.{TermId}
 use Rattle.kb_terms.specs.declared.node.Node.{Node}
@@ -37,30 +36,32 @@ use Rattle.kb_frames.specs.Next.{argument_next, instruction_next, is_int, is_int
 use Rattle.kb_frames.specs.StandsFor.{FrameStandsFor, IsInstanceOf, StandsFor, reading_at}
 use Rattle.kb_frames.specs.State.{State}
 use Rattle.kb_frames.proofs.RunLaws.{counters_agree}
-use Rattle.kb_stepint.specs.declared.condition.Condition.{Condition}
-use Rattle.kb_stepint.specs.Asked.{all_asked, is_refuted}
+use Rattle.kb_ways.specs.declared.condition.Condition.{Condition}
+use Rattle.kb_ways.specs.Asked.{all_asked, is_refuted}
 use Rattle.kb_stepint.specs.Choices.{choices_of, conditions_of, listed, offered, only}
 use Rattle.kb_stepint.specs.Effects.{Planned, plan_of}
 use Rattle.kb_stepint.specs.Laws.{IsAtInts}
-use Rattle.kb_stepint.specs.Needs.{IsTermOf}
-use Rattle.kb_stepint.specs.Reached.{IsAlone}
-use Rattle.kb_stepint.specs.Simulation.{FollowsStep, IsOutcome}
+use Rattle.kb_ways.specs.Needs.{IsTermOf}
+use Rattle.kb_ways.specs.Reached.{IsAlone}
+use Rattle.kb_ways.specs.Simulation.{FollowsStep, IsOutcome}
 use Rattle.kb_stepint.specs.Takes.{answered, carried_out, reads_argument, taken, takes_next, takes_up}
-use Rattle.kb_stepint.specs.Ways.{Take, ill_typed}
-use Rattle.kb_stepint.proofs.GrowLaws.{Grows, all_asked_grows}
+use Rattle.kb_ways.specs.Ways.{Take, ill_typed}
+use Rattle.kb_ways.proofs.GrowLaws.{Grows, all_asked_grows}
 use Rattle.kb_stepint.proofs.KeepLaws.{plan_makes}
-use Rattle.kb_stepint.proofs.OneAsked.{AllHold, AllSides, IsReady, conditions_there, hold_later}
-use Rattle.kb_stepint.proofs.OneDecided.{all_ready}
-use Rattle.kb_stepint.proofs.OneLaws.{begun_terms, instance_held, method_same, one_term, place_same, stack_same, sym_term, sym_terms, two_terms}
+use Rattle.kb_ways.proofs.OneAsked.{AllHold, AllSides, IsReady, conditions_there, hold_later}
+use Rattle.kb_ways.proofs.OneDecided.{all_ready}
+use Rattle.kb_ways.proofs.BegunLaws.{begun_terms, method_same, place_same, stack_same, sym_term, sym_terms}
+use Rattle.kb_stepint.proofs.OneLaws.{instance_held, one_term, two_terms}
 use Rattle.kb_stepint.proofs.OneListed.{conditions_sides}
 use Rattle.kb_stepint.proofs.OutcomePlans.{HasFrameTerms, Reads, plan_is}
 use Rattle.kb_stepint.proofs.OutcomeReads.{reads_is}
-use Rattle.kb_stepint.proofs.OutcomeStands.{Running, running}
-use Rattle.kb_stepint.proofs.OutcomeValues.{frame_later, reading_int, reading_later}
-use Rattle.kb_stepint.proofs.OutcomeWays.{ill_typed_is, went_is}
-use Rattle.kb_stepint.proofs.PastLaws.{cut_by_steps}
-use Rattle.kb_stepint.proofs.SoundLaws.{sound_reached}
-use Rattle.kb_stepint.proofs.ValueLaws.{IsOrdered, pool_ordered}
+use Rattle.kb_ways.proofs.OutcomeStands.{Running, running}
+use Rattle.kb_ways.proofs.OutcomeValues.{frame_later, reading_int, reading_later}
+use Rattle.kb_ways.proofs.OutcomeWays.{ill_typed_is, went_is}
+use Rattle.kb_ways.proofs.PastLaws.{cut_by_steps}
+use Rattle.kb_ways.proofs.SoundLaws.{sound_reached}
+use Rattle.kb_ways.proofs.ValueLaws.{IsOrdered, pool_ordered}
+use Rattle.kb_ways.proofs.StepLaws.{step_taken, stores_taken}
 
 -- what is left of a list stands in it, and was to be kept
 has_kept : {A : Type 0} (keep : A → Bool) (xs : List A) (x : A) → Has (filter keep xs) x → Has xs x × (keep x ≡ true)
@@ -82,21 +83,6 @@ stores_nothing : (world : World) (method : MethodId) (instr : Instr) (s : Settin
 stores_nothing world method (instrs.PutField entry) s c e = absurd cc
 stores_nothing world method (instrs.StoreElem elem) s c e = absurd cc
 stores_nothing world method _ s c e = refl
-
--- ---- what a configuration takes up
-
-module _ (s : Setting) (c : Config) (within : nat_le s.bounds.steps c.carried ≡ false) (found : Option (Instr × ℕ)) (at : instruction_at s.world c.frame.method c.frame.at ≡ found) where
-  pub step_taken : step s c ≡ option_map_or (λ (f : Instr × ℕ). effect f.0 s f.1 c) found (ill_typed_step s c)
-  unfolding step
-  step_taken =
-      ap (λ (b : Bool). if b then past c Steps else option_map_or (λ (f : Instr × ℕ). effect f.0 s f.1 c) (instruction_at s.world c.frame.method c.frame.at) (ill_typed_step s c)) within
-      ∙ ap (λ (it : Option (Instr × ℕ)). option_map_or (λ (f : Instr × ℕ). effect f.0 s f.1 c) it (ill_typed_step s c)) at
-
-  pub stores_taken : stores s c ≡ if_some (option_map (λ (f : Instr × ℕ). f.0) found) (λ (instr : Instr). stored_by instr s c)
-  unfolding stores
-  stores_taken =
-      ap (λ (b : Bool). if_some (if b then None else option_map (λ (f : Instr × ℕ). f.0) (instruction_at s.world c.frame.method c.frame.at)) (λ (instr : Instr). stored_by instr s c)) within
-      ∙ ap (λ (it : Option (Instr × ℕ)). if_some (option_map (λ (f : Instr × ℕ). f.0) it) (λ (instr : Instr). stored_by instr s c)) at
 
 -- ---- a run that goes on
 

@@ -20,7 +20,6 @@ use Rattle.kb_terms.proofs.Growth.{extends-more}
 use Rattle.kb_terms.proofs.Values.{value_of-extends, value_of-variable}
 use Rattle.kb_picture.specs.declared.picture.Origin.TheVariants.{Arg}
 use Rattle.kb_picture.specs.declared.picture.PlaceLists.{PlaceLists}
-use Rattle.kb_picture.specs.declared.picture.Seen.TheVariants as seens
 use Rattle.kb_picture.specs.Endings.{Reading}
 use Rattle.kb_picture.specs.Growth.{after_int_read}
 use Rattle.kb_picture.specs.Instances.{variable_values}
@@ -38,8 +37,9 @@ use Rattle.kb_frames.specs.StandsFor.{IsInstanceOf, StageStandsFor, StandsFor, r
 use Rattle.kb_frames.specs.State.{State}
 use Rattle.kb_frames.specs.States.{IsBeginning, IsStage, IsState}
 use Rattle.kb_stepint.specs.Takes.{reads_argument}
-use Rattle.kb_stepint.proofs.OneInstances.{hold_last, many_values, read_met, shape_more, value_inputs, variables_more}
-use Rattle.kb_stepint.proofs.OutcomeValues.{IsLater, heap_later, values_later}
+use Rattle.kb_ways.proofs.OneInstances.{hold_last, many_values, read_met, shape_more, value_inputs, variables_more}
+use Rattle.kb_ways.proofs.OutcomeValues.{IsLater, heap_later, values_later}
+use Rattle.kb_picture.specs.declared.picture.Seen.TheVariants as seens
 
 take_more : {A : Type 0} (xs : List A) (n : ℕ) (x : A) → slice_get xs n ≡ Some x → take n xs ++ x ∷ [] ≡ take (suc n) xs
 take_more [] n x e = absurd cc

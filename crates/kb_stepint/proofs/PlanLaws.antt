@@ -22,29 +22,15 @@ use Rattle.kb_frames.specs.Lent.{local_in, locals_of, stack_of, with_nodes}
 use Rattle.kb_frames.specs.Next.{method_now}
 use Rattle.kb_frames.specs.State.{State}
 use Rattle.kb_frames.specs.States.{Each, IsLocal, IsSymValue}
-use Rattle.kb_stepint.specs.Asked.{interned_op}
-use Rattle.kb_stepint.specs.Effects.{Planned, adds, branch_way, computes_by, in_local, int_local, kept_int, leaves_with, op_of, op_of_cut, plain, plan_of, planned, pushes, pushes_int, rearranges, switch_way, with_stack}
+use Rattle.kb_ways.specs.Asked.{interned_op}
+use Rattle.kb_stepint.specs.Effects.{Planned, adds, branch_way, computes_by, in_local, int_local, kept_int, leaves_with, op_of, op_of_cut, plain, plan_of, planned, pushes, pushes_int, rearranges, switch_way}
+use Rattle.kb_ways.specs.Ways.{with_stack, Goes, Jumps, Leaves, Fails}
 use Rattle.kb_stepint.specs.Operands.{int_term, one_int, two_ints}
-use Rattle.kb_stepint.specs.Ways.{Way, Goes, Jumps, Leaves, Throws, Fails}
-use Rattle.kb_stepint.proofs.AskedLaws.{interned_is_term}
-use Rattle.kb_stepint.proofs.GrowLaws.{if_has, interned_extends, op_extends, option_has}
-use Rattle.kb_stepint.proofs.ItemLaws.{each_append, each_cons, each_drop, each_picked, each_set, option_has_at}
-use Rattle.kb_stepint.proofs.SoundLaws.{Still, locals_still, values_still}
-
--- ---- ways
-
--- A frame may go on with these locals and this stack.
-pub record CanGo (world : World) (state : State) (locals : List (Option SymValue)) (stack : List SymValue) : Type 0 where
-  pub room : max_locals_of world (method_now state.method state.stage) ≤ length locals
-  pub each_local : Each (IsLocal world state) locals
-  pub each_value : Each (IsSymValue world state) stack
-
-abbrev pub IsGood : World → State → Way → Type 0
-IsGood world state (Goes locals stack) = CanGo world state locals stack
-IsGood world state (Jumps target stack) = Each (IsSymValue world state) stack
-IsGood world state (Leaves value) = Unit {0}
-IsGood world state (Throws class) = Unit {0}
-IsGood world state Fails = Unit {0}
+use Rattle.kb_ways.proofs.AskedLaws.{interned_is_term}
+use Rattle.kb_ways.proofs.GrowLaws.{if_has, interned_extends, op_extends, option_has}
+use Rattle.kb_ways.proofs.ItemLaws.{each_append, each_cons, each_drop, each_picked, each_set, option_has_at}
+use Rattle.kb_ways.proofs.SoundLaws.{Still, locals_still, values_still}
+use Rattle.kb_ways.proofs.GoodWays.{CanGo, IsGood}
 
 -- ---- operands
 

@@ -3,50 +3,51 @@ use Rattle.std.proofs.Common.{◌≡◌, ℕ, ◌≤◌, ℤ, pos, Bool, true, f
 use Rattle.std.specs.Option.{option_map_or}
 use Rattle.kb_blast.specs.Query.{is_comparison}
 use Rattle.kb_code.specs.declared.instruction.Cond.{Cond}
-use Rattle.kb_code.specs.declared.instruction.Cond.TheVariants as conds
 use Rattle.kb_code.specs.declared.instruction.Instr.{Instr}
-use Rattle.kb_code.specs.declared.instruction.Instr.TheVariants as instrs
 use Rattle.kb_code.specs.declared.instruction.IntOp.{IntOp}
-use Rattle.kb_code.specs.declared.instruction.IntOp.TheVariants as ops
-use Rattle.kb_heap.specs.declared.bounds.Bound.TheVariants.{Loops, Steps}
+use Rattle.kb_heap.specs.declared.bounds.Bound.TheVariants.{Steps}
 use Rattle.kb_heap.specs.declared.bounds.Bounds.{Bounds}
 use Rattle.kb_link.specs.World.{World}
 use Rattle.kb_names.specs.declared.types.JType.{JType}
 use Rattle.kb_semantics.specs.Comparisons.{table_keys}
-use Rattle.kb_semantics.specs.Config.{has_room, instruction_at, max_locals_of}
+use Rattle.kb_semantics.specs.Config.{instruction_at, max_locals_of}
 use Rattle.kb_semantics.specs.Looks.{if_some}
-use Rattle.kb_semantics.specs.Ways.{counted}
 use Rattle.kb_terms.specs.declared.node.TermId.{TermId}
 use Rattle.kb_terms.specs.Terms.{IsPool}
 use Rattle.kb_picture.specs.declared.choice.Choice.{Choice}
-use Rattle.kb_picture.specs.declared.choice.Choice.TheVariants as choices
 use Rattle.kb_picture.specs.declared.picture.Picture.{Picture}
 use Rattle.kb_picture.specs.WellTyped.{IsReceiverSeen}
 use Rattle.kb_frames.specs.declared.frame.SymFrame.{SymFrame}
 use Rattle.kb_frames.specs.declared.state.Stage.{Stage}
-use Rattle.kb_frames.specs.declared.state.Stage.TheVariants.{Begins, Runs}
+use Rattle.kb_frames.specs.declared.state.Stage.TheVariants.{Runs}
 use Rattle.kb_frames.specs.declared.value.SymValue.{SymValue}
 use Rattle.kb_frames.specs.declared.value.Outcome.TheVariants.{Cut}
-use Rattle.kb_frames.specs.Lent.{begun, begun_locals, begun_stage, locals_of, stack_of, transfers_of, with_nodes}
+use Rattle.kb_frames.specs.Lent.{begun, locals_of, stack_of, with_nodes}
 use Rattle.kb_frames.specs.Next.{argument_next, method_now, offset_now}
 use Rattle.kb_frames.specs.State.{State}
 use Rattle.kb_frames.specs.States.{Each, IsLocal, IsSymValue}
-use Rattle.kb_stepint.specs.declared.condition.Condition.{Condition}
-use Rattle.kb_stepint.specs.declared.condition.Side.{Side}
-use Rattle.kb_stepint.specs.declared.condition.Side.TheVariants.{Term, Number}
-use Rattle.kb_stepint.specs.Asked.{all_asked, branch_condition, equal_sides}
+use Rattle.kb_ways.specs.declared.condition.Condition.{Condition}
+use Rattle.kb_ways.specs.declared.condition.Side.{Side}
+use Rattle.kb_ways.specs.declared.condition.Side.TheVariants.{Term, Number}
+use Rattle.kb_ways.specs.Asked.{all_asked, branch_condition, equal_sides}
 use Rattle.kb_stepint.specs.Choices.{branch_conditions, conditions_of, division_conditions, divisor_conditions, key_conditions}
 use Rattle.kb_stepint.specs.Effects.{plan_of}
 use Rattle.kb_stepint.specs.Laws.{IsAtInts}
 use Rattle.kb_stepint.specs.Operands.{one_int, two_ints}
-use Rattle.kb_stepint.specs.Reached.{IsReached}
-use Rattle.kb_stepint.specs.Simulation.{HasInputOfState}
-use Rattle.kb_stepint.specs.Takes.{answered, reads_argument, taken, takes_next, takes_up}
-use Rattle.kb_stepint.specs.Ways.{Take, Way, Goes, Jumps, Leaves, Throws, Fails, carries_out, ill_typed, went}
-use Rattle.kb_stepint.proofs.GrowLaws.{Grows, all_asked_grows, if_has, option_has}
-use Rattle.kb_stepint.proofs.KeepLaws.{Stays, plan_makes, takes_next_stays}
-use Rattle.kb_stepint.proofs.PlanLaws.{IsGood, plan_good}
-use Rattle.kb_stepint.proofs.SoundLaws.{AllCompare, Sound, asked_sound, begun_sound, carried_sound, frame_sound, int_receiver, int_sound, made_sound, nodes_sound, reached_sound, receiver_seen, sound_reached}
+use Rattle.kb_ways.specs.Reached.{IsReached}
+use Rattle.kb_ways.specs.Simulation.{HasInputOfState}
+use Rattle.kb_stepint.specs.Takes.{answered, taken, takes_next, takes_up, reads_argument}
+use Rattle.kb_ways.specs.Ways.{Take, ill_typed, went}
+use Rattle.kb_ways.proofs.GrowLaws.{Grows, all_asked_grows, if_has, option_has}
+use Rattle.kb_ways.proofs.KeepLaws.{Stays}
+use Rattle.kb_stepint.proofs.KeepLaws.{plan_makes, takes_next_stays}
+use Rattle.kb_stepint.proofs.PlanLaws.{plan_good}
+use Rattle.kb_ways.proofs.SoundLaws.{AllCompare, Sound, asked_sound, begun_sound, frame_sound, int_receiver, int_sound, nodes_sound, reached_sound, receiver_seen, sound_reached}
+use Rattle.kb_ways.proofs.GoodWays.{went_sound, running_now}
+use Rattle.kb_code.specs.declared.instruction.Cond.TheVariants as conds
+use Rattle.kb_code.specs.declared.instruction.Instr.TheVariants as instrs
+use Rattle.kb_code.specs.declared.instruction.IntOp.TheVariants as ops
+use Rattle.kb_picture.specs.declared.choice.Choice.TheVariants as choices
 
 -- ---- what is asked for are comparisons
 
@@ -95,29 +96,6 @@ instr_compares (instrs.Lookup default keys) stack choice = if_some_compares (one
 instr_compares (instrs.Int2 op) stack choice = if_some_compares (two_ints stack) (λ t. division_conditions op t.1 choice) (λ t. division_compares op t.1 choice)
 instr_compares _ stack choice = tt
 
--- ---- ways
-
-module _ (world : World) (bounds : Bounds) (next : ℕ) (state : State) (frame : SymFrame) (callers : List SymFrame) (running : state.stage ≡ Runs frame callers) (sound : Sound world state) where
-  abbrev SoundTo : Take → Type 0
-  SoundTo take = Sound world take.state
-
-  pub went_sound : (way : Way) → IsGood world state way → SoundTo (went world bounds next state way)
-  went_sound (Goes locals stack) good =
-      if_has SoundTo (has_room world (method_now state.method state.stage) (length stack)) _ (ill_typed world state)
-      (carried_sound world state frame callers running sound (λ (f : SymFrame). record f { at = next; locals = locals; stack = stack }) refl
-      (record { room = subst (λ (stage : Stage). max_locals_of world (method_now state.method stage) ≤ length locals) running good.room; locals = good.each_local; stack = good.each_value }))
-      sound
-  went_sound (Jumps target stack) good =
-      if_has SoundTo (has_room world (method_now state.method state.stage) (length stack)) _ (ill_typed world state)
-      (option_has SoundTo (counted bounds.run (offset_now state.stage) target (transfers_of state.stage))
-      (λ transfers. carries_out state (λ (f : SymFrame). record f { at = target; stack = stack; transfers = transfers })) (record { state = state; outcome = Cut Loops })
-      (λ transfers. carried_sound world state frame callers running sound (λ (f : SymFrame). record f { at = target; stack = stack; transfers = transfers }) refl
-      (record { room = (frame_sound world state frame callers running sound).0.room; locals = (frame_sound world state frame callers running sound).0.locals; stack = good })) sound)
-      sound
-  went_sound (Leaves value) good = sound
-  went_sound (Throws class) good = made_sound world state class sound
-  went_sound Fails good = sound
-
 -- ---- takes
 
 module _ (world : World) (bounds : Bounds) (choice : Choice) where
@@ -147,16 +125,9 @@ module _ (world : World) (bounds : Bounds) (choice : Choice) where
       option_has (λ (take : Take). Sound world take.state) (instruction_at world (method_now state.method state.stage) (offset_now state.stage)) (answered world bounds choice state) (ill_typed world state)
       (λ found. answered_sound state frame callers found running sound) sound
 
-  -- the first frame is there once the arguments are read
-  pub running_now : (state : State) → (frame : SymFrame) × (callers : List SymFrame) × ((begun world state).stage ≡ Runs frame callers)
-  running_now state = go state.stage where
-    go : (stage : Stage) → (frame : SymFrame) × (callers : List SymFrame) × (begun_stage world state stage ≡ Runs frame callers)
-    go (Begins read) = (record { method = state.method; at = 0; locals = begun_locals read (max_locals_of world state.method); stack = []; transfers = 0 }, [], refl)
-    go (Runs frame callers) = (frame, callers, refl)
-
   takes_next_sound : (old : State) → Sound world old → argument_next world old.method old.stage ≡ None → Sound world (takes_next world bounds choice old).state
   takes_next_sound old sound none =
-      let run = running_now old in
+      let run = running_now world bounds choice old in
       if_has (λ (take : Take). Sound world take.state) (nat_le bounds.run.steps old.carried) (record { state = old; outcome = Cut Steps }) (takes_up world bounds choice (begun world old))
       sound (takes_up_sound (begun world old) run.0 run.1 run.2 (begun_sound world old sound none))
 

@@ -30,8 +30,9 @@ use Rattle.kb_frames.specs.State.{State}
 use Rattle.kb_frames.specs.Lent.{stack_of, locals_of, local_in}
 use Rattle.kb_frames.specs.Next.{method_now}
 use Rattle.kb_stepint.specs.Operands.{int_term, one_int, two_ints}
-use Rattle.kb_stepint.specs.Asked.{interned_op}
-use Rattle.kb_stepint.specs.Ways.{Way, Goes, Jumps, Leaves, Throws, Fails}
+use Rattle.kb_ways.specs.Asked.{interned_op}
+use Rattle.kb_ways.specs.Ways.{Way, Goes, Jumps, Leaves, Throws, Fails, with_stack}
+use Rattle.kb_ways.specs.Kept.{masked}
 
 -- the pool with the terms that were made, and the way on
 pub record Planned : Type 0 where
@@ -43,10 +44,6 @@ pub record Planned : Type 0 where
 -- no term is made
 abbrev pub plain : State → Way → Planned
 plain state way = record { nodes = state.nodes; way = way }
-
--- with the same locals
-abbrev pub with_stack : State → List SymValue → Way
-with_stack state stack = Goes (locals_of state.stage) stack
 
 -- a term that was made stands on a stack
 abbrev pub pushes : State → List SymValue → List Node × TermId → Planned
@@ -156,10 +153,6 @@ switches state keys default choice =
     plain state (if is_some (one_int (stack_of state.stage)) then switch_way keys default (drop 1 (stack_of state.stage)) choice else Fails)
 
 -- ---- returns
-
--- what a method of the result type returns of an int: of a boolean the low bit
-abbrev pub masked : State → TermId → List Node × TermId → List Node × TermId
-masked state t one = interned_op one.0 And t (Some one.1)
 
 abbrev pub kept_int : State → TermId → JType → Option (List Node × TermId)
 kept_int state t types.Bool = Some (masked state t (interned state.nodes (Const (pos 1))))

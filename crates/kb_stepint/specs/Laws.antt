@@ -7,9 +7,9 @@ use Rattle.kb_picture.specs.declared.choice.Choice.{Choice}
 use Rattle.kb_frames.specs.State.{State}
 use Rattle.kb_frames.specs.Next.{next_is_int}
 use Rattle.kb_stepint.specs.Choices.{choices_of}
-use Rattle.kb_stepint.specs.Reached.{IsReached}
+use Rattle.kb_ways.specs.Reached.{IsReached}
 use Rattle.kb_stepint.specs.Takes.{taken}
-use Rattle.kb_stepint.specs.Ways.{Take}
+use Rattle.kb_ways.specs.Ways.{Take}
 
 -- the next step of the state is one of ints
 pub record IsAtInts (world : World) (state : State) : Type 0 where

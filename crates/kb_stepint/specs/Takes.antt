@@ -17,9 +17,9 @@ use Rattle.kb_frames.specs.State.{State}
 use Rattle.kb_frames.specs.FirstReads.{first_int}
 use Rattle.kb_frames.specs.Lent.{begun, read_count, stack_of, with_nodes}
 use Rattle.kb_frames.specs.Next.{argument_next, method_now, offset_now}
-use Rattle.kb_stepint.specs.Asked.{all_asked}
+use Rattle.kb_ways.specs.Asked.{all_asked}
 use Rattle.kb_stepint.specs.Choices.{conditions_of}
-use Rattle.kb_stepint.specs.Ways.{Take, ill_typed, went}
+use Rattle.kb_ways.specs.Ways.{Take, ill_typed, went}
 use Rattle.kb_stepint.specs.Effects.{Planned, plan_of}
 
 -- the next argument is read: a new variable

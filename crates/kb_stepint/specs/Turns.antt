@@ -1,23 +1,15 @@
--- What surrounds one step, and what its functions tell.
+-- What the functions of a step of ints tell.
 use Rattle.std.specs.Prelude.{ℕ, ℤ, List}
 use Rattle.kb_semantics.specs.Comparisons.{table_keys}
-use Rattle.kb_frames.specs.declared.value.Outcome.{Outcome}
 use Rattle.kb_frames.specs.State.{State}
 use Rattle.kb_stepint.specs.declared.keys.Keys.{Keys}
 use Rattle.kb_stepint.specs.declared.keys.Keys.TheVariants.{Table, Lookup}
-use Rattle.kb_stepint.specs.declared.turn.Turn.{Turn}
-use Rattle.kb_stepint.specs.Ways.{Take, Way, went}
+use Rattle.kb_ways.specs.declared.turn.Turn.{Turn}
+use Rattle.kb_ways.specs.Ways.{Take}
 use Rattle.kb_stepint.specs.Effects.{Planned}
 use Rattle.kb_stepint.specs.Takes.{followed}
 
--- a state that was left, with its outcome
-abbrev pub told : State → Outcome → Take
-told state outcome = record { state = state; outcome = outcome }
-
--- where a way leads from a state, and where a plan does
-abbrev pub led : Turn → State → Way → Take
-led turn state way = went turn.world.now turn.bounds turn.next state way
-
+-- where a plan leads from a state
 abbrev pub led_by : Turn → State → Planned → Take
 led_by turn state plan = followed turn.world.now turn.bounds turn.next state plan
 

@@ -2,18 +2,17 @@
 ghost use Rattle.std.specs.Prelude.{◌≡◌, false, true, IfOk};
 ghost use Rattle.kb_terms.specs.Op.{is_binary};
 ghost use Rattle.kb_stepint.specs.Effects.{computes, computes_two, op_of, op_of_cut};
-ghost use Rattle.kb_stepint.specs.Needs.{CanStep};
-ghost use Rattle.kb_stepint.specs.Turns.{led_by, told};
+ghost use Rattle.kb_ways.specs.Needs.{CanStep};
+ghost use Rattle.kb_ways.specs.Turns.{told};
+ghost use Rattle.kb_stepint.specs.Turns.{led_by};
 
 use crate::NoMemory;
 use crate::operands::{one_int, two_ints};
-use crate::terms::make;
-use crate::turn::Turn;
-use crate::ways::{ill_typed, replaces, throws};
 use kb_code::{IntCut, IntOp};
 use kb_frames::{Outcome, SymState, SymValue};
 use kb_picture::Choice;
 use kb_terms::Op;
+use kb_ways::{Turn, ill_typed, make, replaces, throws};
 
 const ARITHMETIC: &[u8] = b"java/lang/ArithmeticException";
 

@@ -4,15 +4,15 @@ ghost use Rattle.kb_frames.specs.Lent.{stack_of};
 ghost use Rattle.kb_picture.specs.declared.choice.Choice.TheVariants.{Key};
 ghost use Rattle.kb_stepint.specs.Effects.{branch_way, branches, switch_way, switches};
 ghost use Rattle.kb_stepint.specs.Operands.{one_int, two_ints};
-ghost use Rattle.kb_stepint.specs.Turns.{keys_of, led, led_by, told};
+ghost use Rattle.kb_ways.specs.Turns.{led, told};
+ghost use Rattle.kb_stepint.specs.Turns.{keys_of, led_by};
 
 use crate::NoMemory;
 use crate::keys::Keys;
 use crate::operands::{one_int, two_ints};
-use crate::turn::Turn;
-use crate::ways::{ill_typed, jumps, replaces};
 use kb_frames::{Outcome, SymState};
 use kb_picture::Choice;
+use kb_ways::{Turn, ill_typed, jumps, replaces};
 
 /// if<cond>
 pub(crate) fn if_int(

@@ -4,14 +4,13 @@ ghost use Rattle.kb_link.specs.World.{int_entry_of};
 ghost use Rattle.kb_semantics.specs.Config.{class_number};
 ghost use Rattle.kb_frames.specs.Next.{method_now};
 ghost use Rattle.kb_stepint.specs.Effects.{planned, pushes_int};
-ghost use Rattle.kb_stepint.specs.Turns.{led_by, told};
+ghost use Rattle.kb_ways.specs.Turns.{told};
+ghost use Rattle.kb_stepint.specs.Turns.{led_by};
 
 use crate::NoMemory;
-use crate::terms::constant;
-use crate::turn::Turn;
-use crate::ways::{ill_typed, replaces};
 use kb_class::MethodId;
 use kb_frames::{Outcome, SymState, SymValue};
+use kb_ways::{Turn, constant, ill_typed, replaces};
 use kb_world::World;
 
 /// iconst, bipush, sipush

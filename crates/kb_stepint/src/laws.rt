@@ -8,9 +8,9 @@ ghost use Rattle.kb_frames.specs.Next.{next_is_int};
 ghost use Rattle.kb_frames.specs.State.{State, start_state};
 ghost use Rattle.kb_stepint.specs.Choices.{choices_of};
 ghost use Rattle.kb_stepint.specs.IntMethods.{is_int_method};
-ghost use Rattle.kb_stepint.specs.Reached.{IsReached};
+ghost use Rattle.kb_ways.specs.Reached.{IsReached};
 ghost use Rattle.kb_stepint.specs.Laws.{OfStates, OfTakes};
-ghost use Rattle.kb_stepint.specs.Simulation.{AddsComparisons, FollowsStep, GetsOn, HasInputOfState, Keeps, ReadsWhatItSees, TakesOneWay};
+ghost use Rattle.kb_ways.specs.Simulation.{AddsComparisons, FollowsStep, GetsOn, HasInputOfState, Keeps, ReadsWhatItSees, TakesOneWay};
 ghost use Rattle.kb_stepint.specs.Takes.{taken};
 
 /// A method that is one over ints begins with a state that is reached (`begins`), and each reached state of it comes to an int

@@ -2,12 +2,12 @@
 //! bottom up.
 ghost use Rattle.std.specs.Prelude.{◌≡◌, ◌<◌, ◌∷◌, [], IfOk};
 ghost use Rattle.kb_stepint.specs.Effects.{rearranges};
-ghost use Rattle.kb_stepint.specs.Turns.{led_by, told};
+ghost use Rattle.kb_ways.specs.Turns.{told};
+ghost use Rattle.kb_stepint.specs.Turns.{led_by};
 
 use crate::NoMemory;
-use crate::turn::Turn;
-use crate::ways::{ill_typed, replaces};
 use kb_frames::{Outcome, SymState};
+use kb_ways::{Turn, ill_typed, replaces};
 
 /// pop
 pub(crate) fn pop(turn: &Turn<'_>, state: &mut SymState) -> Result<Outcome, NoMemory>

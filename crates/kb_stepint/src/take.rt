@@ -5,26 +5,24 @@ ghost use Rattle.kb_terms.specs.Terms.{IsTerm};
 ghost use Rattle.kb_frames.specs.Lent.{stack_of};
 ghost use Rattle.kb_frames.specs.Next.{next_is_int};
 ghost use Rattle.kb_picture.specs.declared.choice.Choice.TheVariants.{Default, Key};
-ghost use Rattle.kb_stepint.specs.Asked.{all_asked};
+ghost use Rattle.kb_ways.specs.Asked.{all_asked};
 ghost use Rattle.kb_stepint.specs.Choices.{branch_conditions, choices_of, conditions_of, division_conditions, divisor_conditions, key_conditions};
-ghost use Rattle.kb_stepint.specs.Needs.{CanStep, HasTerms, IsSide};
-ghost use Rattle.kb_stepint.specs.Reached.{IsReached};
+ghost use Rattle.kb_ways.specs.Needs.{CanStep, HasTerms, IsSide};
+ghost use Rattle.kb_ways.specs.Reached.{IsReached};
 ghost use Rattle.kb_stepint.specs.Takes.{taken, takes_up};
-ghost use Rattle.kb_stepint.specs.Turns.{keys_of, told};
+ghost use Rattle.kb_ways.specs.Turns.{told};
+ghost use Rattle.kb_stepint.specs.Turns.{keys_of};
 
 use crate::NoMemory;
-use crate::asked::ask;
-use crate::condition::{Side, branch_condition, equals_number};
 use crate::instructions::carry_out;
 use crate::keys::Keys;
 use crate::operands::{one_int, two_ints};
-use crate::place::place_of;
-use crate::turn::Turn;
 use kb_code::{Cond, Instr, IntOp};
 use kb_frames::{Outcome, SymState, instruction_at};
 use kb_heap::{Bound, Bounds};
 use kb_picture::{Choice, Origin, SymEnding};
 use kb_terms::TermId;
+use kb_ways::{Side, Turn, ask, branch_condition, equals_number, place_of};
 use kb_world::World;
 use std::alloc::Global;
 
@@ -138,7 +136,7 @@ fn ask_for(state: &mut SymState, instr: &Instr, choice: &Choice) -> Result<(), N
     }
 }
 
-#[tactic(auto, using(crate::proofs::SideLaws::branch_sides))]
+#[tactic(auto, using(kb_ways::proofs::SideLaws::branch_sides))]
 fn ask_branch(
     state: &mut SymState,
     cond: Cond,
@@ -171,7 +169,7 @@ fn ask_division(
     }
 }
 
-#[tactic(auto, using(crate::proofs::SideLaws::key_sides))]
+#[tactic(auto, using(kb_ways::proofs::SideLaws::key_sides))]
 fn ask_divisor(state: &mut SymState, divisor: TermId, choice: &Choice) -> Result<(), NoMemory>
     requires { IsTerm state.old.nodes divisor }
     ensures { OnOk result (state.new ≡ all_asked state.old (divisor_conditions divisor choice.now)) }
@@ -200,7 +198,7 @@ fn ask_key(
 }
 
 // That the int is the key of that place.
-#[tactic(auto, using(crate::proofs::SideLaws::key_sides))]
+#[tactic(auto, using(kb_ways::proofs::SideLaws::key_sides))]
 fn ask_one_key(
     state: &mut SymState,
     x: TermId,
@@ -220,7 +218,7 @@ fn ask_one_key(
 }
 
 // That the int is none of the keys.
-#[tactic(auto, using(crate::proofs::SideLaws::key_sides))]
+#[tactic(auto, using(kb_ways::proofs::SideLaws::key_sides))]
 fn ask_default(state: &mut SymState, x: TermId, keys: &Keys<'_>) -> Result<(), NoMemory>
     requires { IsTerm state.old.nodes x }
     ensures { OnOk result (state.new ≡ all_asked state.old (key_conditions x (keys_of keys.now) Default)) }

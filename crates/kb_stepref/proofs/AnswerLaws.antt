@@ -59,15 +59,15 @@ use Rattle.kb_frames.specs.Next.{is_reference}
 use Rattle.kb_frames.specs.StandsFor.{IsInstanceOf, StageStandsFor, StandsFor, reading_at, value_of_sym}
 use Rattle.kb_frames.specs.State.{State, cell_at}
 use Rattle.kb_frames.specs.States.{IsBeginning, IsStage, IsState}
-use Rattle.kb_stepint.proofs.OneInstances.{hold_last, many_values, value_inputs}
-use Rattle.kb_stepint.proofs.OutcomeValues.{reading_int}
+use Rattle.kb_ways.proofs.OneInstances.{hold_last, many_values, value_inputs}
+use Rattle.kb_ways.proofs.OutcomeValues.{reading_int}
 use Rattle.kb_lazy.proofs.FitLaws.{fitting_choice}
 use Rattle.kb_lazy.specs.Choices.{read_choices_of}
 use Rattle.kb_stepref.specs.Choices.{alternatives, is_receiver, only}
 use Rattle.kb_stepref.specs.Laws.{AreInRange, IsAtReferences}
 use Rattle.kb_stepref.specs.Questions.{Reads}
 use Rattle.kb_stepref.specs.Takes.{answered, passed_by}
-use Rattle.kb_stepint.proofs.AlikeLaws.{AreAlike, stage_alike, values_alike}
+use Rattle.kb_ways.proofs.AlikeLaws.{AreAlike, stage_alike, values_alike}
 use Rattle.kb_stepref.proofs.CellLaws.{chosen_blank}
 use Rattle.kb_stepref.proofs.FindLaws.{Grows, grown_alike, learns_none, learns_slot, places_same, read_places}
 use Rattle.kb_stepref.proofs.ReadInstances.{int_values, told_values}

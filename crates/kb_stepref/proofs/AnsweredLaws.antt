@@ -13,7 +13,6 @@ use Rattle.kb_heap.specs.declared.bounds.Bounds.{Bounds}
 use Rattle.kb_link.proofs.Places.{get_pushed}
 use Rattle.kb_link.specs.World.{World}
 use Rattle.kb_names.specs.declared.types.ExactType.{ExactType}
-use Rattle.kb_names.specs.declared.types.ExactType.TheVariants as exact
 use Rattle.kb_names.specs.declared.types.JType.{JType}
 use Rattle.kb_semantics.specs.Looks.{numbers_below}
 use Rattle.kb_semantics.specs.Values.{slots_of_class}
@@ -24,7 +23,6 @@ use Rattle.kb_terms.specs.Terms.{Extends, variables_of}
 use Rattle.kb_terms.proofs.Growth.{extends-more}
 use Rattle.kb_terms.proofs.Values.{Extends-refl}
 use Rattle.kb_picture.specs.declared.choice.Choice.{Choice}
-use Rattle.kb_picture.specs.declared.choice.Choice.TheVariants as choices
 use Rattle.kb_picture.specs.declared.picture.Length.{Length}
 use Rattle.kb_picture.specs.declared.picture.Length.TheVariants.{Plain, Is, Above}
 use Rattle.kb_picture.specs.declared.picture.Origin.{Origin}
@@ -32,8 +30,6 @@ use Rattle.kb_picture.specs.declared.picture.Origin.TheVariants.{Arg, Field, Ele
 use Rattle.kb_picture.specs.declared.picture.PicObject.{PicObject}
 use Rattle.kb_picture.specs.declared.picture.Picture.{Picture}
 use Rattle.kb_picture.specs.declared.picture.Seen.{Seen}
-use Rattle.kb_picture.specs.declared.picture.Seen.TheVariants as seens
-use Rattle.kb_picture.specs.declared.picture.Standing.TheVariants as standings
 use Rattle.kb_picture.specs.Growing.{IsChoiceFor, IsChoiceIn}
 use Rattle.kb_picture.specs.Growth.{after_int_read, after_read}
 use Rattle.kb_picture.specs.Queries.{kind_for, kind_seen, kinds_seen, type_of_slot}
@@ -56,9 +52,9 @@ use Rattle.kb_frames.specs.Heaps.{find_cell, with_cell}
 use Rattle.kb_frames.specs.Next.{is_reference}
 use Rattle.kb_frames.specs.State.{State, cell_at}
 use Rattle.kb_frames.specs.States.{Each, HasCells, IsBeginning, IsCell, IsStage, IsSymValue, IsTouched}
-use Rattle.kb_stepint.specs.Reached.{HasReadReceiver}
-use Rattle.kb_stepint.proofs.ItemLaws.{each_append, each_cons, each_copy, no_items}
-use Rattle.kb_stepint.proofs.SoundLaws.{Sound, sound_reached}
+use Rattle.kb_ways.specs.Reached.{HasReadReceiver}
+use Rattle.kb_ways.proofs.ItemLaws.{each_append, each_cons, each_copy, no_items}
+use Rattle.kb_ways.proofs.SoundLaws.{Sound, sound_reached}
 use Rattle.kb_stepref.specs.Choices.{alternatives, is_receiver}
 use Rattle.kb_stepref.specs.Laws.{AreInRange, IsAtReferences}
 use Rattle.kb_stepref.specs.Questions.{Reads, question_of}
@@ -67,6 +63,10 @@ use Rattle.kb_stepref.proofs.CellLaws.{front_found, front_touched, with_cell_len
 use Rattle.kb_stepref.proofs.FieldSlots.{get_front}
 use Rattle.kb_stepref.proofs.FirstReadLaws.{IsAsked, IsAskedAt, asked, first_read, holds_int}
 use Rattle.kb_stepref.proofs.MoreLaws.{HaveRows, IsMore, changed, changed_sound, made_more, rows_joined, rows_more, rows_with, running_more, values_more}
+use Rattle.kb_names.specs.declared.types.ExactType.TheVariants as exact
+use Rattle.kb_picture.specs.declared.choice.Choice.TheVariants as choices
+use Rattle.kb_picture.specs.declared.picture.Seen.TheVariants as seens
+use Rattle.kb_picture.specs.declared.picture.Standing.TheVariants as standings
 
 -- ---- what a choice adds
 

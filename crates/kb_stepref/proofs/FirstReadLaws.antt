@@ -39,8 +39,8 @@ use Rattle.kb_frames.specs.Lent.{read_count, stack_of}
 use Rattle.kb_frames.specs.Next.{argument_next, instruction_next, is_int, is_int_next, is_reference, method_now, next_is_int}
 use Rattle.kb_frames.specs.State.{State}
 use Rattle.kb_frames.specs.States.{IsStage}
-use Rattle.kb_stepint.specs.Reached.{IsReached}
-use Rattle.kb_stepint.proofs.SoundLaws.{not_before}
+use Rattle.kb_ways.specs.Reached.{IsReached}
+use Rattle.kb_ways.proofs.SoundLaws.{not_before}
 use Rattle.kb_stepref.specs.Choices.{is_receiver}
 use Rattle.kb_stepref.specs.Fields.{cell_of, field_named, has_slot_of}
 use Rattle.kb_stepref.specs.Laws.{IsAtReferences}

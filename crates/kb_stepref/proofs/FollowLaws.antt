@@ -37,11 +37,11 @@ use Rattle.kb_frames.specs.Lent.{stack_of}
 use Rattle.kb_frames.specs.Next.{argument_next, is_reference, method_now, offset_now}
 use Rattle.kb_frames.specs.StandsFor.{IsInstanceOf, StandsFor}
 use Rattle.kb_frames.specs.State.{State}
-use Rattle.kb_stepint.specs.Simulation.{FollowsStep}
-use Rattle.kb_stepint.proofs.GrowLaws.{if_has}
-use Rattle.kb_stepint.proofs.OneAsked.{conditions_there}
-use Rattle.kb_stepint.proofs.OneInstances.{met_of_instance}
-use Rattle.kb_stepint.proofs.ValueLaws.{IsOrdered, ordered_more, pool_ordered}
+use Rattle.kb_ways.specs.Simulation.{FollowsStep}
+use Rattle.kb_ways.proofs.GrowLaws.{if_has}
+use Rattle.kb_ways.proofs.OneAsked.{conditions_there}
+use Rattle.kb_ways.proofs.OneInstances.{met_of_instance}
+use Rattle.kb_ways.proofs.ValueLaws.{IsOrdered, ordered_more, pool_ordered}
 use Rattle.kb_stepref.specs.Choices.{alternatives, only}
 use Rattle.kb_stepref.specs.Fields.{field_named, has_slot_of}
 use Rattle.kb_stepref.specs.HeapMethods.{is_reference_instruction}

@@ -39,12 +39,11 @@ use Rattle.kb_frames.specs.Heaps.{with_cell, with_made_value}
 use Rattle.kb_frames.specs.Lent.{begun, local_in, stack_of, with_nodes}
 use Rattle.kb_frames.specs.Next.{is_reference, method_now, offset_now}
 use Rattle.kb_frames.specs.State.{State}
-use Rattle.kb_stepint.specs.Effects.{masked}
-use Rattle.kb_stepint.specs.Simulation.{AddsComparisons, Keeps}
-use Rattle.kb_stepint.specs.Ways.{Take, Fails, ill_typed, went}
-use Rattle.kb_stepint.proofs.AddedLaws.{same_when, went_when}
-use Rattle.kb_stepint.proofs.GrowLaws.{front_itself, front_of_front, if_has, interned_extends, op_extends, option_has}
-use Rattle.kb_stepint.proofs.KeepLaws.{Stays, stays_on, went_stays}
+use Rattle.kb_ways.specs.Kept.{masked}
+use Rattle.kb_ways.specs.Simulation.{AddsComparisons, Keeps}
+use Rattle.kb_ways.specs.Ways.{Take, Fails, ill_typed, went}
+use Rattle.kb_ways.proofs.KeepLaws.{same_when, went_when, Stays, stays_on, went_stays}
+use Rattle.kb_ways.proofs.GrowLaws.{front_itself, front_of_front, if_has, interned_extends, op_extends, option_has}
 use Rattle.kb_stepref.specs.Effects.{Planned, got, is_local, kept_in, plain, plan_of, planned, put, put_kept, put_where, result_in}
 use Rattle.kb_stepref.specs.Fields.{field_named, has_place, held, put_in}
 use Rattle.kb_stepref.specs.Laws.{IsAtReferences}

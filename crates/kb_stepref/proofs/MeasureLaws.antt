@@ -19,13 +19,13 @@ use Rattle.kb_frames.specs.declared.value.SymValue.TheVariants.{Int}
 use Rattle.kb_frames.specs.declared.value.Outcome.TheVariants.{Asks}
 use Rattle.kb_frames.specs.FirstReads.{value_chosen, with_read}
 use Rattle.kb_frames.specs.Lent.{begun}
-use Rattle.kb_frames.specs.Measure.{choices_left, left_of, questions_of, unread_at}
+use Rattle.kb_ways.specs.Measure.{choices_left, left_of, questions_of, unread_at}
 use Rattle.kb_frames.specs.Next.{argument_next, instruction_next, is_reference, method_now, offset_now}
 use Rattle.kb_frames.specs.State.{State}
-use Rattle.kb_stepint.specs.Simulation.{GetsOn}
-use Rattle.kb_stepint.specs.Ways.{Take, ill_typed}
-use Rattle.kb_stepint.proofs.GrowLaws.{if_has, option_has}
-use Rattle.kb_stepint.proofs.MeasureLaws.{reads_on, went_on}
+use Rattle.kb_ways.specs.Simulation.{GetsOn}
+use Rattle.kb_ways.specs.Ways.{Take, ill_typed}
+use Rattle.kb_ways.proofs.GrowLaws.{if_has, option_has}
+use Rattle.kb_ways.proofs.MeasureLaws.{reads_on, went_on}
 use Rattle.kb_stepref.specs.Effects.{plan_of}
 use Rattle.kb_stepref.specs.Laws.{IsAtReferences}
 use Rattle.kb_stepref.specs.Questions.{Question, Reads, question_of}

@@ -21,9 +21,8 @@ use Rattle.kb_frames.specs.Next.{argument_next, instruction_next, is_int, is_int
 use Rattle.kb_frames.specs.State.{State, start_state}
 use Rattle.kb_frames.specs.States.{IsState}
 use Rattle.kb_frames.proofs.StateLaws.{start_is_state}
-use Rattle.kb_stepint.specs.IntMethods.{has_none}
-use Rattle.kb_stepint.specs.Reached.{IsAlone}
-use Rattle.kb_stepint.proofs.IntMethodLaws.{all_passed, code_found, found_has, handlers_none, start_typed, switches_rise}
+use Rattle.kb_ways.specs.Reached.{has_none, IsAlone}
+use Rattle.kb_ways.proofs.MethodLaws.{all_passed, code_found, found_has, handlers_none, start_typed, switches_rise}
 use Rattle.kb_stepref.specs.HeapMethods.{is_heap_code, is_heap_info, is_heap_instruction, is_heap_method, is_none_or_value, is_reference_instruction}
 use Rattle.kb_stepref.specs.Laws.{IsAtReferences}
 use Rattle.kb_stepref.specs.Reached.{IsHeapReached}

@@ -30,10 +30,10 @@ use Rattle.kb_frames.specs.Cuts.{setting_of}
 use Rattle.kb_frames.specs.Next.{is_reference}
 use Rattle.kb_frames.specs.StandsFor.{IsInstanceOf, StandsFor}
 use Rattle.kb_frames.specs.State.{State}
-use Rattle.kb_stepint.specs.Simulation.{ExactlyOneIs, NoneIs, TakesOneWay}
-use Rattle.kb_stepint.specs.Ways.{Take}
-use Rattle.kb_stepint.proofs.OneAsked.{conditions_there}
-use Rattle.kb_stepint.proofs.OneInstances.{instance_of_met}
+use Rattle.kb_ways.specs.Simulation.{ExactlyOneIs, NoneIs, TakesOneWay}
+use Rattle.kb_ways.specs.Ways.{Take}
+use Rattle.kb_ways.proofs.OneAsked.{conditions_there}
+use Rattle.kb_ways.proofs.OneInstances.{instance_of_met}
 use Rattle.kb_stepref.specs.Choices.{alternatives, choices_of, is_receiver, only}
 use Rattle.kb_stepref.specs.Laws.{IsAtReferences}
 use Rattle.kb_stepref.specs.Questions.{Question, Reads, question_of}

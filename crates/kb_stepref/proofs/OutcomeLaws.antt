@@ -31,19 +31,18 @@ use Rattle.kb_frames.specs.Next.{argument_next, instruction_next, method_now, of
 use Rattle.kb_frames.specs.StandsFor.{FrameStandsFor, FramesStandFor, IsInstanceOf, StandsFor, reading_at}
 use Rattle.kb_frames.specs.State.{State}
 use Rattle.kb_frames.proofs.RunLaws.{counters_agree}
-use Rattle.kb_stepint.specs.Reached.{IsAlone}
-use Rattle.kb_stepint.specs.Simulation.{IsOutcome}
-use Rattle.kb_stepint.specs.Ways.{Take, ill_typed, went}
-use Rattle.kb_stepint.proofs.OneLaws.{place_same}
-use Rattle.kb_stepint.proofs.OutcomeLaws.{step_taken, stores_taken}
-use Rattle.kb_stepint.proofs.OutcomeStands.{Running, none_standing, running}
-use Rattle.kb_stepint.proofs.OutcomeValues.{heap_later, reading_later}
-use Rattle.kb_stepint.proofs.OutcomeWays.{ill_typed_is, went_is}
-use Rattle.kb_stepint.proofs.PastLaws.{cut_by_steps}
-use Rattle.kb_stepint.proofs.SoundLaws.{Sound, begun_sound, sound_reached}
-use Rattle.kb_stepint.proofs.ValueLaws.{IsOrdered, pool_ordered}
-use Rattle.kb_stepref.specs.Effects.{Planned, branches_null, branches_same, gets, loads, plan_of, pushes_null, returns_reference}
-use Rattle.kb_stepref.specs.Effects.{stores as stores_sym}
+use Rattle.kb_ways.specs.Reached.{IsAlone}
+use Rattle.kb_ways.specs.Simulation.{IsOutcome}
+use Rattle.kb_ways.specs.Ways.{Take, ill_typed, went}
+use Rattle.kb_ways.proofs.BegunLaws.{place_same}
+use Rattle.kb_ways.proofs.StepLaws.{step_taken, stores_taken}
+use Rattle.kb_ways.proofs.OutcomeStands.{Running, none_standing, running}
+use Rattle.kb_ways.proofs.OutcomeValues.{heap_later, reading_later}
+use Rattle.kb_ways.proofs.OutcomeWays.{ill_typed_is, went_is}
+use Rattle.kb_ways.proofs.PastLaws.{cut_by_steps}
+use Rattle.kb_ways.proofs.SoundLaws.{Sound, begun_sound, sound_reached}
+use Rattle.kb_ways.proofs.ValueLaws.{IsOrdered, pool_ordered}
+use Rattle.kb_stepref.specs.Effects.{Planned, branches_null, branches_same, gets, loads, plan_of, pushes_null, returns_reference, stores as stores_sym}
 use Rattle.kb_stepref.specs.HeapMethods.{is_reference_instruction}
 use Rattle.kb_stepref.specs.Laws.{IsAtReferences}
 use Rattle.kb_stepref.specs.Questions.{Reads, asked_at, asked_by, question_of}

@@ -15,10 +15,8 @@ use Rattle.kb_names.specs.declared.types.JType.{JType}
 use Rattle.kb_world.specs.Lookup.{resolved_field}
 use Rattle.kb_semantics.specs.Config.{Setting, Config, Outcome, class_number, local_of, max_locals_of, result_of}
 use Rattle.kb_semantics.specs.Inputs.{IsTypeCorrect}
-use Rattle.kb_semantics.specs.Instructions.{field_of, is_wanted, on_object, same_reference, sets_local, with}
-use Rattle.kb_semantics.specs.Instructions.{is_null as is_null_reference}
-use Rattle.kb_semantics.specs.Operands.{Reference, Taken, a_reference, reference_of, value_of_reference}
-use Rattle.kb_semantics.specs.Operands.{two_references as two_of}
+use Rattle.kb_semantics.specs.Instructions.{field_of, is_wanted, on_object, same_reference, sets_local, with, is_null as is_null_reference}
+use Rattle.kb_semantics.specs.Operands.{Reference, Taken, a_reference, reference_of, value_of_reference, two_references as two_of}
 use Rattle.kb_semantics.specs.Values.{kept}
 use Rattle.kb_semantics.specs.Ways.{branches, goes, goes_on, hands_over, ill_typed, returns_value}
 use Rattle.kb_picture.specs.Endings.{Reading}
@@ -30,11 +28,10 @@ use Rattle.kb_frames.specs.Cuts.{setting_of}
 use Rattle.kb_frames.specs.StandsFor.{FrameStandsFor, StandsFor, reading_at, value_of_sym, values_of_sym}
 use Rattle.kb_frames.specs.State.{State}
 use Rattle.kb_frames.specs.States.{IsSymValue}
-use Rattle.kb_stepint.specs.Effects.{with_stack}
-use Rattle.kb_stepint.specs.Ways.{Leaves}
-use Rattle.kb_stepint.proofs.ComparedLaws.{two_parts}
-use Rattle.kb_stepint.proofs.OutcomePlans.{led_to, local_set, local_value}
-use Rattle.kb_stepint.proofs.SoundLaws.{Sound}
+use Rattle.kb_ways.specs.Ways.{with_stack, Leaves}
+use Rattle.kb_ways.proofs.ItemLaws.{two_parts}
+use Rattle.kb_ways.proofs.LocalLaws.{led_to, local_set, local_value}
+use Rattle.kb_ways.proofs.SoundLaws.{Sound}
 use Rattle.kb_stepref.specs.Effects.{Planned, branch_where, branches_null, branches_same, gets, got, in_local, loads, plain, planned, pushes_null, result_in, returns_reference, stores}
 use Rattle.kb_stepref.specs.Fields.{field_named, held}
 use Rattle.kb_stepref.specs.Operands.{is_null, one_reference, reference, same, two_references}

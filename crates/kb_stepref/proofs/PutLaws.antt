@@ -25,8 +25,7 @@ use Rattle.kb_semantics.specs.Instructions.{field_of, on_object, put_field, with
 use Rattle.kb_semantics.specs.Looks.{Slot, at_most_one, field_slot, if_some, stored_by, stores}
 use Rattle.kb_semantics.specs.Operands.{Reference, Taken, an_object_and_value}
 use Rattle.kb_semantics.specs.Step.{first_heap, step}
-use Rattle.kb_semantics.specs.Ways.{goes_on, goes_with, null_pointer}
-use Rattle.kb_semantics.specs.Ways.{carries_out as carries_out_step, ill_typed as ill_typed_step}
+use Rattle.kb_semantics.specs.Ways.{goes_on, goes_with, null_pointer, carries_out as carries_out_step, ill_typed as ill_typed_step}
 use Rattle.kb_terms.specs.declared.node.TermId.{TermId}
 use Rattle.kb_terms.specs.declared.node.Node.{Node}
 use Rattle.kb_terms.specs.declared.node.Node.TheVariants.{Const}
@@ -45,22 +44,21 @@ use Rattle.kb_frames.specs.declared.value.Cell.TheVariants.{Written}
 use Rattle.kb_frames.specs.declared.value.SymValue.{SymValue}
 use Rattle.kb_frames.specs.declared.value.SymValue.TheVariants.{Int, Null, Obj, Literal, New, Loc}
 use Rattle.kb_frames.specs.Cuts.{setting_of}
-use Rattle.kb_frames.specs.Heaps.{with_cell}
-use Rattle.kb_frames.specs.Heaps.{object_with as sym_object_with}
+use Rattle.kb_frames.specs.Heaps.{with_cell, object_with as sym_object_with}
 use Rattle.kb_frames.specs.Lent.{with_nodes}
 use Rattle.kb_frames.specs.StandsFor.{FrameStandsFor, HeapStandsFor, IsInstanceOf, IsKept, StandsFor, beginning_of, made_at, reading_at, value_of_sym, values_of_sym, written_by}
 use Rattle.kb_frames.specs.State.{State}
 use Rattle.kb_frames.specs.States.{IsSymValue}
-use Rattle.kb_stepint.specs.Effects.{masked}
-use Rattle.kb_stepint.specs.Simulation.{IsOutcome}
-use Rattle.kb_stepint.specs.Ways.{Take, Goes, Fails, carries_out, ill_typed, went}
-use Rattle.kb_stepint.proofs.GrowLaws.{interned_extends, op_extends}
-use Rattle.kb_stepint.proofs.ItemLaws.{each_drop}
-use Rattle.kb_stepint.proofs.OutcomeStands.{none_standing}
-use Rattle.kb_stepint.proofs.OutcomeValues.{IsLater, frame_later, heap_later, reading_int, reading_later, there}
-use Rattle.kb_stepint.proofs.OutcomeWays.{ill_typed_is, room_same, throws_is, writes_stand}
-use Rattle.kb_stepint.proofs.SoundLaws.{Sound}
-use Rattle.kb_stepint.proofs.ValueLaws.{IsOrdered, low_made}
+use Rattle.kb_ways.specs.Kept.{masked}
+use Rattle.kb_ways.specs.Simulation.{IsOutcome}
+use Rattle.kb_ways.specs.Ways.{Take, Goes, Fails, carries_out, ill_typed, went}
+use Rattle.kb_ways.proofs.GrowLaws.{interned_extends, op_extends}
+use Rattle.kb_ways.proofs.ItemLaws.{each_drop, two_parts}
+use Rattle.kb_ways.proofs.OutcomeStands.{none_standing}
+use Rattle.kb_ways.proofs.OutcomeValues.{IsLater, frame_later, heap_later, reading_int, reading_later, there}
+use Rattle.kb_ways.proofs.OutcomeWays.{ill_typed_is, room_same, throws_is, writes_stand}
+use Rattle.kb_ways.proofs.SoundLaws.{Sound}
+use Rattle.kb_ways.proofs.ValueLaws.{IsOrdered, low_made}
 use Rattle.kb_stepref.specs.Effects.{kept_in, plain, planned, put, put_kept, put_where, puts}
 use Rattle.kb_stepref.specs.Fields.{field_named, has_place, put_in}
 use Rattle.kb_stepref.specs.Operands.{object_and_value, of_type, reference}
@@ -69,7 +67,6 @@ use Rattle.kb_stepref.proofs.ObjectLaws.{field_there, made_at_end, made_room, ob
 use Rattle.kb_stepref.proofs.PutHeaps.{AreInside, made_kept, made_put, object_kept, object_put}
 use Rattle.kb_stepref.proofs.ReferenceLaws.{IsReference, kept_of, kept_value, object_and_value_are, pair_below, reference_kind, referred}
 use Rattle.kb_stepref.proofs.SoundLaws.{of_type_is, reference_is}
-use Rattle.kb_stepint.proofs.ComparedLaws.{two_parts}
 
 -- what a field keeps is a value of the state that has the terms that were made
 record IsKeptIn (world : World) (state : State) (input : Input) (places : PlaceLists) (kept : State × SymValue) (value : Value) : Type 0 where

@@ -12,7 +12,7 @@ use Rattle.kb_frames.specs.declared.value.SymValue.TheVariants.{Int, Null, Obj, 
 use Rattle.kb_frames.specs.Lent.{locals_of, stack_of}
 use Rattle.kb_frames.specs.Next.{method_now}
 use Rattle.kb_frames.specs.State.{State}
-use Rattle.kb_stepint.specs.Ways.{Goes, went}
+use Rattle.kb_ways.specs.Ways.{Goes, went}
 use Rattle.kb_stepref.specs.Effects.{kept_in, put_kept, put_where}
 use Rattle.kb_stepref.specs.Fields.{put_in}
 use Rattle.kb_stepref.specs.Takes.{followed}

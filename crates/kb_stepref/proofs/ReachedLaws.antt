@@ -1,5 +1,5 @@
 -- Each take of a state that is reached leaves one that is reached, and a picture of which an input can be made.
-use Rattle.std.proofs.Common.{◌≡◌, ◌⊎◌, inl, inr, ℕ, ◌<◌, Bool, true, false, [], length, Option, Some, None, refl, sym, ap, subst, ◌∙◌, if◌then◌else◌}
+use Rattle.std.proofs.Common.{◌≡◌, ◌⊎◌, inl, inr, ℕ, ◌<◌, Bool, true, false, [], Option, Some, None, refl, sym, ap, subst, ◌∙◌, if◌then◌else◌, length}
 use Rattle.std.specs.Option.{option_map_or}
 use Rattle.std.proofs.lemmas.Bool.{leb-false}
 use Rattle.kb_class.proofs.Lists.{all_has}
@@ -16,7 +16,6 @@ use Rattle.kb_picture.specs.declared.choice.Init.TheVariants.{Lazy}
 use Rattle.kb_picture.specs.declared.picture.Origin.{Origin}
 use Rattle.kb_picture.specs.declared.picture.Origin.TheVariants.{Arg, Field, Element}
 use Rattle.kb_picture.specs.declared.picture.Picture.{Picture}
-use Rattle.kb_picture.specs.declared.picture.Seen.TheVariants as seens
 use Rattle.kb_picture.specs.Growth.{after_int_read}
 use Rattle.kb_picture.specs.Queries.{kind_for}
 use Rattle.kb_picture.specs.WellFormed.{variables_seen}
@@ -31,15 +30,15 @@ use Rattle.kb_frames.specs.Lent.{begun, read_count}
 use Rattle.kb_frames.specs.Next.{argument_next, is_reference, next_is_int}
 use Rattle.kb_frames.specs.State.{State}
 use Rattle.kb_stepint.specs.Laws.{IsAtInts}
-use Rattle.kb_stepint.specs.Needs.{CanStep}
-use Rattle.kb_stepint.specs.Reached.{IsReached}
-use Rattle.kb_stepint.specs.Simulation.{HasInputOfState, Keeps}
-use Rattle.kb_stepint.specs.Takes.{reads_argument, taken as int_taken, takes_next as int_takes_next}
-use Rattle.kb_stepint.specs.Ways.{Take}
+use Rattle.kb_ways.specs.Needs.{CanStep}
+use Rattle.kb_ways.specs.Reached.{IsReached}
+use Rattle.kb_ways.specs.Simulation.{HasInputOfState, Keeps}
+use Rattle.kb_stepint.specs.Takes.{taken as int_taken, takes_next as int_takes_next, reads_argument}
+use Rattle.kb_ways.specs.Ways.{Take}
 use Rattle.kb_stepint.proofs.KeepLaws.{kept as int_kept, takes_next_stays}
 use Rattle.kb_stepint.proofs.ReachedLaws.{is_reached as int_is_reached}
-use Rattle.kb_stepint.proofs.SoundLaws.{Sound, begun_sound, reached_sound, sound_reached}
-use Rattle.kb_stepint.proofs.TakeLaws.{sound_terms}
+use Rattle.kb_ways.proofs.SoundLaws.{Sound, begun_sound, reached_sound, sound_reached}
+use Rattle.kb_ways.proofs.TakeLaws.{sound_terms}
 use Rattle.kb_stepref.specs.Choices.{alternatives, is_receiver, only}
 use Rattle.kb_stepref.specs.HeapMethods.{is_heap_method}
 use Rattle.kb_stepref.specs.Laws.{AreInRange, GoesOnReached, IsAtReferences, OfTakes}
@@ -49,6 +48,7 @@ use Rattle.kb_stepref.specs.Takes.{answered, answers, cut_where, goes_behind, pa
 use Rattle.kb_stepref.proofs.FirstReadLaws.{IsAskedAt, asked}
 use Rattle.kb_stepref.proofs.LazyLaws.{IsKnown, known_choices, known_locs, known_no_beyond, seen_no_beyond}
 use Rattle.kb_stepref.proofs.SoundLaws.{SoundTo, answered_carried, answered_init, answered_method, goes_behind_sound, none_asked, takes_next_sound, taken_sound, told_sound}
+use Rattle.kb_picture.specs.declared.picture.Seen.TheVariants as seens
 
 -- ---- what is reached
 

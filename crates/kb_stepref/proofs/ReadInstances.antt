@@ -34,8 +34,8 @@ use Rattle.kb_frames.specs.Next.{is_reference}
 use Rattle.kb_frames.specs.StandsFor.{IsInstanceOf}
 use Rattle.kb_frames.specs.State.{State}
 use Rattle.kb_frames.specs.States.{IsState}
-use Rattle.kb_stepint.proofs.OneAsked.{conditions_there, met_later}
-use Rattle.kb_stepint.proofs.OneInstances.{enough_values, int_argument, met_inputs}
+use Rattle.kb_ways.proofs.OneAsked.{conditions_there, met_later}
+use Rattle.kb_ways.proofs.OneInstances.{enough_values, int_argument, met_inputs}
 
 -- ---- variables
 

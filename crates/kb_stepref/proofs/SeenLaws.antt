@@ -59,8 +59,8 @@ use Rattle.kb_frames.specs.Next.{instruction_next, is_reference, method_now}
 use Rattle.kb_frames.specs.StandsFor.{FrameStandsFor, IsInstanceOf, IsLike, StageStandsFor, StandsFor, beginning_of, present_value, reading_at, value_of_sym, written_by}
 use Rattle.kb_frames.specs.State.{State, cell_at}
 use Rattle.kb_frames.proofs.RunLaws.{counters_agree}
-use Rattle.kb_stepint.specs.Simulation.{AddsReads, IsRead, IsReadAt, ReadsWhatItSees}
-use Rattle.kb_stepint.proofs.KeepLaws.{same_reads}
+use Rattle.kb_ways.specs.Simulation.{AddsReads, IsRead, IsReadAt, ReadsWhatItSees}
+use Rattle.kb_ways.proofs.KeepLaws.{same_reads}
 use Rattle.kb_stepref.specs.Laws.{IsAtReferences}
 use Rattle.kb_stepref.specs.Questions.{Question, Reads, question_of}
 use Rattle.kb_stepref.specs.Takes.{answers, taken, takes_next}

@@ -33,14 +33,12 @@ use Rattle.kb_frames.specs.Lent.{begun, local_in, locals_of, read_count, stack_o
 use Rattle.kb_frames.specs.Next.{argument_next, is_reference, method_now, offset_now}
 use Rattle.kb_frames.specs.State.{State}
 use Rattle.kb_frames.specs.States.{Each, IsLocal, IsSymValue}
-use Rattle.kb_stepint.specs.Effects.{with_stack}
-use Rattle.kb_stepint.specs.Ways.{Take, Way, Goes, Jumps, Leaves, Throws, Fails, ill_typed}
-use Rattle.kb_stepint.proofs.GrowLaws.{if_has, option_has}
-use Rattle.kb_stepint.proofs.ItemLaws.{each_cons, each_drop, each_set, option_has_at}
-use Rattle.kb_stepint.proofs.KeepLaws.{went_stays}
-use Rattle.kb_stepint.proofs.PlanLaws.{IsGood}
-use Rattle.kb_stepint.proofs.ReachedLaws.{running_now, went_sound}
-use Rattle.kb_stepint.proofs.SoundLaws.{Sound, begun_sound, frame_sound, receiver_seen, sound_reached}
+use Rattle.kb_ways.specs.Ways.{with_stack, Take, Way, Goes, Jumps, Leaves, Throws, Fails, ill_typed}
+use Rattle.kb_ways.proofs.GrowLaws.{if_has, option_has}
+use Rattle.kb_ways.proofs.ItemLaws.{each_cons, each_drop, each_set, option_has_at}
+use Rattle.kb_ways.proofs.KeepLaws.{went_stays}
+use Rattle.kb_ways.proofs.GoodWays.{IsGood, running_now, went_sound}
+use Rattle.kb_ways.proofs.SoundLaws.{Sound, begun_sound, frame_sound, receiver_seen, sound_reached}
 use Rattle.kb_stepref.specs.Choices.{alternatives, choices_of, only}
 use Rattle.kb_stepref.specs.Effects.{Planned, branch_where, got, in_local, is_local, kept_in, plain, plan_of, planned, put, put_kept, put_where, result_in}
 use Rattle.kb_stepref.specs.Fields.{field_named, has_place, held}

@@ -26,12 +26,12 @@ use Rattle.kb_frames.specs.declared.value.SymValue.TheVariants.{Int, Null, Obj, 
 use Rattle.kb_frames.specs.Heaps.{find_cell, made_value, object_with, value_of_cell, with_cell, with_made_value, wrote, wrote_made}
 use Rattle.kb_frames.specs.State.{State}
 use Rattle.kb_frames.specs.States.{Each, IsCell, IsMade, IsStage, IsSymValue, IsTouched}
-use Rattle.kb_stepint.specs.Asked.{interned_op}
-use Rattle.kb_stepint.proofs.AskedLaws.{interned_is_term}
-use Rattle.kb_stepint.proofs.GrowLaws.{GoesOn, goes_on_behind, interned_goes_on, op_goes_on}
-use Rattle.kb_stepint.proofs.ItemLaws.{each_set}
-use Rattle.kb_stepint.proofs.OutcomeValues.{cells_sound}
-use Rattle.kb_stepint.proofs.SoundLaws.{Sound, nodes_sound}
+use Rattle.kb_ways.specs.Asked.{interned_op}
+use Rattle.kb_ways.proofs.AskedLaws.{interned_is_term}
+use Rattle.kb_ways.proofs.GrowLaws.{GoesOn, goes_on_behind, interned_goes_on, op_goes_on}
+use Rattle.kb_ways.proofs.ItemLaws.{each_set}
+use Rattle.kb_ways.proofs.OutcomeValues.{cells_sound}
+use Rattle.kb_ways.proofs.SoundLaws.{Sound, nodes_sound}
 use Rattle.kb_stepref.specs.Effects.{kept_in, put_kept}
 use Rattle.kb_stepref.specs.Fields.{cell_of, has_slot_of, held, put_in}
 use Rattle.kb_stepref.proofs.CellLaws.{found_cell, with_cell_length, with_touched}

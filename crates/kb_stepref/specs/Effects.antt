@@ -19,8 +19,8 @@ use Rattle.kb_frames.specs.declared.value.SymValue.TheVariants.{Int, Null}
 use Rattle.kb_frames.specs.Lent.{local_in, locals_of, stack_of, with_nodes}
 use Rattle.kb_frames.specs.Next.{method_now}
 use Rattle.kb_frames.specs.State.{State}
-use Rattle.kb_stepint.specs.Effects.{masked, with_stack}
-use Rattle.kb_stepint.specs.Ways.{Way, Goes, Jumps, Leaves, Throws, Fails}
+use Rattle.kb_ways.specs.Kept.{masked}
+use Rattle.kb_ways.specs.Ways.{with_stack, Way, Goes, Jumps, Leaves, Throws, Fails}
 use Rattle.kb_stepref.specs.Fields.{field_named, has_place, held, put_in}
 use Rattle.kb_stepref.specs.Operands.{is_null, object_and_value, one_reference, reference, same, two_references}
 

@@ -14,7 +14,7 @@ use Rattle.kb_link.specs.World.{World}
 use Rattle.kb_names.specs.declared.types.JType.{JType}
 use Rattle.kb_semantics.specs.Config.{info_of}
 use Rattle.kb_frames.specs.Next.{is_int_instruction}
-use Rattle.kb_stepint.specs.IntMethods.{has_none}
+use Rattle.kb_ways.specs.Reached.{has_none}
 
 -- aconst_null, aload, astore, if_acmp<cond>, ifnull, ifnonnull, areturn, getfield and putfield
 abbrev pub is_reference_instruction : Instr → Bool

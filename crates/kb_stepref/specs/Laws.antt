@@ -8,7 +8,7 @@ use Rattle.kb_frames.specs.declared.value.Outcome.{Outcome}
 use Rattle.kb_frames.specs.declared.value.Outcome.TheVariants.{Asks, Goes, Ends, Cut}
 use Rattle.kb_frames.specs.State.{State}
 use Rattle.kb_frames.specs.Next.{next_is_int}
-use Rattle.kb_stepint.specs.Ways.{Take}
+use Rattle.kb_ways.specs.Ways.{Take}
 use Rattle.kb_stepref.specs.Choices.{choices_of}
 use Rattle.kb_stepref.specs.Reached.{IsHeapReached}
 use Rattle.kb_stepref.specs.Takes.{taken}

@@ -6,7 +6,7 @@ use Rattle.kb_link.specs.World.{World}
 use Rattle.kb_lazy.specs.Laws.{HasNoBeyond}
 use Rattle.kb_picture.specs.declared.choice.Init.TheVariants.{Lazy}
 use Rattle.kb_frames.specs.State.{State}
-use Rattle.kb_stepint.specs.Reached.{IsReached}
+use Rattle.kb_ways.specs.Reached.{IsReached}
 use Rattle.kb_stepref.specs.HeapMethods.{is_heap_method}
 
 pub record IsHeapReached (world : World) (state : State) : Type 0 where

@@ -21,7 +21,7 @@ use Rattle.kb_frames.specs.FirstReads.{first_int, first_reference}
 use Rattle.kb_frames.specs.Lent.{begun}
 use Rattle.kb_frames.specs.Next.{is_reference, method_now, offset_now}
 use Rattle.kb_frames.specs.State.{State}
-use Rattle.kb_stepint.specs.Ways.{Take, ill_typed, went}
+use Rattle.kb_ways.specs.Ways.{Take, ill_typed, went}
 use Rattle.kb_stepref.specs.Effects.{Planned, plan_of}
 use Rattle.kb_stepref.specs.Questions.{Question, Reads, question_of}
 

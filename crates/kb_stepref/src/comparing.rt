@@ -2,14 +2,14 @@
 //! is chosen.
 ghost use Rattle.std.specs.Prelude.{◌≡◌, ◌<◌, IfOk};
 ghost use Rattle.kb_semantics.specs.Instructions.{is_wanted};
-ghost use Rattle.kb_stepint.specs.Turns.{led, told};
+ghost use Rattle.kb_ways.specs.Turns.{led, told};
 ghost use Rattle.kb_stepref.specs.Effects.{branch_where, branches_null, branches_same};
 ghost use Rattle.kb_stepref.specs.Takes.{followed};
 
 use crate::NoMemory;
 use crate::operands::{is_null, one_reference, same, two_references};
 use kb_frames::{Outcome, SymState};
-use kb_stepint::{Turn, ill_typed, jumps, replaces};
+use kb_ways::{Turn, ill_typed, jumps, replaces};
 
 /// if_acmpeq where they are wanted to be one, if_acmpne where they are not
 pub(crate) fn if_same(

@@ -2,9 +2,9 @@
 ghost use Rattle.std.specs.Prelude.{◌≡◌, ◌<◌, Some, IfOk, OnOk, if◌then◌else◌};
 ghost use Rattle.std.specs.Option.{option_copied};
 ghost use Rattle.kb_semantics.specs.Instructions.{has_field};
-ghost use Rattle.kb_stepint.specs.Needs.{CanStep, IsTermOf};
-ghost use Rattle.kb_stepint.specs.Turns.{told};
-ghost use Rattle.kb_stepint.specs.Ways.{Fails};
+ghost use Rattle.kb_ways.specs.Needs.{CanStep, IsTermOf};
+ghost use Rattle.kb_ways.specs.Turns.{told};
+ghost use Rattle.kb_ways.specs.Ways.{Fails};
 ghost use Rattle.kb_stepref.specs.Effects.{got, gets, kept_in, plain, put, put_where, puts};
 ghost use Rattle.kb_stepref.specs.Fields.{cell_of, field_named, has_place, has_slot_of, held, made_value_of, put_in};
 ghost use Rattle.kb_stepref.specs.Takes.{followed};
@@ -13,7 +13,7 @@ use crate::NoMemory;
 use crate::operands::{object_and_value, one_reference};
 use kb_frames::{Cell, Outcome, SymState, SymValue, declaring_class};
 use kb_names::{ExactType, JType};
-use kb_stepint::{Turn, has_room, ill_typed, mask, replaces, throws};
+use kb_ways::{Turn, has_room, ill_typed, mask, replaces, throws};
 use kb_world::{FieldSlot, World};
 
 const NULL_POINTER: &[u8] = b"java/lang/NullPointerException";

@@ -1,7 +1,7 @@
 //! What each instruction on references does to a state (JVMS 8 section 6.5).
 ghost use Rattle.std.specs.Prelude.{◌≡◌, IfOk};
-ghost use Rattle.kb_stepint.specs.Needs.{CanStep};
-ghost use Rattle.kb_stepint.specs.Turns.{told};
+ghost use Rattle.kb_ways.specs.Needs.{CanStep};
+ghost use Rattle.kb_ways.specs.Turns.{told};
 ghost use Rattle.kb_stepref.specs.Effects.{plan_of};
 ghost use Rattle.kb_stepref.specs.Takes.{followed};
 
@@ -12,7 +12,7 @@ use crate::locals::{load, store};
 use crate::returns::return_reference;
 use kb_code::Instr;
 use kb_frames::{Outcome, SymState, SymValue};
-use kb_stepint::{Turn, ill_typed, replaces};
+use kb_ways::{Turn, ill_typed, replaces};
 
 /// Carries out an instruction to which nothing is left to be told.
 pub(crate) fn carry_out(

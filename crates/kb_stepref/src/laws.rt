@@ -9,7 +9,7 @@ ghost use Rattle.kb_picture.specs.declared.choice.Choice.{Choice};
 ghost use Rattle.kb_picture.specs.declared.choice.Init.TheVariants.{Lazy};
 ghost use Rattle.kb_frames.specs.Next.{next_is_int};
 ghost use Rattle.kb_frames.specs.State.{State, start_state};
-ghost use Rattle.kb_stepint.specs.Simulation.{AddsComparisons, FollowsStep, GetsOn, HasInputOfState, Keeps, ReadsWhatItSees, TakesOneWay};
+ghost use Rattle.kb_ways.specs.Simulation.{AddsComparisons, FollowsStep, GetsOn, HasInputOfState, Keeps, ReadsWhatItSees, TakesOneWay};
 ghost use Rattle.kb_stepint.specs.Takes as int_takes;
 ghost use Rattle.kb_stepref.specs.Choices.{choices_of};
 ghost use Rattle.kb_stepref.specs.HeapMethods.{is_heap_method};

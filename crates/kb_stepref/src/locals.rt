@@ -1,7 +1,7 @@
 //! Instructions on locals that are references (JVMS 8 section 6.5).
 ghost use Rattle.std.specs.Prelude.{◌≡◌, ◌<◌, cond, drop, None, IfOk};
 ghost use Rattle.kb_frames.specs.Lent.{local_in, stack_of};
-ghost use Rattle.kb_stepint.specs.Turns.{led, told};
+ghost use Rattle.kb_ways.specs.Turns.{led, told};
 ghost use Rattle.kb_stepref.specs.Effects.{in_local, is_local, loads, stores};
 ghost use Rattle.kb_stepref.specs.Operands.{reference};
 ghost use Rattle.kb_stepref.specs.Takes.{followed};
@@ -9,7 +9,7 @@ ghost use Rattle.kb_stepref.specs.Takes.{followed};
 use crate::NoMemory;
 use crate::operands::{one_reference, reference};
 use kb_frames::{Outcome, SymState, SymValue};
-use kb_stepint::{Turn, carry_on, has_room, ill_typed, is_local, replaces};
+use kb_ways::{Turn, carry_on, has_room, ill_typed, is_local, replaces};
 
 /// aload
 pub(crate) fn load(turn: &Turn<'_>, state: &mut SymState, local: u16) -> Result<Outcome, NoMemory>
@@ -62,6 +62,6 @@ fn set(
     }
     state.store(local, value);
     state.pop(1);
-    carry_on(state, turn.next, turn.bounds.run.steps);
+    carry_on(turn, state, turn.next);
     Ok(Outcome::Goes)
 }

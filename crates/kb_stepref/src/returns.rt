@@ -3,7 +3,7 @@ ghost use Rattle.std.specs.Prelude.{◌≡◌, Some, IfOk};
 ghost use Rattle.kb_picture.specs.declared.path.SymEnding.TheVariants.{Returned};
 ghost use Rattle.kb_frames.specs.StandsFor.{out_of};
 ghost use Rattle.kb_frames.specs.declared.value.Outcome.TheVariants.{Ends};
-ghost use Rattle.kb_stepint.specs.Turns.{told};
+ghost use Rattle.kb_ways.specs.Turns.{told};
 ghost use Rattle.kb_stepref.specs.Effects.{returns_reference};
 ghost use Rattle.kb_stepref.specs.Takes.{followed};
 
@@ -12,7 +12,7 @@ use crate::operands::one_reference;
 use kb_frames::{Outcome, SymState, SymValue};
 use kb_names::JType;
 use kb_picture::{Operand, Out, SymEnding};
-use kb_stepint::{Turn, ill_typed, result_of};
+use kb_ways::{Turn, ill_typed, result_of};
 
 /// areturn
 pub(crate) fn return_reference(turn: &Turn<'_>, state: &SymState) -> Result<Outcome, NoMemory>

@@ -2,9 +2,9 @@
 ghost use Rattle.std.specs.Prelude.{◌≡◌, false, Some, None, IfOk, OnOk};
 ghost use Rattle.kb_class.specs.Naming.{Has};
 ghost use Rattle.kb_frames.specs.Next.{next_is_int};
-ghost use Rattle.kb_stepint.specs.Needs.{CanStep};
-ghost use Rattle.kb_stepint.specs.Reached.{IsReached};
-ghost use Rattle.kb_stepint.specs.Turns.{told};
+ghost use Rattle.kb_ways.specs.Needs.{CanStep};
+ghost use Rattle.kb_ways.specs.Reached.{IsReached};
+ghost use Rattle.kb_ways.specs.Turns.{told};
 ghost use Rattle.kb_stepref.specs.Choices.{alternatives, choices_of};
 ghost use Rattle.kb_stepref.specs.Laws.{AreInRange, IsAtReferences};
 ghost use Rattle.kb_stepref.specs.Questions.{question, question_of};
@@ -18,7 +18,7 @@ use crate::questions::{FirstRead, question_of};
 use kb_frames::{Outcome, SymState, instruction_at};
 use kb_heap::{Bound, Bounds};
 use kb_picture::{Choice, Origin, SymEnding};
-use kb_stepint::{Turn, place_of};
+use kb_ways::{Turn, place_of};
 use kb_world::World;
 use std::alloc::Global;
 

@@ -6,7 +6,7 @@ ghost use Rattle.kb_link.specs.World.{World};
 ghost use Rattle.kb_frames.specs.Next.{next_is_int};
 ghost use Rattle.kb_frames.specs.State.{State};
 ghost use Rattle.kb_stepint.specs.Choices.{choices_of as int_choices};
-ghost use Rattle.kb_stepint.specs.Reached.{IsReached};
+ghost use Rattle.kb_ways.specs.Reached.{IsReached};
 ghost use Rattle.kb_stepref.specs.Choices.{choices_of as reference_choices};
 ghost use Rattle.kb_stepref.specs.HeapMethods.{is_heap_method};
 ghost use Rattle.kb_stepref.specs.Laws.{AreInRange, GoesOnReached};

@@ -1,7 +1,7 @@
 use Rattle.std.proofs.Common.{ℕ, ◌<◌, sym, subst}
 use Rattle.kb_frames.proofs.FormedPaths.{sees_variables}
-use Rattle.kb_stepint.specs.Needs.{CanStep}
-use Rattle.kb_stepint.proofs.TakeLaws.{can_step}
+use Rattle.kb_ways.specs.Needs.{CanStep}
+use Rattle.kb_ways.proofs.TakeLaws.{can_step}
 use Rattle.kb_stepint.proofs.take.read_or_take_up.Goals as goal
 
 pub first_int-requires : goal.first_int-requires

@@ -5,7 +5,7 @@ use Rattle.kb_frames.specs.declared.value.SymValue.{SymValue}
 use Rattle.kb_frames.specs.Lent.{locals_of, stack_of}
 use Rattle.kb_frames.specs.Next.{method_now}
 use Rattle.kb_frames.specs.State.{State}
-use Rattle.kb_stepint.specs.Ways.{Goes, went}
+use Rattle.kb_ways.specs.Ways.{Goes, went}
 use Rattle.kb_stepref.specs.Effects.{kept_in, put_kept}
 use Rattle.kb_stepref.specs.Fields.{has_place, put_in}
 use Rattle.kb_stepref.proofs.PutSteps.{put_goes}

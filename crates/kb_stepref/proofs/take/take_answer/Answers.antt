@@ -1,6 +1,6 @@
 use Rattle.std.proofs.Common.{sym, subst}
 use Rattle.kb_frames.proofs.FormedPaths.{sees_variables}
-use Rattle.kb_stepint.specs.Needs.{CanStep}
+use Rattle.kb_ways.specs.Needs.{CanStep}
 use Rattle.kb_stepref.proofs.ReachedLaws.{answered_can_step}
 use Rattle.kb_stepref.proofs.take.take_answer.Goals as goal
 

@@ -1,8 +1,8 @@
 -- where the state goes on, it is one from which steps lead on, by the law on the take
 use Rattle.std.proofs.Common.{◌≡◌, sym, subst}
 use Rattle.kb_terms.specs.Terms.{IsPool}
-use Rattle.kb_stepint.specs.Turns.{told}
-use Rattle.kb_stepint.specs.Ways.{Take}
+use Rattle.kb_ways.specs.Turns.{told}
+use Rattle.kb_ways.specs.Ways.{Take}
 use Rattle.kb_stepref.specs.Laws.{GoesOnReached, IsAtReferences}
 use Rattle.kb_stepref.specs.Takes.{taken}
 use Rattle.step_rows.proofs.walk.take_on_references.Goals as goal
