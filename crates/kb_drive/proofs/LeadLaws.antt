@@ -52,7 +52,7 @@ use Rattle.kb_stepint.proofs.OutcomeLaws.{follows}
 use Rattle.kb_stepint.proofs.ReachedLaws.{has_input}
 use Rattle.kb_stepref.specs.Laws.{GoesOnReached}
 use Rattle.kb_stepref.specs.Reached.{IsHeapReached}
-use Rattle.kb_stepref.proofs.ReachedLaws.{ints_keep}
+use Rattle.kb_drive.proofs.IntsStay.{ints_keep}
 use Rattle.kb_drive.specs.Steps.{GoesOn, LeadsOn, StaysAtInputs, rank_of}
 use Rattle.kb_drive.proofs.EndLaws.{endings_there}
 use Rattle.kb_drive.proofs.FrontLaws.{take_append}

@@ -31,3 +31,4 @@ pub mod TakenLaws
 pub mod WaitLaws
 pub mod WalkLaws
 pub mod WholeLaws
+pub mod IntsStay

@@ -20,7 +20,7 @@ mod walk;
 
 pub use explore::explore_from;
 pub use kb_rows::Row;
-pub use laws::{inputs_within_the_bounds_end, none_throws_within_the_bounds};
+pub use laws::{inputs_within_the_bounds_end, int_steps_stay, none_throws_within_the_bounds};
 pub use piece::Piece;
 pub(crate) use std::alloc::AllocError as NoMemory;
 pub use stop::DriveStop;

@@ -26,17 +26,13 @@ use Rattle.kb_frames.specs.declared.value.Outcome.{Outcome}
 use Rattle.kb_frames.specs.declared.value.Outcome.TheVariants.{Asks, Goes, Ends, Cut}
 use Rattle.kb_frames.specs.declared.value.SymValue.{SymValue}
 use Rattle.kb_frames.specs.FirstReads.{first_int, first_reference, found_in}
-use Rattle.kb_frames.specs.Lent.{begun, read_count}
-use Rattle.kb_frames.specs.Next.{argument_next, is_reference, next_is_int}
+use Rattle.kb_frames.specs.Lent.{begun}
+use Rattle.kb_frames.specs.Next.{is_reference}
 use Rattle.kb_frames.specs.State.{State}
-use Rattle.kb_stepint.specs.Laws.{IsAtInts}
 use Rattle.kb_ways.specs.Needs.{CanStep}
 use Rattle.kb_ways.specs.Reached.{IsReached}
-use Rattle.kb_ways.specs.Simulation.{HasInputOfState, Keeps}
-use Rattle.kb_stepint.specs.Takes.{taken as int_taken, takes_next as int_takes_next, reads_argument}
+use Rattle.kb_ways.specs.Simulation.{HasInputOfState}
 use Rattle.kb_ways.specs.Ways.{Take}
-use Rattle.kb_stepint.proofs.KeepLaws.{kept as int_kept, takes_next_stays}
-use Rattle.kb_stepint.proofs.ReachedLaws.{is_reached as int_is_reached}
 use Rattle.kb_ways.proofs.SoundLaws.{Sound, begun_sound, reached_sound, sound_reached}
 use Rattle.kb_ways.proofs.TakeLaws.{sound_terms}
 use Rattle.kb_stepref.specs.Choices.{alternatives, is_receiver, only}
@@ -99,13 +95,13 @@ found_picture (Field object place) value state = refl
 found_picture (Element array index) value state = refl
 
 -- objects alone, none of which is beyond
-abbrev IsPlain : Picture → Type 0
+abbrev pub IsPlain : Picture → Type 0
 IsPlain picture = (picture.locs ≡ []) × HasNoBeyond picture
 
 int_no_beyond : (v : ℕ) → seens.Int v ≡ seens.Beyond → ⊥
 int_no_beyond v e = cc
 
-int_plain : (picture : Picture) (slot : Origin) → IsPlain picture → IsPlain (after_int_read picture slot)
+pub int_plain : (picture : Picture) (slot : Origin) → IsPlain picture → IsPlain (after_int_read picture slot)
 unfolding after_int_read
 int_plain picture slot plain =
     let v : ℕ = length (variables_seen picture) in
@@ -205,28 +201,3 @@ goes_on_reached world bounds state choice range at has = go (question_of world s
       (heap_on world state (takes_next world bounds state).state (heap_sound world state at.reached)
       (takes_next_sound world bounds state (sound_reached world state at.reached.reached) (none_asked world bounds state asks)))
   go (Some (Reads slot type)) asks offered = behind slot type asks offered (passed_by choice) refl
-
--- ---- int steps
-
--- An int step of such a state leaves one.
-pub ints_keep : (world : World) (bounds : Bounds) (state : State) (choice : Choice) → IsHeapReached world state → next_is_int world state ≡ true
-    → IsPool (int_taken world bounds state choice).state.nodes → IsHeapReached world (int_taken world bounds state choice).state
-ints_keep world bounds state choice h ints pool = record {
-  reached = int_is_reached world bounds choice state at pool;
-  linked = h.linked;
-  method = subst (λ m. is_heap_method world m ≡ true) (sym keeps.method) h.method;
-  lazy = keeps.init ∙ h.lazy;
-  known = plain.0;
-  within = plain.1;
-} where
-  at : IsAtInts world state
-  at = record { reached = h.reached; next = ints }
-
-  keeps : Keeps state (int_taken world bounds state choice).state
-  keeps = int_kept world bounds state choice
-
-  plain : IsPlain (int_taken world bounds state choice).state.picture
-  plain = go (argument_next world state.method state.stage) where
-    go : (type : Option JType) → IsPlain (option_map_or (reads_argument state) type (int_takes_next world bounds choice state)).state.picture
-    go None = subst IsPlain (sym (takes_next_stays world bounds choice state).picture) (h.known, h.within)
-    go (Some type) = int_plain state.picture (Arg (read_count state.stage)) (h.known, h.within)

@@ -11,7 +11,7 @@ mod comparing;
 mod fields;
 mod heap_methods;
 mod instructions;
-pub mod laws;
+mod laws;
 mod locals;
 mod operands;
 mod questions;
@@ -20,5 +20,8 @@ mod take;
 
 pub use choices::choices_ref;
 pub use heap_methods::is_heap_method;
+pub use laws::{
+    heap_methods_stay, reference_steps_get_on, reference_steps_keep, reference_steps_simulate,
+};
 pub use std::alloc::AllocError as NoMemory;
 pub use take::take_ref;

@@ -17,13 +17,13 @@ use crate::held::append_held;
 use crate::rows::TableRow;
 use crate::told::{append_choices, append_nodes, append_outcome};
 use kb_class::MethodId;
+use kb_drive::int_steps_stay;
 use kb_frames::{Outcome, SymState, start};
 use kb_heap::Bounds;
 use kb_picture::{Choice, Init};
 use kb_rows::Held;
 use kb_stepint::{choices_int, is_int_method, take_int};
-use kb_stepref::laws::heap_methods_stay;
-use kb_stepref::{choices_ref, is_heap_method, take_ref};
+use kb_stepref::{choices_ref, heap_methods_stay, is_heap_method, take_ref};
 use kb_table::{RowResult, RowStop};
 use kb_world::World;
 use std::alloc::Global;
@@ -238,7 +238,7 @@ fn take_on_ints(
     ensures reached { OnOk result (IsReached world.now state.new) }
     ensures on { IfOk result (GoesOnReached world.now state.new) }
 {
-    heap_methods_stay();
+    int_steps_stay();
     match take_int(alloc, world, state, choice, bounds) {
         Ok(outcome) => Ok(outcome),
         Err(_) => Err(RowStop::NoMemory),
