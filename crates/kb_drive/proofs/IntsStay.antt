@@ -12,12 +12,14 @@ use Rattle.kb_frames.specs.Next.{argument_next, next_is_int}
 use Rattle.kb_frames.specs.State.{State}
 use Rattle.kb_stepint.specs.Laws.{IsAtInts}
 use Rattle.kb_ways.specs.Simulation.{Keeps}
-use Rattle.kb_stepint.specs.Takes.{reads_argument, taken as int_taken, takes_next as int_takes_next}
+use Rattle.kb_stepint.specs.Takes.{taken as int_taken, reads_argument}
 use Rattle.kb_stepint.proofs.KeepLaws.{kept as int_kept, takes_next_stays}
 use Rattle.kb_stepint.proofs.ReachedLaws.{is_reached as int_is_reached}
 use Rattle.kb_stepref.specs.HeapMethods.{is_heap_method}
 use Rattle.kb_stepref.specs.Reached.{IsHeapReached}
 use Rattle.kb_stepref.proofs.ReachedLaws.{IsPlain, int_plain}
+use Rattle.kb_ways.specs.Plans.{takes_next}
+use Rattle.kb_stepint.specs.Effects.{plan_of}
 
 pub ints_keep : (world : World) (bounds : Bounds) (state : State) (choice : Choice) → IsHeapReached world state → next_is_int world state ≡ true
     → IsPool (int_taken world bounds state choice).state.nodes → IsHeapReached world (int_taken world bounds state choice).state
@@ -37,6 +39,6 @@ ints_keep world bounds state choice h ints pool = record {
 
   plain : IsPlain (int_taken world bounds state choice).state.picture
   plain = go (argument_next world state.method state.stage) where
-    go : (type : Option JType) → IsPlain (option_map_or (reads_argument state) type (int_takes_next world bounds choice state)).state.picture
+    go : (type : Option JType) → IsPlain (option_map_or (reads_argument state) type (takes_next plan_of world bounds choice state)).state.picture
     go None = subst IsPlain (sym (takes_next_stays world bounds choice state).picture) (h.known, h.within)
     go (Some type) = int_plain state.picture (Arg (read_count state.stage)) (h.known, h.within)

@@ -32,20 +32,21 @@ use Rattle.kb_frames.specs.declared.state.Stage.{Stage}
 use Rattle.kb_frames.specs.declared.state.Stage.TheVariants.{Begins, Runs}
 use Rattle.kb_frames.specs.declared.value.Outcome.{Outcome}
 use Rattle.kb_frames.specs.declared.value.Outcome.TheVariants.{Asks, Goes, Ends, Cut}
-use Rattle.kb_frames.specs.Lent.{begun, begun_stage, read_count, stack_of, transfers_of, with_frame, with_nodes}
+use Rattle.kb_frames.specs.Lent.{begun, begun_stage, read_count, stack_of, transfers_of, with_frame}
 use Rattle.kb_ways.specs.Measure.{choices_left, left_of, questions_of, unread_at}
 use Rattle.kb_frames.specs.Next.{argument_next, instruction_next, method_now, next_is_int, offset_now}
 use Rattle.kb_frames.specs.State.{State}
 use Rattle.kb_ways.specs.Asked.{all_asked}
 use Rattle.kb_stepint.specs.Choices.{choices_of, conditions_of}
-use Rattle.kb_stepint.specs.Effects.{plan_of}
+use Rattle.kb_stepint.specs.Effects.{plan_of, effect_of}
 use Rattle.kb_stepint.specs.Laws.{IsAtInts}
 use Rattle.kb_ways.specs.Simulation.{GetsOn}
-use Rattle.kb_stepint.specs.Takes.{answered, taken, takes_next, takes_up, reads_argument}
+use Rattle.kb_stepint.specs.Takes.{taken, reads_argument}
+use Rattle.kb_ways.specs.Plans.{takes_next, takes_up, carried_out}
 use Rattle.kb_ways.specs.Ways.{Take, Way, Goes as WayGoes, Jumps, Leaves, Throws, Fails, carries_out, ill_typed, went}
-use Rattle.kb_ways.proofs.GrowLaws.{Grows, all_asked_grows, front_itself, if_has, option_has}
+use Rattle.kb_ways.proofs.GrowLaws.{Grows, all_asked_grows, front_itself, if_has, option_has, HasMore}
 use Rattle.kb_stepint.proofs.AddedLaws.{adds}
-use Rattle.kb_stepint.proofs.KeepLaws.{kept, reads, takes_next_stays}
+use Rattle.kb_stepint.proofs.KeepLaws.{kept, reads, takes_next_stays, effect_makes}
 use Rattle.kb_ways.proofs.MeasureLaws.{few_next}
 use Rattle.kb_stepint.proofs.MeasureLaws.{gets_on}
 use Rattle.kb_stepint.proofs.OutcomeLaws.{follows}
@@ -104,7 +105,7 @@ stays_int picture slot = stays_seen picture (slot, seens.Int (length (variables_
 stays_behind : (world : World) (bounds : Bounds) (old : State) (choice : Choice) → StaysAtInputs old.picture (taken world bounds old choice).state.picture
 stays_behind world bounds old choice =
     option_has (λ (take : Take). StaysAtInputs old.picture take.state.picture) (argument_next world old.method old.stage)
-    (reads_argument old) (takes_next world bounds choice old) (λ type. stays_int old.picture (Arg (read_count old.stage)))
+    (reads_argument old) (takes_next plan_of world bounds choice old) (λ type. stays_int old.picture (Arg (read_count old.stage)))
     (subst (StaysAtInputs old.picture) (sym (takes_next_stays world bounds choice old).picture) (stays_itself old.picture))
 
 -- ---- how many takes can follow
@@ -153,28 +154,30 @@ module _ (world : World) (bounds : Bounds) (old : State) where
     went_few next state (Throws class) running = tt
     went_few next state Fails running = tt
 
-    answers_few : (choice : Choice) (state : State) (found : Instr × ℕ) → IsRunning state.stage → Few (answered world bounds choice state found)
+    answers_few : (choice : Choice) (state : State) (found : Instr × ℕ) → IsRunning state.stage → Few (carried_out plan_of world bounds choice state found)
     answers_few choice state found running =
         let conditions = conditions_of found.0 (stack_of state.stage) choice in
         let grown : Grows state (all_asked state conditions) = all_asked_grows conditions state in
         let same : (all_asked state conditions).stage ≡ state.stage = ap (λ (s : State). s.stage) grown.rest in
-        let plan = plan_of world (all_asked state conditions) choice found.0 in
-        went_few found.1 (with_nodes (all_asked state conditions) plan.nodes) plan.way (subst IsRunning (sym same) running)
+        let effect = effect_of world (all_asked state conditions) choice found.0 in
+        let more : HasMore (all_asked state conditions) effect.state = effect_makes world (all_asked state conditions) choice found.0 in
+        let now : effect.state.stage ≡ state.stage = ap (λ (s : State). s.stage) more.rest ∙ same in
+        went_few found.1 effect.state effect.way (subst IsRunning (sym now) running)
 
-    takes_up_few : (choice : Choice) (state : State) → IsRunning state.stage → Few (takes_up world bounds choice state)
+    takes_up_few : (choice : Choice) (state : State) → IsRunning state.stage → Few (takes_up plan_of world bounds choice state)
     takes_up_few choice state running =
-        option_has Few (instruction_at world (method_now state.method state.stage) (offset_now state.stage)) (answered world bounds choice state) (ill_typed world state)
+        option_has Few (instruction_at world (method_now state.method state.stage) (offset_now state.stage)) (carried_out plan_of world bounds choice state) (ill_typed world state)
         (λ found. answers_few choice state found running) tt
 
-  takes_next_few : (choice : Choice) → Few (takes_next world bounds choice old)
+  takes_next_few : (choice : Choice) → Few (takes_next plan_of world bounds choice old)
   takes_next_few choice = go (nat_le bounds.run.steps old.carried) refl where
-    go : (b : Bool) → nat_le bounds.run.steps old.carried ≡ b → Few (if b then record { state = old; outcome = Cut Steps } else takes_up world bounds choice (begun world old))
+    go : (b : Bool) → nat_le bounds.run.steps old.carried ≡ b → Few (if b then record { state = old; outcome = Cut Steps } else takes_up plan_of world bounds choice (begun world old))
     go true e = tt
     go false e = takes_up_few (leb-false bounds.run.steps old.carried e) choice (begun world old) (begun_runs world old old.stage)
 
   taken_few : (choice : Choice) → Few (taken world bounds old choice)
   taken_few choice =
-      option_has Few (argument_next world old.method old.stage) (reads_argument old) (takes_next world bounds choice old)
+      option_has Few (argument_next world old.method old.stage) (reads_argument old) (takes_next plan_of world bounds choice old)
       (λ type. tt) (takes_next_few choice)
 
 asks_less : (steps was now before after : ℕ) → now ≡ was → after < before → 6 * (steps - now) + after < 6 * (steps - was) + before

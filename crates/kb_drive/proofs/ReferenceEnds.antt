@@ -27,16 +27,18 @@ use Rattle.kb_ways.proofs.GrowLaws.{if_has, option_has}
 use Rattle.kb_ways.proofs.ItemLaws.{option_has_at}
 use Rattle.kb_ways.proofs.SoundLaws.{begun_sound, sound_reached}
 use Rattle.kb_stepref.specs.Choices.{alternatives, only}
-use Rattle.kb_stepref.specs.Effects.{Planned, branch_where, got, in_local, is_local, plain, plan_of, planned, put, put_where, result_in}
+use Rattle.kb_ways.specs.Plans.{Planned, plain, planned, carried_out, takes_next, takes_up}
+use Rattle.kb_stepref.specs.Effects.{branch_where, got, in_local, is_local, plan_of, put, put_where, result_in}
 use Rattle.kb_stepref.specs.Fields.{field_named, has_place, held}
 use Rattle.kb_stepref.specs.Laws.{IsAtReferences, OfTakes}
 use Rattle.kb_stepref.specs.Operands.{object_and_value, one_reference, reference, two_references}
 use Rattle.kb_stepref.specs.Questions.{Question, Reads, question_of}
-use Rattle.kb_stepref.specs.Takes.{answered, answers, carried_out, cut_where, goes_behind, passed_by, takes_next, takes_up}
+use Rattle.kb_stepref.specs.Takes.{answered, answers, cut_where, goes_behind, passed_by}
 use Rattle.kb_stepref.proofs.ReachedLaws.{now_heap}
 use Rattle.kb_stepref.proofs.SoundLaws.{none_asked, reference_is}
 use Rattle.kb_drive.specs.Steps.{EndsIn}
 use Rattle.kb_drive.proofs.EndLaws.{LeavesIn, ill_ends, went_ends}
+use Rattle.kb_picture.specs.declared.choice.Choice.TheVariants.{Only}
 
 -- a value that is there is stated as what is there, where no location is
 sym_in : (world : World) (state : State) (value : SymValue) → state.picture.locs ≡ [] → IsSymValue world state value → IsOutIn world state (length state.made) (out_of value)
@@ -116,7 +118,7 @@ module _ (world : World) (state : State) (none : state.picture.locs ≡ []) (sta
       (λ result at. subst (λ (v : SymValue). IsOutIn world state (length state.made) (out_of v)) (result_same value (result_of world (method_now state.method state.stage)) result at)
       (sym_in world state value none (stack 0 value (reference_is (slice_get (stack_of state.stage) 0) value e)))) tt
 
-  plan_leaves : (instr : Instr) → PlanLeaves (plan_of world state instr)
+  plan_leaves : (instr : Instr) → PlanLeaves (plan_of world state Only instr)
   plan_leaves (instrs.LoadRef k) = planned_leaves (reference (cond (is_local world state k) (local_in state.stage k) None)) _ (λ value. tt)
   plan_leaves (instrs.StoreRef k) = planned_leaves (one_reference (stack_of state.stage)) _ (λ value. local_leaves k value _)
   plan_leaves (instrs.IfSame want target) = planned_leaves (two_references (stack_of state.stage)) _ (λ t. branch_leaves _ target 2)
@@ -134,10 +136,10 @@ module _ (world : World) (bounds : Bounds) where
   abbrev Ends : Take → Type 0
   Ends take = EndsIn world take.state take.outcome
 
-  takes_up_ends : (state : State) → state.picture.locs ≡ [] → IsStage world state state.stage → Ends (takes_up world bounds state)
+  takes_up_ends : (state : State) → state.picture.locs ≡ [] → IsStage world state state.stage → Ends (takes_up plan_of world bounds Only state)
   takes_up_ends state none is =
-      option_has Ends (instruction_at world (method_now state.method state.stage) (offset_now state.stage)) (carried_out world bounds state) (ill_typed world state)
-      (λ found. went_ends world bounds found.1 (plan_of world state found.0).state (plan_of world state found.0).way
+      option_has Ends (instruction_at world (method_now state.method state.stage) (offset_now state.stage)) (carried_out plan_of world bounds Only state) (ill_typed world state)
+      (λ found. went_ends world bounds found.1 (plan_of world state Only found.0).state (plan_of world state Only found.0).way
       (plan_leaves world state none (stack_there world state state.stage is) found.0))
       (ill_ends world bounds state)
 
@@ -145,9 +147,9 @@ module _ (world : World) (bounds : Bounds) where
   cut_ends None state take h = h refl
   cut_ends (Some bound) state take h = tt
 
-  takes_next_ends : (state : State) → IsAtReferences world state → question_of world state bounds ≡ None → Ends (takes_next world bounds state)
+  takes_next_ends : (state : State) → IsAtReferences world state → question_of world state bounds ≡ None → Ends (takes_next plan_of world bounds Only state)
   takes_next_ends state at asks =
-      if_has Ends (nat_le bounds.run.steps state.carried) _ (takes_up world bounds (begun world state)) tt
+      if_has Ends (nat_le bounds.run.steps state.carried) _ (takes_up plan_of world bounds Only (begun world state)) tt
       (takes_up_ends (begun world state) at.reached.known (begun_sound world state (sound_reached world state at.reached.reached) (none_asked world bounds state asks)).stage)
 
   behind_ends : (slot : Origin) (state : State) → state.picture.locs ≡ [] → IsStage world state state.stage → Ends (goes_behind world bounds slot state)
@@ -159,7 +161,7 @@ module _ (world : World) (bounds : Bounds) where
 pub references_end : OfTakes (λ world bounds state take. EndsIn world take.state take.outcome)
 references_end world bounds state choice range at has = go (question_of world state bounds) refl has where
   go : (question : Option Question) → question_of world state bounds ≡ question → Has (option_map_or (alternatives world state bounds) question only) choice
-      → Ends world bounds (option_map_or (answers world bounds choice state) question (takes_next world bounds state))
+      → Ends world bounds (option_map_or (answers world bounds choice state) question (takes_next plan_of world bounds Only state))
   go None asks offered = takes_next_ends world bounds state at asks
   go (Some (Reads slot type)) asks offered =
       let told : State = answered world choice state (Reads slot type) in

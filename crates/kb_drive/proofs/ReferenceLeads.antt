@@ -33,7 +33,8 @@ use Rattle.kb_stepref.specs.Choices.{choices_of}
 use Rattle.kb_stepref.specs.Effects.{plan_of}
 use Rattle.kb_stepref.specs.Laws.{AreInRange, IsAtReferences}
 use Rattle.kb_stepref.specs.Questions.{Question, Reads, question_of}
-use Rattle.kb_stepref.specs.Takes.{answered, answers, carried_out, cut_where, goes_behind, passed_by, taken, takes_next, takes_up}
+use Rattle.kb_stepref.specs.Takes.{answered, answers, cut_where, goes_behind, passed_by, taken}
+use Rattle.kb_ways.specs.Plans.{carried_out, takes_next, takes_up}
 use Rattle.kb_stepref.proofs.FirstReadLaws.{IsAskedAt, asked}
 use Rattle.kb_stepref.proofs.FollowLaws.{follows}
 use Rattle.kb_stepref.proofs.KeepLaws.{answers_untold, compared, int_tells, kept, plan_writes, reference_tells, takes_next_untold}
@@ -46,6 +47,7 @@ use Rattle.kb_drive.specs.Steps.{LeadsOn, StaysAtInputs}
 use Rattle.kb_drive.proofs.FrontLaws.{take_append}
 use Rattle.kb_drive.proofs.LeadLaws.{Few, IsRunning, begun_runs, less_rank, stays_int, stays_itself, went_few}
 use Rattle.kb_drive.proofs.ReferenceEnds.{references_end}
+use Rattle.kb_picture.specs.declared.choice.Choice.TheVariants.{Only}
 
 -- ---- what stays at inputs
 
@@ -82,22 +84,22 @@ module _ (world : World) (bounds : Bounds) (old : State) (at : IsAtReferences wo
   stays_behind : StaysAtInputs old.picture (taken world bounds old choice).state.picture
   stays_behind = go (question_of world old bounds) refl where
     go : (question : Option Question) → question_of world old bounds ≡ question
-        → StaysAtInputs old.picture (option_map_or (answers world bounds choice old) question (takes_next world bounds old)).state.picture
+        → StaysAtInputs old.picture (option_map_or (answers world bounds choice old) question (takes_next plan_of world bounds Only old)).state.picture
     go None asks = subst (StaysAtInputs old.picture) (sym (takes_next_untold world bounds old).stays.picture) (stays_itself old.picture)
     go (Some (Reads slot type)) asks =
         subst (StaysAtInputs old.picture) (sym (answers_untold world bounds choice old (Reads slot type)).stays.picture) (stays_told slot type asks)
 
   -- ---- how many takes can follow
 
-  takes_up_few : old.carried < bounds.run.steps → (state : State) → IsRunning state.stage → Few world bounds old (takes_up world bounds state)
+  takes_up_few : old.carried < bounds.run.steps → (state : State) → IsRunning state.stage → Few world bounds old (takes_up plan_of world bounds Only state)
   takes_up_few within state running =
-      option_has (Few world bounds old) (instruction_at world (method_now state.method state.stage) (offset_now state.stage)) (carried_out world bounds state) (ill_typed world state)
-      (λ found. let plan = plan_of world state found.0 in
+      option_has (Few world bounds old) (instruction_at world (method_now state.method state.stage) (offset_now state.stage)) (carried_out plan_of world bounds Only state) (ill_typed world state)
+      (λ found. let plan = plan_of world state Only found.0 in
       went_few world bounds old within found.1 plan.state plan.way (subst IsRunning (sym (plan_writes world state found.0).stage) running)) tt
 
-  takes_next_few : Few world bounds old (takes_next world bounds old)
+  takes_next_few : Few world bounds old (takes_next plan_of world bounds Only old)
   takes_next_few = go (nat_le bounds.run.steps old.carried) refl where
-    go : (b : Bool) → nat_le bounds.run.steps old.carried ≡ b → Few world bounds old (if b then record { state = old; outcome = Cut Steps } else takes_up world bounds (begun world old))
+    go : (b : Bool) → nat_le bounds.run.steps old.carried ≡ b → Few world bounds old (if b then record { state = old; outcome = Cut Steps } else takes_up plan_of world bounds Only (begun world old))
     go true e = tt
     go false e = takes_up_few (leb-false bounds.run.steps old.carried e) (begun world old) (begun_runs world old old.stage)
 
@@ -114,7 +116,7 @@ module _ (world : World) (bounds : Bounds) (old : State) (at : IsAtReferences wo
 
   taken_few : Few world bounds old (taken world bounds old choice)
   taken_few = go (question_of world old bounds) refl where
-    go : (question : Option Question) → question_of world old bounds ≡ question → Few world bounds old (option_map_or (answers world bounds choice old) question (takes_next world bounds old))
+    go : (question : Option Question) → question_of world old bounds ≡ question → Few world bounds old (option_map_or (answers world bounds choice old) question (takes_next plan_of world bounds Only old))
     go None asks = takes_next_few
     go (Some (Reads slot type)) asks =
         cut_few (passed_by choice) (answered world choice old (Reads slot type)) (goes_behind world bounds slot (answered world choice old (Reads slot type)))

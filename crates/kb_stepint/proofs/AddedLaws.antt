@@ -23,7 +23,7 @@ use Rattle.kb_heap.specs.declared.bounds.Bound.TheVariants.{Steps}
 use Rattle.kb_frames.specs.declared.value.SymValue.{SymValue}
 use Rattle.kb_frames.specs.declared.value.SymValue.TheVariants.{Int, Null, Obj, Literal, New, Loc}
 use Rattle.kb_frames.specs.Cuts.{setting_of}
-use Rattle.kb_frames.specs.Lent.{begun, begun_stage, stack_of, with_nodes}
+use Rattle.kb_frames.specs.Lent.{begun, begun_stage, stack_of}
 use Rattle.kb_frames.specs.Next.{argument_next, method_now, offset_now}
 use Rattle.kb_frames.specs.StandsFor.{StandsFor, StageStandsFor, FrameStandsFor, reading_at, value_of_sym}
 use Rattle.kb_frames.specs.State.{State}
@@ -31,19 +31,20 @@ use Rattle.kb_frames.specs.States.{IsSymValue, IsStage}
 use Rattle.kb_frames.proofs.RunLaws.{counters_agree}
 use Rattle.kb_ways.specs.Asked.{all_asked}
 use Rattle.kb_stepint.specs.Choices.{conditions_of}
-use Rattle.kb_stepint.specs.Effects.{plan_of}
+use Rattle.kb_stepint.specs.Effects.{plan_of, effect_of}
 use Rattle.kb_ways.specs.Needs.{IsTermOf}
 use Rattle.kb_ways.specs.Reached.{IsReached}
 use Rattle.kb_frames.specs.Comparing.{comparison_of}
 use Rattle.kb_ways.specs.Simulation.{AddsComparisons, IsComparedBy}
-use Rattle.kb_stepint.specs.Takes.{answered, taken, takes_next, takes_up, reads_argument}
+use Rattle.kb_stepint.specs.Takes.{taken, reads_argument}
+use Rattle.kb_ways.specs.Plans.{takes_next, takes_up, carried_out}
 use Rattle.kb_ways.specs.Ways.{Take, ill_typed, went}
 use Rattle.kb_ways.proofs.AskedLaws.{AreAskable, all_asked_adds}
 use Rattle.kb_stepint.proofs.ComparedLaws.{instr_askable}
-use Rattle.kb_ways.proofs.GrowLaws.{option_has, nodes_grow}
+use Rattle.kb_ways.proofs.GrowLaws.{option_has, HasMore, more_grows}
 use Rattle.kb_ways.proofs.OneInstances.{same_variables}
 use Rattle.kb_ways.proofs.KeepLaws.{Stays, stays_grown, stays_on, went_stays, went_when, same_when}
-use Rattle.kb_stepint.proofs.KeepLaws.{plan_makes, takes_next_stays}
+use Rattle.kb_stepint.proofs.KeepLaws.{effect_makes, takes_next_stays}
 use Rattle.kb_code.specs.declared.instruction.Instr.TheVariants as instrs
 
 -- an empty stack asks for nothing
@@ -102,34 +103,34 @@ module _ (world : World) (bounds : Bounds) (old : State) where
 
   answered_adds : (choice : Choice) (found : Instr × ℕ) → IsReached world old → nat_le bounds.run.steps old.carried ≡ false
       → instruction_at world (method_now old.method (begun_stage world old old.stage)) (offset_now (begun_stage world old old.stage)) ≡ Some found
-      → Stays old (answered world bounds choice (begun world old) found).state → AddsComparisons world bounds old (answered world bounds choice (begun world old) found).state
+      → Stays old (carried_out plan_of world bounds choice (begun world old) found).state → AddsComparisons world bounds old (carried_out plan_of world bounds choice (begun world old) found).state
   answered_adds choice found reached within up stays input c correct stands shape i condition from at =
       let conditions = conditions_of found.0 (stack_of (begun_stage world old old.stage)) choice in
       let grown : State = all_asked (begun world old) conditions in
-      let plan = plan_of world grown choice found.0 in
-      let new : State = (went world bounds found.1 (with_nodes grown plan.nodes) plan.way).state in
+      let effect = effect_of world grown choice found.0 in
+      let new : State = (went world bounds found.1 effect.state effect.way).state in
+      let more : HasMore grown effect.state = effect_makes world grown choice found.0 in
       let extends : Extends grown.nodes new.nodes =
-      (stays_on grown (with_nodes grown plan.nodes) new (stays_grown grown (with_nodes grown plan.nodes) (nodes_grow grown plan.nodes (plan_makes world grown choice found.0)))
-      (went_stays world bounds found.1 (with_nodes grown plan.nodes) plan.way)).terms in
-      let early : slice_get grown.when i ≡ Some condition =
-      ap (λ (l : List (TermId × Bool)). slice_get l i) (sym (went_when world bounds found.1 (with_nodes grown plan.nodes) plan.way)) ∙ at in
+      (stays_on grown effect.state new (stays_grown grown effect.state (more_grows grown effect.state more)) (went_stays world bounds found.1 effect.state effect.way)).terms in
+      let same : new.when ≡ grown.when = went_when world bounds found.1 effect.state effect.way ∙ ap (λ (s : State). s.when) more.rest in
+      let early : slice_get grown.when i ≡ Some condition = ap (λ (l : List (TermId × Bool)). slice_get l i) (sym same) ∙ at in
       let compared = all_asked_adds (IsComparedBy s c) (variables input c stands reached within) conditions (begun world old)
       (askable input c stands reached within old.stage found choice refl up) i condition from early new.nodes extends in
       subst (λ (values : List ℤ). IsComparedBy s c (comparison_of new.nodes values condition.0)) (same_variables old.picture input stands.instance_of.shape new.picture stays.picture shape) compared
 
-  takes_up_adds : (choice : Choice) → IsReached world old → nat_le bounds.run.steps old.carried ≡ false → Stays old (takes_up world bounds choice (begun world old)).state
-      → AddsComparisons world bounds old (takes_up world bounds choice (begun world old)).state
+  takes_up_adds : (choice : Choice) → IsReached world old → nat_le bounds.run.steps old.carried ≡ false → Stays old (takes_up plan_of world bounds choice (begun world old)).state
+      → AddsComparisons world bounds old (takes_up plan_of world bounds choice (begun world old)).state
   takes_up_adds choice reached within = go (instruction_at world (method_now old.method (begun_stage world old old.stage)) (offset_now (begun_stage world old old.stage))) refl where
     go : (it : Option (Instr × ℕ)) → instruction_at world (method_now old.method (begun_stage world old old.stage)) (offset_now (begun_stage world old old.stage)) ≡ it
-        → Stays old (option_map_or (answered world bounds choice (begun world old)) it (ill_typed world (begun world old))).state
-        → AddsComparisons world bounds old (option_map_or (answered world bounds choice (begun world old)) it (ill_typed world (begun world old))).state
+        → Stays old (option_map_or (carried_out plan_of world bounds choice (begun world old)) it (ill_typed world (begun world old))).state
+        → AddsComparisons world bounds old (option_map_or (carried_out plan_of world bounds choice (begun world old)) it (ill_typed world (begun world old))).state
     go None e stays = same_when world bounds old (ill_typed world (begun world old)).state refl
     go (Some found) e stays = answered_adds choice found reached within e stays
 
   abbrev next_take : Choice → Bool → Take
-  next_take choice b = if b then record { state = old; outcome = Cut Steps } else takes_up world bounds choice (begun world old)
+  next_take choice b = if b then record { state = old; outcome = Cut Steps } else takes_up plan_of world bounds choice (begun world old)
 
-  takes_next_adds : (choice : Choice) → IsReached world old → AddsComparisons world bounds old (takes_next world bounds choice old).state
+  takes_next_adds : (choice : Choice) → IsReached world old → AddsComparisons world bounds old (takes_next plan_of world bounds choice old).state
   takes_next_adds choice reached = go (nat_le bounds.run.steps old.carried) refl (takes_next_stays world bounds choice old) where
     go : (b : Bool) → nat_le bounds.run.steps old.carried ≡ b → Stays old (next_take choice b).state → AddsComparisons world bounds old (next_take choice b).state
     go true e stays = same_when world bounds old old refl
@@ -138,4 +139,4 @@ module _ (world : World) (bounds : Bounds) (old : State) where
   pub adds : (choice : Choice) → IsReached world old → AddsComparisons world bounds old (taken world bounds old choice).state
   adds choice reached =
       option_has (λ (take : Take). AddsComparisons world bounds old take.state) (argument_next world old.method old.stage) (reads_argument old)
-      (takes_next world bounds choice old) (λ type. same_when world bounds old (reads_argument old type).state refl) (takes_next_adds choice reached)
+      (takes_next plan_of world bounds choice old) (λ type. same_when world bounds old (reads_argument old type).state refl) (takes_next_adds choice reached)

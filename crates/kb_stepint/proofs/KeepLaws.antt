@@ -28,13 +28,15 @@ use Rattle.kb_frames.specs.State.{State}
 use Rattle.kb_terms.specs.declared.node.VarKind.{VarKind}
 use Rattle.kb_ways.specs.Asked.{all_asked, interned_op}
 use Rattle.kb_stepint.specs.Choices.{conditions_of}
-use Rattle.kb_stepint.specs.Effects.{Planned, plan_of, plain, planned, pushes_int, adds, rearranges, picked, op_of, op_of_cut, computes_by, int_local, kept_int, leaves_with}
+use Rattle.kb_ways.specs.Plans.{Planned, plain, planned, takes_next, takes_up, carried_out}
+use Rattle.kb_stepint.specs.Effects.{plan_of, pushes_int, adds, rearranges, picked, op_of, op_of_cut, computes_by, int_local, kept_int, leaves_with, effect_of}
 use Rattle.kb_stepint.specs.Operands.{one_int, two_ints}
 use Rattle.kb_ways.specs.Simulation.{Keeps, IsRead, ReadsWhatItSees}
-use Rattle.kb_stepint.specs.Takes.{answered, taken, takes_next, takes_up, reads_argument}
+use Rattle.kb_stepint.specs.Takes.{taken, reads_argument}
 use Rattle.kb_ways.specs.Ways.{Take, Fails, ill_typed}
-use Rattle.kb_ways.proofs.GrowLaws.{if_has, option_has, all_asked_grows, front_itself, nodes_grow, GoesOn, goes_on_itself, goes_on_behind, interned_goes_on, op_goes_on}
+use Rattle.kb_ways.proofs.GrowLaws.{if_has, option_has, all_asked_grows, front_itself, goes_on_behind, interned_goes_on, op_goes_on, HasMore, more_itself, more_terms, more_grows}
 use Rattle.kb_ways.proofs.KeepLaws.{Stays, stays_grown, stays_on, begun_stays, same_stays, went_stays, kept_of_stays, past, same_reads}
+use Rattle.kb_terms.specs.declared.op.Op.{Op}
 use Rattle.kb_code.specs.declared.instruction.Instr.TheVariants as instrs
 use Rattle.kb_names.specs.declared.types.JType.TheVariants as types
 use Rattle.kb_picture.specs.declared.choice.Choice.TheVariants as choices
@@ -44,76 +46,85 @@ use Rattle.kb_picture.specs.declared.picture.Seen.TheVariants as seens
 
 module _ (world : World) (state : State) where
   abbrev Makes : Planned → Type 0
-  Makes plan = GoesOn state.nodes plan.nodes
+  Makes plan = HasMore state plan.state
 
-  no_terms : GoesOn state.nodes state.nodes
-  no_terms = goes_on_itself state.nodes
+  no_terms : HasMore state state
+  no_terms = more_itself state
 
   planned_makes : {A : Type 0} (it : Option A) (f : A → Planned) → ((x : A) → Makes (f x)) → Makes (planned state it f)
   planned_makes it f h = option_has Makes it f (plain state Fails) h no_terms
 
+  int_makes : (z : ℤ) → Makes (pushes_int state z)
+  int_makes z = more_terms state (interned state.nodes (Const z)).0 (interned_goes_on state.nodes (Const z) refl)
+
+  -- an operation on an int
+  op_makes : (op : Op) (t : TermId) → HasMore state (with_nodes state (interned_op state.nodes op t None).0)
+  op_makes op t = more_terms state (interned_op state.nodes op t None).0 (op_goes_on state.nodes op t None)
+
   adds_makes : (k : ℕ) (z : ℤ) (t : TermId) → Makes (adds world state k t (interned state.nodes (Const z)))
   adds_makes k z t =
       let one = interned state.nodes (Const z) in
-      goes_on_behind state.nodes one.0 (interned_op one.0 Add t (Some one.1)).0 (interned_goes_on state.nodes (Const z) refl) (op_goes_on one.0 Add t (Some one.1))
+      more_terms state (interned_op one.0 Add t (Some one.1)).0
+      (goes_on_behind state.nodes one.0 (interned_op one.0 Add t (Some one.1)).0 (interned_goes_on state.nodes (Const z) refl) (op_goes_on one.0 Add t (Some one.1)))
 
   computes_by_makes : (op : IntOp) (t : TermId × TermId) (choice : Choice) → Makes (computes_by state op t choice)
   computes_by_makes op t choices.Zero = no_terms
-  computes_by_makes op t _ = op_goes_on state.nodes (op_of op) t.0 (Some t.1)
+  computes_by_makes op t _ = more_terms state (interned_op state.nodes (op_of op) t.0 (Some t.1)).0 (op_goes_on state.nodes (op_of op) t.0 (Some t.1))
 
   rearranges_makes : (depth : ℕ) (picks : List ℕ) → Makes (rearranges state depth picks)
   rearranges_makes depth picks = planned_makes (picked depth picks (stack_of state.stage)) _ (λ stack. no_terms)
 
-  kept_makes : (t : TermId) (type : Option JType) → Makes (planned state (option_and_then (kept_int state t) type) leaves_with)
+  kept_makes : (t : TermId) (type : Option JType) → Makes (planned state (option_and_then (kept_int state t) type) (leaves_with state))
   kept_makes t None = no_terms
   kept_makes t (Some types.Bool) =
       let one = interned state.nodes (Const (pos 1)) in
-      goes_on_behind state.nodes one.0 (interned_op one.0 And t (Some one.1)).0 (interned_goes_on state.nodes (Const (pos 1)) refl) (op_goes_on one.0 And t (Some one.1))
+      more_terms state (interned_op one.0 And t (Some one.1)).0
+      (goes_on_behind state.nodes one.0 (interned_op one.0 And t (Some one.1)).0 (interned_goes_on state.nodes (Const (pos 1)) refl) (op_goes_on one.0 And t (Some one.1)))
   kept_makes t (Some types.Int) = no_terms
   kept_makes t (Some _) = no_terms
 
-  pub plan_makes : (choice : Choice) (instr : Instr) → Makes (plan_of world state choice instr)
-  plan_makes choice (instrs.PushInt z) = interned_goes_on state.nodes (Const z) refl
-  plan_makes choice (instrs.Ldc entry) =
-      planned_makes (int_entry_of world (class_number world (method_now state.method state.stage)) entry) (pushes_int state) (λ z. interned_goes_on state.nodes (Const z) refl)
-  plan_makes choice (instrs.LoadInt k) = planned_makes (int_local world state k) _ (λ t. no_terms)
-  plan_makes choice (instrs.StoreInt k) = planned_makes (one_int (stack_of state.stage)) _ (λ t. no_terms)
-  plan_makes choice (instrs.Inc k by) = planned_makes (int_local world state k) _ (λ t. adds_makes k by t)
-  plan_makes choice instrs.Pop = rearranges_makes 1 []
-  plan_makes choice instrs.Pop2 = rearranges_makes 2 []
-  plan_makes choice instrs.Dup = rearranges_makes 1 (0 ∷ 0 ∷ [])
-  plan_makes choice instrs.DupX1 = rearranges_makes 2 (0 ∷ 1 ∷ 0 ∷ [])
-  plan_makes choice instrs.DupX2 = rearranges_makes 3 (0 ∷ 1 ∷ 2 ∷ 0 ∷ [])
-  plan_makes choice instrs.Dup2 = rearranges_makes 2 (0 ∷ 1 ∷ 0 ∷ 1 ∷ [])
-  plan_makes choice instrs.Dup2X1 = rearranges_makes 3 (0 ∷ 1 ∷ 2 ∷ 0 ∷ 1 ∷ [])
-  plan_makes choice instrs.Dup2X2 = rearranges_makes 4 (0 ∷ 1 ∷ 2 ∷ 3 ∷ 0 ∷ 1 ∷ [])
-  plan_makes choice instrs.Swap = rearranges_makes 2 (1 ∷ 0 ∷ [])
-  plan_makes choice (instrs.Int2 op) = planned_makes (two_ints (stack_of state.stage)) _ (λ t. computes_by_makes op t choice)
-  plan_makes choice instrs.Neg = planned_makes (one_int (stack_of state.stage)) _ (λ t. op_goes_on state.nodes Neg t None)
-  plan_makes choice (instrs.Narrow cut) = planned_makes (one_int (stack_of state.stage)) _ (λ t. op_goes_on state.nodes (op_of_cut cut) t None)
-  plan_makes choice instrs.ReturnInt =
+  pub effect_makes : (choice : Choice) (instr : Instr) → Makes (effect_of world state choice instr)
+  effect_makes choice (instrs.PushInt z) = int_makes z
+  effect_makes choice (instrs.Ldc entry) =
+      planned_makes (int_entry_of world (class_number world (method_now state.method state.stage)) entry) (pushes_int state) int_makes
+  effect_makes choice (instrs.LoadInt k) = planned_makes (int_local world state k) _ (λ t. no_terms)
+  effect_makes choice (instrs.StoreInt k) = planned_makes (one_int (stack_of state.stage)) _ (λ t. no_terms)
+  effect_makes choice (instrs.Inc k by) = planned_makes (int_local world state k) _ (λ t. adds_makes k by t)
+  effect_makes choice instrs.Pop = rearranges_makes 1 []
+  effect_makes choice instrs.Pop2 = rearranges_makes 2 []
+  effect_makes choice instrs.Dup = rearranges_makes 1 (0 ∷ 0 ∷ [])
+  effect_makes choice instrs.DupX1 = rearranges_makes 2 (0 ∷ 1 ∷ 0 ∷ [])
+  effect_makes choice instrs.DupX2 = rearranges_makes 3 (0 ∷ 1 ∷ 2 ∷ 0 ∷ [])
+  effect_makes choice instrs.Dup2 = rearranges_makes 2 (0 ∷ 1 ∷ 0 ∷ 1 ∷ [])
+  effect_makes choice instrs.Dup2X1 = rearranges_makes 3 (0 ∷ 1 ∷ 2 ∷ 0 ∷ 1 ∷ [])
+  effect_makes choice instrs.Dup2X2 = rearranges_makes 4 (0 ∷ 1 ∷ 2 ∷ 3 ∷ 0 ∷ 1 ∷ [])
+  effect_makes choice instrs.Swap = rearranges_makes 2 (1 ∷ 0 ∷ [])
+  effect_makes choice (instrs.Int2 op) = planned_makes (two_ints (stack_of state.stage)) _ (λ t. computes_by_makes op t choice)
+  effect_makes choice instrs.Neg = planned_makes (one_int (stack_of state.stage)) _ (op_makes Neg)
+  effect_makes choice (instrs.Narrow cut) = planned_makes (one_int (stack_of state.stage)) _ (op_makes (op_of_cut cut))
+  effect_makes choice instrs.ReturnInt =
       planned_makes (one_int (stack_of state.stage)) _ (λ t. kept_makes t (result_of world (method_now state.method state.stage)))
-  plan_makes choice _ = no_terms
+  effect_makes choice _ = no_terms
 
 -- ---- takes
 
 module _ (world : World) (bounds : Bounds) (choice : Choice) where
-  answered_stays : (state : State) (found : Instr × ℕ) → Stays state (answered world bounds choice state found).state
+  answered_stays : (state : State) (found : Instr × ℕ) → Stays state (carried_out plan_of world bounds choice state found).state
   answered_stays state found =
       let conditions = conditions_of found.0 (stack_of state.stage) choice in
       let asked : State = all_asked state conditions in
-      let plan = plan_of world asked choice found.0 in
+      let effect = effect_of world asked choice found.0 in
       stays_on state asked _ (stays_grown state asked (all_asked_grows conditions state))
-      (stays_on asked (with_nodes asked plan.nodes) _ (stays_grown asked (with_nodes asked plan.nodes) (nodes_grow asked plan.nodes (plan_makes world asked choice found.0)))
-      (went_stays world bounds found.1 (with_nodes asked plan.nodes) plan.way))
+      (stays_on asked effect.state _ (stays_grown asked effect.state (more_grows asked effect.state (effect_makes world asked choice found.0)))
+      (went_stays world bounds found.1 effect.state effect.way))
 
-  takes_up_stays : (state : State) → Stays state (takes_up world bounds choice state).state
+  takes_up_stays : (state : State) → Stays state (takes_up plan_of world bounds choice state).state
   takes_up_stays state =
-      option_has (λ (take : Take). Stays state take.state) (instruction_at world (method_now state.method state.stage) (offset_now state.stage)) (answered world bounds choice state) (ill_typed world state)
+      option_has (λ (take : Take). Stays state take.state) (instruction_at world (method_now state.method state.stage) (offset_now state.stage)) (carried_out plan_of world bounds choice state) (ill_typed world state)
       (answered_stays state) (same_stays world bounds 0 state)
 
   -- where no argument is read
-  pub takes_next_stays : (old : State) → Stays old (takes_next world bounds choice old).state
+  pub takes_next_stays : (old : State) → Stays old (takes_next plan_of world bounds choice old).state
   takes_next_stays old =
       if_has (λ (take : Take). Stays old take.state) (nat_le bounds.run.steps old.carried) _ _ (same_stays world bounds 0 old)
       (stays_on old (begun world old) _ (begun_stays world old) (takes_up_stays (begun world old)))
@@ -134,7 +145,7 @@ argument_kept old kind = record {
 
 pub kept : (world : World) (bounds : Bounds) (old : State) (choice : Choice) → Keeps old (taken world bounds old choice).state
 kept world bounds old choice =
-    option_has (λ (take : Take). Keeps old take.state) (argument_next world old.method old.stage) (reads_argument old) (takes_next world bounds choice old)
+    option_has (λ (take : Take). Keeps old take.state) (argument_next world old.method old.stage) (reads_argument old) (takes_next plan_of world bounds choice old)
     (λ type. argument_kept old (kind_for (Some type))) (kept_of_stays old _ (takes_next_stays world bounds choice old))
 
 -- ---- what is read
@@ -153,5 +164,5 @@ argument_reads world bounds old kind input c correct stands instance_of = record
 pub reads : (world : World) (bounds : Bounds) (old : State) (choice : Choice) → ReadsWhatItSees world bounds old (taken world bounds old choice).state
 reads world bounds old choice =
     option_has (λ (take : Take). ReadsWhatItSees world bounds old take.state) (argument_next world old.method old.stage) (reads_argument old)
-    (takes_next world bounds choice old) (λ type. argument_reads world bounds old (kind_for (Some type)))
-    (same_reads world bounds old (takes_next world bounds choice old).state (takes_next_stays world bounds choice old).picture)
+    (takes_next plan_of world bounds choice old) (λ type. argument_reads world bounds old (kind_for (Some type)))
+    (same_reads world bounds old (takes_next plan_of world bounds choice old).state (takes_next_stays world bounds choice old).picture)

@@ -27,25 +27,26 @@ use Rattle.kb_frames.specs.declared.state.Stage.TheVariants.{Begins, Runs}
 use Rattle.kb_frames.specs.declared.value.Outcome.TheVariants.{Cut}
 use Rattle.kb_frames.specs.declared.value.SymValue.{SymValue}
 use Rattle.kb_frames.specs.Cuts.{setting_of}
-use Rattle.kb_frames.specs.Lent.{begun, begun_stage, read_count, stack_of, with_nodes}
+use Rattle.kb_frames.specs.Lent.{begun, begun_stage, read_count, stack_of}
 use Rattle.kb_frames.specs.Next.{argument_next, instruction_next, is_int, is_int_next, is_reference, method_now, offset_now}
 use Rattle.kb_frames.specs.StandsFor.{IsInstanceOf, StandsFor}
 use Rattle.kb_frames.specs.State.{State}
 use Rattle.kb_ways.specs.declared.condition.Condition.{Condition}
 use Rattle.kb_ways.specs.Asked.{all_asked, is_refuted}
 use Rattle.kb_stepint.specs.Choices.{choices_of, conditions_of, listed, offered, only}
-use Rattle.kb_stepint.specs.Effects.{Planned, plan_of}
+use Rattle.kb_ways.specs.Plans.{Planned, takes_next, takes_up, carried_out}
+use Rattle.kb_stepint.specs.Effects.{plan_of, effect_of}
 use Rattle.kb_stepint.specs.Laws.{IsAtInts}
 use Rattle.kb_stepint.specs.Operands.{int_term, one_int, two_ints}
 use Rattle.kb_ways.specs.Reached.{IsReached}
 use Rattle.kb_ways.specs.Simulation.{ExactlyOneIs, NoneIs, TakesOneWay}
-use Rattle.kb_stepint.specs.Takes.{answered, reads_argument, taken, takes_next, takes_up}
+use Rattle.kb_stepint.specs.Takes.{reads_argument, taken}
 use Rattle.kb_ways.specs.Ways.{ill_typed}
 use Rattle.kb_ways.proofs.KeepLaws.{went_when, went_stays}
 use Rattle.kb_stepint.proofs.ComparedLaws.{int_is_term}
 use Rattle.kb_ways.proofs.ItemLaws.{two_parts}
-use Rattle.kb_ways.proofs.GrowLaws.{Grows, all_asked_grows}
-use Rattle.kb_stepint.proofs.KeepLaws.{plan_makes}
+use Rattle.kb_ways.proofs.GrowLaws.{Grows, all_asked_grows, HasMore}
+use Rattle.kb_stepint.proofs.KeepLaws.{effect_makes}
 use Rattle.kb_ways.proofs.OneAsked.{AllHold, AllSides, IsReady, conditions_there}
 use Rattle.kb_ways.proofs.OneDecided.{all_hold, all_met, all_open, all_ready, not_refuted}
 use Rattle.kb_ways.proofs.OneInstances.{argument_is, instance_of_met, int_argument, met_of_instance, read_instance}
@@ -107,11 +108,14 @@ module _ (world : World) (bounds : Bounds) (old : State) (reached : IsReached wo
   abbrev grown : Choice → State
   grown choice = all_asked start (cs choice)
 
-  abbrev plan : Choice → Planned
-  plan choice = plan_of world (grown choice) choice found.0
+  abbrev effect : Choice → Planned
+  effect choice = effect_of world (grown choice) choice found.0
+
+  more : (choice : Choice) → HasMore (grown choice) (effect choice).state
+  more choice = effect_makes world (grown choice) choice found.0
 
   abbrev new : Choice → State
-  new choice = (answered world bounds choice start found).state
+  new choice = (carried_out plan_of world bounds choice start found).state
 
   ready : IsReady start
   ready = record { ordered = pool_ordered old.nodes reached.sound.pool; terms = conditions_there old.nodes old.when reached.sound.conditions }
@@ -125,15 +129,16 @@ module _ (world : World) (bounds : Bounds) (old : State) (reached : IsReached wo
   grows choice = all_asked_grows (cs choice) start
 
   pub answered_picture : (choice : Choice) → (new choice).picture ≡ old.picture
-  answered_picture choice = (went_stays world bounds found.1 (with_nodes (grown choice) (plan choice).nodes) (plan choice).way).picture ∙ ap (λ (s : State). s.picture) (grows choice).rest
+  answered_picture choice =
+      (went_stays world bounds found.1 (effect choice).state (effect choice).way).picture ∙ ap (λ (s : State). s.picture) (more choice).rest ∙ ap (λ (s : State). s.picture) (grows choice).rest
 
   pub answered_when : (choice : Choice) → (new choice).when ≡ (grown choice).when
-  answered_when choice = went_when world bounds found.1 (with_nodes (grown choice) (plan choice).nodes) (plan choice).way
+  answered_when choice = went_when world bounds found.1 (effect choice).state (effect choice).way ∙ ap (λ (s : State). s.when) (more choice).rest
 
   pub answered_terms : (choice : Choice) → Extends (grown choice).nodes (new choice).nodes
   answered_terms choice =
-      Extends-trans (grown choice).nodes (plan choice).nodes (new choice).nodes (plan_makes world (grown choice) choice found.0).terms
-      (went_stays world bounds found.1 (with_nodes (grown choice) (plan choice).nodes) (plan choice).way).terms
+      Extends-trans (grown choice).nodes (effect choice).state.nodes (new choice).nodes (more choice).on.terms
+      (went_stays world bounds found.1 (effect choice).state (effect choice).way).terms
 
   abbrev Held : Choice → Type 0
   Held choice = AllHold old.nodes variables (cs choice)
@@ -181,13 +186,13 @@ module _ (world : World) (bounds : Bounds) (old : State) (at : IsAtInts world ol
       at.reached.keys (offset_now (begun_stage world old old.stage)) found
       (ap (λ (m : MethodId). instruction_at world m (offset_now (begun_stage world old old.stage))) (sym (method_same world old old.stage at.reached.alone)) ∙ e)
 
-  one_taken_up : ExactlyOneIs (λ (choice : Choice). IsInstanceOf (takes_up world bounds choice (begun world old)).state input)
+  one_taken_up : ExactlyOneIs (λ (choice : Choice). IsInstanceOf (takes_up plan_of world bounds choice (begun world old)).state input)
       (option_map_or (offered old (stack_of old.stage)) (instruction_next world old.method old.stage) only)
   one_taken_up =
-      subst (λ (found : Option (Instr × ℕ)). ExactlyOneIs (λ (choice : Choice). IsInstanceOf (takes_up world bounds choice (begun world old)).state input)
+      subst (λ (found : Option (Instr × ℕ)). ExactlyOneIs (λ (choice : Choice). IsInstanceOf (takes_up plan_of world bounds choice (begun world old)).state input)
       (option_map_or (offered old (stack_of old.stage)) (option_map (λ (f : Instr × ℕ). f.0) found) only)) (place_same world old old.stage) (go place refl)
     where
-      go : (it : Option (Instr × ℕ)) → place ≡ it → ExactlyOneIs (λ (choice : Choice). IsInstanceOf (option_map_or (answered world bounds choice (begun world old)) it (ill_typed world (begun world old))).state input)
+      go : (it : Option (Instr × ℕ)) → place ≡ it → ExactlyOneIs (λ (choice : Choice). IsInstanceOf (option_map_or (carried_out plan_of world bounds choice (begun world old)) it (ill_typed world (begun world old))).state input)
           (option_map_or (offered old (stack_of old.stage)) (option_map (λ (f : Instr × ℕ). f.0) it) only)
       go None e = inl (begun_instance, tt)
       go (Some found) e = one_answered world bounds old at.reached input stands.instance_of found (rising found e)
@@ -218,13 +223,13 @@ module _ (world : World) (bounds : Bounds) (old : State) (at : IsAtInts world ol
 
   pub one_taken : ExactlyOneIs (λ (choice : Choice). IsInstanceOf (taken world bounds old choice).state input) (choices_of world old bounds)
   one_taken = go (argument_next world old.method old.stage) refl where
-    by_steps : (b : Bool) → ExactlyOneIs (λ (choice : Choice). IsInstanceOf (if b then record { state = old; outcome = Cut Steps } else takes_up world bounds choice (begun world old)).state input)
+    by_steps : (b : Bool) → ExactlyOneIs (λ (choice : Choice). IsInstanceOf (if b then record { state = old; outcome = Cut Steps } else takes_up plan_of world bounds choice (begun world old)).state input)
         (if b then only else option_map_or (offered old (stack_of old.stage)) (instruction_next world old.method old.stage) only)
     by_steps true = inl (stands.instance_of, tt)
     by_steps false = one_taken_up
 
     go : (next : Option JType) → argument_next world old.method old.stage ≡ next
-        → ExactlyOneIs (λ (choice : Choice). IsInstanceOf (option_map_or (reads_argument old) next (takes_next world bounds choice old)).state input)
+        → ExactlyOneIs (λ (choice : Choice). IsInstanceOf (option_map_or (reads_argument old) next (takes_next plan_of world bounds choice old)).state input)
         (if is_some next || nat_le bounds.run.steps old.carried then only else option_map_or (offered old (stack_of old.stage)) (instruction_next world old.method old.stage) only)
     go None e = by_steps (nat_le bounds.run.steps old.carried)
     go (Some type) e =

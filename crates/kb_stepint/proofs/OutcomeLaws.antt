@@ -39,15 +39,16 @@ use Rattle.kb_frames.proofs.RunLaws.{counters_agree}
 use Rattle.kb_ways.specs.declared.condition.Condition.{Condition}
 use Rattle.kb_ways.specs.Asked.{all_asked, is_refuted}
 use Rattle.kb_stepint.specs.Choices.{choices_of, conditions_of, listed, offered, only}
-use Rattle.kb_stepint.specs.Effects.{Planned, plan_of}
+use Rattle.kb_ways.specs.Plans.{Planned, carried_out, takes_next, takes_up, followed}
+use Rattle.kb_stepint.specs.Effects.{plan_of, effect_of}
 use Rattle.kb_stepint.specs.Laws.{IsAtInts}
 use Rattle.kb_ways.specs.Needs.{IsTermOf}
 use Rattle.kb_ways.specs.Reached.{IsAlone}
 use Rattle.kb_ways.specs.Simulation.{FollowsStep, IsOutcome}
-use Rattle.kb_stepint.specs.Takes.{answered, carried_out, reads_argument, taken, takes_next, takes_up}
-use Rattle.kb_ways.specs.Ways.{Take, ill_typed}
-use Rattle.kb_ways.proofs.GrowLaws.{Grows, all_asked_grows}
-use Rattle.kb_stepint.proofs.KeepLaws.{plan_makes}
+use Rattle.kb_stepint.specs.Takes.{reads_argument, taken}
+use Rattle.kb_ways.specs.Ways.{Take, ill_typed, went}
+use Rattle.kb_ways.proofs.GrowLaws.{Grows, all_asked_grows, HasMore}
+use Rattle.kb_stepint.proofs.KeepLaws.{effect_makes}
 use Rattle.kb_ways.proofs.OneAsked.{AllHold, AllSides, IsReady, conditions_there, hold_later}
 use Rattle.kb_ways.proofs.OneDecided.{all_ready}
 use Rattle.kb_ways.proofs.BegunLaws.{begun_terms, method_same, place_same, stack_same, sym_term, sym_terms}
@@ -151,7 +152,7 @@ module _ (world : World) (bounds : Bounds) (old : State) (at : IsAtInts world ol
       R later = reading_at world (canon later when) input places
 
       abbrev plan : Planned
-      plan = plan_of world (canon nodes when) choice found.0
+      plan = effect_of world (canon nodes when) choice found.0
 
       reads : Reads R nodes variables run.frame c
       reads = record {
@@ -159,12 +160,14 @@ module _ (world : World) (bounds : Bounds) (old : State) (at : IsAtInts world ol
         ints = λ later t. reading_int world (canon later when) input places t;
       }
 
-      canon_follows : Follows (carried_out world bounds choice found (canon nodes when))
+      canon_follows : Follows (followed world bounds found.1 plan)
       canon_follows =
-          let on : Extends old.nodes plan.nodes = Extends-trans old.nodes nodes plan.nodes more (plan_makes world (canon nodes when) choice found.0).terms in
+          let made : HasMore (canon nodes when) plan.state = effect_makes world (canon nodes when) choice found.0 in
+          let on : Extends old.nodes plan.state.nodes = Extends-trans old.nodes nodes plan.state.nodes more made.on.terms in
           let effect_is = plan_is s c found.1 (record old { when = when }) run.frame nodes variables R reads ordered (frame_terms nodes more) found.0 choice int has held rising in
-          went_is world bounds old (sound_reached world old at.reached) input c stands run.frame run.method run.callers found.1
-          plan.nodes on when (framed plan.nodes when on) (stores_at (Some found) there ∙ stores_nothing world run.frame.method found.0 s c int) plan.way (step_at (Some found) there ∙ effect_is)
+          subst (λ (st : State). Follows (went world bounds found.1 st plan.way)) (sym made.rest)
+          (went_is world bounds old (sound_reached world old at.reached) input c stands run.frame run.method run.callers found.1
+          plan.state.nodes on when (framed plan.state.nodes when on) (stores_at (Some found) there ∙ stores_nothing world run.frame.method found.0 s c int) plan.way (step_at (Some found) there ∙ effect_is))
 
     -- ---- it is taken up
 
@@ -174,7 +177,7 @@ module _ (world : World) (bounds : Bounds) (old : State) (at : IsAtInts world ol
     stack_is : stack ≡ run.frame.stack
     stack_is = ap stack_of run.is
 
-    answered_follows : (choice : Choice) → Has (offered old (stack_of old.stage) found.0) choice → Follows (answered world bounds choice (begun world old) found)
+    answered_follows : (choice : Choice) → Has (offered old (stack_of old.stage) found.0) choice → Follows (carried_out plan_of world bounds choice (begun world old) found)
     answered_follows choice has i =
         let cs : List Condition = conditions_of found.0 stack choice in
         let start : State = begun world old in
@@ -189,7 +192,7 @@ module _ (world : World) (bounds : Bounds) (old : State) (at : IsAtInts world ol
         let held : AllHold old.nodes variables cs = instance_held world bounds old at.reached input stands.instance_of found choice both.1 i in
         let held_now : AllHold grown.nodes variables cs = hold_later old.nodes grown.nodes variables cs grows.terms sides held in
         let is : grown ≡ canon grown.nodes grown.when = grows.rest ∙ ap (λ (stage : Stage). record old { stage = stage; nodes = grown.nodes; when = grown.when }) run.is in
-        subst (λ (st : State). Follows (carried_out world bounds choice found st)) (sym is)
+        subst (λ (st : State). Follows (followed world bounds found.1 (effect_of world st choice found.0))) (sym is)
         (canon_follows grown.nodes grows.terms ready.ordered grown.when choice (subst (λ (l : List SymValue). Has (listed found.0 l) choice) stack_is both.0)
         (subst (λ (l : List SymValue). AllHold grown.nodes variables (conditions_of found.0 l choice)) stack_is held_now)) i
 
@@ -220,10 +223,10 @@ module _ (world : World) (bounds : Bounds) (old : State) (at : IsAtInts world ol
       at.reached.keys (offset_now (begun_stage world old old.stage)) found
       (ap (λ (m : MethodId). instruction_at world m (offset_now (begun_stage world old old.stage))) (sym (method_same world old old.stage at.reached.alone)) ∙ e)
 
-  pub takes_up_follows : (choice : Choice) → Has (option_map_or (offered old (stack_of old.stage)) (instruction_next world old.method old.stage) only) choice → Follows (takes_up world bounds choice (begun world old))
+  pub takes_up_follows : (choice : Choice) → Has (option_map_or (offered old (stack_of old.stage)) (instruction_next world old.method old.stage) only) choice → Follows (takes_up plan_of world bounds choice (begun world old))
   takes_up_follows choice has = go place refl (subst (λ (it : Option (Instr × ℕ)). Has (option_map_or (offered old (stack_of old.stage)) (option_map (λ (f : Instr × ℕ). f.0) it) only) choice) (sym (place_same world old old.stage)) has) where
     go : (it : Option (Instr × ℕ)) → place ≡ it → Has (option_map_or (offered old (stack_of old.stage)) (option_map (λ (f : Instr × ℕ). f.0) it) only) choice
-        → Follows (option_map_or (answered world bounds choice (begun world old)) it (ill_typed world (begun world old)))
+        → Follows (option_map_or (carried_out plan_of world bounds choice (begun world old)) it (ill_typed world (begun world old)))
     go None e h = runs_off (place_is ∙ e)
     go (Some found) e h = answered_follows found (place_is ∙ e) (int_here found e) (rising_here found e) choice h
 
@@ -233,15 +236,15 @@ pub follows : (world : World) (bounds : Bounds) (old : State) (choice : Choice) 
 follows world bounds old choice at has input c correct stands = go (argument_next world old.method old.stage) refl has where
   by_steps : argument_next world old.method old.stage ≡ None → (b : Bool) → nat_le bounds.run.steps old.carried ≡ b
       → Has (if b then only else option_map_or (offered old (stack_of old.stage)) (instruction_next world old.method old.stage) only) choice
-      → (i : IsInstanceOf (if b then record { state = old; outcome = Cut Steps } else takes_up world bounds choice (begun world old)).state input)
-      → IsOutcome world bounds c (if b then record { state = old; outcome = Cut Steps } else takes_up world bounds choice (begun world old)).state input i
-      (if b then record { state = old; outcome = Cut Steps } else takes_up world bounds choice (begun world old)).outcome
+      → (i : IsInstanceOf (if b then record { state = old; outcome = Cut Steps } else takes_up plan_of world bounds choice (begun world old)).state input)
+      → IsOutcome world bounds c (if b then record { state = old; outcome = Cut Steps } else takes_up plan_of world bounds choice (begun world old)).state input i
+      (if b then record { state = old; outcome = Cut Steps } else takes_up plan_of world bounds choice (begun world old)).outcome
   by_steps none true e h i = cut_by_steps world bounds old input c stands (leb-true bounds.run.steps old.carried e)
   by_steps none false e h i = takes_up_follows world bounds old at input c correct stands none e choice h i
 
   go : (next : Option JType) → argument_next world old.method old.stage ≡ next
       → Has (if is_some next || nat_le bounds.run.steps old.carried then only else option_map_or (offered old (stack_of old.stage)) (instruction_next world old.method old.stage) only) choice
-      → (i : IsInstanceOf (option_map_or (reads_argument old) next (takes_next world bounds choice old)).state input)
-      → IsOutcome world bounds c (option_map_or (reads_argument old) next (takes_next world bounds choice old)).state input i (option_map_or (reads_argument old) next (takes_next world bounds choice old)).outcome
+      → (i : IsInstanceOf (option_map_or (reads_argument old) next (takes_next plan_of world bounds choice old)).state input)
+      → IsOutcome world bounds c (option_map_or (reads_argument old) next (takes_next plan_of world bounds choice old)).state input i (option_map_or (reads_argument old) next (takes_next plan_of world bounds choice old)).outcome
   go None e h i = by_steps e (nat_le bounds.run.steps old.carried) refl h i
   go (Some type) e h i = reads_is world bounds old input c type at.reached.sound stands e i

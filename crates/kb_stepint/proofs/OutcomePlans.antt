@@ -46,7 +46,7 @@ use Rattle.kb_frames.specs.declared.frame.SymFrame.{SymFrame}
 use Rattle.kb_frames.specs.declared.state.Stage.TheVariants.{Runs}
 use Rattle.kb_frames.specs.declared.value.SymValue.{SymValue}
 use Rattle.kb_frames.specs.declared.value.SymValue.TheVariants.{Int, Null, Obj, Literal, New, Loc}
-use Rattle.kb_frames.specs.Lent.{local_in}
+use Rattle.kb_frames.specs.Lent.{local_in, with_nodes}
 use Rattle.kb_frames.specs.Next.{is_int_instruction}
 use Rattle.kb_frames.specs.StandsFor.{FrameStandsFor, value_of_sym, values_of_sym}
 use Rattle.kb_frames.specs.State.{State}
@@ -54,7 +54,8 @@ use Rattle.kb_ways.specs.declared.condition.Side.{Side}
 use Rattle.kb_ways.specs.declared.condition.Side.TheVariants.{Term, Number}
 use Rattle.kb_ways.specs.Asked.{interned_op}
 use Rattle.kb_stepint.specs.Choices.{both_ways, branch_conditions, conditions_of, division_conditions, divisor_conditions, divisors, key_conditions, keys_from, listed, only}
-use Rattle.kb_stepint.specs.Effects.{Planned, plain, planned, pushes, pushes_int, int_local, loads, in_local, stores, adds, increases, picked, rearranges, op_of, op_of_cut, computes, computes_by, computes_two, branch_way, switch_way, switches, kept_int, leaves_with, returns_int, plan_of, branches as branches_sym, returns_nothing as returns_nothing_sym}
+use Rattle.kb_ways.specs.Plans.{Planned, plain, planned}
+use Rattle.kb_stepint.specs.Effects.{pushes, pushes_int, int_local, loads, in_local, stores, adds, increases, picked, rearranges, op_of, op_of_cut, computes, computes_by, computes_two, branch_way, switch_way, switches, kept_int, leaves_with, returns_int, branches as branches_sym, returns_nothing as returns_nothing_sym, effect_of}
 use Rattle.kb_ways.specs.Ways.{with_stack, Goes, Jumps, Leaves, Fails}
 use Rattle.kb_ways.specs.Kept.{masked}
 use Rattle.kb_ways.specs.Needs.{IsTermOf}
@@ -210,7 +211,7 @@ module _ (s : Setting) (c : Config) (next : ℕ) (base : State) (frame : SymFram
   V t = value_of nodes t variables
 
   abbrev IsPlan : Outcome → Planned → Type 0
-  IsPlan outcome plan = outcome ≡ led_to s c next (R plan.nodes) plan.way
+  IsPlan outcome plan = outcome ≡ led_to s c next (R plan.state.nodes) plan.way
 
   itself : Extends nodes nodes
   itself = Extends-refl nodes
@@ -221,7 +222,7 @@ module _ (s : Setting) (c : Config) (next : ℕ) (base : State) (frame : SymFram
   -- ---- it goes on
 
   goes_is : (later : List Node) → Extends nodes later → (stack : List SymValue) (values : List Value) → values ≡ values_of_sym (R later) stack
-      → IsPlan (goes s c next values) (record { nodes = later; way = Goes frame.locals stack })
+      → IsPlan (goes s c next values) (record { state = with_nodes state later; way = Goes frame.locals stack })
   goes_is later more stack values e =
       ap (λ (l : List (Option Value)). goes_on s c next l values c.heap) (reads.stands later more).locals
       ∙ ap (λ (vs : List Value). goes_on s c next (map (option_map (value_of_sym (R later))) frame.locals) vs c.heap) e
@@ -283,7 +284,7 @@ module _ (s : Setting) (c : Config) (next : ℕ) (base : State) (frame : SymFram
       → IsPlan (with s c (an_int c.frame.stack) f) (plan (one_int frame.stack))
   with_one f plan fails h = go (one_int frame.stack) refl where
     go : (it : Option TermId) → one_int frame.stack ≡ it → IsPlan (with s c (an_int c.frame.stack) f) (plan it)
-    go None e = ap (λ (a : Option (Taken ℤ)). with s c a f) (int_none e) ∙ ap (λ (p : Planned). led_to s c next (R p.nodes) p.way) (sym fails)
+    go None e = ap (λ (a : Option (Taken ℤ)). with s c a f) (int_none e) ∙ ap (λ (p : Planned). led_to s c next (R p.state.nodes) p.way) (sym fails)
     go (Some x) e = ap (λ (a : Option (Taken ℤ)). with s c a f) (int_some x e) ∙ h x e
 
   with_two : (f : Taken (ℤ × ℤ) → Outcome) (plan : Option (TermId × TermId) → Planned) → plan None ≡ plain state Fails
@@ -291,7 +292,7 @@ module _ (s : Setting) (c : Config) (next : ℕ) (base : State) (frame : SymFram
       → IsPlan (with s c (two_of c.frame.stack) f) (plan (two_ints frame.stack))
   with_two f plan fails h = go (two_ints frame.stack) refl where
     go : (it : Option (TermId × TermId)) → two_ints frame.stack ≡ it → IsPlan (with s c (two_of c.frame.stack) f) (plan it)
-    go None e = ap (λ (a : Option (Taken (ℤ × ℤ))). with s c a f) (two_none e) ∙ ap (λ (p : Planned). led_to s c next (R p.nodes) p.way) (sym fails)
+    go None e = ap (λ (a : Option (Taken (ℤ × ℤ))). with s c a f) (two_none e) ∙ ap (λ (p : Planned). led_to s c next (R p.state.nodes) p.way) (sym fails)
     go (Some p) e = ap (λ (a : Option (Taken (ℤ × ℤ))). with s c a f) (two_some p e) ∙ h p e
 
   -- ---- constants
@@ -361,7 +362,7 @@ module _ (s : Setting) (c : Config) (next : ℕ) (base : State) (frame : SymFram
 
   -- a local is set
   sets_is : (later : List Node) → Extends nodes later → (k : ℕ) (t : TermId) (z : ℤ) → z ≡ value_of later t variables → (stack : List SymValue) (values : List Value)
-      → values ≡ values_of_sym (R later) stack → IsPlan (sets_local s next c k (IntValue z) values) (record { nodes = later; way = in_local s.world state k t stack })
+      → values ≡ values_of_sym (R later) stack → IsPlan (sets_local s next c k (IntValue z) values) (record { state = with_nodes state later; way = in_local s.world state k t stack })
   sets_is later more k t z e stack values same =
       local_set s c next (R later) frame (reads.stands later more) k (Int t) (IntValue z) (ap IntValue e ∙ sym (reads.ints later t)) stack values same
 
@@ -568,7 +569,7 @@ module _ (s : Setting) (c : Config) (next : ℕ) (base : State) (frame : SymFram
   -- ---- returns
 
   returned_is : (t : TermId) → IsTerm nodes t
-      → IsPlan (returns_value s c (IntValue (V t))) (planned state (option_and_then (kept_int state t) (result_of s.world frame.method)) leaves_with)
+      → IsPlan (returns_value s c (IntValue (V t))) (planned state (option_and_then (kept_int state t) (result_of s.world frame.method)) (leaves_with state))
   unfolding returns_value
   returned_is t is =
       ap (λ (m : MethodId). option_map_or (λ v. hands_over s c (Some v)) (option_and_then (λ type. kept type (IntValue (V t))) (result_of s.world m)) (ill_typed s c)) (reads.stands nodes itself).method
@@ -583,7 +584,7 @@ module _ (s : Setting) (c : Config) (next : ℕ) (base : State) (frame : SymFram
           ap (λ (v : Value). hands_over s c (Some v)) (ap IntValue (sym (low_made nodes t variables ordered is)) ∙ sym (reads.ints made.0 made.1))
 
       go : (result : Option JType) → option_map_or (λ v. hands_over s c (Some v)) (option_and_then (λ type. kept type (IntValue (V t))) result) (ill_typed s c)
-          ≡ led_to s c next (R (planned state (option_and_then (kept_int state t) result) leaves_with).nodes) (planned state (option_and_then (kept_int state t) result) leaves_with).way
+          ≡ led_to s c next (R (planned state (option_and_then (kept_int state t) result) (leaves_with state)).state.nodes) (planned state (option_and_then (kept_int state t) result) (leaves_with state)).way
       go None = refl
       go (Some types.Bool) = low
       go (Some types.Int) = whole
@@ -591,7 +592,7 @@ module _ (s : Setting) (c : Config) (next : ℕ) (base : State) (frame : SymFram
 
   returns_int_is : IsPlan (with s c (an_int c.frame.stack) (λ a. returns_value s c (IntValue a.it))) (returns_int s.world state)
   returns_int_is =
-      with_one (λ a. returns_value s c (IntValue a.it)) (λ it. planned state it (λ t. planned state (option_and_then (kept_int state t) (result_of s.world frame.method)) leaves_with)) refl
+      with_one (λ a. returns_value s c (IntValue a.it)) (λ it. planned state it (λ t. planned state (option_and_then (kept_int state t) (result_of s.world frame.method)) (leaves_with state))) refl
       (λ t e. returned_is t (one_term nodes frame.stack t terms.stack e))
 
   returns_nothing_is : IsPlan (returns_nothing s c) (returns_nothing_sym s.world state)
@@ -614,7 +615,7 @@ module _ (s : Setting) (c : Config) (next : ℕ) (base : State) (frame : SymFram
     go (Some info) h = h
 
   pub plan_is : (instr : Instr) (choice : Choice) → is_int_instruction s.world frame.method instr ≡ true → Has (listed instr frame.stack) choice
-      → AllHold nodes variables (conditions_of instr frame.stack choice) → HasRisingKeys instr → IsPlan (effect instr s next c) (plan_of s.world state choice instr)
+      → AllHold nodes variables (conditions_of instr frame.stack choice) → HasRisingKeys instr → IsPlan (effect instr s next c) (effect_of s.world state choice instr)
   unfolding effect nop push_int load_constant load_int store_int increase rearrange apply_two negate narrow if_int if_ints goto switch return_int return_nothing
   plan_is instrs.Nop choice int has held rising = goes_is nodes itself frame.stack c.frame.stack here
   plan_is (instrs.PushInt z) choice int has held rising = pushes_int_is z

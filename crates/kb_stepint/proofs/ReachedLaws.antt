@@ -22,7 +22,7 @@ use Rattle.kb_frames.specs.declared.state.Stage.{Stage}
 use Rattle.kb_frames.specs.declared.state.Stage.TheVariants.{Runs}
 use Rattle.kb_frames.specs.declared.value.SymValue.{SymValue}
 use Rattle.kb_frames.specs.declared.value.Outcome.TheVariants.{Cut}
-use Rattle.kb_frames.specs.Lent.{begun, locals_of, stack_of, with_nodes}
+use Rattle.kb_frames.specs.Lent.{begun, locals_of, stack_of}
 use Rattle.kb_frames.specs.Next.{argument_next, method_now, offset_now}
 use Rattle.kb_frames.specs.State.{State}
 use Rattle.kb_frames.specs.States.{Each, IsLocal, IsSymValue}
@@ -31,17 +31,18 @@ use Rattle.kb_ways.specs.declared.condition.Side.{Side}
 use Rattle.kb_ways.specs.declared.condition.Side.TheVariants.{Term, Number}
 use Rattle.kb_ways.specs.Asked.{all_asked, branch_condition, equal_sides}
 use Rattle.kb_stepint.specs.Choices.{branch_conditions, conditions_of, division_conditions, divisor_conditions, key_conditions}
-use Rattle.kb_stepint.specs.Effects.{plan_of}
+use Rattle.kb_stepint.specs.Effects.{plan_of, effect_of}
 use Rattle.kb_stepint.specs.Laws.{IsAtInts}
 use Rattle.kb_stepint.specs.Operands.{one_int, two_ints}
 use Rattle.kb_ways.specs.Reached.{IsReached}
 use Rattle.kb_ways.specs.Simulation.{HasInputOfState}
-use Rattle.kb_stepint.specs.Takes.{answered, taken, takes_next, takes_up, reads_argument}
-use Rattle.kb_ways.specs.Ways.{Take, ill_typed, went}
-use Rattle.kb_ways.proofs.GrowLaws.{Grows, all_asked_grows, if_has, option_has}
+use Rattle.kb_stepint.specs.Takes.{taken, reads_argument}
+use Rattle.kb_ways.specs.Plans.{takes_next, takes_up, carried_out, followed}
+use Rattle.kb_ways.specs.Ways.{Take, ill_typed}
+use Rattle.kb_ways.proofs.GrowLaws.{Grows, all_asked_grows, if_has, option_has, HasMore}
 use Rattle.kb_ways.proofs.KeepLaws.{Stays}
-use Rattle.kb_stepint.proofs.KeepLaws.{plan_makes, takes_next_stays}
-use Rattle.kb_stepint.proofs.PlanLaws.{plan_good}
+use Rattle.kb_stepint.proofs.KeepLaws.{effect_makes, takes_next_stays}
+use Rattle.kb_stepint.proofs.PlanLaws.{effect_good}
 use Rattle.kb_ways.proofs.SoundLaws.{AllCompare, Sound, asked_sound, begun_sound, frame_sound, int_receiver, int_sound, nodes_sound, reached_sound, receiver_seen, sound_reached}
 use Rattle.kb_ways.proofs.GoodWays.{went_sound, running_now}
 use Rattle.kb_code.specs.declared.instruction.Cond.TheVariants as conds
@@ -101,38 +102,40 @@ instr_compares _ stack choice = tt
 module _ (world : World) (bounds : Bounds) (choice : Choice) where
   -- an instruction is carried out
   carried : (state : State) (frame : SymFrame) (callers : List SymFrame) (found : Instr × ℕ) → state.stage ≡ Runs frame callers → Sound world state
-      → Sound world (went world bounds found.1 (with_nodes state (plan_of world state choice found.0).nodes) (plan_of world state choice found.0).way).state
+      → Sound world (followed world bounds found.1 (effect_of world state choice found.0)).state
   carried state frame callers found running sound =
-      let plan = plan_of world state choice found.0 in
+      let effect = effect_of world state choice found.0 in
       let here = frame_sound world state frame callers running sound in
       let back : Runs frame callers ≡ state.stage = sym running in
-      let good = plan_good world state
+      let good = effect_good world state
       (subst (λ (stage : Stage). max_locals_of world (method_now state.method stage) ≤ length (locals_of stage)) back here.0.room)
       (subst (λ (stage : Stage). Each (IsLocal world state) (locals_of stage)) back here.0.locals)
       (subst (λ (stage : Stage). Each (IsSymValue world state) (stack_of stage)) back here.0.stack) choice found.0 in
-      went_sound world bounds found.1 (with_nodes state plan.nodes) frame callers running (nodes_sound world state plan.nodes (plan_makes world state choice found.0) sound) plan.way good
+      let more : HasMore state effect.state = effect_makes world state choice found.0 in
+      went_sound world bounds found.1 effect.state frame callers (ap (λ (s : State). s.stage) more.rest ∙ running)
+      (subst (Sound world) (sym more.rest) (nodes_sound world state effect.state.nodes more.on sound)) effect.way good
 
   answered_sound : (state : State) (frame : SymFrame) (callers : List SymFrame) (found : Instr × ℕ) → state.stage ≡ Runs frame callers → Sound world state
-      → Sound world (answered world bounds choice state found).state
+      → Sound world (carried_out plan_of world bounds choice state found).state
   answered_sound state frame callers found running sound =
       let conditions = conditions_of found.0 (stack_of state.stage) choice in
       let grows : Grows state (all_asked state conditions) = all_asked_grows conditions state in
       carried (all_asked state conditions) frame callers found (ap (λ (s : State). s.stage) grows.rest ∙ running)
       (asked_sound world state conditions (instr_compares found.0 (stack_of state.stage) choice) sound)
 
-  takes_up_sound : (state : State) (frame : SymFrame) (callers : List SymFrame) → state.stage ≡ Runs frame callers → Sound world state → Sound world (takes_up world bounds choice state).state
+  takes_up_sound : (state : State) (frame : SymFrame) (callers : List SymFrame) → state.stage ≡ Runs frame callers → Sound world state → Sound world (takes_up plan_of world bounds choice state).state
   takes_up_sound state frame callers running sound =
-      option_has (λ (take : Take). Sound world take.state) (instruction_at world (method_now state.method state.stage) (offset_now state.stage)) (answered world bounds choice state) (ill_typed world state)
+      option_has (λ (take : Take). Sound world take.state) (instruction_at world (method_now state.method state.stage) (offset_now state.stage)) (carried_out plan_of world bounds choice state) (ill_typed world state)
       (λ found. answered_sound state frame callers found running sound) sound
 
-  takes_next_sound : (old : State) → Sound world old → argument_next world old.method old.stage ≡ None → Sound world (takes_next world bounds choice old).state
+  takes_next_sound : (old : State) → Sound world old → argument_next world old.method old.stage ≡ None → Sound world (takes_next plan_of world bounds choice old).state
   takes_next_sound old sound none =
       let run = running_now world bounds choice old in
-      if_has (λ (take : Take). Sound world take.state) (nat_le bounds.run.steps old.carried) (record { state = old; outcome = Cut Steps }) (takes_up world bounds choice (begun world old))
+      if_has (λ (take : Take). Sound world take.state) (nat_le bounds.run.steps old.carried) (record { state = old; outcome = Cut Steps }) (takes_up plan_of world bounds choice (begun world old))
       sound (takes_up_sound (begun world old) run.0 run.1 run.2 (begun_sound world old sound none))
 
   abbrev after : State → Option JType → Take
-  after old next = option_map_or (reads_argument old) next (takes_next world bounds choice old)
+  after old next = option_map_or (reads_argument old) next (takes_next plan_of world bounds choice old)
 
   taken_sound : (old : State) → IsAtInts world old → Sound world (taken world bounds old choice).state
   taken_sound old at = go (argument_next world old.method old.stage) refl where
@@ -155,7 +158,7 @@ module _ (world : World) (bounds : Bounds) (choice : Choice) where
 
     go : (next : Option JType) → argument_next world old.method old.stage ≡ next → IsReceiverSeen world (after old next).state.method (after old next).state.picture
     go None e =
-        let stays : Stays old (takes_next world bounds choice old).state = takes_next_stays world bounds choice old in
-        subst (λ m. IsReceiverSeen world m (takes_next world bounds choice old).state.picture) (sym stays.method)
+        let stays : Stays old (takes_next plan_of world bounds choice old).state = takes_next_stays world bounds choice old in
+        subst (λ m. IsReceiverSeen world m (takes_next plan_of world bounds choice old).state.picture) (sym stays.method)
         (subst (λ (p : Picture). IsReceiverSeen world old.method p) (sym stays.picture) (receiver_seen world old sound e))
     go (Some type) e = int_receiver world old sound type e at.next

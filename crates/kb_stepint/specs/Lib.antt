@@ -2,6 +2,6 @@ pub mod Operands
 pub mod Choices
 pub mod Effects
 pub mod Takes
-pub mod Turns
 pub mod IntMethods
 pub mod Laws
+pub mod Keys

@@ -4,8 +4,8 @@ ghost use Rattle.kb_frames.specs.Lent.{stack_of};
 ghost use Rattle.kb_picture.specs.declared.choice.Choice.TheVariants.{Key};
 ghost use Rattle.kb_stepint.specs.Effects.{branch_way, branches, switch_way, switches};
 ghost use Rattle.kb_stepint.specs.Operands.{one_int, two_ints};
-ghost use Rattle.kb_ways.specs.Turns.{led, told};
-ghost use Rattle.kb_stepint.specs.Turns.{keys_of, led_by};
+ghost use Rattle.kb_ways.specs.Turns.{led, told, led_by};
+ghost use Rattle.kb_stepint.specs.Keys.{keys_of};
 
 use crate::NoMemory;
 use crate::keys::Keys;
@@ -22,7 +22,7 @@ pub(crate) fn if_int(
     choice: &Choice,
 ) -> Result<Outcome, NoMemory>
     requires { state.old.carried < turn.now.bounds.run.steps }
-    ensures { IfOk result (λ outcome. told state.new outcome ≡ led_by turn.now state.old (branches state.old (is_some (one_int (stack_of state.old.stage))) 1 target choice.now)) }
+    ensures { IfOk result (λ outcome. told state.new outcome ≡ led_by turn.now (branches state.old (is_some (one_int (stack_of state.old.stage))) 1 target choice.now)) }
 {
     match one_int(state) {
         Some(_) => branch(turn, state, 1, target, choice),
@@ -38,7 +38,7 @@ pub(crate) fn if_pair(
     choice: &Choice,
 ) -> Result<Outcome, NoMemory>
     requires { state.old.carried < turn.now.bounds.run.steps }
-    ensures { IfOk result (λ outcome. told state.new outcome ≡ led_by turn.now state.old (branches state.old (is_some (two_ints (stack_of state.old.stage))) 2 target choice.now)) }
+    ensures { IfOk result (λ outcome. told state.new outcome ≡ led_by turn.now (branches state.old (is_some (two_ints (stack_of state.old.stage))) 2 target choice.now)) }
 {
     match two_ints(state) {
         Some(_) => branch(turn, state, 2, target, choice),
@@ -55,7 +55,7 @@ pub(crate) fn switch(
     choice: &Choice,
 ) -> Result<Outcome, NoMemory>
     requires { state.old.carried < turn.now.bounds.run.steps }
-    ensures { IfOk result (λ outcome. told state.new outcome ≡ led_by turn.now state.old (switches state.old (keys_of keys.now) default choice.now)) }
+    ensures { IfOk result (λ outcome. told state.new outcome ≡ led_by turn.now (switches state.old (keys_of keys.now) default choice.now)) }
 {
     match one_int(state) {
         Some(_) => switch_by(turn, state, keys, default, choice),

@@ -7,7 +7,7 @@ ghost use Rattle.kb_ways.specs.Asked.{asked_truth, is_against, is_refuted};
 ghost use Rattle.kb_stepint.specs.Choices.{both_ways, branch_conditions, choices_of, division_conditions, divisor_conditions, divisors, key_conditions, keys_from, offered, only, takes_up_none};
 ghost use Rattle.kb_ways.specs.Needs.{AreSides, HasTerms, IsSide};
 ghost use Rattle.kb_ways.specs.Reached.{IsReached};
-ghost use Rattle.kb_stepint.specs.Turns.{keys_of};
+ghost use Rattle.kb_stepint.specs.Keys.{keys_of};
 ghost use Rattle.kb_picture.specs.declared.choice.Choice.TheVariants.{Default, Key, NotZero, Zero};
 
 use crate::NoMemory;

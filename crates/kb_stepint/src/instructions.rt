@@ -1,9 +1,7 @@
 //! What each instruction on ints does to a state (JVMS 8 section 6.5).
 ghost use Rattle.std.specs.Prelude.{◌≡◌, IfOk};
-ghost use Rattle.kb_stepint.specs.Effects.{plan_of};
 ghost use Rattle.kb_ways.specs.Needs.{CanStep};
-ghost use Rattle.kb_ways.specs.Turns.{told};
-ghost use Rattle.kb_stepint.specs.Turns.{led_by};
+ghost use Rattle.kb_ways.specs.Turns.{told, led_by};
 
 use crate::NoMemory;
 use crate::arithmetic::{compute, compute_two, op_of_cut};
@@ -27,7 +25,7 @@ pub(crate) fn carry_out(
     instr: &Instr,
 ) -> Result<Outcome, NoMemory>
     requires { CanStep turn.now.bounds state.old }
-    ensures { IfOk result (λ outcome. told state.new outcome ≡ led_by turn.now state.old (plan_of turn.now.world.now state.old choice.now instr.now)) }
+    ensures { IfOk result (λ outcome. told state.new outcome ≡ led_by turn.now (effect_of turn.now.world.now state.old choice.now instr.now)) }
 {
     match instr {
         Instr::Nop => replaces(turn, state, 0, &[]),

@@ -3,8 +3,7 @@ ghost use Rattle.std.specs.Prelude.{◌≡◌, ◌<◌, drop, IfOk};
 ghost use Rattle.kb_frames.specs.Lent.{stack_of};
 ghost use Rattle.kb_stepint.specs.Effects.{in_local, increases, int_local, loads, stores};
 ghost use Rattle.kb_ways.specs.Needs.{CanStep};
-ghost use Rattle.kb_ways.specs.Turns.{led, told};
-ghost use Rattle.kb_stepint.specs.Turns.{led_by};
+ghost use Rattle.kb_ways.specs.Turns.{led, told, led_by};
 
 use crate::NoMemory;
 use crate::operands::{int_term, one_int};
@@ -15,7 +14,7 @@ use kb_ways::{Turn, carry_on, constant, has_room, ill_typed, is_local, make, rep
 /// iload
 pub(crate) fn load(turn: &Turn<'_>, state: &mut SymState, local: u16) -> Result<Outcome, NoMemory>
     requires { state.old.carried < turn.now.bounds.run.steps }
-    ensures { IfOk result (λ outcome. told state.new outcome ≡ led_by turn.now state.old (loads turn.now.world.now state.old local)) }
+    ensures { IfOk result (λ outcome. told state.new outcome ≡ led_by turn.now (loads turn.now.world.now state.old local)) }
 {
     match int_local(turn, state, local) {
         Some(term) => replaces(turn, state, 0, &[SymValue::Int(term)]),
@@ -26,7 +25,7 @@ pub(crate) fn load(turn: &Turn<'_>, state: &mut SymState, local: u16) -> Result<
 /// istore
 pub(crate) fn store(turn: &Turn<'_>, state: &mut SymState, local: u16) -> Result<Outcome, NoMemory>
     requires { state.old.carried < turn.now.bounds.run.steps }
-    ensures { IfOk result (λ outcome. told state.new outcome ≡ led_by turn.now state.old (stores turn.now.world.now state.old local)) }
+    ensures { IfOk result (λ outcome. told state.new outcome ≡ led_by turn.now (stores turn.now.world.now state.old local)) }
 {
     match one_int(state) {
         Some(term) => set(turn, state, local, term, 1),
@@ -42,7 +41,7 @@ pub(crate) fn increase(
     by: i32,
 ) -> Result<Outcome, NoMemory>
     requires { CanStep turn.now.bounds state.old }
-    ensures { IfOk result (λ outcome. told state.new outcome ≡ led_by turn.now state.old (increases turn.now.world.now state.old local by)) }
+    ensures { IfOk result (λ outcome. told state.new outcome ≡ led_by turn.now (increases turn.now.world.now state.old local by)) }
 {
     let Some(term) = int_local(turn, state, local) else {
         return ill_typed(turn, state);

@@ -6,8 +6,7 @@ ghost use Rattle.kb_frames.specs.declared.value.Outcome.TheVariants.{Ends};
 ghost use Rattle.kb_frames.specs.declared.value.SymValue.TheVariants.{Int};
 ghost use Rattle.kb_stepint.specs.Effects.{returns_int, returns_nothing};
 ghost use Rattle.kb_ways.specs.Needs.{CanStep};
-ghost use Rattle.kb_ways.specs.Turns.{told};
-ghost use Rattle.kb_stepint.specs.Turns.{led_by};
+ghost use Rattle.kb_ways.specs.Turns.{told, led_by};
 
 use crate::NoMemory;
 use crate::operands::one_int;
@@ -20,7 +19,7 @@ use kb_ways::{Turn, ill_typed, mask, result_of};
 /// ireturn
 pub(crate) fn return_int(turn: &Turn<'_>, state: &mut SymState) -> Result<Outcome, NoMemory>
     requires { CanStep turn.now.bounds state.old }
-    ensures { IfOk result (λ outcome. told state.new outcome ≡ led_by turn.now state.old (returns_int turn.now.world.now state.old)) }
+    ensures { IfOk result (λ outcome. told state.new outcome ≡ led_by turn.now (returns_int turn.now.world.now state.old)) }
 {
     let Some(term) = one_int(state) else {
         return ill_typed(turn, state);
@@ -35,7 +34,7 @@ pub(crate) fn return_int(turn: &Turn<'_>, state: &mut SymState) -> Result<Outcom
 
 /// return
 pub(crate) fn return_nothing(turn: &Turn<'_>, state: &SymState) -> Result<Outcome, NoMemory>
-    ensures { IfOk result (λ outcome. told state.now outcome ≡ led_by turn.now state.now (returns_nothing turn.now.world.now state.now)) }
+    ensures { IfOk result (λ outcome. told state.now outcome ≡ led_by turn.now (returns_nothing turn.now.world.now state.now)) }
 {
     let (method, _) = state.stands_at();
     match result_of(turn.world, method) {

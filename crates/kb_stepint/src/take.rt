@@ -9,9 +9,11 @@ ghost use Rattle.kb_ways.specs.Asked.{all_asked};
 ghost use Rattle.kb_stepint.specs.Choices.{branch_conditions, choices_of, conditions_of, division_conditions, divisor_conditions, key_conditions};
 ghost use Rattle.kb_ways.specs.Needs.{CanStep, HasTerms, IsSide};
 ghost use Rattle.kb_ways.specs.Reached.{IsReached};
-ghost use Rattle.kb_stepint.specs.Takes.{taken, takes_up};
+ghost use Rattle.kb_stepint.specs.Takes.{taken};
+ghost use Rattle.kb_ways.specs.Plans.{takes_up};
 ghost use Rattle.kb_ways.specs.Turns.{told};
-ghost use Rattle.kb_stepint.specs.Turns.{keys_of};
+ghost use Rattle.kb_stepint.specs.Keys.{keys_of};
+ghost use Rattle.kb_stepint.specs.Effects.{plan_of};
 
 use crate::NoMemory;
 use crate::instructions::carry_out;
@@ -82,7 +84,7 @@ fn take_up(
     bounds: &Bounds,
 ) -> Result<Outcome, NoMemory>
     requires { CanStep bounds.now state.old }
-    ensures { IfOk result (λ outcome. told state.new outcome ≡ takes_up world.now bounds.now choice.now state.old) }
+    ensures { IfOk result (λ outcome. told state.new outcome ≡ takes_up plan_of world.now bounds.now choice.now state.old) }
 {
     let (method, at) = state.stands_at();
     let Some(found) = instruction_at(world, method, at) else {

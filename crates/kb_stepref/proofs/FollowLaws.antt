@@ -47,7 +47,8 @@ use Rattle.kb_stepref.specs.Fields.{field_named, has_slot_of}
 use Rattle.kb_stepref.specs.HeapMethods.{is_reference_instruction}
 use Rattle.kb_stepref.specs.Laws.{AreInRange, IsAtReferences, OfTakes}
 use Rattle.kb_stepref.specs.Questions.{Question, Reads, asked_by, asks_cell, asks_field, question_of}
-use Rattle.kb_stepref.specs.Takes.{answered, answers, cut_where, goes_behind, passed_by, takes_next, takes_up}
+use Rattle.kb_stepref.specs.Takes.{answered, answers, cut_where, goes_behind, passed_by}
+use Rattle.kb_ways.specs.Plans.{takes_next, takes_up}
 use Rattle.kb_stepref.proofs.AnswerLaws.{asked_stands}
 use Rattle.kb_stepref.proofs.CutLaws.{cut_licensed}
 use Rattle.kb_stepref.proofs.FirstReadLaws.{IsAsked, IsAskedAt, IsAskedField, asked}
@@ -56,6 +57,8 @@ use Rattle.kb_stepref.proofs.MethodLaws.{reference_next}
 use Rattle.kb_stepref.proofs.OutcomeLaws.{AreTold, FollowsAt, takes_next_follows, takes_up_follows}
 use Rattle.kb_stepref.proofs.ReachedLaws.{IsHeapSound, now_heap}
 use Rattle.kb_stepref.proofs.SoundLaws.{answered_carried, answered_method, answered_stage, none_asked}
+use Rattle.kb_picture.specs.declared.choice.Choice.TheVariants.{Only}
+use Rattle.kb_stepref.specs.Effects.{plan_of}
 
 -- ---- a slot that was told
 
@@ -164,11 +167,11 @@ module _ (world : World) (bounds : Bounds) (old : State) (choice : Choice) (smal
         same : instrs.GetField from.entry ≡ found.0
         same = (let both : Some (instrs.GetField from.entry) ≡ Some found.0 = sym from.instruction ∙ ap (option_map (λ (f : Instr × ℕ). f.0)) there in let one : instrs.GetField from.entry ≡ found.0 = cc in one)
 
-      field_follows : FollowsAt world bounds input c (takes_up world bounds new)
+      field_follows : FollowsAt world bounds input c (takes_up plan_of world bounds Only new)
       field_follows i =
           takes_up_follows world bounds new from.frame from.callers (stage_same ∙ from.running) heap.sound heap.known
           (answer_ordered world choice old slot type (pool_ordered old.nodes at.reached.reached.sound.pool)) input (subst (λ (m : MethodId). IsTypeCorrect world m input) (sym method_same) correct) c
-          (new_stands (instance_before new (takes_up world bounds new).state input (takes_up_untold world bounds new) heap.sound.conditions i))
+          (new_stands (instance_before new (takes_up plan_of world bounds Only new).state input (takes_up_untold world bounds new) heap.sound.conditions i))
           (ap (nat_le bounds.run.steps) (answered_carried world choice old slot type) ∙ from.within) new_told i
 
     behind_follows : (of : Origin) → slot ≡ of → IsAskedAt world bounds old of type → FollowsAt world bounds input c (goes_behind world bounds of new)
@@ -192,6 +195,6 @@ follows world bounds old choice small at has input c correct stands = go (questi
   references none found e = reference_next world old found at none e
 
   go : (question : Option Question) → question_of world old bounds ≡ question → Has (option_map_or (alternatives world old bounds) question only) choice
-      → FollowsAt world bounds input c (option_map_or (answers world bounds choice old) question (takes_next world bounds old))
+      → FollowsAt world bounds input c (option_map_or (answers world bounds choice old) question (takes_next plan_of world bounds Only old))
   go None asks offered = takes_next_follows world bounds old at (references (none_asked world bounds old asks)) input correct c stands asks
   go (Some (Reads slot type)) asks offered = answers_follow world bounds old choice small at slot type asks offered input c correct stands

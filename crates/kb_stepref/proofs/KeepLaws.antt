@@ -44,13 +44,15 @@ use Rattle.kb_ways.specs.Simulation.{AddsComparisons, Keeps}
 use Rattle.kb_ways.specs.Ways.{Take, Fails, ill_typed, went}
 use Rattle.kb_ways.proofs.KeepLaws.{same_when, went_when, Stays, stays_on, went_stays}
 use Rattle.kb_ways.proofs.GrowLaws.{front_itself, front_of_front, if_has, interned_extends, op_extends, option_has}
-use Rattle.kb_stepref.specs.Effects.{Planned, got, is_local, kept_in, plain, plan_of, planned, put, put_kept, put_where, result_in}
+use Rattle.kb_ways.specs.Plans.{Planned, plain, planned, carried_out, takes_next, takes_up}
+use Rattle.kb_stepref.specs.Effects.{got, is_local, kept_in, plan_of, put, put_kept, put_where, result_in}
 use Rattle.kb_stepref.specs.Fields.{field_named, has_place, held, put_in}
 use Rattle.kb_stepref.specs.Laws.{IsAtReferences}
 use Rattle.kb_stepref.specs.Operands.{object_and_value, one_reference, reference, two_references}
 use Rattle.kb_stepref.specs.Questions.{Question, Reads, question_of}
-use Rattle.kb_stepref.specs.Takes.{answered, answers, carried_out, cut_where, goes_behind, passed_by, taken, takes_next, takes_up}
+use Rattle.kb_stepref.specs.Takes.{answered, answers, cut_where, goes_behind, passed_by, taken}
 use Rattle.kb_stepref.proofs.FirstReadLaws.{IsAsked, asked}
+use Rattle.kb_picture.specs.declared.choice.Choice.TheVariants.{Only}
 
 -- ---- what an instruction writes
 
@@ -143,7 +145,7 @@ module _ (world : World) (state : State) where
   puts_writes field (New number) value = put_there_writes field (New number) value
   puts_writes field (Loc number) value = put_there_writes field (Loc number) value
 
-  pub plan_writes : (instr : Instr) → WritesHeap state (plan_of world state instr).state
+  pub plan_writes : (instr : Instr) → WritesHeap state (plan_of world state Only instr).state
   plan_writes (instrs.LoadRef k) = planned_writes (reference (cond (is_local world state k) (local_in state.stage k) None)) _ (λ value. nothing)
   plan_writes (instrs.StoreRef k) = planned_writes (one_reference (stack_of state.stage)) _ (λ value. nothing)
   plan_writes (instrs.IfSame want target) = planned_writes (two_references (stack_of state.stage)) _ (λ t. nothing)
@@ -176,22 +178,22 @@ untold_on : (a b c : State) → Untold a b → Untold b c → Untold a c
 untold_on a b c ab bc = record { stays = stays_on a b c ab.stays bc.stays; when = bc.when ∙ ab.when }
 
 module _ (world : World) (bounds : Bounds) where
-  pub carried_out_untold : (state : State) (found : Instr × ℕ) → Untold state (carried_out world bounds state found).state
+  pub carried_out_untold : (state : State) (found : Instr × ℕ) → Untold state (carried_out plan_of world bounds Only state found).state
   carried_out_untold state found =
-      let plan = plan_of world state found.0 in
+      let plan = plan_of world state Only found.0 in
       let writes = plan_writes world state found.0 in
       untold_on state plan.state (went world bounds found.1 plan.state plan.way).state (untold_framed state plan.state writes.method writes.init writes.picture writes.terms writes.when)
       (record { stays = went_stays world bounds found.1 plan.state plan.way; when = went_when world bounds found.1 plan.state plan.way })
 
-  pub takes_up_untold : (state : State) → Untold state (takes_up world bounds state).state
+  pub takes_up_untold : (state : State) → Untold state (takes_up plan_of world bounds Only state).state
   takes_up_untold state =
-      option_has (λ (take : Take). Untold state take.state) (instruction_at world (method_now state.method state.stage) (offset_now state.stage)) (carried_out world bounds state) (ill_typed world state)
+      option_has (λ (take : Take). Untold state take.state) (instruction_at world (method_now state.method state.stage) (offset_now state.stage)) (carried_out plan_of world bounds Only state) (ill_typed world state)
       (carried_out_untold state) (untold_itself state)
 
-  pub takes_next_untold : (old : State) → Untold old (takes_next world bounds old).state
+  pub takes_next_untold : (old : State) → Untold old (takes_next plan_of world bounds Only old).state
   takes_next_untold old =
-      if_has (λ (take : Take). Untold old take.state) (nat_le bounds.run.steps old.carried) _ (takes_up world bounds (begun world old)) (untold_itself old)
-      (untold_on old (begun world old) (takes_up world bounds (begun world old)).state (untold_framed old (begun world old) refl refl refl (Extends-refl old.nodes) refl)
+      if_has (λ (take : Take). Untold old take.state) (nat_le bounds.run.steps old.carried) _ (takes_up plan_of world bounds Only (begun world old)) (untold_itself old)
+      (untold_on old (begun world old) (takes_up plan_of world bounds Only (begun world old)).state (untold_framed old (begun world old) refl refl refl (Extends-refl old.nodes) refl)
       (takes_up_untold (begun world old)))
 
   -- ---- behind an answer
@@ -314,8 +316,8 @@ module _ (world : World) (bounds : Bounds) (old : State) (choice : Choice) where
 
   pub kept : IsAtReferences world old → Keeps old (taken world bounds old choice).state
   kept at = go (question_of world old bounds) refl where
-    go : (q : Option Question) → question_of world old bounds ≡ q → Keeps old (option_map_or (answers world bounds choice old) q (takes_next world bounds old)).state
-    go None e = kept_of_untold old (takes_next world bounds old).state (takes_next_untold world bounds old)
+    go : (q : Option Question) → question_of world old bounds ≡ q → Keeps old (option_map_or (answers world bounds choice old) q (takes_next plan_of world bounds Only old)).state
+    go None e = kept_of_untold old (takes_next plan_of world bounds Only old).state (takes_next_untold world bounds old)
     go (Some (Reads slot type)) e =
         let told : State = answered world choice old (Reads slot type) in
         let behind : State = (answers world bounds choice old (Reads slot type)).state in
@@ -325,7 +327,7 @@ module _ (world : World) (bounds : Bounds) (old : State) (choice : Choice) where
 
   taken_when : (taken world bounds old choice).state.when ≡ old.when
   taken_when =
-      option_has (λ (take : Take). take.state.when ≡ old.when) (question_of world old bounds) (answers world bounds choice old) (takes_next world bounds old)
+      option_has (λ (take : Take). take.state.when ≡ old.when) (question_of world old bounds) (answers world bounds choice old) (takes_next plan_of world bounds Only old)
       (λ question. (answers_untold world bounds choice old question).when ∙ answered_when world choice old question) (takes_next_untold world bounds old).when
 
   -- no condition is added

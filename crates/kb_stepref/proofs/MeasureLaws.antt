@@ -29,9 +29,11 @@ use Rattle.kb_ways.proofs.MeasureLaws.{reads_on, went_on}
 use Rattle.kb_stepref.specs.Effects.{plan_of}
 use Rattle.kb_stepref.specs.Laws.{IsAtReferences}
 use Rattle.kb_stepref.specs.Questions.{Question, Reads, question_of}
-use Rattle.kb_stepref.specs.Takes.{answered, answers, carried_out, cut_where, passed_by, taken, takes_next, takes_up}
+use Rattle.kb_stepref.specs.Takes.{answered, answers, cut_where, passed_by, taken}
+use Rattle.kb_ways.specs.Plans.{carried_out, takes_next, takes_up}
 use Rattle.kb_stepref.proofs.FirstReadLaws.{IsAsked, IsAskedArgument, asked}
 use Rattle.kb_stepref.proofs.KeepLaws.{answered_carried, plan_writes}
+use Rattle.kb_picture.specs.declared.choice.Choice.TheVariants.{Only}
 
 module _ (world : World) (bounds : Bounds) (old : State) where
   abbrev Gets : Take → Type 0
@@ -39,18 +41,18 @@ module _ (world : World) (bounds : Bounds) (old : State) where
 
   -- ---- instructions
 
-  carried_out_on : (state : State) (found : Instr × ℕ) → state.carried ≡ old.carried → Gets (carried_out world bounds state found)
+  carried_out_on : (state : State) (found : Instr × ℕ) → state.carried ≡ old.carried → Gets (carried_out plan_of world bounds Only state found)
   carried_out_on state found e =
-      let plan = plan_of world state found.0 in
+      let plan = plan_of world state Only found.0 in
       went_on world bounds old found.1 plan.state plan.way ((plan_writes world state found.0).carried ∙ e)
 
-  takes_up_on : (state : State) → state.carried ≡ old.carried → Gets (takes_up world bounds state)
+  takes_up_on : (state : State) → state.carried ≡ old.carried → Gets (takes_up plan_of world bounds Only state)
   takes_up_on state e =
-      option_has Gets (instruction_at world (method_now state.method state.stage) (offset_now state.stage)) (carried_out world bounds state) (ill_typed world state)
+      option_has Gets (instruction_at world (method_now state.method state.stage) (offset_now state.stage)) (carried_out plan_of world bounds Only state) (ill_typed world state)
       (λ found. carried_out_on state found e) tt
 
-  takes_next_on : Gets (takes_next world bounds old)
-  takes_next_on = if_has Gets (nat_le bounds.run.steps old.carried) _ (takes_up world bounds (begun world old)) tt (takes_up_on (begun world old) refl)
+  takes_next_on : Gets (takes_next plan_of world bounds Only old)
+  takes_next_on = if_has Gets (nat_le bounds.run.steps old.carried) _ (takes_up plan_of world bounds Only (begun world old)) tt (takes_up_on (begun world old) refl)
 
   -- ---- arguments
 
@@ -73,7 +75,7 @@ module _ (world : World) (bounds : Bounds) (old : State) where
   cut_on None state e less = (e, less)
   cut_on (Some bound) state e less = tt
 
-  cut_behind : (bound : Option Bound) (state : State) → state.carried ≡ old.carried → Gets (cut_where bound state (takes_up world bounds state))
+  cut_behind : (bound : Option Bound) (state : State) → state.carried ≡ old.carried → Gets (cut_where bound state (takes_up plan_of world bounds Only state))
   cut_behind None state e = takes_up_on state e
   cut_behind (Some bound) state e = tt
 
@@ -97,6 +99,6 @@ module _ (world : World) (bounds : Bounds) (old : State) where
 
     pub gets_on : Gets (taken world bounds old choice)
     gets_on = go (question_of world old bounds) refl where
-      go : (q : Option Question) → question_of world old bounds ≡ q → Gets (option_map_or (answers world bounds choice old) q (takes_next world bounds old))
+      go : (q : Option Question) → question_of world old bounds ≡ q → Gets (option_map_or (answers world bounds choice old) q (takes_next plan_of world bounds Only old))
       go None e = takes_next_on
       go (Some (Reads slot type)) e = answers_on slot type (asked world bounds old at slot type e)

@@ -37,10 +37,12 @@ use Rattle.kb_ways.proofs.OneInstances.{instance_of_met}
 use Rattle.kb_stepref.specs.Choices.{alternatives, choices_of, is_receiver, only}
 use Rattle.kb_stepref.specs.Laws.{IsAtReferences}
 use Rattle.kb_stepref.specs.Questions.{Question, Reads, question_of}
-use Rattle.kb_stepref.specs.Takes.{answers, taken, takes_next}
+use Rattle.kb_stepref.specs.Takes.{answers, taken}
+use Rattle.kb_ways.specs.Plans.{takes_next}
 use Rattle.kb_stepref.proofs.FirstReadLaws.{IsAsked, asked, first_read}
 use Rattle.kb_stepref.proofs.KeepLaws.{Untold, int_tells, reference_tells, take_by, take_untold, takes_next_untold, told_by}
 use Rattle.kb_stepref.proofs.ReadInstances.{choice_instance, int_held, int_instance}
+use Rattle.kb_stepref.specs.Effects.{plan_of}
 
 -- ---- one of some things
 
@@ -62,9 +64,9 @@ module _ {A : Type 0} (Had : A → Input → Type 0) (Is : A → Type 0) (input 
 module _ (world : World) (bounds : Bounds) (old : State) (at : IsAtReferences world old) (input : Input) (c : Config) (correct : IsTypeCorrect world old.method input)
     (stands : StandsFor (setting_of world bounds) old input c) where
   -- where nothing is asked
-  next_instance : IsInstanceOf (takes_next world bounds old).state input
+  next_instance : IsInstanceOf (takes_next plan_of world bounds Only old).state input
   next_instance =
-      let new : State = (takes_next world bounds old).state in
+      let new : State = (takes_next plan_of world bounds Only old).state in
       let untold : Untold old new = takes_next_untold world bounds old in
       instance_of_met old.picture old.nodes old.when (conditions_there old.nodes old.when at.reached.reached.sound.conditions) new input untold.stays.picture untold.when untold.stays.terms
       stands.instance_of.shape stands.instance_of.conditions
@@ -130,7 +132,7 @@ module _ (world : World) (bounds : Bounds) (old : State) (at : IsAtReferences wo
   pub one_way : ExactlyOneIs (λ (choice : Choice). IsInstanceOf (taken world bounds old choice).state input) (choices_of world old bounds)
   one_way = go (question_of world old bounds) refl where
     go : (q : Option Question) → question_of world old bounds ≡ q
-        → ExactlyOneIs (λ (choice : Choice). IsInstanceOf (option_map_or (answers world bounds choice old) q (takes_next world bounds old)).state input) (option_map_or (alternatives world old bounds) q only)
+        → ExactlyOneIs (λ (choice : Choice). IsInstanceOf (option_map_or (answers world bounds choice old) q (takes_next plan_of world bounds Only old)).state input) (option_map_or (alternatives world old bounds) q only)
     go None e = inl (next_instance, tt)
     go (Some (Reads slot type)) e = one_answer slot type (asked world bounds old at slot type e) (is_reference type) refl
 

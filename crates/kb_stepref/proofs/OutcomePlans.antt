@@ -32,7 +32,8 @@ use Rattle.kb_ways.specs.Ways.{with_stack, Leaves}
 use Rattle.kb_ways.proofs.ItemLaws.{two_parts}
 use Rattle.kb_ways.proofs.LocalLaws.{led_to, local_set, local_value}
 use Rattle.kb_ways.proofs.SoundLaws.{Sound}
-use Rattle.kb_stepref.specs.Effects.{Planned, branch_where, branches_null, branches_same, gets, got, in_local, loads, plain, planned, pushes_null, result_in, returns_reference, stores}
+use Rattle.kb_ways.specs.Plans.{Planned, plain, planned}
+use Rattle.kb_stepref.specs.Effects.{branch_where, branches_null, branches_same, gets, got, in_local, loads, pushes_null, result_in, returns_reference, stores}
 use Rattle.kb_stepref.specs.Fields.{field_named, held}
 use Rattle.kb_stepref.specs.Operands.{is_null, one_reference, reference, same, two_references}
 use Rattle.kb_stepref.specs.Questions.{asks_field}

@@ -59,10 +59,10 @@ use Rattle.kb_ways.proofs.OutcomeValues.{IsLater, frame_later, heap_later, readi
 use Rattle.kb_ways.proofs.OutcomeWays.{ill_typed_is, room_same, throws_is, writes_stand}
 use Rattle.kb_ways.proofs.SoundLaws.{Sound}
 use Rattle.kb_ways.proofs.ValueLaws.{IsOrdered, low_made}
-use Rattle.kb_stepref.specs.Effects.{kept_in, plain, planned, put, put_kept, put_where, puts}
+use Rattle.kb_stepref.specs.Effects.{kept_in, put, put_kept, put_where, puts}
+use Rattle.kb_ways.specs.Plans.{plain, planned, followed}
 use Rattle.kb_stepref.specs.Fields.{field_named, has_place, put_in}
 use Rattle.kb_stepref.specs.Operands.{object_and_value, of_type, reference}
-use Rattle.kb_stepref.specs.Takes.{followed}
 use Rattle.kb_stepref.proofs.ObjectLaws.{field_there, made_at_end, made_room, object_placed, object_room, place_is}
 use Rattle.kb_stepref.proofs.PutHeaps.{AreInside, made_kept, made_put, object_kept, object_put}
 use Rattle.kb_stepref.proofs.ReferenceLaws.{IsReference, kept_of, kept_value, object_and_value_are, pair_below, reference_kind, referred}

@@ -15,7 +15,7 @@ use Rattle.kb_frames.specs.State.{State}
 use Rattle.kb_ways.specs.Ways.{Goes, went}
 use Rattle.kb_stepref.specs.Effects.{kept_in, put_kept, put_where}
 use Rattle.kb_stepref.specs.Fields.{put_in}
-use Rattle.kb_stepref.specs.Takes.{followed}
+use Rattle.kb_ways.specs.Plans.{followed}
 
 put_stage : (object : SymValue) (slot : ℕ) (value : SymValue) (state : State) → (put_in object slot value state).stage ≡ state.stage
 put_stage (Int term) slot value state = refl

@@ -40,10 +40,13 @@ use Rattle.kb_stepref.specs.HeapMethods.{is_heap_method}
 use Rattle.kb_stepref.specs.Laws.{AreInRange, GoesOnReached, IsAtReferences, OfTakes}
 use Rattle.kb_stepref.specs.Questions.{Question, Reads, question_of}
 use Rattle.kb_stepref.specs.Reached.{IsHeapReached}
-use Rattle.kb_stepref.specs.Takes.{answered, answers, cut_where, goes_behind, passed_by, taken, takes_next}
+use Rattle.kb_stepref.specs.Takes.{answered, answers, cut_where, goes_behind, passed_by, taken}
+use Rattle.kb_ways.specs.Plans.{takes_next}
 use Rattle.kb_stepref.proofs.FirstReadLaws.{IsAskedAt, asked}
 use Rattle.kb_stepref.proofs.LazyLaws.{IsKnown, known_choices, known_locs, known_no_beyond, seen_no_beyond}
 use Rattle.kb_stepref.proofs.SoundLaws.{SoundTo, answered_carried, answered_init, answered_method, goes_behind_sound, none_asked, takes_next_sound, taken_sound, told_sound}
+use Rattle.kb_picture.specs.declared.choice.Choice.TheVariants.{Only}
+use Rattle.kb_stepref.specs.Effects.{plan_of}
 use Rattle.kb_picture.specs.declared.picture.Seen.TheVariants as seens
 
 -- ---- what is reached
@@ -195,9 +198,9 @@ goes_on_reached world bounds state choice range at has = go (question_of world s
   behind slot type asks offered (Some bound) passed = λ pool. tt
 
   go : (question : Option Question) → question_of world state bounds ≡ question → Has (option_map_or (alternatives world state bounds) question only) choice
-      → IsGoingOn world (option_map_or (answers world bounds choice state) question (takes_next world bounds state))
+      → IsGoingOn world (option_map_or (answers world bounds choice state) question (takes_next plan_of world bounds Only state))
   go None asks offered =
-      goes_sound world (takes_next world bounds state)
-      (heap_on world state (takes_next world bounds state).state (heap_sound world state at.reached)
+      goes_sound world (takes_next plan_of world bounds Only state)
+      (heap_on world state (takes_next plan_of world bounds Only state).state (heap_sound world state at.reached)
       (takes_next_sound world bounds state (sound_reached world state at.reached.reached) (none_asked world bounds state asks)))
   go (Some (Reads slot type)) asks offered = behind slot type asks offered (passed_by choice) refl

@@ -8,8 +8,7 @@ use Rattle.kb_heap.specs.declared.heap.Value.TheVariants.{Int as IntValue, Null 
 use Rattle.kb_names.specs.declared.types.JType.{JType}
 use Rattle.kb_names.specs.declared.types.JType.TheVariants as types
 use Rattle.kb_semantics.specs.Instructions.{is_null as is_null_reference}
-use Rattle.kb_semantics.specs.Operands.{Reference, Taken, a_reference, a_value_for, an_object_and_value, behind_it, reference_of, taken, value_of_reference}
-use Rattle.kb_semantics.specs.Operands.{two_references as two_of}
+use Rattle.kb_semantics.specs.Operands.{Reference, Taken, a_reference, a_value_for, an_object_and_value, behind_it, reference_of, taken, value_of_reference, two_references as two_of}
 use Rattle.kb_semantics.specs.Values.{kept}
 use Rattle.kb_picture.specs.Endings.{Reading}
 use Rattle.kb_frames.specs.declared.value.SymValue.{SymValue}

@@ -40,12 +40,13 @@ use Rattle.kb_ways.proofs.KeepLaws.{went_stays}
 use Rattle.kb_ways.proofs.GoodWays.{IsGood, running_now, went_sound}
 use Rattle.kb_ways.proofs.SoundLaws.{Sound, begun_sound, frame_sound, receiver_seen, sound_reached}
 use Rattle.kb_stepref.specs.Choices.{alternatives, choices_of, only}
-use Rattle.kb_stepref.specs.Effects.{Planned, branch_where, got, in_local, is_local, kept_in, plain, plan_of, planned, put, put_kept, put_where, result_in}
+use Rattle.kb_ways.specs.Plans.{Planned, plain, planned, carried_out, takes_next, takes_up}
+use Rattle.kb_stepref.specs.Effects.{branch_where, got, in_local, is_local, kept_in, plan_of, put, put_kept, put_where, result_in}
 use Rattle.kb_stepref.specs.Fields.{field_named, has_place, held}
 use Rattle.kb_stepref.specs.Laws.{AreInRange, IsAtReferences}
 use Rattle.kb_stepref.specs.Operands.{is_null, object_and_value, of_type, one_reference, reference, same, two_references}
 use Rattle.kb_stepref.specs.Questions.{Question, Reads, asked_at, question_of}
-use Rattle.kb_stepref.specs.Takes.{answered, answers, carried_out, cut_where, goes_behind, passed_by, taken, takes_next, takes_up}
+use Rattle.kb_stepref.specs.Takes.{answered, answers, cut_where, goes_behind, passed_by, taken}
 use Rattle.kb_stepref.proofs.AnsweredLaws.{answered_receiver, answered_sound}
 use Rattle.kb_stepref.proofs.FirstReadLaws.{IsAskedAt, asked, where_so}
 use Rattle.kb_stepref.proofs.MoreLaws.{locals_more, values_more}
@@ -198,7 +199,7 @@ module _ (world : World) (state : State) (sound : Sound world state) (frame : Sy
 
   -- ---- all of them
 
-  pub plan_sound : (instr : Instr) → IsGoodPlan world state (plan_of world state instr)
+  pub plan_sound : (instr : Instr) → IsGoodPlan world state (plan_of world state Only instr)
   plan_sound instrs.PushNull = pushes_good Null 0 tt
   plan_sound (instrs.LoadRef k) =
       planned_good (reference (cond (is_local world state k) (local_in state.stage k) None)) (λ (value : SymValue). plain state (with_stack state (value ∷ stack_of state.stage)))
@@ -241,9 +242,9 @@ to_itself world state sound = record { sound = sound; method = refl; init = refl
 
 module _ (world : World) (bounds : Bounds) where
   carried_out_sound : (state : State) (frame : SymFrame) (callers : List SymFrame) (found : Instr × ℕ) → state.stage ≡ Runs frame callers → Sound world state
-      → SoundTo world state (carried_out world bounds state found).state
+      → SoundTo world state (carried_out plan_of world bounds Only state found).state
   carried_out_sound state frame callers found running sound =
-      let plan : Planned = plan_of world state found.0 in
+      let plan : Planned = plan_of world state Only found.0 in
       let good = plan_sound world state sound frame callers running found.0 in
       let stays = went_stays world bounds found.1 plan.state plan.way in
       record {
@@ -253,18 +254,18 @@ module _ (world : World) (bounds : Bounds) where
         picture = stays.picture ∙ good.behind.picture;
       }
 
-  pub takes_up_sound : (state : State) (frame : SymFrame) (callers : List SymFrame) → state.stage ≡ Runs frame callers → Sound world state → SoundTo world state (takes_up world bounds state).state
+  pub takes_up_sound : (state : State) (frame : SymFrame) (callers : List SymFrame) → state.stage ≡ Runs frame callers → Sound world state → SoundTo world state (takes_up plan_of world bounds Only state).state
   takes_up_sound state frame callers running sound =
-      option_has (λ (take : Take). SoundTo world state take.state) (instruction_at world (method_now state.method state.stage) (offset_now state.stage)) (carried_out world bounds state) (ill_typed world state)
+      option_has (λ (take : Take). SoundTo world state take.state) (instruction_at world (method_now state.method state.stage) (offset_now state.stage)) (carried_out plan_of world bounds Only state) (ill_typed world state)
       (λ found. carried_out_sound state frame callers found running sound) (to_itself world state sound)
 
   begun_to : (old new : State) → SoundTo world (begun world old) new → SoundTo world old new
   begun_to old new to = record { sound = to.sound; method = to.method; init = to.init; picture = to.picture }
 
-  pub takes_next_sound : (old : State) → Sound world old → argument_next world old.method old.stage ≡ None → SoundTo world old (takes_next world bounds old).state
+  pub takes_next_sound : (old : State) → Sound world old → argument_next world old.method old.stage ≡ None → SoundTo world old (takes_next plan_of world bounds Only old).state
   takes_next_sound old sound none =
       let run = running_now world bounds Only old in
-      if_has (λ (take : Take). SoundTo world old take.state) (nat_le bounds.run.steps old.carried) (record { state = old; outcome = Cut Steps }) (takes_up world bounds (begun world old))
+      if_has (λ (take : Take). SoundTo world old take.state) (nat_le bounds.run.steps old.carried) (record { state = old; outcome = Cut Steps }) (takes_up plan_of world bounds Only (begun world old))
       (to_itself world old sound) (begun_to old _ (takes_up_sound (begun world old) run.0 run.1 run.2 (begun_sound world old sound none)))
 
 -- where nothing is asked, all arguments are read
@@ -351,7 +352,7 @@ taken_sound world bounds old choice range at has = go (question_of world old bou
   sound = sound_reached world old at.reached.reached
 
   go : (question : Option Question) → question_of world old bounds ≡ question → Has (option_map_or (alternatives world old bounds) question only) choice
-      → IsSoundTake world old (option_map_or (answers world bounds choice old) question (takes_next world bounds old)).state
+      → IsSoundTake world old (option_map_or (answers world bounds choice old) question (takes_next plan_of world bounds Only old)).state
   go None asks offered =
       let none = none_asked world bounds old asks in
       let to = takes_next_sound world bounds old sound none in

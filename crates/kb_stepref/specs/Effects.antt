@@ -2,7 +2,6 @@
 -- effect of the same instruction (JVMS 8 section 6.5), with symbolic values in the place of values. What a field of an object
 -- of the picture holds was told before, where it is read.
 use Rattle.std.specs.Prelude.{ℕ, pos, Bool, List, ◌∷◌, length, drop, nat_lt, Option, Some, None, cond, option_and_then, slice_set, if◌then◌else◌}
-use Rattle.std.specs.Option.{option_map_or}
 use Rattle.kb_code.specs.declared.instruction.Instr.{Instr}
 use Rattle.kb_code.specs.declared.instruction.Instr.TheVariants as instrs
 use Rattle.kb_link.specs.World.{World}
@@ -23,21 +22,8 @@ use Rattle.kb_ways.specs.Kept.{masked}
 use Rattle.kb_ways.specs.Ways.{with_stack, Way, Goes, Jumps, Leaves, Throws, Fails}
 use Rattle.kb_stepref.specs.Fields.{field_named, has_place, held, put_in}
 use Rattle.kb_stepref.specs.Operands.{is_null, object_and_value, one_reference, reference, same, two_references}
-
--- the state with what the instruction writes, and the way on
-pub record Planned : Type 0 where
-  pub state : State
-  pub way : Way
-
--- ---- parts
-
--- nothing is written
-abbrev pub plain : State → Way → Planned
-plain state way = record { state = state; way = way }
-
--- where there is something, what it leads to; else it is ill-typed
-abbrev pub planned : {A : Type 0} → State → Option A → (A → Planned) → Planned
-planned state it f = option_map_or f it (plain state Fails)
+use Rattle.kb_ways.specs.Plans.{Planned, plain, planned}
+use Rattle.kb_picture.specs.declared.choice.Choice.{Choice}
 
 -- whether a local lies below the limit of the method
 abbrev pub is_local : World → State → ℕ → Bool
@@ -133,14 +119,15 @@ puts world state entry =
 
 -- ---- the instructions
 
--- What an instruction does to a state. One that is no instruction on references is left out.
-abbrev pub plan_of : World → State → Instr → Planned
-plan_of world state instrs.PushNull = pushes_null state
-plan_of world state (instrs.LoadRef k) = loads world state k
-plan_of world state (instrs.StoreRef k) = stores world state k
-plan_of world state (instrs.IfSame want target) = branches_same state want target
-plan_of world state (instrs.IfNull want target) = branches_null state want target
-plan_of world state instrs.ReturnRef = returns_reference world state
-plan_of world state (instrs.GetField entry) = gets world state entry
-plan_of world state (instrs.PutField entry) = puts world state entry
-plan_of world state _ = plain state Fails
+-- What an instruction does to a state, to which nothing is left to be told: it chooses nothing. One that is no instruction on
+-- references is left out.
+abbrev pub plan_of : World → State → Choice → Instr → Planned
+plan_of world state choice instrs.PushNull = pushes_null state
+plan_of world state choice (instrs.LoadRef k) = loads world state k
+plan_of world state choice (instrs.StoreRef k) = stores world state k
+plan_of world state choice (instrs.IfSame want target) = branches_same state want target
+plan_of world state choice (instrs.IfNull want target) = branches_null state want target
+plan_of world state choice instrs.ReturnRef = returns_reference world state
+plan_of world state choice (instrs.GetField entry) = gets world state entry
+plan_of world state choice (instrs.PutField entry) = puts world state entry
+plan_of world state choice _ = plain state Fails

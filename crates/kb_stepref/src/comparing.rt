@@ -2,9 +2,8 @@
 //! is chosen.
 ghost use Rattle.std.specs.Prelude.{◌≡◌, ◌<◌, IfOk};
 ghost use Rattle.kb_semantics.specs.Instructions.{is_wanted};
-ghost use Rattle.kb_ways.specs.Turns.{led, told};
+ghost use Rattle.kb_ways.specs.Turns.{led, told, led_by};
 ghost use Rattle.kb_stepref.specs.Effects.{branch_where, branches_null, branches_same};
-ghost use Rattle.kb_stepref.specs.Takes.{followed};
 
 use crate::NoMemory;
 use crate::operands::{is_null, one_reference, same, two_references};
@@ -19,7 +18,7 @@ pub(crate) fn if_same(
     target: u32,
 ) -> Result<Outcome, NoMemory>
     requires { state.old.carried < turn.now.bounds.run.steps }
-    ensures { IfOk result (λ outcome. told state.new outcome ≡ followed turn.now.world.now turn.now.bounds turn.now.next (branches_same state.old want target)) }
+    ensures { IfOk result (λ outcome. told state.new outcome ≡ led_by turn.now (branches_same state.old want target)) }
 {
     match two_references(state) {
         Some((left, right)) => branch(turn, state, is_wanted(want, same(left, right)), target, 2),
@@ -35,7 +34,7 @@ pub(crate) fn if_null(
     target: u32,
 ) -> Result<Outcome, NoMemory>
     requires { state.old.carried < turn.now.bounds.run.steps }
-    ensures { IfOk result (λ outcome. told state.new outcome ≡ followed turn.now.world.now turn.now.bounds turn.now.next (branches_null state.old want target)) }
+    ensures { IfOk result (λ outcome. told state.new outcome ≡ led_by turn.now (branches_null state.old want target)) }
 {
     match one_reference(state) {
         Some(value) => branch(turn, state, is_wanted(want, is_null(value)), target, 1),

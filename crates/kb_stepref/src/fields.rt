@@ -3,11 +3,11 @@ ghost use Rattle.std.specs.Prelude.{◌≡◌, ◌<◌, Some, IfOk, OnOk, if◌t
 ghost use Rattle.std.specs.Option.{option_copied};
 ghost use Rattle.kb_semantics.specs.Instructions.{has_field};
 ghost use Rattle.kb_ways.specs.Needs.{CanStep, IsTermOf};
-ghost use Rattle.kb_ways.specs.Turns.{told};
+ghost use Rattle.kb_ways.specs.Turns.{told, led_by};
 ghost use Rattle.kb_ways.specs.Ways.{Fails};
-ghost use Rattle.kb_stepref.specs.Effects.{got, gets, kept_in, plain, put, put_where, puts};
+ghost use Rattle.kb_stepref.specs.Effects.{got, gets, kept_in, put, put_where, puts};
+ghost use Rattle.kb_ways.specs.Plans.{plain};
 ghost use Rattle.kb_stepref.specs.Fields.{cell_of, field_named, has_place, has_slot_of, held, made_value_of, put_in};
-ghost use Rattle.kb_stepref.specs.Takes.{followed};
 
 use crate::NoMemory;
 use crate::operands::{object_and_value, one_reference};
@@ -90,7 +90,7 @@ pub(crate) fn get_field(
     entry: u16,
 ) -> Result<Outcome, NoMemory>
     requires { state.old.carried < turn.now.bounds.run.steps }
-    ensures { IfOk result (λ outcome. told state.new outcome ≡ followed turn.now.world.now turn.now.bounds turn.now.next (gets turn.now.world.now state.old entry)) }
+    ensures { IfOk result (λ outcome. told state.new outcome ≡ led_by turn.now (gets turn.now.world.now state.old entry)) }
 {
     let Some(field) = field_named(turn.world, state, entry) else {
         return ill_typed(turn, state);
@@ -108,7 +108,7 @@ fn get(
     object: SymValue,
 ) -> Result<Outcome, NoMemory>
     requires { state.old.carried < turn.now.bounds.run.steps }
-    ensures { IfOk result (λ outcome. told state.new outcome ≡ followed turn.now.world.now turn.now.bounds turn.now.next (got turn.now.world.now state.old field.now object)) }
+    ensures { IfOk result (λ outcome. told state.new outcome ≡ led_by turn.now (got turn.now.world.now state.old field.now object)) }
 {
     if let SymValue::Null = object {
         return throws(turn, state, NULL_POINTER);
@@ -142,7 +142,7 @@ pub(crate) fn put_field(
     entry: u16,
 ) -> Result<Outcome, NoMemory>
     requires { CanStep turn.now.bounds state.old }
-    ensures { IfOk result (λ outcome. told state.new outcome ≡ followed turn.now.world.now turn.now.bounds turn.now.next (puts turn.now.world.now state.old entry)) }
+    ensures { IfOk result (λ outcome. told state.new outcome ≡ led_by turn.now (puts turn.now.world.now state.old entry)) }
 {
     let Some(field) = field_named(turn.world, state, entry) else {
         return ill_typed(turn, state);
@@ -162,7 +162,7 @@ fn put(
 ) -> Result<Outcome, NoMemory>
     requires step { CanStep turn.now.bounds state.old }
     requires term { IsTermOf state.old.nodes (Some value) }
-    ensures { IfOk result (λ outcome. told state.new outcome ≡ followed turn.now.world.now turn.now.bounds turn.now.next (put turn.now.world.now state.old field.now object value)) }
+    ensures { IfOk result (λ outcome. told state.new outcome ≡ led_by turn.now (put turn.now.world.now state.old field.now object value)) }
 {
     if let SymValue::Null = object {
         return throws(turn, state, NULL_POINTER);
@@ -180,7 +180,7 @@ fn put_on(
 ) -> Result<Outcome, NoMemory>
     requires step { CanStep turn.now.bounds state.old }
     requires term { IsTermOf state.old.nodes (Some value) }
-    ensures { IfOk result (λ outcome. told state.new outcome ≡ followed turn.now.world.now turn.now.bounds turn.now.next (if has_place turn.now.world.now state.old field.now object then put_where turn.now.world.now state.old field.now object value else plain state.old Fails)) }
+    ensures { IfOk result (λ outcome. told state.new outcome ≡ led_by turn.now (if has_place turn.now.world.now state.old field.now object then put_where turn.now.world.now state.old field.now object value else plain state.old Fails)) }
 {
     if !has_place(turn.world, state, field, object) {
         return ill_typed(turn, state);

@@ -1,10 +1,9 @@
 //! Instructions on locals that are references (JVMS 8 section 6.5).
 ghost use Rattle.std.specs.Prelude.{◌≡◌, ◌<◌, cond, drop, None, IfOk};
 ghost use Rattle.kb_frames.specs.Lent.{local_in, stack_of};
-ghost use Rattle.kb_ways.specs.Turns.{led, told};
+ghost use Rattle.kb_ways.specs.Turns.{led, told, led_by};
 ghost use Rattle.kb_stepref.specs.Effects.{in_local, is_local, loads, stores};
 ghost use Rattle.kb_stepref.specs.Operands.{reference};
-ghost use Rattle.kb_stepref.specs.Takes.{followed};
 
 use crate::NoMemory;
 use crate::operands::{one_reference, reference};
@@ -14,7 +13,7 @@ use kb_ways::{Turn, carry_on, has_room, ill_typed, is_local, replaces};
 /// aload
 pub(crate) fn load(turn: &Turn<'_>, state: &mut SymState, local: u16) -> Result<Outcome, NoMemory>
     requires { state.old.carried < turn.now.bounds.run.steps }
-    ensures { IfOk result (λ outcome. told state.new outcome ≡ followed turn.now.world.now turn.now.bounds turn.now.next (loads turn.now.world.now state.old local)) }
+    ensures { IfOk result (λ outcome. told state.new outcome ≡ led_by turn.now (loads turn.now.world.now state.old local)) }
 {
     match local_at(turn, state, local) {
         Some(value) => replaces(turn, state, 0, &[value]),
@@ -25,7 +24,7 @@ pub(crate) fn load(turn: &Turn<'_>, state: &mut SymState, local: u16) -> Result<
 /// astore
 pub(crate) fn store(turn: &Turn<'_>, state: &mut SymState, local: u16) -> Result<Outcome, NoMemory>
     requires { state.old.carried < turn.now.bounds.run.steps }
-    ensures { IfOk result (λ outcome. told state.new outcome ≡ followed turn.now.world.now turn.now.bounds turn.now.next (stores turn.now.world.now state.old local)) }
+    ensures { IfOk result (λ outcome. told state.new outcome ≡ led_by turn.now (stores turn.now.world.now state.old local)) }
 {
     match one_reference(state) {
         Some(value) => set(turn, state, local, value),

@@ -3,9 +3,8 @@ ghost use Rattle.std.specs.Prelude.{◌≡◌, Some, IfOk};
 ghost use Rattle.kb_picture.specs.declared.path.SymEnding.TheVariants.{Returned};
 ghost use Rattle.kb_frames.specs.StandsFor.{out_of};
 ghost use Rattle.kb_frames.specs.declared.value.Outcome.TheVariants.{Ends};
-ghost use Rattle.kb_ways.specs.Turns.{told};
+ghost use Rattle.kb_ways.specs.Turns.{told, led_by};
 ghost use Rattle.kb_stepref.specs.Effects.{returns_reference};
-ghost use Rattle.kb_stepref.specs.Takes.{followed};
 
 use crate::NoMemory;
 use crate::operands::one_reference;
@@ -16,7 +15,7 @@ use kb_ways::{Turn, ill_typed, result_of};
 
 /// areturn
 pub(crate) fn return_reference(turn: &Turn<'_>, state: &SymState) -> Result<Outcome, NoMemory>
-    ensures { IfOk result (λ outcome. told state.now outcome ≡ followed turn.now.world.now turn.now.bounds turn.now.next (returns_reference turn.now.world.now state.now)) }
+    ensures { IfOk result (λ outcome. told state.now outcome ≡ led_by turn.now (returns_reference turn.now.world.now state.now)) }
 {
     let Some(value) = one_reference(state) else {
         return ill_typed(turn, state);

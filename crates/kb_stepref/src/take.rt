@@ -9,7 +9,10 @@ ghost use Rattle.kb_stepref.specs.Choices.{alternatives, choices_of};
 ghost use Rattle.kb_stepref.specs.Laws.{AreInRange, IsAtReferences};
 ghost use Rattle.kb_stepref.specs.Questions.{question, question_of};
 ghost use Rattle.kb_stepref.specs.Reached.{IsHeapReached};
-ghost use Rattle.kb_stepref.specs.Takes.{answers, goes_behind, taken, takes_next, takes_up};
+ghost use Rattle.kb_stepref.specs.Takes.{answers, goes_behind, taken};
+ghost use Rattle.kb_ways.specs.Plans.{takes_next, takes_up};
+ghost use Rattle.kb_picture.specs.declared.choice.Choice.TheVariants.{Only};
+ghost use Rattle.kb_stepref.specs.Effects.{plan_of};
 
 use crate::NoMemory;
 use crate::answers::{answer, passed_by};
@@ -103,7 +106,7 @@ fn take_next(
 ) -> Result<Outcome, NoMemory>
     requires at { IsAtReferences world.now state.old }
     requires nothing { question_of world.now state.old bounds.now ≡ None }
-    ensures { IfOk result (λ outcome. told state.new outcome ≡ takes_next world.now bounds.now state.old) }
+    ensures { IfOk result (λ outcome. told state.new outcome ≡ takes_next plan_of world.now bounds.now Only state.old) }
 {
     if bounds.run.steps <= state.carried() {
         return Ok(Outcome::Cut(Bound::Steps));
@@ -120,7 +123,7 @@ fn take_up(
     bounds: &Bounds,
 ) -> Result<Outcome, NoMemory>
     requires { CanStep bounds.now state.old }
-    ensures { IfOk result (λ outcome. told state.new outcome ≡ takes_up world.now bounds.now state.old) }
+    ensures { IfOk result (λ outcome. told state.new outcome ≡ takes_up plan_of world.now bounds.now Only state.old) }
 {
     let (method, at) = state.stands_at();
     let Some(found) = instruction_at(world, method, at) else {

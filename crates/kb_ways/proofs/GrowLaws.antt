@@ -1,5 +1,5 @@
 -- How conditions grow a state: its terms and its conditions go on, and nothing else changes.
-use Rattle.std.proofs.Common.{◌≡◌, ◌≤◌, ℤ, Bool, true, false, List, [], ◌∷◌, ◌++◌, length, take, Option, Some, None, refl, sym, ap, ◌∙◌, if◌then◌else◌, is_some, arith}
+use Rattle.std.proofs.Common.{◌≡◌, ◌≤◌, ℤ, Bool, true, false, List, [], ◌∷◌, ◌++◌, length, take, Option, Some, None, refl, sym, ap, subst, ◌∙◌, if◌then◌else◌, is_some, arith}
 use Rattle.std.specs.Option.{option_map_or}
 use Rattle.std.proofs.lemmas.List.{append-nil, take-append-le, length-take, take-append-drop}
 use Rattle.std.proofs.lemmas.List.Elements.{filter_map-append}
@@ -123,10 +123,26 @@ side_extends nodes side = (side_goes_on nodes side).terms
 pub op_extends : (nodes : List Node) (op : Op) (left : TermId) (right : Option TermId) → Extends nodes (interned_op nodes op left right).0
 op_extends nodes op left right = interned_extends nodes (made_node nodes op left right)
 
+-- ---- states with more terms
+
+-- the state has more terms, and is else the same
+pub record HasMore (old new : State) : Type 0 where
+  pub rest : new ≡ with_nodes old new.nodes
+  pub on : GoesOn old.nodes new.nodes
+
+pub more_itself : (state : State) → HasMore state state
+more_itself state = record { rest = refl; on = goes_on_itself state.nodes }
+
+pub more_terms : (state : State) (nodes : List Node) → GoesOn state.nodes nodes → HasMore state (with_nodes state nodes)
+more_terms state nodes on = record { rest = refl; on = on }
+
 -- ---- conditions
 
 pub nodes_grow : (state : State) (nodes : List Node) → GoesOn state.nodes nodes → Grows state (with_nodes state nodes)
 nodes_grow state nodes on = record { rest = refl; terms = on.terms; kinds = on.kinds; conditions = front_itself state.when }
+
+pub more_grows : (old new : State) → HasMore old new → Grows old new
+more_grows old new more = subst (Grows old) (sym more.rest) (nodes_grow old new.nodes more.on)
 
 condition_grows : (state : State) (t : TermId) (truth : Bool) → Grows state (conditioned state t truth)
 condition_grows state t truth =

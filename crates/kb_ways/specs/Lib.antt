@@ -1,6 +1,7 @@
 pub mod Asked
 pub mod Kept
 pub mod Ways
+pub mod Plans
 pub mod Turns
 pub mod Needs
 pub mod Reached

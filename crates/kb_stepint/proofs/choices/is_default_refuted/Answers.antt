@@ -4,7 +4,7 @@ use Rattle.kb_ways.specs.declared.condition.Condition.{Condition}
 use Rattle.kb_ways.specs.declared.condition.Side.TheVariants.{Term, Number}
 use Rattle.kb_ways.specs.Asked.{asked_truth, equal_sides, is_against, is_refuted}
 use Rattle.kb_stepint.specs.Choices.{key_conditions}
-use Rattle.kb_stepint.specs.Turns.{keys_of}
+use Rattle.kb_stepint.specs.Keys.{keys_of}
 use Rattle.kb_stepint.proofs.ChoiceLaws.{key_refutes, key_refutes_not}
 use Rattle.kb_stepint.proofs.KeyLaws.{of_number}
 use Rattle.kb_stepint.proofs.choices.is_default_refuted.Goals as goal

@@ -8,7 +8,7 @@ use Rattle.kb_ways.specs.declared.condition.Side.TheVariants.{Term, Number}
 use Rattle.kb_ways.specs.Asked.{all_asked, asked, equal_sides}
 use Rattle.kb_stepint.specs.Choices.{key_conditions}
 use Rattle.kb_ways.specs.Needs.{AreSides}
-use Rattle.kb_stepint.specs.Turns.{keys_of}
+use Rattle.kb_stepint.specs.Keys.{keys_of}
 use Rattle.kb_stepint.proofs.ChoiceLaws.{key_asked, keys_asked}
 use Rattle.kb_stepint.proofs.KeyLaws.{of_number}
 use Rattle.kb_ways.proofs.SideLaws.{asked_extends, key_sides}
