@@ -26,12 +26,13 @@ use Rattle.kb_ways.specs.declared.condition.Side.{Side}
 use Rattle.kb_ways.specs.declared.condition.Side.TheVariants.{Term, Number}
 use Rattle.kb_ways.specs.Asked.{branch_condition, equal_sides}
 use Rattle.kb_stepint.specs.Choices.{branch_conditions, conditions_of, division_conditions, divisor_conditions, key_conditions}
-use Rattle.kb_stepint.specs.Operands.{int_term, one_int, two_ints}
+use Rattle.kb_ways.specs.Operands.{int_term, an_int as one_int, two_ints}
 use Rattle.kb_ways.specs.Needs.{IsTermOf, IsSide}
 use Rattle.kb_ways.specs.Simulation.{IsComparedBy}
 use Rattle.kb_ways.proofs.AskedLaws.{AreAskable, asks_for, side_value}
 use Rattle.kb_ways.proofs.SideLaws.{branch_sides, key_sides}
 use Rattle.kb_ways.proofs.ItemLaws.{two_parts}
+use Rattle.kb_ways.proofs.OperandLaws.{int_is_term}
 
 -- ---- operands
 
@@ -67,16 +68,6 @@ module _ (f : SymValue → Value) (v : TermId → ℤ) (ints : (t : TermId) → 
   two_ints_are (Literal n ∷ stack) p e = absurd cc
   two_ints_are (New n ∷ stack) p e = absurd cc
   two_ints_are (Loc n ∷ stack) p e = absurd cc
-
--- the ints of a stack are terms
-pub int_is_term : (nodes : List Node) (it : Option SymValue) (x : TermId) → IsTermOf nodes it → int_term it ≡ Some x → IsTerm nodes x
-int_is_term nodes None x is e = absurd cc
-int_is_term nodes (Some (Int t)) x is e = let same : t ≡ x = cc in subst (IsTerm nodes) same is
-int_is_term nodes (Some Null) x is e = absurd cc
-int_is_term nodes (Some (Obj n)) x is e = absurd cc
-int_is_term nodes (Some (Literal n)) x is e = absurd cc
-int_is_term nodes (Some (New n)) x is e = absurd cc
-int_is_term nodes (Some (Loc n)) x is e = absurd cc
 
 -- ---- what is askable
 

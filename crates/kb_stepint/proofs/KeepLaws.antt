@@ -1,12 +1,12 @@
 -- What a take keeps of a state, and that it sees nothing but an argument.
-use Rattle.std.proofs.Common.{◌≡◌, ℕ, ℤ, pos, inl, inr, option_and_then, Bool, List, [], ◌∷◌, ◌++◌, length, take, nat_le, Option, Some, None, refl, ap, subst}
+use Rattle.std.proofs.Common.{◌≡◌, ℕ, ℤ, inl, inr, List, [], ◌∷◌, ◌++◌, length, take, nat_le, Option, Some, None, refl, ap, subst}
 use Rattle.kb_code.specs.declared.instruction.Instr.{Instr}
 use Rattle.kb_code.specs.declared.instruction.IntOp.{IntOp}
 use Rattle.kb_heap.specs.declared.bounds.Bounds.{Bounds}
 use Rattle.kb_link.specs.World.{World, int_entry_of}
 use Rattle.kb_names.specs.declared.types.JType.{JType}
-use Rattle.kb_semantics.specs.Config.{class_number, instruction_at, result_of}
-use Rattle.kb_terms.specs.declared.op.Op.TheVariants.{Add, And, Neg}
+use Rattle.kb_semantics.specs.Config.{class_number, instruction_at}
+use Rattle.kb_terms.specs.declared.op.Op.TheVariants.{Add, Neg}
 use Rattle.kb_terms.specs.declared.node.TermId.{TermId}
 use Rattle.kb_terms.specs.declared.node.Node.{Node}
 use Rattle.kb_terms.specs.declared.node.Node.TheVariants.{Const, Var}
@@ -29,16 +29,17 @@ use Rattle.kb_terms.specs.declared.node.VarKind.{VarKind}
 use Rattle.kb_ways.specs.Asked.{all_asked, interned_op}
 use Rattle.kb_stepint.specs.Choices.{conditions_of}
 use Rattle.kb_ways.specs.Plans.{Planned, plain, planned, takes_next, takes_up, carried_out}
-use Rattle.kb_stepint.specs.Effects.{plan_of, pushes_int, adds, rearranges, picked, op_of, op_of_cut, computes_by, int_local, kept_int, leaves_with, effect_of}
-use Rattle.kb_stepint.specs.Operands.{one_int, two_ints}
+use Rattle.kb_stepint.specs.Effects.{plan_of, pushes_int, adds, rearranges, picked, op_of, op_of_cut, computes_by, int_local, effect_of}
+use Rattle.kb_ways.specs.Operands.{an_int, two_ints}
 use Rattle.kb_ways.specs.Simulation.{Keeps, IsRead, ReadsWhatItSees}
 use Rattle.kb_stepint.specs.Takes.{taken, reads_argument}
 use Rattle.kb_ways.specs.Ways.{Take, Fails, ill_typed}
 use Rattle.kb_ways.proofs.GrowLaws.{if_has, option_has, all_asked_grows, front_itself, goes_on_behind, interned_goes_on, op_goes_on, HasMore, more_itself, more_terms, more_grows}
 use Rattle.kb_ways.proofs.KeepLaws.{Stays, stays_grown, stays_on, begun_stays, same_stays, went_stays, kept_of_stays, past, same_reads}
 use Rattle.kb_terms.specs.declared.op.Op.{Op}
+use Rattle.kb_ways.proofs.KeptLaws.{returns_has, kept_more}
+use Rattle.kb_frames.specs.declared.value.SymValue.TheVariants.{Int}
 use Rattle.kb_code.specs.declared.instruction.Instr.TheVariants as instrs
-use Rattle.kb_names.specs.declared.types.JType.TheVariants as types
 use Rattle.kb_picture.specs.declared.choice.Choice.TheVariants as choices
 use Rattle.kb_picture.specs.declared.picture.Seen.TheVariants as seens
 
@@ -74,21 +75,12 @@ module _ (world : World) (state : State) where
   rearranges_makes : (depth : ℕ) (picks : List ℕ) → Makes (rearranges state depth picks)
   rearranges_makes depth picks = planned_makes (picked depth picks (stack_of state.stage)) _ (λ stack. no_terms)
 
-  kept_makes : (t : TermId) (type : Option JType) → Makes (planned state (option_and_then (kept_int state t) type) (leaves_with state))
-  kept_makes t None = no_terms
-  kept_makes t (Some types.Bool) =
-      let one = interned state.nodes (Const (pos 1)) in
-      more_terms state (interned_op one.0 And t (Some one.1)).0
-      (goes_on_behind state.nodes one.0 (interned_op one.0 And t (Some one.1)).0 (interned_goes_on state.nodes (Const (pos 1)) refl) (op_goes_on one.0 And t (Some one.1)))
-  kept_makes t (Some types.Int) = no_terms
-  kept_makes t (Some _) = no_terms
-
   pub effect_makes : (choice : Choice) (instr : Instr) → Makes (effect_of world state choice instr)
   effect_makes choice (instrs.PushInt z) = int_makes z
   effect_makes choice (instrs.Ldc entry) =
       planned_makes (int_entry_of world (class_number world (method_now state.method state.stage)) entry) (pushes_int state) int_makes
   effect_makes choice (instrs.LoadInt k) = planned_makes (int_local world state k) _ (λ t. no_terms)
-  effect_makes choice (instrs.StoreInt k) = planned_makes (one_int (stack_of state.stage)) _ (λ t. no_terms)
+  effect_makes choice (instrs.StoreInt k) = planned_makes (an_int (stack_of state.stage)) _ (λ t. no_terms)
   effect_makes choice (instrs.Inc k by) = planned_makes (int_local world state k) _ (λ t. adds_makes k by t)
   effect_makes choice instrs.Pop = rearranges_makes 1 []
   effect_makes choice instrs.Pop2 = rearranges_makes 2 []
@@ -100,10 +92,10 @@ module _ (world : World) (state : State) where
   effect_makes choice instrs.Dup2X2 = rearranges_makes 4 (0 ∷ 1 ∷ 2 ∷ 3 ∷ 0 ∷ 1 ∷ [])
   effect_makes choice instrs.Swap = rearranges_makes 2 (1 ∷ 0 ∷ [])
   effect_makes choice (instrs.Int2 op) = planned_makes (two_ints (stack_of state.stage)) _ (λ t. computes_by_makes op t choice)
-  effect_makes choice instrs.Neg = planned_makes (one_int (stack_of state.stage)) _ (op_makes Neg)
-  effect_makes choice (instrs.Narrow cut) = planned_makes (one_int (stack_of state.stage)) _ (op_makes (op_of_cut cut))
+  effect_makes choice instrs.Neg = planned_makes (an_int (stack_of state.stage)) _ (op_makes Neg)
+  effect_makes choice (instrs.Narrow cut) = planned_makes (an_int (stack_of state.stage)) _ (op_makes (op_of_cut cut))
   effect_makes choice instrs.ReturnInt =
-      planned_makes (one_int (stack_of state.stage)) _ (λ t. kept_makes t (result_of world (method_now state.method state.stage)))
+      planned_makes (an_int (stack_of state.stage)) _ (λ t. returns_has Makes world state (Int t) (λ type. kept_more type (Int t) state) no_terms)
   effect_makes choice _ = no_terms
 
 -- ---- takes

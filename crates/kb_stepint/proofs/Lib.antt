@@ -7,7 +7,6 @@ pub mod KeyLaws
 pub mod MeasureLaws
 pub mod OneLaws
 pub mod OneListed
-pub mod OperandLaws
 pub mod OutcomeLaws
 pub mod OutcomePlans
 pub mod OutcomeReads

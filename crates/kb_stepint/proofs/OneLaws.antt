@@ -37,13 +37,13 @@ use Rattle.kb_stepint.specs.Choices.{choices_of, conditions_of, listed, offered,
 use Rattle.kb_ways.specs.Plans.{Planned, takes_next, takes_up, carried_out}
 use Rattle.kb_stepint.specs.Effects.{plan_of, effect_of}
 use Rattle.kb_stepint.specs.Laws.{IsAtInts}
-use Rattle.kb_stepint.specs.Operands.{int_term, one_int, two_ints}
+use Rattle.kb_ways.specs.Operands.{int_term, an_int, two_ints}
 use Rattle.kb_ways.specs.Reached.{IsReached}
 use Rattle.kb_ways.specs.Simulation.{ExactlyOneIs, NoneIs, TakesOneWay}
 use Rattle.kb_stepint.specs.Takes.{reads_argument, taken}
 use Rattle.kb_ways.specs.Ways.{ill_typed}
 use Rattle.kb_ways.proofs.KeepLaws.{went_when, went_stays}
-use Rattle.kb_stepint.proofs.ComparedLaws.{int_is_term}
+use Rattle.kb_ways.proofs.OperandLaws.{int_is_term}
 use Rattle.kb_ways.proofs.ItemLaws.{two_parts}
 use Rattle.kb_ways.proofs.GrowLaws.{Grows, all_asked_grows, HasMore}
 use Rattle.kb_stepint.proofs.KeepLaws.{effect_makes}
@@ -82,7 +82,7 @@ module _ {A : Type 0} (P Q : A → Type 0) (keep : A → Bool) (kept : (x : A) �
 
 -- ---- the operands are terms
 
-pub one_term : (nodes : List Node) (stack : List SymValue) (x : TermId) → AreStackTerms nodes stack → one_int stack ≡ Some x → IsTerm nodes x
+pub one_term : (nodes : List Node) (stack : List SymValue) (x : TermId) → AreStackTerms nodes stack → an_int stack ≡ Some x → IsTerm nodes x
 one_term nodes stack x terms e = int_is_term nodes (slice_get stack 0) x (terms 0) e
 
 pub two_terms : (nodes : List Node) (stack : List SymValue) (p : TermId × TermId) → AreStackTerms nodes stack → two_ints stack ≡ Some p → IsTerm nodes p.0 × IsTerm nodes p.1

@@ -27,7 +27,7 @@ use Rattle.kb_ways.specs.declared.condition.Side.TheVariants.{Term, Number}
 use Rattle.kb_ways.specs.Asked.{branch_condition, equal_sides}
 use Rattle.kb_stepint.specs.Choices.{only, both_ways, keys_from, divisors, listed, branch_conditions, key_conditions, divisor_conditions, division_conditions, conditions_of}
 use Rattle.kb_ways.specs.Needs.{IsSide}
-use Rattle.kb_stepint.specs.Operands.{one_int, two_ints}
+use Rattle.kb_ways.specs.Operands.{an_int, two_ints}
 use Rattle.kb_ways.specs.Simulation.{NoneIs, ExactlyOneIs}
 use Rattle.kb_ways.proofs.AskedLaws.{side_value}
 use Rattle.kb_ways.proofs.OneAsked.{Holds, AllHold, AllSides, IsTruth}
@@ -204,7 +204,7 @@ module _ (nodes : List Node) (variables : List ℤ) where
   -- ---- instructions
 
   pub listed_one : (instr : Instr) (stack : List SymValue) → HasRisingKeys instr → ExactlyOneIs (λ (choice : Choice). AllHold nodes variables (conditions_of instr stack choice)) (listed instr stack)
-  listed_one (instrs.IfInt cond target) stack rising = go (one_int stack) where
+  listed_one (instrs.IfInt cond target) stack rising = go (an_int stack) where
     go : (it : Option TermId) → ExactlyOneIs (λ (choice : Choice). AllHold nodes variables (if_some it (λ x. branch_conditions cond (Term x) (Number (pos 0)) choice))) (if is_some it then both_ways else only)
     go None = inl (tt, tt)
     go (Some x) = branch_one cond (Term x) (Number (pos 0))
@@ -212,11 +212,11 @@ module _ (nodes : List Node) (variables : List ℤ) where
     go : (it : Option (TermId × TermId)) → ExactlyOneIs (λ (choice : Choice). AllHold nodes variables (if_some it (λ t. branch_conditions cond (Term t.0) (Term t.1) choice))) (if is_some it then both_ways else only)
     go None = inl (tt, tt)
     go (Some t) = branch_one cond (Term t.0) (Term t.1)
-  listed_one (instrs.Table low default targets) stack rising = go (one_int stack) where
+  listed_one (instrs.Table low default targets) stack rising = go (an_int stack) where
     go : (it : Option TermId) → ExactlyOneIs (λ (choice : Choice). AllHold nodes variables (if_some it (λ x. key_conditions x (table_keys low targets) choice))) (if is_some it then keys_from 0 (table_keys low targets) else only)
     go None = inl (tt, tt)
     go (Some x) = keys_one x (table_keys low targets) (table_rising low targets)
-  listed_one (instrs.Lookup default keys) stack rising = go (one_int stack) where
+  listed_one (instrs.Lookup default keys) stack rising = go (an_int stack) where
     go : (it : Option TermId) → ExactlyOneIs (λ (choice : Choice). AllHold nodes variables (if_some it (λ x. key_conditions x keys choice))) (if is_some it then keys_from 0 keys else only)
     go None = inl (tt, tt)
     go (Some x) = keys_one x keys rising
@@ -285,16 +285,16 @@ some_alike b (Some x) f h = h x
 
 pub conditions_alike : (instr : Instr) (stack : List SymValue) (choice : Choice) → AreAlike (wanted_of instr choice) (conditions_of instr stack choice)
 conditions_alike (instrs.IfInt cond target) stack choice =
-    some_alike (wanted_of (instrs.IfInt cond target) choice) (one_int stack) (λ x. branch_conditions cond (Term x) (Number (pos 0)) choice)
+    some_alike (wanted_of (instrs.IfInt cond target) choice) (an_int stack) (λ x. branch_conditions cond (Term x) (Number (pos 0)) choice)
     (λ x. branches_alike cond (Term x) (Number (pos 0)) choice (instrs.IfInt cond target) (λ so. refl))
 conditions_alike (instrs.IfPair cond target) stack choice =
     some_alike (wanted_of (instrs.IfPair cond target) choice) (two_ints stack) (λ t. branch_conditions cond (Term t.0) (Term t.1) choice)
     (λ t. branches_alike cond (Term t.0) (Term t.1) choice (instrs.IfPair cond target) (λ so. refl))
 conditions_alike (instrs.Table low default targets) stack choice =
-    some_alike (wanted_of (instrs.Table low default targets) choice) (one_int stack) (λ x. key_conditions x (table_keys low targets) choice)
+    some_alike (wanted_of (instrs.Table low default targets) choice) (an_int stack) (λ x. key_conditions x (table_keys low targets) choice)
     (λ x. keys_alike x (table_keys low targets) choice (instrs.Table low default targets) (λ place. refl) refl)
 conditions_alike (instrs.Lookup default keys) stack choice =
-    some_alike (wanted_of (instrs.Lookup default keys) choice) (one_int stack) (λ x. key_conditions x keys choice)
+    some_alike (wanted_of (instrs.Lookup default keys) choice) (an_int stack) (λ x. key_conditions x keys choice)
     (λ x. keys_alike x keys choice (instrs.Lookup default keys) (λ place. refl) refl)
 conditions_alike (instrs.Int2 op) stack choice =
     some_alike (wanted_of (instrs.Int2 op) choice) (two_ints stack) (λ t. division_conditions op t.1 choice) (λ t. division_alike op t.1 choice)
@@ -331,12 +331,12 @@ module _ (nodes : List Node) where
   division_sides _ x choice is = tt
 
   -- where the ints of the stack are
-  module _ (stack : List SymValue) (one : (x : TermId) → one_int stack ≡ Some x → IsTerm nodes x) (two : (p : TermId × TermId) → two_ints stack ≡ Some p → IsTerm nodes p.0 × IsTerm nodes p.1) where
+  module _ (stack : List SymValue) (one : (x : TermId) → an_int stack ≡ Some x → IsTerm nodes x) (two : (p : TermId × TermId) → two_ints stack ≡ Some p → IsTerm nodes p.0 × IsTerm nodes p.1) where
     pub conditions_sides : (instr : Instr) (choice : Choice) → AllSides nodes (conditions_of instr stack choice)
-    conditions_sides (instrs.IfInt cond target) choice = some_sides (one_int stack) (λ x. branch_conditions cond (Term x) (Number (pos 0)) choice) (λ x e. branches_sides cond (Term x) (Number (pos 0)) choice (one x e) tt)
+    conditions_sides (instrs.IfInt cond target) choice = some_sides (an_int stack) (λ x. branch_conditions cond (Term x) (Number (pos 0)) choice) (λ x e. branches_sides cond (Term x) (Number (pos 0)) choice (one x e) tt)
     conditions_sides (instrs.IfPair cond target) choice =
         some_sides (two_ints stack) (λ t. branch_conditions cond (Term t.0) (Term t.1) choice) (λ t e. branches_sides cond (Term t.0) (Term t.1) choice (two t e).0 (two t e).1)
-    conditions_sides (instrs.Table low default targets) choice = some_sides (one_int stack) (λ x. key_conditions x (table_keys low targets) choice) (λ x e. keys_sides x (table_keys low targets) choice (one x e))
-    conditions_sides (instrs.Lookup default keys) choice = some_sides (one_int stack) (λ x. key_conditions x keys choice) (λ x e. keys_sides x keys choice (one x e))
+    conditions_sides (instrs.Table low default targets) choice = some_sides (an_int stack) (λ x. key_conditions x (table_keys low targets) choice) (λ x e. keys_sides x (table_keys low targets) choice (one x e))
+    conditions_sides (instrs.Lookup default keys) choice = some_sides (an_int stack) (λ x. key_conditions x keys choice) (λ x e. keys_sides x keys choice (one x e))
     conditions_sides (instrs.Int2 op) choice = some_sides (two_ints stack) (λ t. division_conditions op t.1 choice) (λ t e. division_sides op t.1 choice (two t e).1)
     conditions_sides _ choice = tt

@@ -54,12 +54,13 @@ use Rattle.kb_ways.specs.declared.condition.Side.{Side}
 use Rattle.kb_ways.specs.declared.condition.Side.TheVariants.{Term, Number}
 use Rattle.kb_ways.specs.Asked.{interned_op}
 use Rattle.kb_stepint.specs.Choices.{both_ways, branch_conditions, conditions_of, division_conditions, divisor_conditions, divisors, key_conditions, keys_from, listed, only}
-use Rattle.kb_ways.specs.Plans.{Planned, plain, planned}
-use Rattle.kb_stepint.specs.Effects.{pushes, pushes_int, int_local, loads, in_local, stores, adds, increases, picked, rearranges, op_of, op_of_cut, computes, computes_by, computes_two, branch_way, switch_way, switches, kept_int, leaves_with, returns_int, branches as branches_sym, returns_nothing as returns_nothing_sym, effect_of}
+use Rattle.kb_ways.specs.Kept.{kept as sym_kept}
+use Rattle.kb_ways.specs.Plans.{returns_value as returns_value_sym, leaves_with, Planned, plain, planned}
+use Rattle.kb_stepint.specs.Effects.{pushes, pushes_int, int_local, loads, in_local, stores, adds, increases, picked, rearranges, op_of, op_of_cut, computes, computes_by, computes_two, branch_way, switch_way, switches, returns_int, branches as branches_sym, returns_nothing as returns_nothing_sym, effect_of}
 use Rattle.kb_ways.specs.Ways.{with_stack, Goes, Jumps, Leaves, Fails}
 use Rattle.kb_ways.specs.Kept.{masked}
 use Rattle.kb_ways.specs.Needs.{IsTermOf}
-use Rattle.kb_stepint.specs.Operands.{int_term, one_int, two_ints}
+use Rattle.kb_ways.specs.Operands.{int_term, an_int as one_int, two_ints}
 use Rattle.kb_stepint.proofs.ComparedLaws.{one_int_is, two_ints_are}
 use Rattle.kb_ways.proofs.GrowLaws.{interned_extends, op_extends}
 use Rattle.kb_ways.proofs.AskedLaws.{interned_is_term, side_value}
@@ -569,7 +570,7 @@ module _ (s : Setting) (c : Config) (next : ℕ) (base : State) (frame : SymFram
   -- ---- returns
 
   returned_is : (t : TermId) → IsTerm nodes t
-      → IsPlan (returns_value s c (IntValue (V t))) (planned state (option_and_then (kept_int state t) (result_of s.world frame.method)) (leaves_with state))
+      → IsPlan (returns_value s c (IntValue (V t))) (returns_value_sym s.world state (Int t))
   unfolding returns_value
   returned_is t is =
       ap (λ (m : MethodId). option_map_or (λ v. hands_over s c (Some v)) (option_and_then (λ type. kept type (IntValue (V t))) (result_of s.world m)) (ill_typed s c)) (reads.stands nodes itself).method
@@ -584,7 +585,7 @@ module _ (s : Setting) (c : Config) (next : ℕ) (base : State) (frame : SymFram
           ap (λ (v : Value). hands_over s c (Some v)) (ap IntValue (sym (low_made nodes t variables ordered is)) ∙ sym (reads.ints made.0 made.1))
 
       go : (result : Option JType) → option_map_or (λ v. hands_over s c (Some v)) (option_and_then (λ type. kept type (IntValue (V t))) result) (ill_typed s c)
-          ≡ led_to s c next (R (planned state (option_and_then (kept_int state t) result) (leaves_with state)).state.nodes) (planned state (option_and_then (kept_int state t) result) (leaves_with state)).way
+          ≡ led_to s c next (R (planned state (option_and_then (λ (type : JType). sym_kept type (Int t) state) result) leaves_with).state.nodes) (planned state (option_and_then (λ (type : JType). sym_kept type (Int t) state) result) leaves_with).way
       go None = refl
       go (Some types.Bool) = low
       go (Some types.Int) = whole
@@ -592,7 +593,7 @@ module _ (s : Setting) (c : Config) (next : ℕ) (base : State) (frame : SymFram
 
   returns_int_is : IsPlan (with s c (an_int c.frame.stack) (λ a. returns_value s c (IntValue a.it))) (returns_int s.world state)
   returns_int_is =
-      with_one (λ a. returns_value s c (IntValue a.it)) (λ it. planned state it (λ t. planned state (option_and_then (kept_int state t) (result_of s.world frame.method)) (leaves_with state))) refl
+      with_one (λ a. returns_value s c (IntValue a.it)) (λ it. planned state it (λ t. returns_value_sym s.world state (Int t))) refl
       (λ t e. returned_is t (one_term nodes frame.stack t terms.stack e))
 
   returns_nothing_is : IsPlan (returns_nothing s c) (returns_nothing_sym s.world state)

@@ -23,15 +23,16 @@ use Rattle.kb_frames.specs.Next.{method_now}
 use Rattle.kb_frames.specs.State.{State}
 use Rattle.kb_frames.specs.States.{Each, IsLocal, IsSymValue}
 use Rattle.kb_ways.specs.Asked.{interned_op}
-use Rattle.kb_ways.specs.Plans.{Planned, plain, planned}
-use Rattle.kb_stepint.specs.Effects.{adds, branch_way, computes_by, in_local, int_local, kept_int, leaves_with, op_of, op_of_cut, pushes, pushes_int, rearranges, switch_way, effect_of}
+use Rattle.kb_ways.specs.Plans.{Planned, plain, planned, returns_value}
+use Rattle.kb_stepint.specs.Effects.{adds, branch_way, computes_by, in_local, int_local, op_of, op_of_cut, pushes, pushes_int, rearranges, switch_way, effect_of}
 use Rattle.kb_ways.specs.Ways.{with_stack, Goes, Jumps, Leaves, Fails}
-use Rattle.kb_stepint.specs.Operands.{int_term, one_int, two_ints}
+use Rattle.kb_ways.specs.Operands.{int_term, an_int, two_ints}
 use Rattle.kb_ways.proofs.AskedLaws.{interned_is_term}
 use Rattle.kb_ways.proofs.GrowLaws.{if_has, interned_extends, op_extends, option_has}
 use Rattle.kb_ways.proofs.ItemLaws.{each_append, each_cons, each_drop, each_picked, each_set, option_has_at}
 use Rattle.kb_ways.proofs.SoundLaws.{Still, locals_still, values_still}
 use Rattle.kb_ways.proofs.GoodWays.{CanGo, IsGood}
+use Rattle.kb_ways.proofs.KeptLaws.{returns_has}
 
 -- ---- operands
 
@@ -113,7 +114,7 @@ module _ (world : World) (state : State) (room : max_locals_of world (method_now
       (λ value at. local_there world state (slice_get (locals_of state.stage) k) value (λ local there. locals k local there)
       (below_limit (nat_lt k (max_locals_of world (method_now state.method state.stage))) (local_in state.stage k) value at)) e
 
-  top_term : (t : TermId) → one_int (stack_of state.stage) ≡ Some t → IsTerm state.nodes t
+  top_term : (t : TermId) → an_int (stack_of state.stage) ≡ Some t → IsTerm state.nodes t
   top_term t e = int_there world state (slice_get (stack_of state.stage) 0) t (λ value at. stack 0 value at) e
 
   load_good : (k : ℕ) (t : TermId) → int_local world state k ≡ Some t → IsGoodPlan (plain state (with_stack state (Int t ∷ stack_of state.stage)))
@@ -160,16 +161,13 @@ module _ (world : World) (state : State) (room : max_locals_of world (method_now
   switches_good : (there : Bool) (keys : List (ℤ × ℕ)) (default : ℕ) (choice : Choice) → IsGood world state (if there then switch_way keys default (drop 1 (stack_of state.stage)) choice else Fails)
   switches_good there keys default choice = if_has (IsGood world state) there (switch_way keys default (drop 1 (stack_of state.stage)) choice) Fails (switch_good keys default choice) tt
 
-  leaves_good : (it : Option (List Node × TermId)) → IsGoodPlan (planned state it (leaves_with state))
-  leaves_good it = planned_good it (leaves_with state) (λ made e. tt)
-
   pub effect_good : (choice : Choice) (instr : Instr) → IsGoodPlan (effect_of world state choice instr)
   effect_good choice instrs.Nop = goes_good state.nodes same (stack_of state.stage) stack
   effect_good choice (instrs.PushInt z) = int_good z
   effect_good choice (instrs.Ldc entry) = planned_good (int_entry_of world (class_number world (method_now state.method state.stage)) entry) (pushes_int state) (λ z e. int_good z)
   effect_good choice (instrs.LoadInt k) = planned_good (int_local world state k) (λ t. plain state (with_stack state (Int t ∷ stack_of state.stage))) (load_good k)
   effect_good choice (instrs.StoreInt k) =
-      planned_good (one_int (stack_of state.stage)) (λ t. plain state (in_local world state k t (drop 1 (stack_of state.stage))))
+      planned_good (an_int (stack_of state.stage)) (λ t. plain state (in_local world state k t (drop 1 (stack_of state.stage))))
       (λ t e. in_local_good state.nodes same k t (drop 1 (stack_of state.stage)) (top_term t e) (rest_good state.nodes same 1))
   effect_good choice (instrs.Inc k by) = planned_good (int_local world state k) (λ t. adds world state k t (interned state.nodes (Const by))) (λ t e. adds_good k by t)
   effect_good choice instrs.Pop = rearranges_good 1 []
@@ -182,16 +180,15 @@ module _ (world : World) (state : State) (room : max_locals_of world (method_now
   effect_good choice instrs.Dup2X2 = rearranges_good 4 (0 ∷ 1 ∷ 2 ∷ 3 ∷ 0 ∷ 1 ∷ [])
   effect_good choice instrs.Swap = rearranges_good 2 (1 ∷ 0 ∷ [])
   effect_good choice (instrs.Int2 op) = planned_good (two_ints (stack_of state.stage)) (λ t. computes_by state op t choice) (λ t e. computes_by_good op t choice)
-  effect_good choice instrs.Neg = planned_good (one_int (stack_of state.stage)) (λ t. pushes state (drop 1 (stack_of state.stage)) (interned_op state.nodes Neg t None)) (λ t e. op_good 1 Neg t None)
+  effect_good choice instrs.Neg = planned_good (an_int (stack_of state.stage)) (λ t. pushes state (drop 1 (stack_of state.stage)) (interned_op state.nodes Neg t None)) (λ t e. op_good 1 Neg t None)
   effect_good choice (instrs.Narrow cut) =
-      planned_good (one_int (stack_of state.stage)) (λ t. pushes state (drop 1 (stack_of state.stage)) (interned_op state.nodes (op_of_cut cut) t None)) (λ t e. op_good 1 (op_of_cut cut) t None)
-  effect_good choice (instrs.IfInt cond target) = branches_good (is_some (one_int (stack_of state.stage))) target 1 choice
+      planned_good (an_int (stack_of state.stage)) (λ t. pushes state (drop 1 (stack_of state.stage)) (interned_op state.nodes (op_of_cut cut) t None)) (λ t e. op_good 1 (op_of_cut cut) t None)
+  effect_good choice (instrs.IfInt cond target) = branches_good (is_some (an_int (stack_of state.stage))) target 1 choice
   effect_good choice (instrs.IfPair cond target) = branches_good (is_some (two_ints (stack_of state.stage))) target 2 choice
   effect_good choice (instrs.Goto target) = stack
-  effect_good choice (instrs.Table low default targets) = switches_good (is_some (one_int (stack_of state.stage))) (table_keys low targets) default choice
-  effect_good choice (instrs.Lookup default keys) = switches_good (is_some (one_int (stack_of state.stage))) keys default choice
+  effect_good choice (instrs.Table low default targets) = switches_good (is_some (an_int (stack_of state.stage))) (table_keys low targets) default choice
+  effect_good choice (instrs.Lookup default keys) = switches_good (is_some (an_int (stack_of state.stage))) keys default choice
   effect_good choice instrs.ReturnInt =
-      planned_good (one_int (stack_of state.stage)) (λ t. planned state (option_and_then (kept_int state t) (result_of world (method_now state.method state.stage))) (leaves_with state))
-      (λ t e. leaves_good (option_and_then (kept_int state t) (result_of world (method_now state.method state.stage))))
+      planned_good (an_int (stack_of state.stage)) (λ t. returns_value world state (Int t)) (λ t e. returns_has IsGoodPlan world state (Int t) (λ type. tt) tt)
   effect_good choice instrs.Return = if_has (IsGood world state) (is_some (result_of world (method_now state.method state.stage))) Fails (Leaves None) tt tt
   effect_good choice _ = tt

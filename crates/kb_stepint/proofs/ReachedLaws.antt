@@ -33,7 +33,7 @@ use Rattle.kb_ways.specs.Asked.{all_asked, branch_condition, equal_sides}
 use Rattle.kb_stepint.specs.Choices.{branch_conditions, conditions_of, division_conditions, divisor_conditions, key_conditions}
 use Rattle.kb_stepint.specs.Effects.{plan_of, effect_of}
 use Rattle.kb_stepint.specs.Laws.{IsAtInts}
-use Rattle.kb_stepint.specs.Operands.{one_int, two_ints}
+use Rattle.kb_ways.specs.Operands.{an_int, two_ints}
 use Rattle.kb_ways.specs.Reached.{IsReached}
 use Rattle.kb_ways.specs.Simulation.{HasInputOfState}
 use Rattle.kb_stepint.specs.Takes.{taken, reads_argument}
@@ -88,12 +88,12 @@ division_compares _ x choice = tt
 
 pub instr_compares : (instr : Instr) (stack : List SymValue) (choice : Choice) → AllCompare (conditions_of instr stack choice)
 instr_compares (instrs.IfInt cond target) stack choice =
-    if_some_compares (one_int stack) (λ x. branch_conditions cond (Term x) (Number (pos 0)) choice) (λ x. branch_compares cond (Term x) (Number (pos 0)) choice)
+    if_some_compares (an_int stack) (λ x. branch_conditions cond (Term x) (Number (pos 0)) choice) (λ x. branch_compares cond (Term x) (Number (pos 0)) choice)
 instr_compares (instrs.IfPair cond target) stack choice =
     if_some_compares (two_ints stack) (λ t. branch_conditions cond (Term t.0) (Term t.1) choice) (λ t. branch_compares cond (Term t.0) (Term t.1) choice)
 instr_compares (instrs.Table low default targets) stack choice =
-    if_some_compares (one_int stack) (λ x. key_conditions x (table_keys low targets) choice) (λ x. keys_compare x (table_keys low targets) choice)
-instr_compares (instrs.Lookup default keys) stack choice = if_some_compares (one_int stack) (λ x. key_conditions x keys choice) (λ x. keys_compare x keys choice)
+    if_some_compares (an_int stack) (λ x. key_conditions x (table_keys low targets) choice) (λ x. keys_compare x (table_keys low targets) choice)
+instr_compares (instrs.Lookup default keys) stack choice = if_some_compares (an_int stack) (λ x. key_conditions x keys choice) (λ x. keys_compare x keys choice)
 instr_compares (instrs.Int2 op) stack choice = if_some_compares (two_ints stack) (λ t. division_conditions op t.1 choice) (λ t. division_compares op t.1 choice)
 instr_compares _ stack choice = tt
 

@@ -1,11 +1,9 @@
 -- What the instructions on ints do to a state, by kinds of effect: which terms they make, and the way on. Each is the
 -- counterpart of the machine's effect of the same instruction (JVMS 8 section 6.5), with terms in the place of ints. Where a
 -- choice was made, the way is the alternative's.
-use Rattle.std.specs.Prelude.{ℕ, ℤ, pos, Bool, true, false, List, [], ◌∷◌, ◌++◌, length, drop, nat_lt, nat_le, Option, Some, None, cond, is_some, option_and_then, slice_get, slice_set, if◌then◌else◌}
+use Rattle.std.specs.Prelude.{ℕ, ℤ, Bool, true, false, List, [], ◌∷◌, ◌++◌, length, drop, nat_lt, nat_le, Option, Some, None, cond, is_some, slice_get, slice_set, if◌then◌else◌}
 use Rattle.std.specs.List.{filter_map}
 use Rattle.std.specs.Option.{option_map_or}
-use Rattle.kb_names.specs.declared.types.JType.{JType}
-use Rattle.kb_names.specs.declared.types.JType.TheVariants as types
 use Rattle.kb_code.specs.declared.instruction.Instr.{Instr}
 use Rattle.kb_code.specs.declared.instruction.Instr.TheVariants as instrs
 use Rattle.kb_code.specs.declared.instruction.IntCut.{IntCut}
@@ -29,12 +27,11 @@ use Rattle.kb_frames.specs.declared.value.SymValue.TheVariants.{Int}
 use Rattle.kb_frames.specs.State.{State}
 use Rattle.kb_frames.specs.Lent.{stack_of, locals_of, local_in, with_nodes}
 use Rattle.kb_frames.specs.Next.{method_now}
-use Rattle.kb_stepint.specs.Operands.{int_term, one_int, two_ints}
+use Rattle.kb_ways.specs.Operands.{int_term, an_int, two_ints}
 use Rattle.kb_ways.specs.Asked.{all_asked, interned_op}
-use Rattle.kb_ways.specs.Plans.{Planned, plain, planned}
+use Rattle.kb_ways.specs.Plans.{Planned, plain, planned, returns_value}
 use Rattle.kb_stepint.specs.Choices.{conditions_of}
 use Rattle.kb_ways.specs.Ways.{Way, Goes, Jumps, Leaves, Throws, Fails, with_stack}
-use Rattle.kb_ways.specs.Kept.{masked}
 
 -- ---- parts
 
@@ -62,7 +59,7 @@ in_local world state k t stack =
     if nat_lt k (max_locals_of world (method_now state.method state.stage)) then Goes (slice_set (locals_of state.stage) k (Some (Int t))) stack else Fails
 
 abbrev pub stores : World → State → ℕ → Planned
-stores world state k = planned state (one_int (stack_of state.stage)) (λ t. plain state (in_local world state k t (drop 1 (stack_of state.stage))))
+stores world state k = planned state (an_int (stack_of state.stage)) (λ t. plain state (in_local world state k t (drop 1 (stack_of state.stage))))
 
 abbrev pub sets : World → State → ℕ → List Node × TermId → Planned
 sets world state k made = record { state = with_nodes state made.0; way = in_local world state k made.1 (stack_of state.stage) }
@@ -107,7 +104,7 @@ op_of_cut cuts.Short = Short
 
 -- an operation on one int: ineg, i2b, i2c, i2s
 abbrev pub computes : State → Op → Planned
-computes state op = planned state (one_int (stack_of state.stage)) (λ t. pushes state (drop 1 (stack_of state.stage)) (interned_op state.nodes op t None))
+computes state op = planned state (an_int (stack_of state.stage)) (λ t. pushes state (drop 1 (stack_of state.stage)) (interned_op state.nodes op t None))
 
 -- an operation on two ints, the lower one first; a divisor that is chosen to be 0 throws: iadd to ixor, idiv, irem
 abbrev pub computes_by : State → IntOp → TermId × TermId → Choice → Planned
@@ -139,23 +136,13 @@ switch_way keys default rest _ = Fails
 -- tableswitch, lookupswitch
 abbrev pub switches : State → List (ℤ × ℕ) → ℕ → Choice → Planned
 switches state keys default choice =
-    plain state (if is_some (one_int (stack_of state.stage)) then switch_way keys default (drop 1 (stack_of state.stage)) choice else Fails)
+    plain state (if is_some (an_int (stack_of state.stage)) then switch_way keys default (drop 1 (stack_of state.stage)) choice else Fails)
 
 -- ---- returns
 
-abbrev pub kept_int : State → TermId → JType → Option (List Node × TermId)
-kept_int state t types.Bool = Some (masked state t (interned state.nodes (Const (pos 1))))
-kept_int state t types.Int = Some (state.nodes, t)
-kept_int state t _ = None
-
-abbrev pub leaves_with : State → List Node × TermId → Planned
-leaves_with state made = record { state = with_nodes state made.0; way = Leaves (Some (Int made.1)) }
-
 -- ireturn
 abbrev pub returns_int : World → State → Planned
-returns_int world state =
-    planned state (one_int (stack_of state.stage)) (λ t.
-    planned state (option_and_then (kept_int state t) (result_of world (method_now state.method state.stage))) (leaves_with state))
+returns_int world state = planned state (an_int (stack_of state.stage)) (λ t. returns_value world state (Int t))
 
 -- return
 abbrev pub returns_nothing : World → State → Planned
@@ -186,7 +173,7 @@ effect_of world state choice instrs.Swap = rearranges state 2 (1 ∷ 0 ∷ [])
 effect_of world state choice (instrs.Int2 op) = computes_two state op choice
 effect_of world state choice instrs.Neg = computes state Neg
 effect_of world state choice (instrs.Narrow cut) = computes state (op_of_cut cut)
-effect_of world state choice (instrs.IfInt cond target) = branches state (is_some (one_int (stack_of state.stage))) 1 target choice
+effect_of world state choice (instrs.IfInt cond target) = branches state (is_some (an_int (stack_of state.stage))) 1 target choice
 effect_of world state choice (instrs.IfPair cond target) = branches state (is_some (two_ints (stack_of state.stage))) 2 target choice
 effect_of world state choice (instrs.Goto target) = plain state (Jumps target (stack_of state.stage))
 effect_of world state choice (instrs.Table low default targets) = switches state (table_keys low targets) default choice

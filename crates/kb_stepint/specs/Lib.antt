@@ -1,4 +1,3 @@
-pub mod Operands
 pub mod Choices
 pub mod Effects
 pub mod Takes

@@ -6,12 +6,11 @@ ghost use Rattle.kb_ways.specs.Needs.{CanStep};
 ghost use Rattle.kb_ways.specs.Turns.{told, led_by};
 
 use crate::NoMemory;
-use crate::operands::{one_int, two_ints};
 use kb_code::{IntCut, IntOp};
 use kb_frames::{Outcome, SymState, SymValue};
 use kb_picture::Choice;
 use kb_terms::Op;
-use kb_ways::{Turn, ill_typed, make, replaces, throws};
+use kb_ways::{Turn, an_int, ill_typed, make, replaces, throws, two_ints};
 
 const ARITHMETIC: &[u8] = b"java/lang/ArithmeticException";
 
@@ -52,7 +51,7 @@ pub(crate) fn compute(turn: &Turn<'_>, state: &mut SymState, op: Op) -> Result<O
     requires unary { is_binary op ≡ false }
     ensures { IfOk result (λ outcome. told state.new outcome ≡ led_by turn.now (computes state.old op)) }
 {
-    let Some(term) = one_int(state) else {
+    let Some(term) = an_int(state) else {
         return ill_typed(turn, state);
     };
     let value = make(state, op, term, None)?;

@@ -12,13 +12,12 @@ ghost use Rattle.kb_picture.specs.declared.choice.Choice.TheVariants.{Default, K
 
 use crate::NoMemory;
 use crate::keys::Keys;
-use crate::operands::{one_int, two_ints};
 use kb_code::{Cond, Instr, IntOp};
 use kb_frames::{SymState, instruction_at};
 use kb_heap::Bounds;
 use kb_picture::Choice;
 use kb_terms::TermId;
-use kb_ways::{Condition, Side, branch_condition, equals_number, is_against};
+use kb_ways::{Condition, Side, an_int, branch_condition, equals_number, is_against, two_ints};
 use kb_world::World;
 use std::alloc::Global;
 
@@ -68,13 +67,13 @@ fn only(alloc: Global) -> Result<Vec<Choice>, NoMemory>
 }
 
 // Those of an instruction that ask for nothing that is decided as false.
-#[tactic(auto, using(crate::proofs::OperandLaws::one_there, crate::proofs::OperandLaws::left_there, crate::proofs::OperandLaws::right_there))]
+#[tactic(auto, using(kb_ways::proofs::OperandLaws::one_there, kb_ways::proofs::OperandLaws::left_there, kb_ways::proofs::OperandLaws::right_there))]
 fn offered(alloc: Global, state: &SymState, instr: &Instr) -> Result<Vec<Choice>, NoMemory>
     requires { HasTerms state.now }
     ensures { IfOk result (λ choices. choices.items ≡ offered state.now (stack_of state.now.stage) instr.now) }
 {
     match instr {
-        Instr::IfInt(cond, _) => match one_int(state) {
+        Instr::IfInt(cond, _) => match an_int(state) {
             Some(x) => branch_choices(alloc, state, *cond, Side::Term(x), Side::Number(0)),
             None => only(alloc),
         },
@@ -88,11 +87,11 @@ fn offered(alloc: Global, state: &SymState, instr: &Instr) -> Result<Vec<Choice>
             ),
             None => only(alloc),
         },
-        Instr::Table(low, _, targets) => match one_int(state) {
+        Instr::Table(low, _, targets) => match an_int(state) {
             Some(x) => key_choices(alloc, state, x, &Keys::Table(*low, targets.as_slice())),
             None => only(alloc),
         },
-        Instr::Lookup(_, keys) => match one_int(state) {
+        Instr::Lookup(_, keys) => match an_int(state) {
             Some(x) => key_choices(alloc, state, x, &Keys::Lookup(keys.as_slice())),
             None => only(alloc),
         },

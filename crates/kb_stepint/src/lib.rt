@@ -12,7 +12,6 @@ mod int_methods;
 mod keys;
 mod laws;
 mod locals;
-mod operands;
 mod rearranging;
 mod returns;
 mod take;

@@ -6,10 +6,11 @@ ghost use Rattle.kb_ways.specs.Needs.{CanStep};
 ghost use Rattle.kb_ways.specs.Turns.{led, told, led_by};
 
 use crate::NoMemory;
-use crate::operands::{int_term, one_int};
 use kb_frames::{Outcome, SymState, SymValue};
 use kb_terms::{Op, TermId};
-use kb_ways::{Turn, carry_on, constant, has_room, ill_typed, is_local, make, replaces};
+use kb_ways::{
+    Turn, an_int, carry_on, constant, has_room, ill_typed, int_term, is_local, make, replaces,
+};
 
 /// iload
 pub(crate) fn load(turn: &Turn<'_>, state: &mut SymState, local: u16) -> Result<Outcome, NoMemory>
@@ -27,7 +28,7 @@ pub(crate) fn store(turn: &Turn<'_>, state: &mut SymState, local: u16) -> Result
     requires { state.old.carried < turn.now.bounds.run.steps }
     ensures { IfOk result (λ outcome. told state.new outcome ≡ led_by turn.now (stores turn.now.world.now state.old local)) }
 {
-    match one_int(state) {
+    match an_int(state) {
         Some(term) => set(turn, state, local, term, 1),
         None => ill_typed(turn, state),
     }

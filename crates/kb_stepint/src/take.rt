@@ -18,13 +18,12 @@ ghost use Rattle.kb_stepint.specs.Effects.{plan_of};
 use crate::NoMemory;
 use crate::instructions::carry_out;
 use crate::keys::Keys;
-use crate::operands::{one_int, two_ints};
 use kb_code::{Cond, Instr, IntOp};
 use kb_frames::{Outcome, SymState, instruction_at};
 use kb_heap::{Bound, Bounds};
 use kb_picture::{Choice, Origin, SymEnding};
 use kb_terms::TermId;
-use kb_ways::{Side, Turn, ask, branch_condition, equals_number, place_of};
+use kb_ways::{Side, Turn, an_int, ask, branch_condition, equals_number, place_of, two_ints};
 use kb_world::World;
 use std::alloc::Global;
 
@@ -102,13 +101,13 @@ fn take_up(
 }
 
 // Adds the conditions that an alternative of an instruction asks for.
-#[tactic(auto, using(crate::proofs::OperandLaws::one_there, crate::proofs::OperandLaws::left_there, crate::proofs::OperandLaws::right_there))]
+#[tactic(auto, using(kb_ways::proofs::OperandLaws::one_there, kb_ways::proofs::OperandLaws::left_there, kb_ways::proofs::OperandLaws::right_there))]
 fn ask_for(state: &mut SymState, instr: &Instr, choice: &Choice) -> Result<(), NoMemory>
     requires { HasTerms state.old }
     ensures { OnOk result (state.new ≡ all_asked state.old (conditions_of instr.now (stack_of state.old.stage) choice.now)) }
 {
     match instr {
-        Instr::IfInt(cond, _) => match one_int(state) {
+        Instr::IfInt(cond, _) => match an_int(state) {
             Some(x) => ask_branch(state, *cond, Side::Term(x), Side::Number(0), choice),
             None => Ok(()),
         },
@@ -122,11 +121,11 @@ fn ask_for(state: &mut SymState, instr: &Instr, choice: &Choice) -> Result<(), N
             ),
             None => Ok(()),
         },
-        Instr::Table(low, _, targets) => match one_int(state) {
+        Instr::Table(low, _, targets) => match an_int(state) {
             Some(x) => ask_key(state, x, &Keys::Table(*low, targets.as_slice()), choice),
             None => Ok(()),
         },
-        Instr::Lookup(_, keys) => match one_int(state) {
+        Instr::Lookup(_, keys) => match an_int(state) {
             Some(x) => ask_key(state, x, &Keys::Lookup(keys.as_slice()), choice),
             None => Ok(()),
         },

@@ -1,6 +1,6 @@
 -- What a take keeps of a state: an instruction sees nothing and adds no condition, and the answer of a question adds one slot
 -- that is seen.
-use Rattle.std.proofs.Common.{◌≡◌, ℕ, pos, List, [], ◌∷◌, ◌++◌, length, take, drop, nat_le, Bool, Option, Some, None, refl, sym, subst, ◌∙◌, option_and_then, cond, if◌then◌else◌}
+use Rattle.std.proofs.Common.{◌≡◌, ℕ, List, [], ◌∷◌, ◌++◌, length, take, drop, nat_le, Bool, Option, Some, None, refl, sym, subst, ◌∙◌, cond, if◌then◌else◌}
 use Rattle.std.specs.Option.{option_map_or}
 use Rattle.kb_code.specs.declared.instruction.Instr.{Instr}
 use Rattle.kb_code.specs.declared.instruction.Instr.TheVariants as instrs
@@ -9,14 +9,12 @@ use Rattle.kb_heap.specs.declared.bounds.Bounds.{Bounds}
 use Rattle.kb_link.specs.World.{World}
 use Rattle.kb_link.specs.declared.slots.FieldSlot.{FieldSlot}
 use Rattle.kb_names.specs.declared.types.JType.{JType}
-use Rattle.kb_names.specs.declared.types.JType.TheVariants as types
-use Rattle.kb_semantics.specs.Config.{has_room, instruction_at, result_of}
-use Rattle.kb_terms.specs.declared.op.Op.TheVariants.{And}
+use Rattle.kb_semantics.specs.Config.{has_room, instruction_at}
 use Rattle.kb_terms.specs.declared.node.TermId.{TermId}
 use Rattle.kb_terms.specs.declared.node.VarKind.{VarKind}
 use Rattle.kb_terms.specs.declared.node.Node.{Node}
-use Rattle.kb_terms.specs.declared.node.Node.TheVariants.{Const, Var}
-use Rattle.kb_terms.specs.Terms.{Extends, interned, variables_of}
+use Rattle.kb_terms.specs.declared.node.Node.TheVariants.{Var}
+use Rattle.kb_terms.specs.Terms.{Extends, variables_of}
 use Rattle.kb_terms.proofs.Growth.{extends-more}
 use Rattle.kb_terms.proofs.Values.{Extends-refl, Extends-trans}
 use Rattle.kb_picture.specs.declared.choice.Choice.{Choice}
@@ -39,20 +37,22 @@ use Rattle.kb_frames.specs.Heaps.{with_cell, with_made_value}
 use Rattle.kb_frames.specs.Lent.{begun, local_in, stack_of, with_nodes}
 use Rattle.kb_frames.specs.Next.{is_reference, method_now, offset_now}
 use Rattle.kb_frames.specs.State.{State}
-use Rattle.kb_ways.specs.Kept.{masked}
+use Rattle.kb_ways.specs.Kept.{kept_in, is_of_kind}
 use Rattle.kb_ways.specs.Simulation.{AddsComparisons, Keeps}
 use Rattle.kb_ways.specs.Ways.{Take, Fails, ill_typed, went}
 use Rattle.kb_ways.proofs.KeepLaws.{same_when, went_when, Stays, stays_on, went_stays}
-use Rattle.kb_ways.proofs.GrowLaws.{front_itself, front_of_front, if_has, interned_extends, op_extends, option_has}
-use Rattle.kb_ways.specs.Plans.{Planned, plain, planned, carried_out, takes_next, takes_up}
-use Rattle.kb_stepref.specs.Effects.{got, is_local, kept_in, plan_of, put, put_kept, put_where, result_in}
+use Rattle.kb_ways.proofs.GrowLaws.{front_itself, front_of_front, if_has, option_has, HasMore}
+use Rattle.kb_ways.specs.Plans.{Planned, plain, planned, carried_out, takes_next, takes_up, returns_value}
+use Rattle.kb_stepref.specs.Effects.{got, is_local, plan_of, put, put_kept, put_where, puts_kept}
 use Rattle.kb_stepref.specs.Fields.{field_named, has_place, held, put_in}
 use Rattle.kb_stepref.specs.Laws.{IsAtReferences}
-use Rattle.kb_stepref.specs.Operands.{object_and_value, one_reference, reference, two_references}
+use Rattle.kb_ways.specs.Operands.{an_object_and_value, a_reference, reference, two_references}
 use Rattle.kb_stepref.specs.Questions.{Question, Reads, question_of}
 use Rattle.kb_stepref.specs.Takes.{answered, answers, cut_where, goes_behind, passed_by, taken}
 use Rattle.kb_stepref.proofs.FirstReadLaws.{IsAsked, asked}
 use Rattle.kb_picture.specs.declared.choice.Choice.TheVariants.{Only}
+use Rattle.kb_ways.proofs.KeptLaws.{returns_has, kept_more}
+use Rattle.kb_ways.proofs.ItemLaws.{only_has}
 
 -- ---- what an instruction writes
 
@@ -94,17 +94,11 @@ put_writes Null slot value state = writes_none state
 put_writes (Literal number) slot value state = writes_none state
 put_writes (Loc number) slot value state = writes_none state
 
+more_writes : (old new : State) → HasMore old new → WritesHeap old new
+more_writes old new more = subst (WritesHeap old) (sym more.rest) (writes_nodes old new.nodes more.on.terms)
+
 kept_writes : (type : JType) (value : SymValue) (state : State) → WritesHeap state (kept_in type value state).0
-kept_writes types.Bool (Int term) state =
-    let one = interned state.nodes (Const (pos 1)) in
-    writes_nodes state (masked state term one).0
-    (Extends-trans state.nodes one.0 (masked state term one).0 (interned_extends state.nodes (Const (pos 1))) (op_extends one.0 And term (Some one.1)))
-kept_writes types.Bool Null state = writes_none state
-kept_writes types.Bool (Obj number) state = writes_none state
-kept_writes types.Bool (Literal number) state = writes_none state
-kept_writes types.Bool (New number) state = writes_none state
-kept_writes types.Bool (Loc number) state = writes_none state
-kept_writes _ value state = writes_none state
+kept_writes type value state = more_writes state (kept_in type value state).0 (kept_more type value state)
 
 module _ (world : World) (state : State) where
   abbrev Writes : Planned → Type 0
@@ -131,7 +125,8 @@ module _ (world : World) (state : State) where
 
   put_where_writes : (field : FieldSlot) (object value : SymValue) → Writes (put_where world state field object value)
   put_where_writes field object value =
-      if_has Writes (has_room world (method_now state.method state.stage) (length (drop 2 (stack_of state.stage)))) _ (plain state Fails) (put_kept_writes field object value) nothing
+      if_has Writes (has_room world (method_now state.method state.stage) (length (drop 2 (stack_of state.stage)))) _ (plain state Fails)
+      (only_has Writes (is_of_kind field.kind value) (kept_in field.kind value state) (puts_kept state object field.slot) (plain state Fails) (put_kept_writes field object value) nothing) nothing
 
   put_there_writes : (field : FieldSlot) (object value : SymValue) → Writes (if has_place world state field object then put_where world state field object value else plain state Fails)
   put_there_writes field object value =
@@ -147,15 +142,15 @@ module _ (world : World) (state : State) where
 
   pub plan_writes : (instr : Instr) → WritesHeap state (plan_of world state Only instr).state
   plan_writes (instrs.LoadRef k) = planned_writes (reference (cond (is_local world state k) (local_in state.stage k) None)) _ (λ value. nothing)
-  plan_writes (instrs.StoreRef k) = planned_writes (one_reference (stack_of state.stage)) _ (λ value. nothing)
+  plan_writes (instrs.StoreRef k) = planned_writes (a_reference (stack_of state.stage)) _ (λ value. nothing)
   plan_writes (instrs.IfSame want target) = planned_writes (two_references (stack_of state.stage)) _ (λ t. nothing)
-  plan_writes (instrs.IfNull want target) = planned_writes (one_reference (stack_of state.stage)) _ (λ value. nothing)
+  plan_writes (instrs.IfNull want target) = planned_writes (a_reference (stack_of state.stage)) _ (λ value. nothing)
   plan_writes instrs.ReturnRef =
-      planned_writes (one_reference (stack_of state.stage)) _ (λ value. planned_writes (option_and_then (result_in value) (result_of world (method_now state.method state.stage))) _ (λ result. nothing))
+      planned_writes (a_reference (stack_of state.stage)) (returns_value world state) (λ value. returns_has Writes world state value (λ type. kept_writes type value state) nothing)
   plan_writes (instrs.GetField entry) =
-      planned_writes (field_named world state entry) _ (λ field. planned_writes (one_reference (stack_of state.stage)) (got world state field) (got_writes field))
+      planned_writes (field_named world state entry) _ (λ field. planned_writes (a_reference (stack_of state.stage)) (got world state field) (got_writes field))
   plan_writes (instrs.PutField entry) =
-      planned_writes (field_named world state entry) _ (λ field. planned_writes (object_and_value field.kind (stack_of state.stage)) _ (λ t. puts_writes field t.0 t.1))
+      planned_writes (field_named world state entry) _ (λ field. planned_writes (an_object_and_value field.kind (stack_of state.stage)) _ (λ t. puts_writes field t.0 t.1))
   plan_writes _ = nothing
 
 -- ---- what an instruction leaves

@@ -1,6 +1,6 @@
 -- What holds of a state that is reached holds of it behind each instruction on references, and behind each take.
 use Rattle.std.proofs.Common.{◌≡◌, ℕ, ◌≤◌, Bool, cond, List, ◌∷◌, length, drop, nat_le, Option, Some, None, slice_get, slice_set, refl, sym, ap, subst, ◌∙◌, arith, if◌then◌else◌}
-use Rattle.std.specs.Option.{option_and_then, option_map, option_map_or}
+use Rattle.std.specs.Option.{option_map, option_map_or}
 use Rattle.std.proofs.lemmas.Option.{none-some, option_and_then_some, same_Some}
 use Rattle.kb_class.proofs.Lists.{set_size}
 use Rattle.kb_class.specs.Naming.{Has}
@@ -12,8 +12,7 @@ use Rattle.kb_heap.specs.declared.bounds.Bounds.{Bounds}
 use Rattle.kb_link.specs.World.{World}
 use Rattle.kb_link.specs.declared.slots.FieldSlot.{FieldSlot}
 use Rattle.kb_names.specs.declared.types.JType.{JType}
-use Rattle.kb_names.specs.declared.types.JType.TheVariants as types
-use Rattle.kb_semantics.specs.Config.{has_room, instruction_at, max_locals_of, result_of}
+use Rattle.kb_semantics.specs.Config.{has_room, instruction_at, max_locals_of}
 use Rattle.kb_semantics.specs.Instructions.{is_wanted}
 use Rattle.kb_semantics.specs.Ways.{null_pointer}
 use Rattle.kb_picture.specs.declared.choice.Choice.{Choice}
@@ -33,50 +32,35 @@ use Rattle.kb_frames.specs.Lent.{begun, local_in, locals_of, read_count, stack_o
 use Rattle.kb_frames.specs.Next.{argument_next, is_reference, method_now, offset_now}
 use Rattle.kb_frames.specs.State.{State}
 use Rattle.kb_frames.specs.States.{Each, IsLocal, IsSymValue}
-use Rattle.kb_ways.specs.Ways.{with_stack, Take, Way, Goes, Jumps, Leaves, Throws, Fails, ill_typed}
+use Rattle.kb_ways.specs.Ways.{with_stack, Take, Way, Goes, Jumps, Throws, Fails, ill_typed}
 use Rattle.kb_ways.proofs.GrowLaws.{if_has, option_has}
-use Rattle.kb_ways.proofs.ItemLaws.{each_cons, each_drop, each_set, option_has_at}
+use Rattle.kb_ways.proofs.ItemLaws.{each_cons, each_drop, each_set, option_has_at, only_has}
 use Rattle.kb_ways.proofs.KeepLaws.{went_stays}
 use Rattle.kb_ways.proofs.GoodWays.{IsGood, running_now, went_sound}
 use Rattle.kb_ways.proofs.SoundLaws.{Sound, begun_sound, frame_sound, receiver_seen, sound_reached}
 use Rattle.kb_stepref.specs.Choices.{alternatives, choices_of, only}
-use Rattle.kb_ways.specs.Plans.{Planned, plain, planned, carried_out, takes_next, takes_up}
-use Rattle.kb_stepref.specs.Effects.{branch_where, got, in_local, is_local, kept_in, plan_of, put, put_kept, put_where, result_in}
+use Rattle.kb_ways.specs.Plans.{Planned, plain, planned, carried_out, takes_next, takes_up, returns_value}
+use Rattle.kb_stepref.specs.Effects.{branch_where, got, in_local, is_local, plan_of, put, put_kept, put_where, puts_kept}
+use Rattle.kb_ways.specs.Kept.{kept_in, kept, is_of_kind}
 use Rattle.kb_stepref.specs.Fields.{field_named, has_place, held}
 use Rattle.kb_stepref.specs.Laws.{AreInRange, IsAtReferences}
-use Rattle.kb_stepref.specs.Operands.{is_null, object_and_value, of_type, one_reference, reference, same, two_references}
+use Rattle.kb_stepref.specs.Comparing.{is_null, same}
+use Rattle.kb_ways.specs.Operands.{an_object_and_value, of_kind, a_reference, reference, two_references}
 use Rattle.kb_stepref.specs.Questions.{Question, Reads, asked_at, question_of}
 use Rattle.kb_stepref.specs.Takes.{answered, answers, cut_where, goes_behind, passed_by, taken}
 use Rattle.kb_stepref.proofs.AnsweredLaws.{answered_receiver, answered_sound}
 use Rattle.kb_stepref.proofs.FirstReadLaws.{IsAskedAt, asked, where_so}
 use Rattle.kb_stepref.proofs.MoreLaws.{locals_more, values_more}
 use Rattle.kb_stepref.proofs.WrittenLaws.{SoundBehind, held_there, kept_behind, put_kept_behind, sound_itself}
+use Rattle.kb_ways.proofs.KeptLaws.{returns_has, of_kind_is, reference_is}
 
 -- ---- operands
 
--- a reference is the value that was there
-pub reference_is : (it : Option SymValue) (value : SymValue) → reference it ≡ Some value → it ≡ Some value
-reference_is None value e = e
-reference_is (Some (Int term)) value e = absurd (none-some value e)
-reference_is (Some Null) value e = e
-reference_is (Some (Obj number)) value e = e
-reference_is (Some (Literal number)) value e = e
-reference_is (Some (New number)) value e = e
-reference_is (Some (Loc number)) value e = e
-
--- and so is a value of a type
-pub of_type_is : (type : JType) (it : Option SymValue) (value : SymValue) → of_type type it ≡ Some value → it ≡ Some value
-of_type_is (types.Class name) it value e = reference_is it value e
-of_type_is (types.Array component) it value e = reference_is it value e
-of_type_is types.Bool (Some (Int term)) value e = e
-of_type_is types.Int (Some (Int term)) value e = e
-of_type_is _ it value e = absurd (none-some value e)
-
 -- the value of the two that a putfield takes stands on the top
-pub value_on_top : (type : JType) (stack : List SymValue) (t : SymValue × SymValue) → object_and_value type stack ≡ Some t → slice_get stack 0 ≡ Some t.1
+pub value_on_top : (type : JType) (stack : List SymValue) (t : SymValue × SymValue) → an_object_and_value type stack ≡ Some t → slice_get stack 0 ≡ Some t.1
 value_on_top type stack t e =
-    option_and_then_some (λ (value : SymValue). option_map (λ (object : SymValue). (object, value)) (reference (slice_get stack 1))) (of_type type (slice_get stack 0)) t e (λ value is pair.
-    of_type_is type (slice_get stack 0) t.1 (is ∙ ap (λ (v : SymValue). Some v) (go value (reference (slice_get stack 1)) pair)))
+    option_and_then_some (λ (value : SymValue). option_map (λ (object : SymValue). (object, value)) (reference (slice_get stack 1))) (of_kind type (slice_get stack 0)) t e (λ value is pair.
+    (of_kind_is type (slice_get stack 0) t.1 (is ∙ ap (λ (v : SymValue). Some v) (go value (reference (slice_get stack 1)) pair))).0)
   where
     go : (value : SymValue) (object : Option SymValue) → option_map (λ (o : SymValue). (o, value)) object ≡ Some t → value ≡ t.1
     go value None pair = absurd (none-some t pair)
@@ -121,7 +105,7 @@ module _ (world : World) (state : State) (sound : Sound world state) (frame : Sy
   pushes_good value count is = goes_good (value ∷ drop count (stack_of state.stage)) (each_cons (IsSymValue world state) value (drop count (stack_of state.stage)) is (rest_good count))
 
   -- a reference that stands on the stack
-  top_there : (value : SymValue) → one_reference (stack_of state.stage) ≡ Some value → IsSymValue world state value
+  top_there : (value : SymValue) → a_reference (stack_of state.stage) ≡ Some value → IsSymValue world state value
   top_there value e = stack 0 value (reference_is (slice_get (stack_of state.stage) 0) value e)
 
   -- one that a local holds
@@ -175,11 +159,12 @@ module _ (world : World) (state : State) (sound : Sound world state) (frame : Sy
   put_where_good : (field : FieldSlot) (object value : SymValue) → IsSymValue world state value → IsRight (put_where world state field object value)
   put_where_good field object value is =
       if_has IsRight (has_room world (method_now state.method state.stage) (length (drop 2 (stack_of state.stage))))
-      (record { state = put_kept object field.slot (kept_in field.kind value state); way = with_stack state (drop 2 (stack_of state.stage)) }) (plain state Fails)
+      (planned state (kept field.kind value state) (puts_kept state object field.slot)) (plain state Fails)
+      (only_has IsRight (is_of_kind field.kind value) (kept_in field.kind value state) (puts_kept state object field.slot) (plain state Fails)
       (record {
         behind = behind;
         good = goes_behind_good (put_kept object field.slot (kept_in field.kind value state)) (drop 2 (stack_of state.stage)) behind (rest_good 2);
-      }) fails_good
+      }) fails_good) fails_good
     where
       behind : SoundBehind world state (put_kept object field.slot (kept_in field.kind value state))
       behind = put_kept_behind world state frame callers object field.slot (kept_in field.kind value state) running (kept_behind world state sound field.kind value is)
@@ -205,26 +190,25 @@ module _ (world : World) (state : State) (sound : Sound world state) (frame : Sy
       planned_good (reference (cond (is_local world state k) (local_in state.stage k) None)) (λ (value : SymValue). plain state (with_stack state (value ∷ stack_of state.stage)))
       (λ value e. pushes_good value 0 (local_there k value e))
   plan_sound (instrs.StoreRef k) =
-      planned_good (one_reference (stack_of state.stage)) (λ (value : SymValue). plain state (in_local world state k value (drop 1 (stack_of state.stage))))
+      planned_good (a_reference (stack_of state.stage)) (λ (value : SymValue). plain state (in_local world state k value (drop 1 (stack_of state.stage))))
       (λ value e. in_local_good k value (top_there value e))
   plan_sound (instrs.IfSame want target) =
       planned_good (two_references (stack_of state.stage)) (λ (t : SymValue × SymValue). plain state (branch_where state (is_wanted want (same t.0 t.1)) target 2))
       (λ t e. branch_good (is_wanted want (same t.0 t.1)) target 2)
   plan_sound (instrs.IfNull want target) =
-      planned_good (one_reference (stack_of state.stage)) (λ (value : SymValue). plain state (branch_where state (is_wanted want (is_null value)) target 1))
+      planned_good (a_reference (stack_of state.stage)) (λ (value : SymValue). plain state (branch_where state (is_wanted want (is_null value)) target 1))
       (λ value e. branch_good (is_wanted want (is_null value)) target 1)
   plan_sound instrs.ReturnRef =
-      planned_good (one_reference (stack_of state.stage))
-      (λ (value : SymValue). planned state (option_and_then (result_in value) (result_of world (method_now state.method state.stage))) (λ (result : SymValue). plain state (Leaves (Some result))))
-      (λ value e. planned_good (option_and_then (result_in value) (result_of world (method_now state.method state.stage))) (λ (result : SymValue). plain state (Leaves (Some result)))
-      (λ result f. plain_good (Leaves (Some result)) tt))
+      planned_good (a_reference (stack_of state.stage))
+      (returns_value world state)
+      (λ value e. returns_has IsRight world state value (λ type. record { behind = (kept_behind world state sound type value (top_there value e)).behind; good = tt }) fails_good)
   plan_sound (instrs.GetField entry) =
-      planned_good (field_named world state entry) (λ (field : FieldSlot). planned state (one_reference (stack_of state.stage)) (got world state field))
-      (λ field e. planned_good (one_reference (stack_of state.stage)) (got world state field) (λ object f. got_good field object))
+      planned_good (field_named world state entry) (λ (field : FieldSlot). planned state (a_reference (stack_of state.stage)) (got world state field))
+      (λ field e. planned_good (a_reference (stack_of state.stage)) (got world state field) (λ object f. got_good field object))
   plan_sound (instrs.PutField entry) =
       planned_good (field_named world state entry)
-      (λ (field : FieldSlot). planned state (object_and_value field.kind (stack_of state.stage)) (λ (t : SymValue × SymValue). put world state field t.0 t.1))
-      (λ field e. planned_good (object_and_value field.kind (stack_of state.stage)) (λ (t : SymValue × SymValue). put world state field t.0 t.1)
+      (λ (field : FieldSlot). planned state (an_object_and_value field.kind (stack_of state.stage)) (λ (t : SymValue × SymValue). put world state field t.0 t.1))
+      (λ field e. planned_good (an_object_and_value field.kind (stack_of state.stage)) (λ (t : SymValue × SymValue). put world state field t.0 t.1)
       (λ t f. put_good field t.0 t.1 (stack 0 t.1 (value_on_top field.kind (stack_of state.stage) t f))))
   plan_sound _ = fails_good
 

@@ -1,4 +1,4 @@
-pub mod Operands
+pub mod Comparing
 pub mod Fields
 pub mod Questions
 pub mod Choices

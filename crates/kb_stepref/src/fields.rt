@@ -1,19 +1,21 @@
 //! The fields of objects: getfield and putfield (JVMS 8 section 6.5).
-ghost use Rattle.std.specs.Prelude.{◌≡◌, ◌<◌, Some, IfOk, OnOk, if◌then◌else◌};
+ghost use Rattle.std.specs.Prelude.{◌≡◌, ◌<◌, drop, Some, IfOk, if◌then◌else◌};
 ghost use Rattle.std.specs.Option.{option_copied};
 ghost use Rattle.kb_semantics.specs.Instructions.{has_field};
 ghost use Rattle.kb_ways.specs.Needs.{CanStep, IsTermOf};
-ghost use Rattle.kb_ways.specs.Turns.{told, led_by};
-ghost use Rattle.kb_ways.specs.Ways.{Fails};
-ghost use Rattle.kb_stepref.specs.Effects.{got, gets, kept_in, put, put_where, puts};
+ghost use Rattle.kb_ways.specs.Turns.{led, led_by, told};
+ghost use Rattle.kb_frames.specs.Lent.{stack_of};
+ghost use Rattle.kb_ways.specs.Ways.{Fails, with_stack};
+ghost use Rattle.kb_stepref.specs.Effects.{got, gets, put, put_where, puts};
 ghost use Rattle.kb_ways.specs.Plans.{plain};
 ghost use Rattle.kb_stepref.specs.Fields.{cell_of, field_named, has_place, has_slot_of, held, made_value_of, put_in};
 
 use crate::NoMemory;
-use crate::operands::{object_and_value, one_reference};
 use kb_frames::{Cell, Outcome, SymState, SymValue, declaring_class};
-use kb_names::{ExactType, JType};
-use kb_ways::{Turn, has_room, ill_typed, mask, replaces, throws};
+use kb_names::ExactType;
+use kb_ways::{
+    Turn, a_reference, an_object_and_value, has_room, ill_typed, keep, replaces, throws,
+};
 use kb_world::{FieldSlot, World};
 
 const NULL_POINTER: &[u8] = b"java/lang/NullPointerException";
@@ -95,7 +97,7 @@ pub(crate) fn get_field(
     let Some(field) = field_named(turn.world, state, entry) else {
         return ill_typed(turn, state);
     };
-    match one_reference(state) {
+    match a_reference(state) {
         Some(object) => get(turn, state, field, object),
         None => ill_typed(turn, state),
     }
@@ -136,6 +138,7 @@ fn held(world: &World, state: &SymState, field: &FieldSlot, object: SymValue) ->
 // ---- putfield
 
 /// putfield
+#[tactic(auto, using(kb_ways::proofs::OperandLaws::value_there))]
 pub(crate) fn put_field(
     turn: &Turn<'_>,
     state: &mut SymState,
@@ -147,7 +150,7 @@ pub(crate) fn put_field(
     let Some(field) = field_named(turn.world, state, entry) else {
         return ill_typed(turn, state);
     };
-    match object_and_value(state, &field.kind) {
+    match an_object_and_value(state, &field.kind) {
         Some((object, value)) => put(turn, state, field, object, value),
         None => ill_typed(turn, state),
     }
@@ -189,8 +192,24 @@ fn put_on(
     if !has_room(turn, state, kept, 0) {
         return ill_typed(turn, state);
     }
-    let value = keep(state, &field.kind, value)?;
-    put_in(state, object, field.slot, value);
+    match keep(state, &field.kind, value)? {
+        Some(value) => put_kept(turn, state, field.slot, object, value),
+        None => ill_typed(turn, state),
+    }
+}
+
+// A value that is kept is put into a slot of the object, and both operands are off the stack.
+fn put_kept(
+    turn: &Turn<'_>,
+    state: &mut SymState,
+    slot: u32,
+    object: SymValue,
+    value: SymValue,
+) -> Result<Outcome, NoMemory>
+    requires { state.old.carried < turn.now.bounds.run.steps }
+    ensures { IfOk result (λ outcome. told state.new outcome ≡ led turn.now (put_in object slot value state.old) (with_stack state.old (drop 2 (stack_of state.old.stage)))) }
+{
+    put_in(state, object, slot, value);
     let outcome = replaces(turn, state, 2, &[])?;
     Ok(outcome)
 }
@@ -203,18 +222,6 @@ fn has_place(world: &World, state: &SymState, field: &FieldSlot, object: SymValu
         SymValue::Obj(number) => cell_of(world, state, field, number).is_some(),
         SymValue::New(number) => made_value_of(world, state, field, number).is_some(),
         SymValue::Int(_) | SymValue::Null | SymValue::Literal(_) | SymValue::Loc(_) => false,
-    }
-}
-
-// What a field of the type keeps of a value.
-fn keep(state: &mut SymState, kind: &JType, value: SymValue) -> Result<SymValue, NoMemory>
-    requires { IsTermOf state.old.nodes (Some value) }
-    ensures state { OnOk result (state.new ≡ (kept_in kind.now value state.old).0) }
-    ensures value { IfOk result (λ kept. kept ≡ (kept_in kind.now value state.old).1) }
-{
-    match (kind, value) {
-        (JType::Bool, SymValue::Int(term)) => Ok(SymValue::Int(mask(state, term)?)),
-        _ => Ok(value),
     }
 }
 

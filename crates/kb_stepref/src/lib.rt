@@ -13,7 +13,6 @@ mod heap_methods;
 mod instructions;
 mod laws;
 mod locals;
-mod operands;
 mod questions;
 mod returns;
 mod take;

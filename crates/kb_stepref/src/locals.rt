@@ -3,12 +3,11 @@ ghost use Rattle.std.specs.Prelude.{◌≡◌, ◌<◌, cond, drop, None, IfOk};
 ghost use Rattle.kb_frames.specs.Lent.{local_in, stack_of};
 ghost use Rattle.kb_ways.specs.Turns.{led, told, led_by};
 ghost use Rattle.kb_stepref.specs.Effects.{in_local, is_local, loads, stores};
-ghost use Rattle.kb_stepref.specs.Operands.{reference};
+ghost use Rattle.kb_ways.specs.Operands.{reference};
 
 use crate::NoMemory;
-use crate::operands::{one_reference, reference};
 use kb_frames::{Outcome, SymState, SymValue};
-use kb_ways::{Turn, carry_on, has_room, ill_typed, is_local, replaces};
+use kb_ways::{Turn, a_reference, carry_on, has_room, ill_typed, is_local, reference, replaces};
 
 /// aload
 pub(crate) fn load(turn: &Turn<'_>, state: &mut SymState, local: u16) -> Result<Outcome, NoMemory>
@@ -26,7 +25,7 @@ pub(crate) fn store(turn: &Turn<'_>, state: &mut SymState, local: u16) -> Result
     requires { state.old.carried < turn.now.bounds.run.steps }
     ensures { IfOk result (λ outcome. told state.new outcome ≡ led_by turn.now (stores turn.now.world.now state.old local)) }
 {
-    match one_reference(state) {
+    match a_reference(state) {
         Some(value) => set(turn, state, local, value),
         None => ill_typed(turn, state),
     }

@@ -1,8 +1,9 @@
 -- What each item of a list has, each item of a list made of it has.
-use Rattle.std.proofs.Common.{◌≡◌, ℕ, zero, suc, Bool, false, List, [], ◌∷◌, ◌++◌, map, drop, filter_map, replicate, Option, Some, None, refl, sym, ap, subst, ◌∙◌, slice_get, slice_set}
+use Rattle.std.proofs.Common.{◌≡◌, ℕ, zero, suc, Bool, true, false, List, [], ◌∷◌, ◌++◌, map, drop, filter_map, replicate, Option, Some, None, refl, sym, ap, subst, ◌∙◌, slice_get, slice_set}
 use Rattle.std.specs.List.{cons_option, list_any}
 use Rattle.std.specs.Option.{option_map_or, option_map, option_and_then}
 use Rattle.std.proofs.lemmas.Bool.{or_parts}
+use Rattle.kb_world.specs.Lookup.{only_where}
 use Rattle.kb_frames.specs.States.{Each}
 
 pub no_items : {A : Type 0} (P : A → Type 0) → Each P []
@@ -58,6 +59,11 @@ each_copy P (suc n) x p = each_cons P x (replicate n x) p (each_copy P n x p)
 pub option_has_at : {A B : Type 0} (P : B → Type 0) (it : Option A) (f : A → B) (y : B) → ((x : A) → it ≡ Some x → P (f x)) → P y → P (option_map_or f it y)
 option_has_at P None f y h hy = hy
 option_has_at P (Some x) f y h hy = h x refl
+
+-- what an item that is there where a test passes leads to has the property
+pub only_has : {A B : Type 0} (P : B → Type 0) (b : Bool) (x : A) (f : A → B) (y : B) → P (f x) → P y → P (option_map_or f (only_where b x) y)
+only_has P true x f y h hy = h
+only_has P false x f y h hy = hy
 
 -- a test that no item passes does not pass for one of them
 pub none_passes : {A : Type 0} (p : A → Bool) (xs : List A) (i : ℕ) (x : A) → list_any p xs ≡ false → slice_get xs i ≡ Some x → p x ≡ false

@@ -22,3 +22,5 @@ pub mod StepLaws
 pub mod TakeLaws
 pub mod TermLaws
 pub mod ValueLaws
+pub mod KeptLaws
+pub mod OperandLaws

@@ -1,5 +1,6 @@
 pub mod Asked
 pub mod Kept
+pub mod Operands
 pub mod Ways
 pub mod Plans
 pub mod Turns

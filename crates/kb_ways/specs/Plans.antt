@@ -1,19 +1,22 @@
 -- What an instruction does to a state, and what surrounds it. An instruction makes terms and writes into the state, asks for
 -- what was chosen, and has a way on; a family of instructions has a plan, which says so of each of its own, with symbolic
 -- values in the place of values (JVMS 8 section 6.5). The bound on steps and the end of the code are the same for all.
-use Rattle.std.specs.Prelude.{ℕ, nat_le, Option, if◌then◌else◌}
+use Rattle.std.specs.Prelude.{ℕ, nat_le, Option, Some, option_and_then, if◌then◌else◌}
 use Rattle.std.specs.Option.{option_map_or}
 use Rattle.kb_code.specs.declared.instruction.Instr.{Instr}
 use Rattle.kb_heap.specs.declared.bounds.Bound.TheVariants.{Steps}
 use Rattle.kb_heap.specs.declared.bounds.Bounds.{Bounds}
 use Rattle.kb_link.specs.World.{World}
-use Rattle.kb_semantics.specs.Config.{instruction_at}
+use Rattle.kb_names.specs.declared.types.JType.{JType}
+use Rattle.kb_semantics.specs.Config.{instruction_at, result_of}
 use Rattle.kb_picture.specs.declared.choice.Choice.{Choice}
 use Rattle.kb_frames.specs.declared.value.Outcome.TheVariants.{Cut}
+use Rattle.kb_frames.specs.declared.value.SymValue.{SymValue}
 use Rattle.kb_frames.specs.Lent.{begun}
 use Rattle.kb_frames.specs.Next.{method_now, offset_now}
 use Rattle.kb_frames.specs.State.{State}
-use Rattle.kb_ways.specs.Ways.{Take, Way, Fails, ill_typed, went}
+use Rattle.kb_ways.specs.Kept.{kept}
+use Rattle.kb_ways.specs.Ways.{Take, Way, Leaves, Fails, ill_typed, went}
 
 -- the state with what the instruction makes and writes, and the way on
 pub record Planned : Type 0 where
@@ -33,6 +36,14 @@ plain state way = record { state = state; way = way }
 -- where there is something, what it leads to; else it is ill-typed
 abbrev pub planned : {A : Type 0} → State → Option A → (A → Planned) → Planned
 planned state it f = option_map_or f it (plain state Fails)
+
+-- the method returns what its result's type keeps of a value; one of another kind is ill-typed
+abbrev pub leaves_with : State × SymValue → Planned
+leaves_with it = record { state = it.0; way = Leaves (Some it.1) }
+
+abbrev pub returns_value : World → State → SymValue → Planned
+returns_value world state value =
+    planned state (option_and_then (λ (type : JType). kept type value state) (result_of world (method_now state.method state.stage))) leaves_with
 
 -- ---- what surrounds it
 

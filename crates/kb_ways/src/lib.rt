@@ -9,16 +9,22 @@ mod asked;
 mod condition;
 mod kept;
 mod method;
+mod operands;
 mod place;
+mod returns;
 mod terms;
 mod turn;
 mod ways;
 
 pub use asked::{ask, is_against};
 pub use condition::{Condition, Side, branch_condition, equals_number};
-pub use kept::mask;
+pub use kept::keep;
 pub use method::{is_local, result_of};
+pub use operands::{
+    a_reference, an_int, an_object_and_value, int_term, reference, two_ints, two_references,
+};
 pub use place::place_of;
+pub use returns::return_value;
 pub use std::alloc::AllocError as NoMemory;
 pub use terms::{constant, make};
 pub use turn::Turn;
