@@ -35,7 +35,7 @@ use Rattle.kb_drive.specs.StatePaths.{IsPathOf}
 use Rattle.kb_frames_laws.specs.Endings.{EndingsMean, HasNoLocBeyond, ended_in}
 use Rattle.kb_frames_laws.proofs.EndingLaws.{none_beyond}
 use Rattle.kb_picture.specs.declared.path.SymEnding.{SymEnding}
-use Rattle.kb_stepref.specs.Reached.{IsHeapReached}
+use Rattle.kb_drive.specs.Reached.{IsHeapReached}
 use Rattle.kb_drive.specs.Steps.{GoesOn, StepsLead, StepsLeadOn}
 use Rattle.kb_drive.specs.Taking.{choices_at}
 use Rattle.kb_drive.specs.Walks.{AreRising, BeginWith, IsRightPath, IsWaiting, size_behind, size_left, size_of, size_of_choices}

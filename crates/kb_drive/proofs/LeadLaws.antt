@@ -51,12 +51,12 @@ use Rattle.kb_ways.proofs.MeasureLaws.{few_next}
 use Rattle.kb_stepint.proofs.MeasureLaws.{gets_on}
 use Rattle.kb_stepint.proofs.OutcomeLaws.{follows}
 use Rattle.kb_stepint.proofs.ReachedLaws.{has_input}
-use Rattle.kb_stepref.specs.Laws.{GoesOnReached}
-use Rattle.kb_stepref.specs.Reached.{IsHeapReached}
+use Rattle.kb_drive.specs.Reached.{GoesOnReached, IsHeapReached}
 use Rattle.kb_drive.proofs.IntsStay.{ints_keep}
 use Rattle.kb_drive.specs.Steps.{GoesOn, LeadsOn, StaysAtInputs, rank_of}
 use Rattle.kb_drive.proofs.EndLaws.{endings_there}
 use Rattle.kb_drive.proofs.FrontLaws.{take_append}
+use Rattle.kb_drive.proofs.HeapLaws.{at_ints}
 use Rattle.kb_picture.specs.declared.picture.Seen.TheVariants as seens
 
 -- ---- what stays at inputs
@@ -206,7 +206,7 @@ goes_reached world state (Cut bound) is = tt
 pub ints_lead : (world : World) (bounds : Bounds) (state : State) (choice : Choice) → IsHeapReached world state → next_is_int world state ≡ true → Has (choices_of world state bounds) choice
     → LeadsOn world bounds state (taken world bounds state choice)
 ints_lead world bounds state choice is ints has =
-    let at : IsAtInts world state = record { reached = is.reached; next = ints } in
+    let at : IsAtInts world state = at_ints world state is ints in
     let after : Take = taken world bounds state choice in
     record {
       outcome = follows world bounds state choice at has;

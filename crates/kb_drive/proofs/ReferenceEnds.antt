@@ -32,7 +32,7 @@ use Rattle.kb_stepref.specs.Laws.{IsAtReferences, OfTakes}
 use Rattle.kb_ways.specs.Operands.{an_object_and_value, a_reference, reference, two_references}
 use Rattle.kb_stepref.specs.Questions.{Question, Reads, question_of}
 use Rattle.kb_stepref.specs.Takes.{answered, answers, cut_where, goes_behind, passed_by}
-use Rattle.kb_stepref.proofs.ReachedLaws.{now_heap}
+use Rattle.kb_stepref.proofs.ReachedLaws.{now_known}
 use Rattle.kb_ways.proofs.KeptLaws.{reference_is, returns_has, kept_more, kept_there}
 use Rattle.kb_stepref.proofs.SoundLaws.{none_asked}
 use Rattle.kb_drive.specs.Steps.{EndsIn}
@@ -136,7 +136,7 @@ module _ (world : World) (bounds : Bounds) where
   takes_next_ends : (state : State) → IsAtReferences world state → question_of world state bounds ≡ None → Ends (takes_next plan_of world bounds Only state)
   takes_next_ends state at asks =
       if_has Ends (nat_le bounds.run.steps state.carried) _ (takes_up plan_of world bounds Only (begun world state)) tt
-      (takes_up_ends (begun world state) at.reached.known (begun_sound world state (sound_reached world state at.reached.reached) (none_asked world bounds state asks)).stage)
+      (takes_up_ends (begun world state) at.known (begun_sound world state (sound_reached world state at.reached at.alone at.unhandled) (none_asked world bounds state asks)).stage)
 
   behind_ends : (slot : Origin) (state : State) → state.picture.locs ≡ [] → IsStage world state state.stage → Ends (goes_behind world bounds slot state)
   behind_ends (Arg number) state none is = tt
@@ -152,4 +152,4 @@ references_end world bounds state choice range at has = go (question_of world st
   go (Some (Reads slot type)) asks offered =
       let told : State = answered world choice state (Reads slot type) in
       cut_ends world bounds (passed_by choice) told (goes_behind world bounds slot told)
-      (λ passed. let heap = now_heap world bounds state at slot type asks choice range offered passed in behind_ends world bounds slot told heap.known heap.sound.stage)
+      (λ passed. let heap = now_known world bounds state at slot type asks choice range offered passed in behind_ends world bounds slot told heap.known heap.sound.stage)

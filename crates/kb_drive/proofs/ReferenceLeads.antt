@@ -31,7 +31,8 @@ use Rattle.kb_ways.specs.Ways.{Take, ill_typed}
 use Rattle.kb_ways.proofs.GrowLaws.{front_itself, if_has, option_has}
 use Rattle.kb_stepref.specs.Choices.{choices_of}
 use Rattle.kb_stepref.specs.Effects.{plan_of}
-use Rattle.kb_stepref.specs.Laws.{AreInRange, IsAtReferences}
+use Rattle.kb_lazy.specs.Laws.{AreInRange}
+use Rattle.kb_stepref.specs.Laws.{IsAtReferences}
 use Rattle.kb_stepref.specs.Questions.{Question, Reads, question_of}
 use Rattle.kb_stepref.specs.Takes.{answered, answers, cut_where, goes_behind, passed_by, taken}
 use Rattle.kb_ways.specs.Plans.{carried_out, takes_next, takes_up}
@@ -39,7 +40,8 @@ use Rattle.kb_stepref.proofs.FirstReadLaws.{IsAskedAt, asked}
 use Rattle.kb_stepref.proofs.FollowLaws.{follows}
 use Rattle.kb_stepref.proofs.KeepLaws.{answers_untold, compared, int_tells, kept, plan_writes, reference_tells, takes_next_untold}
 use Rattle.kb_stepref.proofs.MeasureLaws.{gets_on}
-use Rattle.kb_stepref.proofs.ReachedLaws.{goes_on_reached, has_input}
+use Rattle.kb_drive.proofs.HeapLaws.{goes_on_reached}
+use Rattle.kb_stepref.proofs.ReachedLaws.{has_input}
 use Rattle.kb_stepref.proofs.ReadInstances.{told_values}
 use Rattle.kb_stepref.proofs.SeenLaws.{read}
 use Rattle.kb_stepref.proofs.SoundLaws.{answered_stage}
@@ -48,6 +50,7 @@ use Rattle.kb_drive.proofs.FrontLaws.{take_append}
 use Rattle.kb_drive.proofs.LeadLaws.{Few, IsRunning, begun_runs, less_rank, stays_int, stays_itself, went_few}
 use Rattle.kb_drive.proofs.ReferenceEnds.{references_end}
 use Rattle.kb_picture.specs.declared.choice.Choice.TheVariants.{Only}
+use Rattle.kb_drive.specs.Reached.{IsHeapReached}
 
 -- ---- what stays at inputs
 
@@ -124,8 +127,8 @@ module _ (world : World) (bounds : Bounds) (old : State) (at : IsAtReferences wo
 
   -- ---- all of it
 
-  pub references_lead : AreInRange bounds → Has (choices_of world old bounds) choice → LeadsOn world bounds old (taken world bounds old choice)
-  references_lead range has =
+  pub references_lead : IsHeapReached world old → AreInRange bounds → Has (choices_of world old bounds) choice → LeadsOn world bounds old (taken world bounds old choice)
+  references_lead reached range has =
       let after : Take = taken world bounds old choice in
       record {
         outcome = follows world bounds old choice range at has;
@@ -135,6 +138,6 @@ module _ (world : World) (bounds : Bounds) (old : State) (at : IsAtReferences wo
         picture = has_input world bounds old choice range at has;
         stays = stays_behind;
         ending = references_end world bounds old choice range at has;
-        leads = λ reached. goes_on_reached world bounds old choice range at has reached.sound.pool;
+        leads = λ behind. goes_on_reached world bounds old choice range reached at.next has behind.sound.pool;
         fewer = less_rank world bounds old after.state after.outcome (gets_on world bounds old choice at) taken_few;
       }

@@ -19,8 +19,7 @@ use Rattle.kb_frames.specs.StandsFor.{IsInstanceOf}
 use Rattle.kb_frames.specs.State.{State, start_state}
 use Rattle.kb_frames.proofs.StartLaws.{start_stands}
 use Rattle.kb_ways.specs.Ways.{Take}
-use Rattle.kb_stepref.specs.Laws.{GoesOnReached}
-use Rattle.kb_stepref.specs.Reached.{IsHeapReached}
+use Rattle.kb_drive.specs.Reached.{GoesOnReached, IsHeapReached}
 use Rattle.kb_drive.specs.declared.piece.Piece.{Piece}
 use Rattle.kb_drive.specs.Pieces.{AreValuesFor, HasOutcome, IsBehind, IsExplored, IsPiece, StandsForEach}
 use Rattle.kb_frames_laws.specs.Meant.{with_first}

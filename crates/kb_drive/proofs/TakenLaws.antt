@@ -17,7 +17,7 @@ use Rattle.kb_frames.specs.Paths.{path_of, path_roots}
 use Rattle.kb_frames.proofs.FormedPaths.{roots_are_terms}
 use Rattle.kb_ways.specs.Reached.{IsReached}
 use Rattle.kb_ways.specs.Ways.{Take}
-use Rattle.kb_stepref.specs.Reached.{IsHeapReached}
+use Rattle.kb_drive.specs.Reached.{IsHeapReached}
 use Rattle.kb_drive.specs.declared.follow.Known.{Known}
 use Rattle.kb_drive.specs.declared.follow.Known.TheVariants.{Open, Met, Answered}
 use Rattle.kb_drive.specs.declared.waiting.Taken.{Taken}

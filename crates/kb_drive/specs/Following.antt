@@ -17,7 +17,7 @@ use Rattle.kb_terms.specs.Terms.{AreTerms, variables_of}
 use Rattle.kb_frames.specs.declared.value.Outcome.{Outcome}
 use Rattle.kb_frames.specs.declared.value.Outcome.TheVariants.{Asks, Goes, Ends, Cut}
 use Rattle.kb_frames.specs.Paths.{path_of, path_roots}
-use Rattle.kb_stepref.specs.Reached.{IsHeapReached}
+use Rattle.kb_drive.specs.Reached.{IsHeapReached}
 use Rattle.kb_drive.specs.declared.piece.Piece.{Piece}
 use Rattle.kb_drive.specs.declared.waiting.Waiting.{Waiting}
 use Rattle.kb_drive.specs.declared.waiting.Taken.{Taken}

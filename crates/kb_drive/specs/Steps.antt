@@ -17,8 +17,8 @@ use Rattle.kb_frames.specs.State.{State}
 use Rattle.kb_ways.specs.Reached.{IsReached}
 use Rattle.kb_ways.specs.Simulation.{AddsComparisons, FollowsStep, HasInputOfState, Keeps, ReadsWhatItSees, TakesOneWay}
 use Rattle.kb_ways.specs.Ways.{Take}
-use Rattle.kb_stepref.specs.Laws.{AreInRange, GoesOnReached}
-use Rattle.kb_stepref.specs.Reached.{IsHeapReached}
+use Rattle.kb_lazy.specs.Laws.{AreInRange}
+use Rattle.kb_drive.specs.Reached.{GoesOnReached, IsHeapReached}
 use Rattle.kb_drive.specs.Taking.{choices_at, taken_at}
 
 -- ---- outcomes

@@ -21,9 +21,9 @@ use Rattle.kb_frames.specs.Next.{argument_next, instruction_next, is_int, is_int
 use Rattle.kb_frames.specs.State.{State, start_state}
 use Rattle.kb_frames.specs.States.{IsState}
 use Rattle.kb_frames.proofs.StateLaws.{start_is_state}
-use Rattle.kb_ways.specs.Reached.{has_none, IsAlone, IsReached}
+use Rattle.kb_ways.specs.Reached.{has_none, IsAlone, IsReached, HasNoHandlers}
 use Rattle.kb_stepint.specs.IntMethods.{is_int_code, is_int_info, is_int_method, is_int_type, is_none_or_int}
-use Rattle.kb_ways.proofs.MethodLaws.{and_both, code_found, all_at, all_passed, found_has, switches_rise, start_typed, handlers_none}
+use Rattle.kb_ways.proofs.MethodLaws.{and_both, code_found, all_at, all_passed, found_has, start_typed, handlers_none, all_rise}
 
 -- ---- what an int method has
 
@@ -101,8 +101,8 @@ none_left_out (type ∷ kinds) e =
 
 -- While arguments are read the next one is an int or a boolean; then the frame is the method's own, and each instruction of its
 -- code is one of ints.
-pub ints_next : (world : World) (state : State) → IsReached world state → is_int_method world state.method ≡ true → next_is_int world state ≡ true
-ints_next world state reached ints = go state.stage reached.alone where
+pub ints_next : (world : World) (state : State) → IsAlone state.method state.stage → is_int_method world state.method ≡ true → next_is_int world state ≡ true
+ints_next world state alone ints = go state.stage alone where
   h : HasIntInfo world state.method
   h = int_info world state.method ints
 
@@ -133,15 +133,18 @@ ints_next world state reached ints = go state.stage reached.alone where
       (by_argument (slice_get h.info.kind.params (length read)) (length read) refl)
   go (Runs frame callers) alone = rw alone.0 (at_offset frame.at)
 
+pub unhandled : (world : World) (method : MethodId) → is_int_method world method ≡ true → HasNoHandlers world method
+unhandled world method ints =
+    let h : HasIntInfo world method = int_info world method ints in
+    rw (code_is world method h) (handlers_none h.int_info.code.handlers h.int_info.handlers)
+
 pub start_reached : (world : World) (init : Init) (method : MethodId) → IsLinked world → is_int_method world method ≡ true → IsReached world (start_state init method)
 start_reached world init method linked ints = record {
   sound = sound;
   typed = start_typed world init method sound;
   receiver = tt;
-  alone = tt;
-  unhandled = rw (code_is world method h) (handlers_none h.int_info.code.handlers h.int_info.handlers);
   parameters = rw h.info_is (none_left_out h.info.kind.params h.int_info.params);
-  keys = switches_rise world method h.info h.int_info.code linked h.info_is h.int_info.code_is;
+  keys = all_rise world linked;
 } where
   h : HasIntInfo world method
   h = int_info world method ints

@@ -3,7 +3,6 @@
 use Rattle.std.proofs.Common.{◌≡◌, ℕ, ℤ, Bool, true, false, not, ◌||◌, List, [], ◌∷◌, filter, length, nat_le, slice_get, Option, Some, None, refl, sym, ap, subst, ◌∙◌, inl, inr, if◌then◌else◌, is_some}
 use Rattle.std.specs.Option.{option_map, option_map_or, option_and_then}
 use Rattle.std.proofs.lemmas.Bool.{not-true}
-use Rattle.kb_class.specs.declared.ids.MethodId.{MethodId}
 use Rattle.kb_class.specs.declared.members.MethodInfo.{MethodInfo}
 use Rattle.kb_code.specs.Listing.{HasRisingKeys}
 use Rattle.kb_code.specs.declared.instruction.Instr.{Instr}
@@ -52,7 +51,7 @@ use Rattle.kb_ways.proofs.OneDecided.{all_hold, all_met, all_open, all_ready, no
 use Rattle.kb_ways.proofs.OneInstances.{argument_is, instance_of_met, int_argument, met_of_instance, read_instance}
 use Rattle.kb_stepint.proofs.OneListed.{conditions_alike, conditions_sides, listed_one, wanted_of}
 use Rattle.kb_ways.proofs.ValueLaws.{pool_ordered}
-use Rattle.kb_ways.proofs.BegunLaws.{AreStackTerms, begun_terms, place_same, stack_same, method_same}
+use Rattle.kb_ways.proofs.BegunLaws.{AreStackTerms, begun_terms, place_same, stack_same}
 
 -- ---- one of those that are left
 
@@ -183,8 +182,7 @@ module _ (world : World) (bounds : Bounds) (old : State) (at : IsAtInts world ol
 
   rising : (found : Instr × ℕ) → place ≡ Some found → HasRisingKeys found.0
   rising found e =
-      at.reached.keys (offset_now (begun_stage world old old.stage)) found
-      (ap (λ (m : MethodId). instruction_at world m (offset_now (begun_stage world old old.stage))) (sym (method_same world old old.stage at.reached.alone)) ∙ e)
+      at.reached.keys (method_now old.method (begun_stage world old old.stage)) (offset_now (begun_stage world old old.stage)) found e
 
   one_taken_up : ExactlyOneIs (λ (choice : Choice). IsInstanceOf (takes_up plan_of world bounds choice (begun world old)).state input)
       (option_map_or (offered old (stack_of old.stage)) (instruction_next world old.method old.stage) only)

@@ -51,7 +51,7 @@ use Rattle.kb_ways.proofs.GrowLaws.{Grows, all_asked_grows, HasMore}
 use Rattle.kb_stepint.proofs.KeepLaws.{effect_makes}
 use Rattle.kb_ways.proofs.OneAsked.{AllHold, AllSides, IsReady, conditions_there, hold_later}
 use Rattle.kb_ways.proofs.OneDecided.{all_ready}
-use Rattle.kb_ways.proofs.BegunLaws.{begun_terms, method_same, place_same, stack_same, sym_term, sym_terms}
+use Rattle.kb_ways.proofs.BegunLaws.{begun_terms, place_same, stack_same, sym_term, sym_terms}
 use Rattle.kb_stepint.proofs.OneLaws.{instance_held, one_term, two_terms}
 use Rattle.kb_stepint.proofs.OneListed.{conditions_sides}
 use Rattle.kb_stepint.proofs.OutcomePlans.{HasFrameTerms, Reads, plan_is}
@@ -99,7 +99,7 @@ module _ (world : World) (bounds : Bounds) (old : State) (at : IsAtInts world ol
   variables = variable_values old.picture input places.objects
 
   run : Running world old old.stage (reading_at world old input places) c
-  run = running s old input c (reading_at world old input places) correct stands.run old.stage at.reached.sound.stage at.reached.alone stands.stage none
+  run = running s old input c (reading_at world old input places) correct stands.run old.stage at.reached.sound.stage at.alone stands.stage none
 
   -- the state with other terms and conditions, in the frame with which it goes on
   abbrev canon : List Node → List (TermId × Bool) → State
@@ -131,7 +131,7 @@ module _ (world : World) (bounds : Bounds) (old : State) (at : IsAtInts world ol
   runs_off : instruction_at world c.frame.method c.frame.at ≡ None → Follows (ill_typed world (begun world old))
   runs_off e =
       subst (λ (stage : Stage). Follows (ill_typed world (record old { stage = stage }))) (sym run.is)
-      (ill_typed_is world bounds old (sound_reached world old at.reached) input c stands run.frame run.method run.callers 0 old.nodes (Extends-refl old.nodes) old.when
+      (ill_typed_is world bounds old (sound_reached world old at.reached at.alone at.unhandled) input c stands run.frame run.method run.callers 0 old.nodes (Extends-refl old.nodes) old.when
       (framed old.nodes old.when (Extends-refl old.nodes)) (step_at None e))
 
   -- ---- an instruction is carried out
@@ -166,7 +166,7 @@ module _ (world : World) (bounds : Bounds) (old : State) (at : IsAtInts world ol
           let on : Extends old.nodes plan.state.nodes = Extends-trans old.nodes nodes plan.state.nodes more made.on.terms in
           let effect_is = plan_is s c found.1 (record old { when = when }) run.frame nodes variables R reads ordered (frame_terms nodes more) found.0 choice int has held rising in
           subst (λ (st : State). Follows (went world bounds found.1 st plan.way)) (sym made.rest)
-          (went_is world bounds old (sound_reached world old at.reached) input c stands run.frame run.method run.callers found.1
+          (went_is world bounds old (sound_reached world old at.reached at.alone at.unhandled) input c stands run.frame run.method run.callers found.1
           plan.state.nodes on when (framed plan.state.nodes when on) (stores_at (Some found) there ∙ stores_nothing world run.frame.method found.0 s c int) plan.way (step_at (Some found) there ∙ effect_is))
 
     -- ---- it is taken up
@@ -206,7 +206,7 @@ module _ (world : World) (bounds : Bounds) (old : State) (at : IsAtInts world ol
       let now : is_int_next world (method_now old.method old.stage) (instruction_next world old.method old.stage) ≡ true =
       int_next (argument_next world old.method old.stage) (is_int_next world (method_now old.method old.stage) (instruction_next world old.method old.stage)) none at.next in
       let next : instruction_next world old.method old.stage ≡ Some found.0 = ap (option_map (λ (f : Instr × ℕ). f.0)) (sym (place_same world old old.stage) ∙ e) in
-      let method : run.frame.method ≡ method_now old.method old.stage = run.method ∙ sym (stands_at old.stage at.reached.alone) in
+      let method : run.frame.method ≡ method_now old.method old.stage = run.method ∙ sym (stands_at old.stage at.alone) in
       ap (λ (m : MethodId). is_int_instruction world m found.0) method
       ∙ ap (is_int_next world (method_now old.method old.stage)) (sym next) ∙ now
     where
@@ -220,8 +220,7 @@ module _ (world : World) (bounds : Bounds) (old : State) (at : IsAtInts world ol
 
   rising_here : (found : Instr × ℕ) → place ≡ Some found → HasRisingKeys found.0
   rising_here found e =
-      at.reached.keys (offset_now (begun_stage world old old.stage)) found
-      (ap (λ (m : MethodId). instruction_at world m (offset_now (begun_stage world old old.stage))) (sym (method_same world old old.stage at.reached.alone)) ∙ e)
+      at.reached.keys (method_now old.method (begun_stage world old old.stage)) (offset_now (begun_stage world old old.stage)) found e
 
   pub takes_up_follows : (choice : Choice) → Has (option_map_or (offered old (stack_of old.stage)) (instruction_next world old.method old.stage) only) choice → Follows (takes_up plan_of world bounds choice (begun world old))
   takes_up_follows choice has = go place refl (subst (λ (it : Option (Instr × ℕ)). Has (option_map_or (offered old (stack_of old.stage)) (option_map (λ (f : Instr × ℕ). f.0) it) only) choice) (sym (place_same world old old.stage)) has) where

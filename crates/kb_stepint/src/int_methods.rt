@@ -3,7 +3,7 @@ ghost use Rattle.std.specs.Prelude.{◌≡◌, true};
 ghost use Rattle.std.specs.List.{list_all};
 ghost use Rattle.kb_picture.specs.declared.choice.Init.{Init};
 ghost use Rattle.kb_frames.specs.State.{start_state};
-ghost use Rattle.kb_ways.specs.Reached.{IsReached, has_none};
+ghost use Rattle.kb_ways.specs.Reached.{HasNoHandlers, IsReached, has_none};
 ghost use Rattle.kb_stepint.specs.IntMethods.{is_int_code, is_int_info, is_int_method, is_int_type, is_none_or_int};
 
 use kb_class::{MethodCode, MethodId, MethodInfo};
@@ -19,6 +19,7 @@ const STATIC: u16 = 0x0008;
 pub fn is_int_method(world: &World, method: MethodId) -> bool
     ensures is { result ≡ is_int_method world.now method }
     ensures begins { result ≡ true → (init : Init) → IsReached world.now (start_state init method) }
+    ensures unhandled { result ≡ true → HasNoHandlers world.now method }
 {
     match world.find_method(method) {
         Some(_) => is_int_info(world, method, world.method_of(method)),

@@ -8,7 +8,8 @@ ghost use Rattle.kb_picture.specs.declared.choice.Choice.TheVariants.{Default, K
 ghost use Rattle.kb_ways.specs.Asked.{all_asked};
 ghost use Rattle.kb_stepint.specs.Choices.{branch_conditions, choices_of, conditions_of, division_conditions, divisor_conditions, key_conditions};
 ghost use Rattle.kb_ways.specs.Needs.{CanStep, HasTerms, IsSide};
-ghost use Rattle.kb_ways.specs.Reached.{IsReached};
+ghost use Rattle.kb_ways.specs.Reached.{HasNoHandlers, IsAlone, IsReached};
+ghost use Rattle.kb_stepint.specs.Laws.{IsAtInts};
 ghost use Rattle.kb_stepint.specs.Takes.{taken};
 ghost use Rattle.kb_ways.specs.Plans.{takes_up};
 ghost use Rattle.kb_ways.specs.Turns.{told};
@@ -31,8 +32,9 @@ use std::alloc::Global;
 /// state asks for its next choice. Else the conditions of the alternative are added, as far as they are not decided, and the
 /// instruction is carried out: it goes on, the run ends, or it is cut at a bound.
 ///
-/// After want of memory the state is only dropped or undone. It takes time in proportion to the conditions that are added,
-/// whatever the state has met.
+/// After want of memory the state is only dropped or undone. It takes time in proportion to the conditions that are added, and
+/// to the locals of the method where its first instruction is taken up, whatever the state has met; a throw fills the slots of
+/// its new object.
 pub fn take_int(
     alloc: Global,
     world: &World,
@@ -41,6 +43,8 @@ pub fn take_int(
     bounds: &Bounds,
 ) -> Result<Outcome, NoMemory>
     requires reached { IsReached world.now state.old }
+    requires alone { IsAlone state.old.method state.old.stage }
+    requires unhandled { HasNoHandlers world.now state.old.method }
     requires int { next_is_int world.now state.old ≡ true }
     requires listed { Has (choices_of world.now state.old bounds.now) choice.now }
     ensures take { IfOk result (λ outcome. told state.new outcome ≡ taken world.now bounds.now state.old choice.now) }
@@ -59,7 +63,7 @@ fn read_or_take_up(
     choice: &Choice,
     bounds: &Bounds,
 ) -> Result<Outcome, NoMemory>
-    requires { IsReached world.now state.old }
+    requires { IsAtInts world.now state.old }
     ensures { IfOk result (λ outcome. told state.new outcome ≡ taken world.now bounds.now state.old choice.now) }
 {
     if let Some(kind) = state.next_kind(world) {

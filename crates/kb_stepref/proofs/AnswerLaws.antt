@@ -64,7 +64,8 @@ use Rattle.kb_ways.proofs.OutcomeValues.{reading_int}
 use Rattle.kb_lazy.proofs.FitLaws.{fitting_choice}
 use Rattle.kb_lazy.specs.Choices.{read_choices_of}
 use Rattle.kb_stepref.specs.Choices.{alternatives, is_receiver, only}
-use Rattle.kb_stepref.specs.Laws.{AreInRange, IsAtReferences}
+use Rattle.kb_lazy.specs.Laws.{AreInRange}
+use Rattle.kb_stepref.specs.Laws.{IsAtReferences}
 use Rattle.kb_stepref.specs.Questions.{Reads}
 use Rattle.kb_stepref.specs.Takes.{answered, passed_by}
 use Rattle.kb_ways.proofs.AlikeLaws.{AreAlike, stage_alike, values_alike}
@@ -373,18 +374,18 @@ asked_blank world bounds state (Field object slot) type is = is.cell
 asked_blank world bounds state (Element array index) type is = absurd is
 
 module _ (world : World) (bounds : Bounds) (state : State) (choice : Choice) (small : AreInRange bounds) (at : IsAtReferences world state) (slot : Origin) (type : JType)
-    (is : IsAsked world bounds state at.reached.reached.typed slot type) where
+    (is : IsAsked world bounds state at.reached.typed slot type) where
   -- an alternative of a reference speaks of what is there
   speaks : is_reference type ≡ true → Has (alternatives world state bounds (Reads slot type)) choice → IsChoiceIn state.picture choice
   speaks e has =
       let offered : Has (read_choices_of state.init world state.picture slot type (is_receiver world state.method slot) bounds.k bounds.array) choice =
       subst (λ (b : Bool). Has (if b then read_choices_of state.init world state.picture slot type (is_receiver world state.method slot) bounds.k bounds.array else only) choice) e has in
       (fitting_choice state.init world state.method state.picture slot type (is_receiver world state.method slot) bounds.k bounds.array offered.0 choice
-      (first_read world bounds state at.reached.reached.typed slot type is e) small offered.1).speaks
+      (first_read world bounds state at.reached.typed slot type is e) small offered.1).speaks
 
   -- The answer of an alternative that passes no bound stands for the same configuration.
   pub asked_stands : Has (alternatives world state bounds (Reads slot type)) choice → passed_by choice ≡ None → (input : Input) (c : Config) → StandsFor (setting_of world bounds) state input c
       → IsInstanceOf (answered world choice state (Reads slot type)) input → StandsFor (setting_of world bounds) (answered world choice state (Reads slot type)) input c
   asked_stands has passed input c stands =
-      answer_stands world bounds (params_of world at.reached.reached.typed.method) state choice slot type input c at.reached.reached.sound is.unread
+      answer_stands world bounds (params_of world at.reached.typed.method) state choice slot type input c at.reached.sound is.unread
       (asked_blank world bounds state slot type is.from) (λ e. speaks e has) passed stands

@@ -38,7 +38,7 @@ use Rattle.kb_picture.specs.WellTyped.{IsReceiverSeen, IsWellTyped, SeenFitsDecl
 use Rattle.kb_picture.proofs.GrownPictures.{IsFrontOf, slots_grown}
 use Rattle.kb_picture.proofs.GrownTypes.{choice_typed, int_typed, type_more}
 use Rattle.kb_lazy.specs.Choices.{read_choices_of}
-use Rattle.kb_lazy.specs.Laws.{IsFirstRead}
+use Rattle.kb_lazy.specs.Laws.{IsFirstRead, AreInRange}
 use Rattle.kb_lazy.proofs.FitLaws.{fitting_choice}
 use Rattle.kb_frames.specs.declared.frame.SymFrame.{SymFrame}
 use Rattle.kb_frames.specs.declared.state.Stage.{Stage}
@@ -56,7 +56,7 @@ use Rattle.kb_ways.specs.Reached.{HasReadReceiver}
 use Rattle.kb_ways.proofs.ItemLaws.{each_append, each_cons, each_copy, no_items}
 use Rattle.kb_ways.proofs.SoundLaws.{Sound, sound_reached}
 use Rattle.kb_stepref.specs.Choices.{alternatives, is_receiver}
-use Rattle.kb_stepref.specs.Laws.{AreInRange, IsAtReferences}
+use Rattle.kb_stepref.specs.Laws.{IsAtReferences}
 use Rattle.kb_stepref.specs.Questions.{Reads, question_of}
 use Rattle.kb_stepref.specs.Takes.{answered}
 use Rattle.kb_stepref.proofs.CellLaws.{front_found, front_touched, with_cell_length, with_here, with_touched}
@@ -324,10 +324,10 @@ module _ (world : World) (state : State) (sound : Sound world state) (slot : Ori
 
 module _ (world : World) (bounds : Bounds) (state : State) (at : IsAtReferences world state) (slot : Origin) (type : JType) (asks : question_of world state bounds ≡ Some (Reads slot type)) where
   abbrev typed : IsWellTyped world state.method state.picture
-  typed = at.reached.reached.typed
+  typed = at.reached.typed
 
   sound : Sound world state
-  sound = sound_reached world state at.reached.reached
+  sound = sound_reached world state at.reached at.alone at.unhandled
 
   is_asked : IsAsked world bounds state typed slot type
   is_asked = asked world bounds state at slot type asks

@@ -13,7 +13,7 @@ use Rattle.kb_heap.specs.declared.bounds.Bounds.{Bounds}
 use Rattle.kb_heap.specs.declared.heap.Input.{Input}
 use Rattle.kb_lazy.proofs.FitLaws.{fitting_choice}
 use Rattle.kb_lazy.specs.Choices.{aliases, aliases_from, all_new, beyond_where, fresh_objects, has_fitting, location_where, new_objects, null_unless, read_choices_of}
-use Rattle.kb_lazy.specs.Laws.{IsFirstRead}
+use Rattle.kb_lazy.specs.Laws.{IsFirstRead, AreInRange}
 use Rattle.kb_link.proofs.Places.{get_last}
 use Rattle.kb_link.specs.Subtypes.{fits}
 use Rattle.kb_link.specs.World.{World}
@@ -44,7 +44,7 @@ use Rattle.kb_frames.specs.StandsFor.{IsInstanceOf}
 use Rattle.kb_frames.specs.State.{State}
 use Rattle.kb_picture.specs.Queries.{kind_for}
 use Rattle.kb_stepref.specs.Choices.{alternatives, is_receiver, only}
-use Rattle.kb_stepref.specs.Laws.{AreInRange, IsAtReferences}
+use Rattle.kb_stepref.specs.Laws.{IsAtReferences}
 use Rattle.kb_stepref.specs.Questions.{Reads, question_of}
 use Rattle.kb_stepref.specs.Takes.{answered, passed_by}
 use Rattle.kb_stepref.proofs.FirstReadLaws.{asked, first_read}
@@ -173,7 +173,7 @@ module _ (world : World) (bounds : Bounds) (old : State) (in_range : AreInRange 
     offered = read_choices_of old.init world old.picture slot type receiver bounds.k bounds.array
 
     first : IsFirstRead world old.method old.picture slot type receiver
-    first = first_read world bounds old at.reached.reached.typed slot type (asked world bounds old at slot type asks) reference
+    first = first_read world bounds old at.reached.typed slot type (asked world bounds old at slot type asks) reference
 
     right : (choice : Choice) → Has offered choice → GoesBeyond bounds.k bounds.array (depth_at old.picture slot) choice
     right = offered_right world old.picture slot type bounds.k bounds.array old.init receiver

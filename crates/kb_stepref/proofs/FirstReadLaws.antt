@@ -260,9 +260,9 @@ module _ (world : World) (bounds : Bounds) (state : State) (linked : IsLinked wo
 
 -- The slot of the question of a state that is at a step on references.
 pub asked : (world : World) (bounds : Bounds) (state : State) (at : IsAtReferences world state) (slot : Origin) (type : JType) → question_of world state bounds ≡ Some (Reads slot type)
-    → IsAsked world bounds state at.reached.reached.typed slot type
+    → IsAsked world bounds state at.reached.typed slot type
 asked world bounds state at slot type asks =
-    reached_asks world bounds state at.reached.linked at.reached.reached at.next (Reads slot type) asks
+    reached_asks world bounds state at.linked at.reached at.next (Reads slot type) asks
 
 -- ---- first reads
 

@@ -44,8 +44,9 @@ use Rattle.kb_ways.proofs.OneInstances.{met_of_instance}
 use Rattle.kb_ways.proofs.ValueLaws.{IsOrdered, ordered_more, pool_ordered}
 use Rattle.kb_stepref.specs.Choices.{alternatives, only}
 use Rattle.kb_stepref.specs.Fields.{field_named, has_slot_of}
-use Rattle.kb_stepref.specs.HeapMethods.{is_reference_instruction}
-use Rattle.kb_stepref.specs.Laws.{AreInRange, IsAtReferences, OfTakes}
+use Rattle.kb_ways.specs.Built.{is_reference_instruction}
+use Rattle.kb_lazy.specs.Laws.{AreInRange}
+use Rattle.kb_stepref.specs.Laws.{IsAtReferences, OfTakes}
 use Rattle.kb_stepref.specs.Questions.{Question, Reads, asked_by, asks_cell, asks_field, question_of}
 use Rattle.kb_stepref.specs.Takes.{answered, answers, cut_where, goes_behind, passed_by}
 use Rattle.kb_ways.specs.Plans.{takes_next, takes_up}
@@ -55,7 +56,7 @@ use Rattle.kb_stepref.proofs.FirstReadLaws.{IsAsked, IsAskedAt, IsAskedField, as
 use Rattle.kb_stepref.proofs.KeepLaws.{Untold, int_tells, reference_tells, takes_up_untold}
 use Rattle.kb_stepref.proofs.MethodLaws.{reference_next}
 use Rattle.kb_stepref.proofs.OutcomeLaws.{AreTold, FollowsAt, takes_next_follows, takes_up_follows}
-use Rattle.kb_stepref.proofs.ReachedLaws.{IsHeapSound, now_heap}
+use Rattle.kb_stepref.proofs.ReachedLaws.{IsKnown, now_known}
 use Rattle.kb_stepref.proofs.SoundLaws.{answered_carried, answered_method, answered_stage, none_asked}
 use Rattle.kb_picture.specs.declared.choice.Choice.TheVariants.{Only}
 use Rattle.kb_stepref.specs.Effects.{plan_of}
@@ -120,12 +121,12 @@ module _ (world : World) (bounds : Bounds) (old : State) (choice : Choice) (smal
   abbrev new : State
   new = answered world choice old (Reads slot type)
 
-  is : IsAsked world bounds old at.reached.reached.typed slot type
+  is : IsAsked world bounds old at.reached.typed slot type
   is = asked world bounds old at slot type asks
 
   module _ (passed : passed_by choice ≡ None) where
-    heap : IsHeapSound world new
-    heap = now_heap world bounds old at slot type asks choice small has passed
+    heap : IsKnown world new
+    heap = now_known world bounds old at slot type asks choice small has passed
 
     new_stands : IsInstanceOf new input → StandsFor (setting_of world bounds) new input c
     new_stands i = asked_stands world bounds old choice small at slot type is has passed input c stands i
@@ -170,7 +171,7 @@ module _ (world : World) (bounds : Bounds) (old : State) (choice : Choice) (smal
       field_follows : FollowsAt world bounds input c (takes_up plan_of world bounds Only new)
       field_follows i =
           takes_up_follows world bounds new from.frame from.callers (stage_same ∙ from.running) heap.sound heap.known
-          (answer_ordered world choice old slot type (pool_ordered old.nodes at.reached.reached.sound.pool)) input (subst (λ (m : MethodId). IsTypeCorrect world m input) (sym method_same) correct) c
+          (answer_ordered world choice old slot type (pool_ordered old.nodes at.reached.sound.pool)) input (subst (λ (m : MethodId). IsTypeCorrect world m input) (sym method_same) correct) c
           (new_stands (instance_before new (takes_up plan_of world bounds Only new).state input (takes_up_untold world bounds new) heap.sound.conditions i))
           (ap (nat_le bounds.run.steps) (answered_carried world choice old slot type) ∙ from.within) new_told i
 

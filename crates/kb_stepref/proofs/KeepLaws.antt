@@ -316,7 +316,7 @@ module _ (world : World) (bounds : Bounds) (old : State) (choice : Choice) where
     go (Some (Reads slot type)) e =
         let told : State = answered world choice old (Reads slot type) in
         let behind : State = (answers world bounds choice old (Reads slot type)).state in
-        kept_on old told behind (answered_kept at.reached.reached.typed slot type (asked world bounds old at slot type e)) (kept_of_untold told behind (answers_untold world bounds choice old (Reads slot type)))
+        kept_on old told behind (answered_kept at.reached.typed slot type (asked world bounds old at slot type e)) (kept_of_untold told behind (answers_untold world bounds choice old (Reads slot type)))
 
   -- ---- what is compared
 

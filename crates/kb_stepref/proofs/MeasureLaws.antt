@@ -88,7 +88,7 @@ module _ (world : World) (bounds : Bounds) (old : State) where
   -- ---- all takes
 
   module _ (choice : Choice) (at : IsAtReferences world old) where
-    answers_on : (slot : Origin) (type : JType) → IsAsked world bounds old at.reached.reached.typed slot type → Gets (answers world bounds choice old (Reads slot type))
+    answers_on : (slot : Origin) (type : JType) → IsAsked world bounds old at.reached.typed slot type → Gets (answers world bounds choice old (Reads slot type))
     answers_on (Arg number) type is =
         let a : IsAskedArgument world old number type = is.from in
         let next : argument_next world old.method old.stage ≡ Some type = subst (λ (stage : Stage). argument_next world old.method stage ≡ Some type) (sym a.begins) a.next in

@@ -68,10 +68,10 @@ module _ (world : World) (bounds : Bounds) (old : State) (at : IsAtReferences wo
   next_instance =
       let new : State = (takes_next plan_of world bounds Only old).state in
       let untold : Untold old new = takes_next_untold world bounds old in
-      instance_of_met old.picture old.nodes old.when (conditions_there old.nodes old.when at.reached.reached.sound.conditions) new input untold.stays.picture untold.when untold.stays.terms
+      instance_of_met old.picture old.nodes old.when (conditions_there old.nodes old.when at.reached.sound.conditions) new input untold.stays.picture untold.when untold.stays.terms
       stands.instance_of.shape stands.instance_of.conditions
 
-  module _ (slot : Origin) (type : JType) (is : IsAsked world bounds old at.reached.reached.typed slot type) where
+  module _ (slot : Origin) (type : JType) (is : IsAsked world bounds old at.reached.typed slot type) where
     abbrev told : Bool → Choice → State
     told = told_by world bounds old slot type
 
@@ -94,7 +94,7 @@ module _ (world : World) (bounds : Bounds) (old : State) (at : IsAtReferences wo
         let new : State = (take true choice).state in
         let tells = reference_tells world slot choice old in
         let untold : Untold (told true choice) new = untold_behind true choice in
-        choice_instance world old at.reached.reached.sound (params_of world at.reached.reached.typed.method) slot is.unread input stands.instance_of new
+        choice_instance world old at.reached.sound (params_of world at.reached.typed.method) slot is.unread input stands.instance_of new
         (subst (λ (nodes : List Node). Extends nodes new.nodes) tells.nodes untold.stays.terms) (untold.when ∙ tells.when) choice (picture_is choice) takes
 
     takes_back : (choice : Choice) → IsInstanceOf (take true choice).state input → Chosen choice input
@@ -106,8 +106,8 @@ module _ (world : World) (bounds : Bounds) (old : State) (at : IsAtReferences wo
     one_reference e =
         one_is Chosen (λ (choice : Choice). IsInstanceOf (take true choice).state input) input is_instance takes_back
         (read_choices_of old.init world old.picture slot type (is_receiver world old.method slot) bounds.k bounds.array)
-        (one_taken world old.method old.picture slot type (is_receiver world old.method slot) bounds.k bounds.array input at.reached.linked
-        (first_read world bounds old at.reached.reached.typed slot type is e) at.reached.within correct stands.instance_of.shape old.init)
+        (one_taken world old.method old.picture slot type (is_receiver world old.method slot) bounds.k bounds.array input at.linked
+        (first_read world bounds old at.reached.typed slot type is e) at.within correct stands.instance_of.shape old.init)
 
     -- ---- an int
 
@@ -119,8 +119,8 @@ module _ (world : World) (bounds : Bounds) (old : State) (at : IsAtReferences wo
         let untold : Untold (told false Only) new = untold_behind false Only in
         let more : Extends old.nodes (told false Only).nodes = subst (Extends old.nodes) (sym tells.nodes) (extends-more old.nodes (Var (variables_of old.nodes) kind)) in
         let held =
-        int_held world old.method old.picture input correct stands.instance_of.shape (params_of world at.reached.reached.typed.method) slot type is.unread.there is.declared e in
-        int_instance world old at.reached.reached.sound (params_of world at.reached.reached.typed.method) slot is.unread input stands.instance_of new
+        int_held world old.method old.picture input correct stands.instance_of.shape (params_of world at.reached.typed.method) slot type is.unread.there is.declared e in
+        int_instance world old at.reached.sound (params_of world at.reached.typed.method) slot is.unread input stands.instance_of new
         (Extends-trans old.nodes (told false Only).nodes new.nodes more untold.stays.terms) (untold.when ∙ tells.when) held.0 (untold.stays.picture ∙ tells.picture) held.1
 
     one_answer : (b : Bool) → is_reference type ≡ b

@@ -44,7 +44,7 @@ use Rattle.kb_ways.proofs.SoundLaws.{Sound, begun_sound, sound_reached}
 use Rattle.kb_ways.proofs.ValueLaws.{IsOrdered, pool_ordered}
 use Rattle.kb_ways.specs.Plans.{Planned, carried_out, followed, takes_next, takes_up}
 use Rattle.kb_stepref.specs.Effects.{branches_null, branches_same, gets, loads, plan_of, pushes_null, returns_reference, stores as stores_sym}
-use Rattle.kb_stepref.specs.HeapMethods.{is_reference_instruction}
+use Rattle.kb_ways.specs.Built.{is_reference_instruction}
 use Rattle.kb_stepref.specs.Laws.{IsAtReferences}
 use Rattle.kb_stepref.specs.Questions.{Reads, asked_at, asked_by, question_of}
 use Rattle.kb_stepref.proofs.OutcomePlans.{IsPlan, branches_null_is, branches_same_is, gets_is, loads_is, pushes_null_is, returns_reference_is, stores_is}
@@ -162,7 +162,7 @@ module _ (world : World) (bounds : Bounds) (old : State) (at : IsAtReferences wo
   places = stands.instance_of.shape.places
 
   sound : Sound world old
-  sound = sound_reached world old at.reached.reached
+  sound = sound_reached world old at.reached at.alone at.unhandled
 
   module _ (none : argument_next world old.method old.stage ≡ None) where
     run : Running world old old.stage (reading_at world old input places) c
@@ -201,7 +201,7 @@ module _ (world : World) (bounds : Bounds) (old : State) (at : IsAtReferences wo
         → FollowsAt world bounds input c (if b then record { state = old; outcome = Cut Steps } else takes_up plan_of world bounds Only (begun world old))
     by_steps true e quiet = λ i. cut_by_steps world bounds old input c stands (leb-true bounds.run.steps old.carried e)
     by_steps false e quiet =
-        stage_follows world bounds old at.reached.known (pool_ordered old.nodes at.reached.reached.sound.pool) input correct c e (begun_stage world old old.stage) run.frame run.is
+        stage_follows world bounds old at.known (pool_ordered old.nodes at.reached.sound.pool) input correct c e (begun_stage world old old.stage) run.frame run.is
         (begun_sound world old sound none) begun_stands (begun_told quiet)
 
   -- The next step of a state that asks nothing.

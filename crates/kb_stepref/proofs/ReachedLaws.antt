@@ -6,7 +6,6 @@ use Rattle.kb_class.proofs.Lists.{all_has}
 use Rattle.kb_class.specs.Naming.{Has}
 use Rattle.kb_heap.specs.declared.bounds.Bound.{Bound}
 use Rattle.kb_heap.specs.declared.bounds.Bounds.{Bounds}
-use Rattle.kb_link.specs.Links.{IsLinked}
 use Rattle.kb_link.specs.World.{World}
 use Rattle.kb_names.specs.declared.types.JType.{JType}
 use Rattle.kb_terms.specs.Terms.{IsPool}
@@ -21,7 +20,7 @@ use Rattle.kb_picture.specs.Queries.{kind_for}
 use Rattle.kb_picture.specs.WellFormed.{variables_seen}
 use Rattle.kb_picture.specs.WellTyped.{IsReceiverSeen}
 use Rattle.kb_lazy.specs.Choices.{read_choices_of}
-use Rattle.kb_lazy.specs.Laws.{HasNoBeyond}
+use Rattle.kb_lazy.specs.Laws.{HasNoBeyond, AreInRange}
 use Rattle.kb_frames.specs.declared.value.Outcome.{Outcome}
 use Rattle.kb_frames.specs.declared.value.Outcome.TheVariants.{Asks, Goes, Ends, Cut}
 use Rattle.kb_frames.specs.declared.value.SymValue.{SymValue}
@@ -36,15 +35,13 @@ use Rattle.kb_ways.specs.Ways.{Take}
 use Rattle.kb_ways.proofs.SoundLaws.{Sound, begun_sound, reached_sound, sound_reached}
 use Rattle.kb_ways.proofs.TakeLaws.{sound_terms}
 use Rattle.kb_stepref.specs.Choices.{alternatives, is_receiver, only}
-use Rattle.kb_stepref.specs.HeapMethods.{is_heap_method}
-use Rattle.kb_stepref.specs.Laws.{AreInRange, GoesOnReached, IsAtReferences, OfTakes}
+use Rattle.kb_stepref.specs.Laws.{IsAtReferences, OfTakes}
 use Rattle.kb_stepref.specs.Questions.{Question, Reads, question_of}
-use Rattle.kb_stepref.specs.Reached.{IsHeapReached}
 use Rattle.kb_stepref.specs.Takes.{answered, answers, cut_where, goes_behind, passed_by, taken}
 use Rattle.kb_ways.specs.Plans.{takes_next}
 use Rattle.kb_stepref.proofs.FirstReadLaws.{IsAskedAt, asked}
-use Rattle.kb_stepref.proofs.LazyLaws.{IsKnown, known_choices, known_locs, known_no_beyond, seen_no_beyond}
-use Rattle.kb_stepref.proofs.SoundLaws.{SoundTo, answered_carried, answered_init, answered_method, goes_behind_sound, none_asked, takes_next_sound, taken_sound, told_sound}
+use Rattle.kb_stepref.proofs.LazyLaws.{IsKnown as IsKnownChoice, known_choices, known_locs, known_no_beyond, seen_no_beyond}
+use Rattle.kb_stepref.proofs.SoundLaws.{SoundTo, answered_carried, answered_init, goes_behind_sound, none_asked, takes_next_sound, taken_sound, told_sound}
 use Rattle.kb_picture.specs.declared.choice.Choice.TheVariants.{Only}
 use Rattle.kb_stepref.specs.Effects.{plan_of}
 use Rattle.kb_picture.specs.declared.picture.Seen.TheVariants as seens
@@ -65,26 +62,19 @@ has_input world bounds state choice range at has =
 
 -- ---- with objects alone
 
--- what holds of a state over heaps from which steps lead on, beside its pool
-pub record IsHeapSound (world : World) (state : State) : Type 0 where
+-- beside its pool: every object was chosen when its reference was read, none is left open, and none is beyond
+pub record IsKnown (world : World) (state : State) : Type 0 where
   pub sound : Sound world state
-  pub linked : IsLinked world
-  pub method : is_heap_method world state.method ≡ true
   pub lazy : state.init ≡ Lazy
   pub known : state.picture.locs ≡ []
   pub within : HasNoBeyond state.picture
 
-pub heap_sound : (world : World) (state : State) → IsHeapReached world state → IsHeapSound world state
-heap_sound world state h = record { sound = sound_reached world state h.reached; linked = h.linked; method = h.method; lazy = h.lazy; known = h.known; within = h.within }
+known_at : (world : World) (state : State) → IsAtReferences world state → IsKnown world state
+known_at world state at = record { sound = sound_reached world state at.reached at.alone at.unhandled; lazy = at.lazy; known = at.known; within = at.within }
 
-pub heap_reached : (world : World) (state : State) → IsHeapSound world state → IsPool state.nodes → IsHeapReached world state
-heap_reached world state h pool = record { reached = reached_sound world state h.sound pool; linked = h.linked; method = h.method; lazy = h.lazy; known = h.known; within = h.within }
-
-heap_on : (world : World) (old new : State) → IsHeapSound world old → SoundTo world old new → IsHeapSound world new
-heap_on world old new h to = record {
+known_on : (world : World) (old new : State) → IsKnown world old → SoundTo world old new → IsKnown world new
+known_on world old new h to = record {
   sound = to.sound;
-  linked = h.linked;
-  method = subst (λ m. is_heap_method world m ≡ true) (sym to.method) h.method;
   lazy = to.init ∙ h.lazy;
   known = ap (λ (p : Picture). p.locs) to.picture ∙ h.known;
   within = subst HasNoBeyond (sym to.picture) h.within;
@@ -116,14 +106,14 @@ module _ (world : World) (bounds : Bounds) (state : State) (at : IsAtReferences 
   now = answered world choice state (Reads slot type)
 
   -- under lazy initialisation no location is offered
-  known_here : is_reference type ≡ true → IsKnown choice
+  known_here : is_reference type ≡ true → IsKnownChoice choice
   known_here reference = go (is_reference type) reference has where
     go : (b : Bool) → b ≡ true
-        → Has (if b then read_choices_of state.init world state.picture slot type (is_receiver world state.method slot) bounds.k bounds.array else only) choice → IsKnown choice
+        → Has (if b then read_choices_of state.init world state.picture slot type (is_receiver world state.method slot) bounds.k bounds.array else only) choice → IsKnownChoice choice
     go true is offered =
-        all_has IsKnown (read_choices_of Lazy world state.picture slot type (is_receiver world state.method slot) bounds.k bounds.array) choice
+        all_has IsKnownChoice (read_choices_of Lazy world state.picture slot type (is_receiver world state.method slot) bounds.k bounds.array) choice
         (known_choices world state.picture slot type bounds.k bounds.array (is_receiver world state.method slot))
-        (subst (λ (init : Init). Has (read_choices_of init world state.picture slot type (is_receiver world state.method slot) bounds.k bounds.array) choice) at.reached.lazy offered)
+        (subst (λ (init : Init). Has (read_choices_of init world state.picture slot type (is_receiver world state.method slot) bounds.k bounds.array) choice) at.lazy offered)
     go false is offered = absurd cc
 
   now_plain : passed_by choice ≡ None → IsPlain now.picture
@@ -131,17 +121,15 @@ module _ (world : World) (bounds : Bounds) (state : State) (at : IsAtReferences 
     go : (b : Bool) → is_reference type ≡ b → IsPlain (if b then first_reference world slot choice state else first_int slot (kind_for (Some type)) state).picture
     go true is =
         subst IsPlain (sym (found_picture slot _ _))
-        (known_locs state.picture slot choice (known_here is) ∙ at.reached.known, known_no_beyond state.picture slot choice (known_here is) passed at.reached.within)
-    go false is = subst IsPlain (sym (found_picture slot _ _)) (int_plain state.picture slot (at.reached.known, at.reached.within))
+        (known_locs state.picture slot choice (known_here is) ∙ at.known, known_no_beyond state.picture slot choice (known_here is) passed at.within)
+    go false is = subst IsPlain (sym (found_picture slot _ _)) (int_plain state.picture slot (at.known, at.within))
 
-  pub now_heap : passed_by choice ≡ None → IsHeapSound world now
-  now_heap passed =
+  pub now_known : passed_by choice ≡ None → IsKnown world now
+  now_known passed =
       let plain = now_plain passed in
       record {
         sound = told_sound world bounds state at slot type asks choice range has;
-        linked = at.reached.linked;
-        method = subst (λ m. is_heap_method world m ≡ true) (sym (answered_method world choice state slot type)) at.reached.method;
-        lazy = answered_init world choice state slot type ∙ at.reached.lazy;
+        lazy = answered_init world choice state slot type ∙ at.lazy;
         known = plain.0;
         within = plain.1;
       }
@@ -167,40 +155,47 @@ pub begun_can_step : (world : World) (bounds : Bounds) (state : State) → IsAtR
     → CanStep bounds (begun world state)
 begun_can_step world bounds state at none less =
     record {
-      terms = sound_terms world (begun world state) (begun_sound world state (sound_reached world state at.reached.reached) (none_asked world bounds state none));
+      terms = sound_terms world (begun world state) (begun_sound world state (sound_reached world state at.reached at.alone at.unhandled) (none_asked world bounds state none));
       within = less;
     }
 
 -- ---- where it goes on
 
-goes_reached : (world : World) (state : State) (outcome : Outcome) → IsHeapReached world state → GoesOnReached world state outcome
-goes_reached world state Asks h = h
-goes_reached world state Goes h = h
-goes_reached world state (Ends ending) h = h
-goes_reached world state (Cut bound) h = tt
+-- where the state goes on, it is such a one still
+abbrev pub IsKnownUnlessCut : World → State → Outcome → Type 0
+IsKnownUnlessCut world state Asks = IsKnown world state
+IsKnownUnlessCut world state Goes = IsKnown world state
+IsKnownUnlessCut world state (Ends ending) = IsKnown world state
+IsKnownUnlessCut world state (Cut bound) = Unit {0}
 
-goes_sound : (world : World) (take : Take) → IsHeapSound world take.state → IsPool take.state.nodes → GoesOnReached world take.state take.outcome
-goes_sound world take h pool = goes_reached world take.state take.outcome (heap_reached world take.state h pool)
+known_unless_cut : (world : World) (state : State) (outcome : Outcome) → IsKnown world state → IsKnownUnlessCut world state outcome
+known_unless_cut world state Asks h = h
+known_unless_cut world state Goes h = h
+known_unless_cut world state (Ends ending) h = h
+known_unless_cut world state (Cut bound) h = tt
 
-abbrev IsGoingOn : World → Take → Type 0
-IsGoingOn world take = IsPool take.state.nodes → GoesOnReached world take.state take.outcome
+abbrev StaysKnown : World → Take → Type 0
+StaysKnown world take = IsKnownUnlessCut world take.state take.outcome
 
-pub goes_on_reached : OfTakes (λ world bounds state take. IsPool take.state.nodes → GoesOnReached world take.state take.outcome)
-goes_on_reached world bounds state choice range at has = go (question_of world state bounds) refl has where
+pub goes_on_known : OfTakes (λ world bounds state take. IsKnownUnlessCut world take.state take.outcome)
+goes_on_known world bounds state choice range at has = go (question_of world state bounds) refl has where
+  stays : (take : Take) → IsKnown world take.state → StaysKnown world take
+  stays take h = known_unless_cut world take.state take.outcome h
+
   -- a state that is cut by its answer goes on nowhere
   behind : (slot : Origin) (type : JType) → question_of world state bounds ≡ Some (Reads slot type) → Has (alternatives world state bounds (Reads slot type)) choice
       → (bound : Option Bound) → passed_by choice ≡ bound
-      → IsGoingOn world (cut_where bound (answered world choice state (Reads slot type)) (goes_behind world bounds slot (answered world choice state (Reads slot type))))
+      → StaysKnown world (cut_where bound (answered world choice state (Reads slot type)) (goes_behind world bounds slot (answered world choice state (Reads slot type))))
   behind slot type asks offered None passed =
-      goes_sound world (goes_behind world bounds slot (answered world choice state (Reads slot type)))
-      (heap_on world (answered world choice state (Reads slot type)) (goes_behind world bounds slot (answered world choice state (Reads slot type))).state
-      (now_heap world bounds state at slot type asks choice range offered passed) (goes_behind_sound world bounds state at slot type asks choice range offered))
-  behind slot type asks offered (Some bound) passed = λ pool. tt
+      stays (goes_behind world bounds slot (answered world choice state (Reads slot type)))
+      (known_on world (answered world choice state (Reads slot type)) (goes_behind world bounds slot (answered world choice state (Reads slot type))).state
+      (now_known world bounds state at slot type asks choice range offered passed) (goes_behind_sound world bounds state at slot type asks choice range offered))
+  behind slot type asks offered (Some bound) passed = tt
 
   go : (question : Option Question) → question_of world state bounds ≡ question → Has (option_map_or (alternatives world state bounds) question only) choice
-      → IsGoingOn world (option_map_or (answers world bounds choice state) question (takes_next plan_of world bounds Only state))
+      → StaysKnown world (option_map_or (answers world bounds choice state) question (takes_next plan_of world bounds Only state))
   go None asks offered =
-      goes_sound world (takes_next plan_of world bounds Only state)
-      (heap_on world state (takes_next plan_of world bounds Only state).state (heap_sound world state at.reached)
-      (takes_next_sound world bounds state (sound_reached world state at.reached.reached) (none_asked world bounds state asks)))
+      stays (takes_next plan_of world bounds Only state)
+      (known_on world state (takes_next plan_of world bounds Only state).state (known_at world state at)
+      (takes_next_sound world bounds state (sound_reached world state at.reached at.alone at.unhandled) (none_asked world bounds state asks)))
   go (Some (Reads slot type)) asks offered = behind slot type asks offered (passed_by choice) refl

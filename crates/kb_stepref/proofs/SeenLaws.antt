@@ -107,10 +107,10 @@ module _ (world : World) (bounds : Bounds) (old : State) (at : IsAtReferences wo
   places = stands.instance_of.shape.places
 
   abbrev params : ℕ
-  params = params_of world at.reached.reached.typed.method
+  params = params_of world at.reached.typed.method
 
   abbrev IsAskedHere : Origin → JType → Type 0
-  IsAskedHere = IsAsked world bounds old at.reached.reached.typed
+  IsAskedHere = IsAsked world bounds old at.reached.typed
 
   module _ (number slot : ℕ) (type : JType) (is : IsAskedHere (Field number slot) type) (a : IsAskedField world bounds old number slot type) (p : ℕ) (there : slice_get places.objects number ≡ Some p) where
     stood : FrameStandsFor (reading_at world old input places) a.frame c.frame
@@ -251,7 +251,7 @@ module _ (world : World) (bounds : Bounds) (old : State) (at : IsAtReferences wo
   -- ---- a state that was told
 
   no_lazier : old.init ≡ Lazier → ⊥
-  no_lazier lazier = let same : Lazy ≡ Lazier = sym at.reached.lazy ∙ lazier in cc
+  no_lazier lazier = let same : Lazy ≡ Lazier = sym at.lazy ∙ lazier in cc
 
   module _ (slot : Origin) (type : JType) (is : IsAskedHere slot type) (new : State) (grown : Picture) (picture_is : new.picture ≡ grown)
       (front : (after : HasShape grown input) → take (length old.picture.objects) after.places.objects ≡ places.objects)
@@ -295,12 +295,12 @@ last_int picture slot j x from there = last_seen picture.seen slot (seens.Int (l
 -- ---- all takes
 
 module _ (world : World) (bounds : Bounds) (old : State) (choice : Choice) (at : IsAtReferences world old) where
-  answer_reads : (slot : Origin) (type : JType) → IsAsked world bounds old at.reached.reached.typed slot type → (b : Bool) → ReadsWhatItSees world bounds old (take_by world bounds old slot type b choice).state
+  answer_reads : (slot : Origin) (type : JType) → IsAsked world bounds old at.reached.typed slot type → (b : Bool) → ReadsWhatItSees world bounds old (take_by world bounds old slot type b choice).state
   answer_reads slot type is true input c correct stands =
       let untold = take_untold world bounds old slot type true choice in
       let tells = reference_tells world slot choice old in
       reads_told world bounds old at input c correct stands slot type is (take_by world bounds old slot type true choice).state (after_read old.picture slot choice) (untold.stays.picture ∙ tells.picture)
-      (λ after. (choice_places world (params_of world at.reached.reached.typed.method) old.picture slot choice input is.unread stands.instance_of.shape after).objects)
+      (λ after. (choice_places world (params_of world at.reached.typed.method) old.picture slot choice input is.unread stands.instance_of.shape after).objects)
       (last_chosen old.picture slot choice)
   answer_reads slot type is false input c correct stands =
       let untold = take_untold world bounds old slot type false choice in

@@ -43,7 +43,8 @@ use Rattle.kb_ways.specs.Plans.{Planned, plain, planned, carried_out, takes_next
 use Rattle.kb_stepref.specs.Effects.{branch_where, got, in_local, is_local, plan_of, put, put_kept, put_where, puts_kept}
 use Rattle.kb_ways.specs.Kept.{kept_in, kept, is_of_kind}
 use Rattle.kb_stepref.specs.Fields.{field_named, has_place, held}
-use Rattle.kb_stepref.specs.Laws.{AreInRange, IsAtReferences}
+use Rattle.kb_lazy.specs.Laws.{AreInRange}
+use Rattle.kb_stepref.specs.Laws.{IsAtReferences}
 use Rattle.kb_stepref.specs.Comparing.{is_null, same}
 use Rattle.kb_ways.specs.Operands.{an_object_and_value, of_kind, a_reference, reference, two_references}
 use Rattle.kb_stepref.specs.Questions.{Question, Reads, asked_at, question_of}
@@ -333,7 +334,7 @@ pub taken_sound : (world : World) (bounds : Bounds) (old : State) (choice : Choi
     → IsSoundTake world old (taken world bounds old choice).state
 taken_sound world bounds old choice range at has = go (question_of world old bounds) refl has where
   sound : Sound world old
-  sound = sound_reached world old at.reached.reached
+  sound = sound_reached world old at.reached at.alone at.unhandled
 
   go : (question : Option Question) → question_of world old bounds ≡ question → Has (option_map_or (alternatives world old bounds) question only) choice
       → IsSoundTake world old (option_map_or (answers world bounds choice old) question (takes_next plan_of world bounds Only old)).state

@@ -4,6 +4,4 @@ pub mod Questions
 pub mod Choices
 pub mod Effects
 pub mod Takes
-pub mod HeapMethods
-pub mod Reached
 pub mod Laws

@@ -1,9 +1,8 @@
 //! The alternatives of the next step on references.
-ghost use Rattle.std.specs.Prelude.{◌≡◌, false, IfOk};
-ghost use Rattle.kb_frames.specs.Next.{next_is_int};
+ghost use Rattle.std.specs.Prelude.{◌≡◌, IfOk};
 ghost use Rattle.kb_stepref.specs.Choices.{alternatives, choices_of, is_receiver, only};
+ghost use Rattle.kb_stepref.specs.Laws.{IsAtReferences};
 ghost use Rattle.kb_stepref.specs.Questions.{question};
-ghost use Rattle.kb_stepref.specs.Reached.{IsHeapReached};
 
 use crate::NoMemory;
 use crate::questions::{FirstRead, question_of};
@@ -18,8 +17,8 @@ use std::alloc::Global;
 /// The alternatives of the next step of a state, in their order. Of a reference that is read for the first time they are null,
 /// but not for a receiver, the objects that the picture has, and new ones; of every other step the only way on.
 ///
-/// The state is one to which `start` and later calls lead in this world under lazy initialisation, and whose next step is none
-/// of ints. It takes time in proportion to the objects of the picture, the universe and the list that it gives.
+/// The state is one to which `start` and later calls lead in this world under lazy initialisation, and whose next step is one on
+/// references that is built. It takes time in proportion to the objects of the picture, the universe and the list that it gives.
 ///
 /// Source: Khurshid, Păsăreanu and Visser (TACAS 2003).
 pub fn choices_ref(
@@ -28,8 +27,7 @@ pub fn choices_ref(
     state: &SymState,
     bounds: &Bounds,
 ) -> Result<Vec<Choice>, NoMemory>
-    requires reached { IsHeapReached world.now state.now }
-    requires reference { next_is_int world.now state.now ≡ false }
+    requires { IsAtReferences world.now state.now }
     ensures { IfOk result (λ choices. choices.items ≡ choices_of world.now state.now bounds.now) }
 {
     match question_of(alloc, world, state, bounds)? {

@@ -9,7 +9,6 @@ mod answers;
 mod choices;
 mod comparing;
 mod fields;
-mod heap_methods;
 mod instructions;
 mod laws;
 mod locals;
@@ -18,9 +17,6 @@ mod returns;
 mod take;
 
 pub use choices::choices_ref;
-pub use heap_methods::is_heap_method;
-pub use laws::{
-    heap_methods_stay, reference_steps_get_on, reference_steps_keep, reference_steps_simulate,
-};
+pub use laws::{reference_steps_get_on, reference_steps_keep, reference_steps_simulate};
 pub use std::alloc::AllocError as NoMemory;
 pub use take::take_ref;

@@ -1,14 +1,13 @@
 //! What a state becomes when an alternative is taken.
-ghost use Rattle.std.specs.Prelude.{◌≡◌, false, Some, None, IfOk, OnOk};
+ghost use Rattle.std.specs.Prelude.{◌≡◌, Some, None, IfOk, OnOk};
 ghost use Rattle.kb_class.specs.Naming.{Has};
-ghost use Rattle.kb_frames.specs.Next.{next_is_int};
 ghost use Rattle.kb_ways.specs.Needs.{CanStep};
 ghost use Rattle.kb_ways.specs.Reached.{IsReached};
 ghost use Rattle.kb_ways.specs.Turns.{told};
 ghost use Rattle.kb_stepref.specs.Choices.{alternatives, choices_of};
-ghost use Rattle.kb_stepref.specs.Laws.{AreInRange, IsAtReferences};
+ghost use Rattle.kb_lazy.specs.Laws.{AreInRange};
+ghost use Rattle.kb_stepref.specs.Laws.{IsAtReferences};
 ghost use Rattle.kb_stepref.specs.Questions.{question, question_of};
-ghost use Rattle.kb_stepref.specs.Reached.{IsHeapReached};
 ghost use Rattle.kb_stepref.specs.Takes.{answers, goes_behind, taken};
 ghost use Rattle.kb_ways.specs.Plans.{takes_next, takes_up};
 ghost use Rattle.kb_picture.specs.declared.choice.Choice.TheVariants.{Only};
@@ -40,8 +39,7 @@ pub fn take_ref(
     choice: &Choice,
     bounds: &Bounds,
 ) -> Result<Outcome, NoMemory>
-    requires reached { IsHeapReached world.now state.old }
-    requires reference { next_is_int world.now state.old ≡ false }
+    requires at { IsAtReferences world.now state.old }
     requires listed { Has (choices_of world.now state.old bounds.now) choice.now }
     requires range { AreInRange bounds.now }
     ensures take { IfOk result (λ outcome. told state.new outcome ≡ taken world.now bounds.now state.old choice.now) }

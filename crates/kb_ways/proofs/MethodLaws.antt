@@ -1,5 +1,5 @@
 -- What a method of a linked world has: the keys of its switches rise, and before its arguments are read nothing is seen.
-use Rattle.std.proofs.Common.{◌≡◌, ℕ, zero, suc, Bool, true, false, ◌&&◌, cond, List, [], ◌∷◌, Option, Some, IfSome, slice_get, nat_eq, refl, sym, ap, ◌∙◌, subst}
+use Rattle.std.proofs.Common.{◌≡◌, ℕ, zero, suc, Bool, true, false, ◌&&◌, cond, List, [], ◌∷◌, Option, Some, IfSome, slice_get, nat_eq, refl, sym, ap, ◌∙◌, subst, None}
 use Rattle.std.specs.List.{AllByRecursion, list_all}
 use Rattle.std.specs.Option.{option_and_then}
 use Rattle.kb_class.specs.declared.ids.MethodId.{MethodId}
@@ -11,14 +11,14 @@ use Rattle.kb_code.specs.declared.listing.Handler.{Handler}
 use Rattle.kb_link.specs.Links.{IsLinked}
 use Rattle.kb_link.specs.Rules.{HasItsPlaces, HasPlacedCode}
 use Rattle.kb_link.specs.World.{World, methods_in}
-use Rattle.kb_semantics.specs.Config.{code_of, info_of, instruction_in}
+use Rattle.kb_semantics.specs.Config.{code_of, info_of, instruction_in, instruction_at}
 use Rattle.kb_picture.specs.declared.choice.Init.{Init}
 use Rattle.kb_picture.specs.WellTyped.{IsWellTyped}
 use Rattle.kb_frames.specs.State.{start_state}
 use Rattle.kb_frames.specs.States.{IsState}
 use Rattle.kb_ways.specs.Reached.{has_none, SwitchesRise}
 
--- ---- what an int method has
+-- ---- its code
 
 pub and_both : (a b : Bool) → (a && b) ≡ true → (a ≡ true) × (b ≡ true)
 and_both true b e = (refl, e)
@@ -55,12 +55,29 @@ found_method P [] number info all e = absurd cc
 found_method P (first ∷ others) zero info all e = let same : first ≡ info = cc in subst P same all.0
 found_method P (first ∷ others) (suc number) info all e = found_method P others number info all.1 e
 
-pub switches_rise : (world : World) (id : MethodId) (info : MethodInfo) (code : MethodCode) → IsLinked world → info_of world id ≡ Some info → info.code ≡ Some code → SwitchesRise world id
+pub switches_rise : (world : World) (id : MethodId) (info : MethodInfo) (code : MethodCode) → IsLinked world → info_of world id ≡ Some info → info.code ≡ Some code
+    → (at : ℕ) (found : Instr × ℕ) → instruction_at world id at ≡ Some found → HasRisingKeys found.0
 switches_rise world id info code linked info_is there at found e =
     let placed : HasPlacedCode info = found_method HasPlacedCode (methods_in world.classes) id.0 info linked.loaded.methods.placed info_is in
     let places : HasItsPlaces code = subst (λ (c : Option MethodCode). IfSome c HasItsPlaces) there placed in
     found_has HasRisingKeys code.listing.items code.size at found places.keys
     (ap (option_and_then (λ (c : MethodCode). instruction_in c.listing.items c.size at)) (sym (code_found world id info code info_is there)) ∙ e)
+
+-- so it is of every method of the world
+pub all_rise : (world : World) → IsLinked world → SwitchesRise world
+all_rise world linked id at found e = by_info (info_of world id) refl where
+  nowhere : code_of world id ≡ None → HasRisingKeys found.0
+  nowhere none = absurd (nothing (ap (option_and_then (λ (c : MethodCode). instruction_in c.listing.items c.size at)) (sym none) ∙ e)) where
+    nothing : None ≡ Some found → ⊥
+    nothing h = cc
+
+  by_code : (info : MethodInfo) → info_of world id ≡ Some info → (code : Option MethodCode) → info.code ≡ code → HasRisingKeys found.0
+  by_code info info_is None there = nowhere (ap (option_and_then (λ (m : MethodInfo). m.code)) info_is ∙ there)
+  by_code info info_is (Some code) there = switches_rise world id info code linked info_is there at found e
+
+  by_info : (info : Option MethodInfo) → info_of world id ≡ info → HasRisingKeys found.0
+  by_info None none = nowhere (ap (option_and_then (λ (m : MethodInfo). m.code)) none)
+  by_info (Some info) info_is = by_code info info_is info.code refl
 
 -- ---- states
 

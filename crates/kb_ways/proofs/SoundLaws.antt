@@ -79,10 +79,10 @@ pub record Sound (world : World) (state : State) : Type 0 where
   pub alone : IsAlone state.method state.stage
   pub unhandled : HasNoHandlers world state.method
   pub parameters : HasNoneLeftOut world state.method
-  pub keys : SwitchesRise world state.method
+  pub keys : SwitchesRise world
 
-pub sound_reached : (world : World) (state : State) → IsReached world state → Sound world state
-sound_reached world state h = record {
+pub sound_reached : (world : World) (state : State) → IsReached world state → IsAlone state.method state.stage → HasNoHandlers world state.method → Sound world state
+sound_reached world state h alone unhandled = record {
   typed = h.typed;
   kinds = h.sound.kinds;
   conditions = h.sound.conditions;
@@ -90,8 +90,8 @@ sound_reached world state h = record {
   cells = h.sound.cells;
   made = h.sound.made;
   receiver = h.receiver;
-  alone = h.alone;
-  unhandled = h.unhandled;
+  alone = alone;
+  unhandled = unhandled;
   parameters = h.parameters;
   keys = h.keys;
 }
@@ -111,8 +111,6 @@ reached_sound world state h pool = record {
   };
   typed = h.typed;
   receiver = h.receiver;
-  alone = h.alone;
-  unhandled = h.unhandled;
   parameters = h.parameters;
   keys = h.keys;
 }

@@ -20,7 +20,7 @@ use Rattle.kb_ways.specs.Asked.{all_asked}
 use Rattle.kb_ways.specs.Needs.{CanStep, HasTerms, IsTermOf}
 use Rattle.kb_ways.specs.Reached.{IsReached}
 use Rattle.kb_ways.proofs.GrowLaws.{Grows, all_asked_grows}
-use Rattle.kb_ways.proofs.SoundLaws.{Sound, begun_sound, sound_reached}
+use Rattle.kb_ways.proofs.SoundLaws.{Sound, begun_sound}
 
 -- ---- terms
 
@@ -52,7 +52,7 @@ module _ (world : World) (state : State) where
   sound_terms sound = let terms = stage_terms state.stage sound.stage in record { stack = terms.0; locals = terms.1 }
 
   pub reached_terms : IsReached world state → HasTerms state
-  reached_terms reached = sound_terms (sound_reached world state reached)
+  reached_terms reached = let terms = stage_terms state.stage reached.sound.stage in record { stack = terms.0; locals = terms.1 }
 
 -- a term stays one
 term_later : (old new : List Node) (it : Option SymValue) → Extends old new → IsTermOf old it → IsTermOf new it
@@ -99,10 +99,10 @@ kind_is (Some type) = refl
 
 -- the run may take up its next instruction
 pub can_step : (world : World) (bounds : Bounds) (state : State) → None ≡ option_map kind_of (argument_next world state.method state.stage)
-    → IsReached world state → state.carried < bounds.run.steps → CanStep bounds (begun world state)
-can_step world bounds state none reached less =
+    → Sound world state → state.carried < bounds.run.steps → CanStep bounds (begun world state)
+can_step world bounds state none sound less =
     let none_left : argument_next world state.method state.stage ≡ None = no_kind (argument_next world state.method state.stage) (sym none) in
     record {
-      terms = sound_terms world (begun world state) (begun_sound world state (sound_reached world state reached) none_left);
+      terms = sound_terms world (begun world state) (begun_sound world state sound none_left);
       within = less;
     }

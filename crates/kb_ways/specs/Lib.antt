@@ -6,5 +6,6 @@ pub mod Plans
 pub mod Turns
 pub mod Needs
 pub mod Reached
+pub mod Built
 pub mod Measure
 pub mod Simulation

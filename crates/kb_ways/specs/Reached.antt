@@ -1,6 +1,6 @@
--- What holds of every state to which `start` and later calls lead, beside what every state keeps: as far as the int steps need
--- it, for now for a method that calls none and has no handlers. Its types and its keys are those of a method that reach
--- accepts.
+-- What holds of every state to which `start` and later calls lead, of every method that reach accepts, beside what every state
+-- keeps. Apart from it stands what a law asks of a state for now: that its frame has no callers, and that the method has no
+-- handlers.
 use Rattle.std.specs.Prelude.{◌≡◌, ℕ, Bool, true, false, List, [], ◌∷◌, Some}
 use Rattle.std.specs.List.{list_any}
 use Rattle.std.specs.Option.{option_map_or}
@@ -36,9 +36,9 @@ HasNoHandlers world method = option_map_or (λ (code : MethodCode). code.handler
 abbrev pub HasNoneLeftOut : World → MethodId → Type 0
 HasNoneLeftOut world method = option_map_or (λ (info : MethodInfo). list_any is_left_out info.kind.params) (info_of world method) false ≡ false
 
--- the keys of each lookupswitch rise (JVMS 8 section 6.5, lookupswitch), so no int is two of them
-abbrev pub SwitchesRise : World → MethodId → Type 0
-SwitchesRise world method = (at : ℕ) (found : Instr × ℕ) → instruction_at world method at ≡ Some found → HasRisingKeys found.0
+-- the keys of each lookupswitch of the world rise (JVMS 8 section 6.5, lookupswitch), so no int is two of them
+abbrev pub SwitchesRise : World → Type 0
+SwitchesRise world = (method : MethodId) (at : ℕ) (found : Instr × ℕ) → instruction_at world method at ≡ Some found → HasRisingKeys found.0
 
 -- once anything was read, the receiver was
 abbrev pub HasReadReceiver : World → MethodId → Stage → Picture → Type 0
@@ -50,7 +50,5 @@ pub record IsReached (world : World) (state : State) : Type 0 where
   pub sound : IsState world state
   pub typed : IsWellTyped world state.method state.picture
   pub receiver : HasReadReceiver world state.method state.stage state.picture
-  pub alone : IsAlone state.method state.stage
-  pub unhandled : HasNoHandlers world state.method
   pub parameters : HasNoneLeftOut world state.method
-  pub keys : SwitchesRise world state.method
+  pub keys : SwitchesRise world

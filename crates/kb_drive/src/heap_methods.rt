@@ -1,8 +1,9 @@
-//! Which methods run by int steps and steps on references.
+//! Which methods run by steps that are built.
 ghost use Rattle.std.specs.Prelude.{◌≡◌};
 ghost use Rattle.std.specs.List.{list_all};
 ghost use Rattle.kb_link.specs.Slots.{has_slot_type};
-ghost use Rattle.kb_stepref.specs.HeapMethods.{is_heap_code, is_heap_info, is_heap_instruction, is_heap_method, is_none_or_value, is_reference_instruction};
+ghost use Rattle.kb_ways.specs.Built.{is_built_instruction, is_reference_instruction};
+ghost use Rattle.kb_drive.specs.HeapMethods.{is_heap_code, is_heap_info, is_heap_method, is_none_or_value};
 
 use kb_class::{MethodCode, MethodId, MethodInfo};
 use kb_code::Instr;
@@ -77,7 +78,7 @@ fn is_heap_code(world: &World, method: MethodId, code: &MethodCode) -> bool
     }
     let mut rest = code.listing.items.as_slice();
     while let [item, others @ ..] = rest {
-        if !is_heap_instruction(world, method, &item.1) {
+        if !is_built_instruction(world, method, &item.1) {
             return false;
         }
         rest = others;
@@ -85,8 +86,8 @@ fn is_heap_code(world: &World, method: MethodId, code: &MethodCode) -> bool
     true
 }
 
-fn is_heap_instruction(world: &World, method: MethodId, instr: &Instr) -> bool
-    ensures { result ≡ is_heap_instruction world.now method instr.now }
+fn is_built_instruction(world: &World, method: MethodId, instr: &Instr) -> bool
+    ensures { result ≡ is_built_instruction world.now method instr.now }
 {
     if is_int_instruction(world, method, instr) {
         return true;
