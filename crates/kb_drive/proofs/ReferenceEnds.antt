@@ -30,8 +30,10 @@ use Rattle.kb_stepref.specs.Effects.{branch_where, got, in_local, is_local, plan
 use Rattle.kb_stepref.specs.Fields.{field_named, has_place, held}
 use Rattle.kb_stepref.specs.Laws.{IsAtReferences, OfTakes}
 use Rattle.kb_ways.specs.Operands.{an_object_and_value, a_reference, reference, two_references}
-use Rattle.kb_stepref.specs.Questions.{Question, Reads, question_of}
-use Rattle.kb_stepref.specs.Takes.{answered, answers, cut_where, goes_behind, passed_by}
+use Rattle.kb_ways.specs.declared.question.Question.{Question}
+use Rattle.kb_ways.specs.declared.question.Question.TheVariants.{Reads}
+use Rattle.kb_stepref.specs.Questions.{question_of}
+use Rattle.kb_ways.specs.Questions.{answered, answers, cut_where, goes_behind, passed_by}
 use Rattle.kb_stepref.proofs.ReachedLaws.{now_known}
 use Rattle.kb_ways.proofs.KeptLaws.{reference_is, returns_has, kept_more, kept_there}
 use Rattle.kb_stepref.proofs.SoundLaws.{none_asked}
@@ -138,7 +140,7 @@ module _ (world : World) (bounds : Bounds) where
       if_has Ends (nat_le bounds.run.steps state.carried) _ (takes_up plan_of world bounds Only (begun world state)) tt
       (takes_up_ends (begun world state) at.known (begun_sound world state (sound_reached world state at.reached at.alone at.unhandled) (none_asked world bounds state asks)).stage)
 
-  behind_ends : (slot : Origin) (state : State) → state.picture.locs ≡ [] → IsStage world state state.stage → Ends (goes_behind world bounds slot state)
+  behind_ends : (slot : Origin) (state : State) → state.picture.locs ≡ [] → IsStage world state state.stage → Ends (goes_behind plan_of world bounds slot state)
   behind_ends (Arg number) state none is = tt
   behind_ends (Field object place) state none is = takes_up_ends state none is
   behind_ends (Element array index) state none is = takes_up_ends state none is
@@ -147,9 +149,9 @@ module _ (world : World) (bounds : Bounds) where
 pub references_end : OfTakes (λ world bounds state take. EndsIn world take.state take.outcome)
 references_end world bounds state choice range at has = go (question_of world state bounds) refl has where
   go : (question : Option Question) → question_of world state bounds ≡ question → Has (option_map_or (alternatives world state bounds) question only) choice
-      → Ends world bounds (option_map_or (answers world bounds choice state) question (takes_next plan_of world bounds Only state))
+      → Ends world bounds (option_map_or (answers plan_of world bounds choice state) question (takes_next plan_of world bounds Only state))
   go None asks offered = takes_next_ends world bounds state at asks
   go (Some (Reads slot type)) asks offered =
       let told : State = answered world choice state (Reads slot type) in
-      cut_ends world bounds (passed_by choice) told (goes_behind world bounds slot told)
+      cut_ends world bounds (passed_by choice) told (goes_behind plan_of world bounds slot told)
       (λ passed. let heap = now_known world bounds state at slot type asks choice range offered passed in behind_ends world bounds slot told heap.known heap.sound.stage)

@@ -33,8 +33,11 @@ use Rattle.kb_stepref.specs.Choices.{choices_of}
 use Rattle.kb_stepref.specs.Effects.{plan_of}
 use Rattle.kb_lazy.specs.Laws.{AreInRange}
 use Rattle.kb_stepref.specs.Laws.{IsAtReferences}
-use Rattle.kb_stepref.specs.Questions.{Question, Reads, question_of}
-use Rattle.kb_stepref.specs.Takes.{answered, answers, cut_where, goes_behind, passed_by, taken}
+use Rattle.kb_ways.specs.declared.question.Question.{Question}
+use Rattle.kb_ways.specs.declared.question.Question.TheVariants.{Reads}
+use Rattle.kb_stepref.specs.Questions.{question_of}
+use Rattle.kb_ways.specs.Questions.{answered, answers, cut_where, goes_behind, passed_by}
+use Rattle.kb_stepref.specs.Takes.{taken}
 use Rattle.kb_ways.specs.Plans.{carried_out, takes_next, takes_up}
 use Rattle.kb_stepref.proofs.FirstReadLaws.{IsAskedAt, asked}
 use Rattle.kb_stepref.proofs.FollowLaws.{follows}
@@ -87,7 +90,7 @@ module _ (world : World) (bounds : Bounds) (old : State) (at : IsAtReferences wo
   stays_behind : StaysAtInputs old.picture (taken world bounds old choice).state.picture
   stays_behind = go (question_of world old bounds) refl where
     go : (question : Option Question) → question_of world old bounds ≡ question
-        → StaysAtInputs old.picture (option_map_or (answers world bounds choice old) question (takes_next plan_of world bounds Only old)).state.picture
+        → StaysAtInputs old.picture (option_map_or (answers plan_of world bounds choice old) question (takes_next plan_of world bounds Only old)).state.picture
     go None asks = subst (StaysAtInputs old.picture) (sym (takes_next_untold world bounds old).stays.picture) (stays_itself old.picture)
     go (Some (Reads slot type)) asks =
         subst (StaysAtInputs old.picture) (sym (answers_untold world bounds choice old (Reads slot type)).stays.picture) (stays_told slot type asks)
@@ -106,7 +109,7 @@ module _ (world : World) (bounds : Bounds) (old : State) (at : IsAtReferences wo
     go true e = tt
     go false e = takes_up_few (leb-false bounds.run.steps old.carried e) (begun world old) (begun_runs world old old.stage)
 
-  behind_few : (slot : Origin) (type : JType) → IsAskedAt world bounds old slot type → Few world bounds old (goes_behind world bounds slot (answered world choice old (Reads slot type)))
+  behind_few : (slot : Origin) (type : JType) → IsAskedAt world bounds old slot type → Few world bounds old (goes_behind plan_of world bounds slot (answered world choice old (Reads slot type)))
   behind_few (Arg number) type from = tt
   behind_few (Field number place) type from =
       takes_up_few (leb-false bounds.run.steps old.carried from.within) (answered world choice old (Reads (Field number place) type))
@@ -119,10 +122,10 @@ module _ (world : World) (bounds : Bounds) (old : State) (at : IsAtReferences wo
 
   taken_few : Few world bounds old (taken world bounds old choice)
   taken_few = go (question_of world old bounds) refl where
-    go : (question : Option Question) → question_of world old bounds ≡ question → Few world bounds old (option_map_or (answers world bounds choice old) question (takes_next plan_of world bounds Only old))
+    go : (question : Option Question) → question_of world old bounds ≡ question → Few world bounds old (option_map_or (answers plan_of world bounds choice old) question (takes_next plan_of world bounds Only old))
     go None asks = takes_next_few
     go (Some (Reads slot type)) asks =
-        cut_few (passed_by choice) (answered world choice old (Reads slot type)) (goes_behind world bounds slot (answered world choice old (Reads slot type)))
+        cut_few (passed_by choice) (answered world choice old (Reads slot type)) (goes_behind plan_of world bounds slot (answered world choice old (Reads slot type)))
         (behind_few slot type (asked world bounds old at slot type asks).from)
 
   -- ---- all of it

@@ -66,8 +66,8 @@ use Rattle.kb_lazy.specs.Choices.{read_choices_of}
 use Rattle.kb_stepref.specs.Choices.{alternatives, is_receiver, only}
 use Rattle.kb_lazy.specs.Laws.{AreInRange}
 use Rattle.kb_stepref.specs.Laws.{IsAtReferences}
-use Rattle.kb_stepref.specs.Questions.{Reads}
-use Rattle.kb_stepref.specs.Takes.{answered, passed_by}
+use Rattle.kb_ways.specs.declared.question.Question.TheVariants.{Reads}
+use Rattle.kb_ways.specs.Questions.{answered, passed_by}
 use Rattle.kb_ways.proofs.AlikeLaws.{AreAlike, stage_alike, values_alike}
 use Rattle.kb_stepref.proofs.CellLaws.{chosen_blank}
 use Rattle.kb_stepref.proofs.FindLaws.{Grows, grown_alike, learns_none, learns_slot, places_same, read_places}

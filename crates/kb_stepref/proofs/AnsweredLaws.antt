@@ -57,8 +57,9 @@ use Rattle.kb_ways.proofs.ItemLaws.{each_append, each_cons, each_copy, no_items}
 use Rattle.kb_ways.proofs.SoundLaws.{Sound, sound_reached}
 use Rattle.kb_stepref.specs.Choices.{alternatives, is_receiver}
 use Rattle.kb_stepref.specs.Laws.{IsAtReferences}
-use Rattle.kb_stepref.specs.Questions.{Reads, question_of}
-use Rattle.kb_stepref.specs.Takes.{answered}
+use Rattle.kb_ways.specs.declared.question.Question.TheVariants.{Reads}
+use Rattle.kb_stepref.specs.Questions.{question_of}
+use Rattle.kb_ways.specs.Questions.{answered}
 use Rattle.kb_stepref.proofs.CellLaws.{front_found, front_touched, with_cell_length, with_here, with_touched}
 use Rattle.kb_stepref.proofs.FieldSlots.{get_front}
 use Rattle.kb_stepref.proofs.FirstReadLaws.{IsAsked, IsAskedAt, asked, first_read, holds_int}

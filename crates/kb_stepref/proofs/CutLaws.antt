@@ -45,8 +45,9 @@ use Rattle.kb_frames.specs.State.{State}
 use Rattle.kb_picture.specs.Queries.{kind_for}
 use Rattle.kb_stepref.specs.Choices.{alternatives, is_receiver, only}
 use Rattle.kb_stepref.specs.Laws.{IsAtReferences}
-use Rattle.kb_stepref.specs.Questions.{Reads, question_of}
-use Rattle.kb_stepref.specs.Takes.{answered, passed_by}
+use Rattle.kb_ways.specs.declared.question.Question.TheVariants.{Reads}
+use Rattle.kb_stepref.specs.Questions.{question_of}
+use Rattle.kb_ways.specs.Questions.{answered, passed_by}
 use Rattle.kb_stepref.proofs.FirstReadLaws.{asked, first_read}
 use Rattle.kb_stepref.proofs.KeepLaws.{reference_tells}
 

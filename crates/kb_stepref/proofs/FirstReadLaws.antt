@@ -44,7 +44,9 @@ use Rattle.kb_ways.proofs.SoundLaws.{not_before}
 use Rattle.kb_stepref.specs.Choices.{is_receiver}
 use Rattle.kb_stepref.specs.Fields.{cell_of, field_named, has_slot_of}
 use Rattle.kb_stepref.specs.Laws.{IsAtReferences}
-use Rattle.kb_stepref.specs.Questions.{Question, Reads, asked_at, asked_by, asks_cell, asks_field, question_of}
+use Rattle.kb_ways.specs.declared.question.Question.{Question}
+use Rattle.kb_ways.specs.declared.question.Question.TheVariants.{Reads}
+use Rattle.kb_stepref.specs.Questions.{asked_at, asked_by, asks_cell, asks_field, question_of}
 use Rattle.kb_stepref.proofs.CellLaws.{found_cell}
 use Rattle.kb_stepref.proofs.FieldSlots.{resolved_at, slot_in, slot_typed}
 

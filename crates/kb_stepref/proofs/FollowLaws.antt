@@ -47,8 +47,10 @@ use Rattle.kb_stepref.specs.Fields.{field_named, has_slot_of}
 use Rattle.kb_ways.specs.Built.{is_reference_instruction}
 use Rattle.kb_lazy.specs.Laws.{AreInRange}
 use Rattle.kb_stepref.specs.Laws.{IsAtReferences, OfTakes}
-use Rattle.kb_stepref.specs.Questions.{Question, Reads, asked_by, asks_cell, asks_field, question_of}
-use Rattle.kb_stepref.specs.Takes.{answered, answers, cut_where, goes_behind, passed_by}
+use Rattle.kb_ways.specs.declared.question.Question.{Question}
+use Rattle.kb_ways.specs.declared.question.Question.TheVariants.{Reads}
+use Rattle.kb_stepref.specs.Questions.{asked_by, asks_cell, asks_field, question_of}
+use Rattle.kb_ways.specs.Questions.{answered, answers, cut_where, goes_behind, passed_by}
 use Rattle.kb_ways.specs.Plans.{takes_next, takes_up}
 use Rattle.kb_stepref.proofs.AnswerLaws.{asked_stands}
 use Rattle.kb_stepref.proofs.CutLaws.{cut_licensed}
@@ -175,15 +177,15 @@ module _ (world : World) (bounds : Bounds) (old : State) (choice : Choice) (smal
           (new_stands (instance_before new (takes_up plan_of world bounds Only new).state input (takes_up_untold world bounds new) heap.sound.conditions i))
           (ap (nat_le bounds.run.steps) (answered_carried world choice old slot type) ∙ from.within) new_told i
 
-    behind_follows : (of : Origin) → slot ≡ of → IsAskedAt world bounds old of type → FollowsAt world bounds input c (goes_behind world bounds of new)
+    behind_follows : (of : Origin) → slot ≡ of → IsAskedAt world bounds old of type → FollowsAt world bounds input c (goes_behind plan_of world bounds of new)
     behind_follows (Arg number) slot_is asked_at = new_stands
     behind_follows (Field number place) slot_is asked_at = field_follows number place slot_is
     behind_follows (Element array index) slot_is asked_at = absurd asked_at
 
   -- An answer that passes a bound is cut there.
-  answers_follow : FollowsAt world bounds input c (answers world bounds choice old (Reads slot type))
+  answers_follow : FollowsAt world bounds input c (answers plan_of world bounds choice old (Reads slot type))
   answers_follow = go (passed_by choice) refl where
-    go : (bound : Option Bound) → passed_by choice ≡ bound → FollowsAt world bounds input c (cut_where bound new (goes_behind world bounds slot new))
+    go : (bound : Option Bound) → passed_by choice ≡ bound → FollowsAt world bounds input c (cut_where bound new (goes_behind plan_of world bounds slot new))
     go None passed = behind_follows passed slot refl is.from
     go (Some bound) passed = cut_licensed world bounds old small at slot type asks input choice bound passed has
 
@@ -196,6 +198,6 @@ follows world bounds old choice small at has input c correct stands = go (questi
   references none found e = reference_next world old found at none e
 
   go : (question : Option Question) → question_of world old bounds ≡ question → Has (option_map_or (alternatives world old bounds) question only) choice
-      → FollowsAt world bounds input c (option_map_or (answers world bounds choice old) question (takes_next plan_of world bounds Only old))
+      → FollowsAt world bounds input c (option_map_or (answers plan_of world bounds choice old) question (takes_next plan_of world bounds Only old))
   go None asks offered = takes_next_follows world bounds old at (references (none_asked world bounds old asks)) input correct c stands asks
   go (Some (Reads slot type)) asks offered = answers_follow world bounds old choice small at slot type asks offered input c correct stands

@@ -47,8 +47,11 @@ use Rattle.kb_stepref.specs.Effects.{got, is_local, plan_of, put, put_kept, put_
 use Rattle.kb_stepref.specs.Fields.{field_named, has_place, held, put_in}
 use Rattle.kb_stepref.specs.Laws.{IsAtReferences}
 use Rattle.kb_ways.specs.Operands.{an_object_and_value, a_reference, reference, two_references}
-use Rattle.kb_stepref.specs.Questions.{Question, Reads, question_of}
-use Rattle.kb_stepref.specs.Takes.{answered, answers, cut_where, goes_behind, passed_by, taken}
+use Rattle.kb_ways.specs.declared.question.Question.{Question}
+use Rattle.kb_ways.specs.declared.question.Question.TheVariants.{Reads}
+use Rattle.kb_stepref.specs.Questions.{question_of}
+use Rattle.kb_ways.specs.Questions.{answered, answers, cut_where, goes_behind, passed_by}
+use Rattle.kb_stepref.specs.Takes.{taken}
 use Rattle.kb_stepref.proofs.FirstReadLaws.{IsAsked, asked}
 use Rattle.kb_picture.specs.declared.choice.Choice.TheVariants.{Only}
 use Rattle.kb_ways.proofs.KeptLaws.{returns_has, kept_more}
@@ -197,7 +200,7 @@ module _ (world : World) (bounds : Bounds) where
   cut_untold None state take h = h
   cut_untold (Some bound) state take h = untold_itself state
 
-  behind_untold : (slot : Origin) (state : State) → Untold state (goes_behind world bounds slot state).state
+  behind_untold : (slot : Origin) (state : State) → Untold state (goes_behind plan_of world bounds slot state).state
   behind_untold (Arg number) state = untold_itself state
   behind_untold (Field object slot) state = takes_up_untold state
   behind_untold (Element array index) state = takes_up_untold state
@@ -207,14 +210,14 @@ module _ (world : World) (bounds : Bounds) where
   told_by state slot type is choice = if is then first_reference world slot choice state else first_int slot (kind_for (Some type)) state
 
   abbrev pub take_by : State → Origin → JType → Bool → Choice → Take
-  take_by state slot type is choice = cut_where (passed_by choice) (told_by state slot type is choice) (goes_behind world bounds slot (told_by state slot type is choice))
+  take_by state slot type is choice = cut_where (passed_by choice) (told_by state slot type is choice) (goes_behind plan_of world bounds slot (told_by state slot type is choice))
 
   pub take_untold : (state : State) (slot : Origin) (type : JType) (is : Bool) (choice : Choice) → Untold (told_by state slot type is choice) (take_by state slot type is choice).state
   take_untold state slot type is choice =
       let told : State = told_by state slot type is choice in
-      cut_untold (passed_by choice) told (goes_behind world bounds slot told) (behind_untold slot told)
+      cut_untold (passed_by choice) told (goes_behind plan_of world bounds slot told) (behind_untold slot told)
 
-  pub answers_untold : (choice : Choice) (state : State) (question : Question) → Untold (answered world choice state question) (answers world bounds choice state question).state
+  pub answers_untold : (choice : Choice) (state : State) (question : Question) → Untold (answered world choice state question) (answers plan_of world bounds choice state question).state
   answers_untold choice state (Reads slot type) = take_untold state slot type (is_reference type) choice
 
 -- ---- what an answer tells
@@ -311,18 +314,18 @@ module _ (world : World) (bounds : Bounds) (old : State) (choice : Choice) where
 
   pub kept : IsAtReferences world old → Keeps old (taken world bounds old choice).state
   kept at = go (question_of world old bounds) refl where
-    go : (q : Option Question) → question_of world old bounds ≡ q → Keeps old (option_map_or (answers world bounds choice old) q (takes_next plan_of world bounds Only old)).state
+    go : (q : Option Question) → question_of world old bounds ≡ q → Keeps old (option_map_or (answers plan_of world bounds choice old) q (takes_next plan_of world bounds Only old)).state
     go None e = kept_of_untold old (takes_next plan_of world bounds Only old).state (takes_next_untold world bounds old)
     go (Some (Reads slot type)) e =
         let told : State = answered world choice old (Reads slot type) in
-        let behind : State = (answers world bounds choice old (Reads slot type)).state in
+        let behind : State = (answers plan_of world bounds choice old (Reads slot type)).state in
         kept_on old told behind (answered_kept at.reached.typed slot type (asked world bounds old at slot type e)) (kept_of_untold told behind (answers_untold world bounds choice old (Reads slot type)))
 
   -- ---- what is compared
 
   taken_when : (taken world bounds old choice).state.when ≡ old.when
   taken_when =
-      option_has (λ (take : Take). take.state.when ≡ old.when) (question_of world old bounds) (answers world bounds choice old) (takes_next plan_of world bounds Only old)
+      option_has (λ (take : Take). take.state.when ≡ old.when) (question_of world old bounds) (answers plan_of world bounds choice old) (takes_next plan_of world bounds Only old)
       (λ question. (answers_untold world bounds choice old question).when ∙ answered_when world choice old question) (takes_next_untold world bounds old).when
 
   -- no condition is added

@@ -28,8 +28,11 @@ use Rattle.kb_ways.proofs.GrowLaws.{if_has, option_has}
 use Rattle.kb_ways.proofs.MeasureLaws.{reads_on, went_on}
 use Rattle.kb_stepref.specs.Effects.{plan_of}
 use Rattle.kb_stepref.specs.Laws.{IsAtReferences}
-use Rattle.kb_stepref.specs.Questions.{Question, Reads, question_of}
-use Rattle.kb_stepref.specs.Takes.{answered, answers, cut_where, passed_by, taken}
+use Rattle.kb_ways.specs.declared.question.Question.{Question}
+use Rattle.kb_ways.specs.declared.question.Question.TheVariants.{Reads}
+use Rattle.kb_stepref.specs.Questions.{question_of}
+use Rattle.kb_ways.specs.Questions.{answered, answers, cut_where, passed_by}
+use Rattle.kb_stepref.specs.Takes.{taken}
 use Rattle.kb_ways.specs.Plans.{carried_out, takes_next, takes_up}
 use Rattle.kb_stepref.proofs.FirstReadLaws.{IsAsked, IsAskedArgument, asked}
 use Rattle.kb_stepref.proofs.KeepLaws.{answered_carried, plan_writes}
@@ -88,7 +91,7 @@ module _ (world : World) (bounds : Bounds) (old : State) where
   -- ---- all takes
 
   module _ (choice : Choice) (at : IsAtReferences world old) where
-    answers_on : (slot : Origin) (type : JType) → IsAsked world bounds old at.reached.typed slot type → Gets (answers world bounds choice old (Reads slot type))
+    answers_on : (slot : Origin) (type : JType) → IsAsked world bounds old at.reached.typed slot type → Gets (answers plan_of world bounds choice old (Reads slot type))
     answers_on (Arg number) type is =
         let a : IsAskedArgument world old number type = is.from in
         let next : argument_next world old.method old.stage ≡ Some type = subst (λ (stage : Stage). argument_next world old.method stage ≡ Some type) (sym a.begins) a.next in
@@ -99,6 +102,6 @@ module _ (world : World) (bounds : Bounds) (old : State) where
 
     pub gets_on : Gets (taken world bounds old choice)
     gets_on = go (question_of world old bounds) refl where
-      go : (q : Option Question) → question_of world old bounds ≡ q → Gets (option_map_or (answers world bounds choice old) q (takes_next plan_of world bounds Only old))
+      go : (q : Option Question) → question_of world old bounds ≡ q → Gets (option_map_or (answers plan_of world bounds choice old) q (takes_next plan_of world bounds Only old))
       go None e = takes_next_on
       go (Some (Reads slot type)) e = answers_on slot type (asked world bounds old at slot type e)

@@ -36,8 +36,11 @@ use Rattle.kb_ways.proofs.OneAsked.{conditions_there}
 use Rattle.kb_ways.proofs.OneInstances.{instance_of_met}
 use Rattle.kb_stepref.specs.Choices.{alternatives, choices_of, is_receiver, only}
 use Rattle.kb_stepref.specs.Laws.{IsAtReferences}
-use Rattle.kb_stepref.specs.Questions.{Question, Reads, question_of}
-use Rattle.kb_stepref.specs.Takes.{answers, taken}
+use Rattle.kb_ways.specs.declared.question.Question.{Question}
+use Rattle.kb_ways.specs.declared.question.Question.TheVariants.{Reads}
+use Rattle.kb_stepref.specs.Questions.{question_of}
+use Rattle.kb_ways.specs.Questions.{answers}
+use Rattle.kb_stepref.specs.Takes.{taken}
 use Rattle.kb_ways.specs.Plans.{takes_next}
 use Rattle.kb_stepref.proofs.FirstReadLaws.{IsAsked, asked, first_read}
 use Rattle.kb_stepref.proofs.KeepLaws.{Untold, int_tells, reference_tells, take_by, take_untold, takes_next_untold, told_by}
@@ -132,7 +135,7 @@ module _ (world : World) (bounds : Bounds) (old : State) (at : IsAtReferences wo
   pub one_way : ExactlyOneIs (λ (choice : Choice). IsInstanceOf (taken world bounds old choice).state input) (choices_of world old bounds)
   one_way = go (question_of world old bounds) refl where
     go : (q : Option Question) → question_of world old bounds ≡ q
-        → ExactlyOneIs (λ (choice : Choice). IsInstanceOf (option_map_or (answers world bounds choice old) q (takes_next plan_of world bounds Only old)).state input) (option_map_or (alternatives world old bounds) q only)
+        → ExactlyOneIs (λ (choice : Choice). IsInstanceOf (option_map_or (answers plan_of world bounds choice old) q (takes_next plan_of world bounds Only old)).state input) (option_map_or (alternatives world old bounds) q only)
     go None e = inl (next_instance, tt)
     go (Some (Reads slot type)) e = one_answer slot type (asked world bounds old at slot type e) (is_reference type) refl
 

@@ -46,7 +46,8 @@ use Rattle.kb_ways.specs.Plans.{Planned, carried_out, followed, takes_next, take
 use Rattle.kb_stepref.specs.Effects.{branches_null, branches_same, gets, loads, plan_of, pushes_null, returns_reference, stores as stores_sym}
 use Rattle.kb_ways.specs.Built.{is_reference_instruction}
 use Rattle.kb_stepref.specs.Laws.{IsAtReferences}
-use Rattle.kb_stepref.specs.Questions.{Reads, asked_at, asked_by, question_of}
+use Rattle.kb_ways.specs.declared.question.Question.TheVariants.{Reads}
+use Rattle.kb_stepref.specs.Questions.{asked_at, asked_by, question_of}
 use Rattle.kb_stepref.proofs.OutcomePlans.{IsPlan, branches_null_is, branches_same_is, gets_is, loads_is, pushes_null_is, returns_reference_is, stores_is}
 use Rattle.kb_stepref.proofs.PutLaws.{puts_follow}
 use Rattle.kb_picture.specs.declared.choice.Choice.TheVariants.{Only}

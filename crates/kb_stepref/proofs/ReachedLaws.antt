@@ -36,8 +36,11 @@ use Rattle.kb_ways.proofs.SoundLaws.{Sound, begun_sound, reached_sound, sound_re
 use Rattle.kb_ways.proofs.TakeLaws.{sound_terms}
 use Rattle.kb_stepref.specs.Choices.{alternatives, is_receiver, only}
 use Rattle.kb_stepref.specs.Laws.{IsAtReferences, OfTakes}
-use Rattle.kb_stepref.specs.Questions.{Question, Reads, question_of}
-use Rattle.kb_stepref.specs.Takes.{answered, answers, cut_where, goes_behind, passed_by, taken}
+use Rattle.kb_ways.specs.declared.question.Question.{Question}
+use Rattle.kb_ways.specs.declared.question.Question.TheVariants.{Reads}
+use Rattle.kb_stepref.specs.Questions.{question_of}
+use Rattle.kb_ways.specs.Questions.{answered, answers, cut_where, goes_behind, passed_by, slot_of}
+use Rattle.kb_stepref.specs.Takes.{taken}
 use Rattle.kb_ways.specs.Plans.{takes_next}
 use Rattle.kb_stepref.proofs.FirstReadLaws.{IsAskedAt, asked}
 use Rattle.kb_stepref.proofs.LazyLaws.{IsKnown as IsKnownChoice, known_choices, known_locs, known_no_beyond, seen_no_beyond}
@@ -150,6 +153,16 @@ module _ (world : World) (bounds : Bounds) (state : State) (at : IsAtReferences 
   answered_can_step (inl (object, place, is)) = field_can_step object place is
   answered_can_step (inr (array, index, is)) = absurd (subst (λ (s : Origin). IsAskedAt world bounds state s type) is (asked world bounds state at slot type asks).from)
 
+-- what is asked of a field is followed by its instruction
+abbrev IsInside : Origin → Type 0
+IsInside slot = ((object : ℕ) × (place : ℕ) × (slot ≡ Field object place)) ⊎ ((array : ℕ) × (index : ℕ) × (slot ≡ Element array index))
+
+pub question_can_step : (world : World) (bounds : Bounds) (state : State) → IsAtReferences world state → (question : Question) → question_of world state bounds ≡ Some question
+    → (choice : Choice) → AreInRange bounds → Has (alternatives world state bounds question) choice → (slot : Origin) → slot ≡ slot_of question → IsInside slot
+    → CanStep bounds (answered world choice state question)
+question_can_step world bounds state at (Reads slot type) asks choice range has it same is =
+    answered_can_step world bounds state at slot type asks choice range has (subst IsInside same is)
+
 -- and so may be the next instruction where nothing is asked
 pub begun_can_step : (world : World) (bounds : Bounds) (state : State) → IsAtReferences world state → question_of world state bounds ≡ None → state.carried < bounds.run.steps
     → CanStep bounds (begun world state)
@@ -185,15 +198,15 @@ goes_on_known world bounds state choice range at has = go (question_of world sta
   -- a state that is cut by its answer goes on nowhere
   behind : (slot : Origin) (type : JType) → question_of world state bounds ≡ Some (Reads slot type) → Has (alternatives world state bounds (Reads slot type)) choice
       → (bound : Option Bound) → passed_by choice ≡ bound
-      → StaysKnown world (cut_where bound (answered world choice state (Reads slot type)) (goes_behind world bounds slot (answered world choice state (Reads slot type))))
+      → StaysKnown world (cut_where bound (answered world choice state (Reads slot type)) (goes_behind plan_of world bounds slot (answered world choice state (Reads slot type))))
   behind slot type asks offered None passed =
-      stays (goes_behind world bounds slot (answered world choice state (Reads slot type)))
-      (known_on world (answered world choice state (Reads slot type)) (goes_behind world bounds slot (answered world choice state (Reads slot type))).state
+      stays (goes_behind plan_of world bounds slot (answered world choice state (Reads slot type)))
+      (known_on world (answered world choice state (Reads slot type)) (goes_behind plan_of world bounds slot (answered world choice state (Reads slot type))).state
       (now_known world bounds state at slot type asks choice range offered passed) (goes_behind_sound world bounds state at slot type asks choice range offered))
   behind slot type asks offered (Some bound) passed = tt
 
   go : (question : Option Question) → question_of world state bounds ≡ question → Has (option_map_or (alternatives world state bounds) question only) choice
-      → StaysKnown world (option_map_or (answers world bounds choice state) question (takes_next plan_of world bounds Only state))
+      → StaysKnown world (option_map_or (answers plan_of world bounds choice state) question (takes_next plan_of world bounds Only state))
   go None asks offered =
       stays (takes_next plan_of world bounds Only state)
       (known_on world state (takes_next plan_of world bounds Only state).state (known_at world state at)

@@ -62,8 +62,11 @@ use Rattle.kb_frames.proofs.RunLaws.{counters_agree}
 use Rattle.kb_ways.specs.Simulation.{AddsReads, IsRead, IsReadAt, ReadsWhatItSees}
 use Rattle.kb_ways.proofs.KeepLaws.{same_reads}
 use Rattle.kb_stepref.specs.Laws.{IsAtReferences}
-use Rattle.kb_stepref.specs.Questions.{Question, Reads, question_of}
-use Rattle.kb_stepref.specs.Takes.{answers, taken}
+use Rattle.kb_ways.specs.declared.question.Question.{Question}
+use Rattle.kb_ways.specs.declared.question.Question.TheVariants.{Reads}
+use Rattle.kb_stepref.specs.Questions.{question_of}
+use Rattle.kb_ways.specs.Questions.{answers}
+use Rattle.kb_stepref.specs.Takes.{taken}
 use Rattle.kb_ways.specs.Plans.{takes_next}
 use Rattle.kb_stepref.proofs.CellLaws.{found_cell}
 use Rattle.kb_stepref.proofs.FirstReadLaws.{IsAsked, IsAskedField, asked}
@@ -314,6 +317,6 @@ module _ (world : World) (bounds : Bounds) (old : State) (choice : Choice) (at :
 
   pub read : ReadsWhatItSees world bounds old (taken world bounds old choice).state
   read = go (question_of world old bounds) refl where
-    go : (q : Option Question) → question_of world old bounds ≡ q → ReadsWhatItSees world bounds old (option_map_or (answers world bounds choice old) q (takes_next plan_of world bounds Only old)).state
+    go : (q : Option Question) → question_of world old bounds ≡ q → ReadsWhatItSees world bounds old (option_map_or (answers plan_of world bounds choice old) q (takes_next plan_of world bounds Only old)).state
     go None e = same_reads world bounds old (takes_next plan_of world bounds Only old).state (takes_next_untold world bounds old).stays.picture
     go (Some (Reads slot type)) e = answer_reads slot type (asked world bounds old at slot type e) (is_reference type)

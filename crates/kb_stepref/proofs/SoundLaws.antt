@@ -47,8 +47,11 @@ use Rattle.kb_lazy.specs.Laws.{AreInRange}
 use Rattle.kb_stepref.specs.Laws.{IsAtReferences}
 use Rattle.kb_stepref.specs.Comparing.{is_null, same}
 use Rattle.kb_ways.specs.Operands.{an_object_and_value, of_kind, a_reference, reference, two_references}
-use Rattle.kb_stepref.specs.Questions.{Question, Reads, asked_at, question_of}
-use Rattle.kb_stepref.specs.Takes.{answered, answers, cut_where, goes_behind, passed_by, taken}
+use Rattle.kb_ways.specs.declared.question.Question.{Question}
+use Rattle.kb_ways.specs.declared.question.Question.TheVariants.{Reads}
+use Rattle.kb_stepref.specs.Questions.{asked_at, question_of}
+use Rattle.kb_ways.specs.Questions.{answered, answers, cut_where, goes_behind, passed_by}
+use Rattle.kb_stepref.specs.Takes.{taken}
 use Rattle.kb_stepref.proofs.AnsweredLaws.{answered_receiver, answered_sound}
 use Rattle.kb_stepref.proofs.FirstReadLaws.{IsAskedAt, asked, where_so}
 use Rattle.kb_stepref.proofs.MoreLaws.{locals_more, values_more}
@@ -306,18 +309,18 @@ module _ (world : World) (bounds : Bounds) (state : State) (at : IsAtReferences 
   pub told_sound : Sound world told
   told_sound = answered_sound world bounds state at slot type asks choice range has
 
-  pub goes_behind_sound : SoundTo world told (goes_behind world bounds slot told).state
+  pub goes_behind_sound : SoundTo world told (goes_behind plan_of world bounds slot told).state
   goes_behind_sound = go slot refl (asked world bounds state at slot type asks).from where
-    go : (of : Origin) → slot ≡ of → IsAskedAt world bounds state of type → SoundTo world told (goes_behind world bounds of told).state
+    go : (of : Origin) → slot ≡ of → IsAskedAt world bounds state of type → SoundTo world told (goes_behind plan_of world bounds of told).state
     go (Arg number) is from = to_itself world told told_sound
     go (Field object place) is from =
         takes_up_sound world bounds told from.frame from.callers
         (ap (λ (s : Origin). (answered world choice state (Reads s type)).stage) is ∙ (answered_stage world choice state object place type ∙ from.running)) told_sound
     go (Element array index) is from = absurd from
 
-  pub answers_sound : SoundTo world told (answers world bounds choice state (Reads slot type)).state
+  pub answers_sound : SoundTo world told (answers plan_of world bounds choice state (Reads slot type)).state
   answers_sound = go (passed_by choice) where
-    go : (bound : Option Bound) → SoundTo world told (cut_where bound told (goes_behind world bounds slot told)).state
+    go : (bound : Option Bound) → SoundTo world told (cut_where bound told (goes_behind plan_of world bounds slot told)).state
     go None = goes_behind_sound
     go (Some bound) = to_itself world told told_sound
 
@@ -337,7 +340,7 @@ taken_sound world bounds old choice range at has = go (question_of world old bou
   sound = sound_reached world old at.reached at.alone at.unhandled
 
   go : (question : Option Question) → question_of world old bounds ≡ question → Has (option_map_or (alternatives world old bounds) question only) choice
-      → IsSoundTake world old (option_map_or (answers world bounds choice old) question (takes_next plan_of world bounds Only old)).state
+      → IsSoundTake world old (option_map_or (answers plan_of world bounds choice old) question (takes_next plan_of world bounds Only old)).state
   go None asks offered =
       let none = none_asked world bounds old asks in
       let to = takes_next_sound world bounds old sound none in

@@ -16,7 +16,9 @@ use Rattle.kb_picture.specs.declared.picture.Origin.{Origin}
 use Rattle.kb_picture.specs.declared.picture.Origin.TheVariants.{Arg, Field, Element}
 use Rattle.kb_frames.specs.Next.{is_reference}
 use Rattle.kb_frames.specs.State.{State}
-use Rattle.kb_stepref.specs.Questions.{Question, Reads, question_of}
+use Rattle.kb_ways.specs.declared.question.Question.{Question}
+use Rattle.kb_ways.specs.declared.question.Question.TheVariants.{Reads}
+use Rattle.kb_stepref.specs.Questions.{question_of}
 
 abbrev pub only : List Choice
 only = Only ∷ []

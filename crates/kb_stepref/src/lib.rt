@@ -5,7 +5,6 @@
 //! makes of a state.
 #![tactic(auto)]
 
-mod answers;
 mod choices;
 mod comparing;
 mod fields;

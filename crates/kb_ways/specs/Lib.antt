@@ -3,6 +3,7 @@ pub mod Kept
 pub mod Operands
 pub mod Ways
 pub mod Plans
+pub mod Questions
 pub mod Turns
 pub mod Needs
 pub mod Reached

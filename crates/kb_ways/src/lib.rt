@@ -5,17 +5,20 @@
 //! alternatives a step has, and what an instruction does, the crates above say, each of a family of instructions.
 #![tactic(auto)]
 
+mod answers;
 mod asked;
 mod condition;
 mod kept;
 mod method;
 mod operands;
 mod place;
+mod question;
 mod returns;
 mod terms;
 mod turn;
 mod ways;
 
+pub use answers::{answer, passed_by};
 pub use asked::{ask, is_against};
 pub use condition::{Condition, Side, branch_condition, equals_number};
 pub use kept::keep;
@@ -24,6 +27,7 @@ pub use operands::{
     a_reference, an_int, an_object_and_value, int_term, reference, two_ints, two_references,
 };
 pub use place::place_of;
+pub use question::{Question, slot_of};
 pub use returns::return_value;
 pub use std::alloc::AllocError as NoMemory;
 pub use terms::{constant, make};
