@@ -2,13 +2,11 @@
 ghost use Rattle.std.specs.Prelude.{◌≡◌};
 ghost use Rattle.std.specs.List.{list_all};
 ghost use Rattle.kb_link.specs.Slots.{has_slot_type};
-ghost use Rattle.kb_ways.specs.Built.{is_built_instruction, is_reference_instruction};
 ghost use Rattle.kb_drive.specs.HeapMethods.{is_heap_code, is_heap_info, is_heap_method, is_none_or_value};
 
 use kb_class::{MethodCode, MethodId, MethodInfo};
-use kb_code::Instr;
-use kb_frames::is_int_instruction;
 use kb_names::JType;
+use kb_ways::is_built_instruction;
 use kb_world::World;
 
 /// Whether the method is one over ints, booleans and references, static or not, with code that has no handlers and uses
@@ -84,24 +82,4 @@ fn is_heap_code(world: &World, method: MethodId, code: &MethodCode) -> bool
         rest = others;
     }
     true
-}
-
-fn is_built_instruction(world: &World, method: MethodId, instr: &Instr) -> bool
-    ensures { result ≡ is_built_instruction world.now method instr.now }
-{
-    if is_int_instruction(world, method, instr) {
-        return true;
-    }
-    is_reference_instruction(instr)
-}
-
-fn is_reference_instruction(instr: &Instr) -> bool
-    ensures { result ≡ is_reference_instruction instr.now }
-{
-    match instr {
-        Instr::PushNull | Instr::LoadRef(_) | Instr::StoreRef(_) => true,
-        Instr::IfSame(..) | Instr::IfNull(..) | Instr::ReturnRef => true,
-        Instr::GetField(_) | Instr::PutField(_) => true,
-        _ => false,
-    }
 }

@@ -7,6 +7,7 @@
 
 mod answers;
 mod asked;
+mod built;
 mod condition;
 mod kept;
 mod method;
@@ -20,6 +21,7 @@ mod ways;
 
 pub use answers::{answer, passed_by};
 pub use asked::{ask, is_against};
+pub use built::is_built_instruction;
 pub use condition::{Condition, Side, branch_condition, equals_number};
 pub use kept::keep;
 pub use method::{is_local, result_of};
