@@ -36,7 +36,6 @@ use Rattle.kb_numbered.specs.Numbered.{term_id, terms_stated, numbered_out, numb
 use Rattle.kb_numbered.proofs.Renumbering.{met-is}
 use Rattle.kb_numbered.proofs.OnceLaws.{terms-once}
 use Rattle.kb_numbered.proofs.PathLaws.{comparison-shape, operand-in, terms-there, root-below, conditions-there, ended-outs, roots-same}
-use Rattle.kb_frames.specs.FirstReads.{HasVariablesSeen}
 use Rattle.kb_frames.specs.State.{State}
 use Rattle.kb_frames.specs.States.{IsState, IsOutIn, IsEndedIn, IsLeafIn}
 use Rattle.kb_frames.specs.Paths.{path_roots, path_numbering, path_of}
@@ -64,9 +63,6 @@ count-seen f (slot ∷ others) = go (variable_seen slot.1) (count-seen f others)
 pub variables-same : (world : World) (id : MethodId) (nodes : List Node) (picture : Picture) → kinds_of nodes ≡ kinds_seen world id picture → variables_of nodes ≡ length (variables_seen picture)
 variables-same world id nodes picture same =
     sym (count-kinds nodes) ∙ ap length same ∙ count-seen (λ slot number. kind_for (type_of_slot world id picture.objects slot.0)) picture.seen
-
-pub sees_variables : (world : World) (state : State) → IsState world state → HasVariablesSeen state
-sees_variables world state sound = variables-same world state.method state.nodes state.picture sound.kinds
 
 -- ---- items of a list with each changed
 

@@ -1,7 +1,7 @@
 -- A slot is read for the first time: the picture grows by what is found there, and the slot keeps it. Of a reference that is
 -- what was chosen (null, an object of the picture, a new one: Khurshid, Păsăreanu and Visser, TACAS 2003; some object: Deng,
 -- Lee and Robby, ASE 2006), of an int or a boolean a new variable.
-use Rattle.std.specs.Prelude.{◌≡◌, ℕ, List, [], ◌∷◌, ◌++◌, length, replicate}
+use Rattle.std.specs.Prelude.{ℕ, List, [], ◌∷◌, ◌++◌, length, replicate}
 use Rattle.kb_link.specs.World.{World}
 use Rattle.kb_names.specs.declared.types.ExactType.{ExactType}
 use Rattle.kb_names.specs.declared.types.ExactType.TheVariants as exact
@@ -17,7 +17,6 @@ use Rattle.kb_picture.specs.declared.picture.Origin.{Origin}
 use Rattle.kb_picture.specs.declared.picture.Origin.TheVariants.{Arg, Field, Element}
 use Rattle.kb_picture.specs.declared.picture.Picture.{Picture}
 use Rattle.kb_picture.specs.Growth.{after_read, after_int_read}
-use Rattle.kb_picture.specs.WellFormed.{variables_seen}
 use Rattle.kb_frames.specs.declared.value.SymValue.{SymValue}
 use Rattle.kb_frames.specs.declared.value.SymValue.TheVariants.{Int, Null, Obj, Loc}
 use Rattle.kb_frames.specs.declared.value.Cell.{Cell}
@@ -76,11 +75,3 @@ abbrev pub first_int : Origin → VarKind → State → State
 first_int slot kind state =
     found_in slot (Int (record { 0 = length state.nodes }))
     (record state { picture = after_int_read state.picture slot; nodes = state.nodes ++ Var (variables_of state.nodes) kind ∷ [] })
-
--- the number of the variable as which the picture would see a slot next
-abbrev pub IsNextVariable : Picture → ℕ → Type 0
-IsNextVariable picture variable = variable ≡ length (variables_seen picture)
-
--- The pool has as many variables as the picture, so that the next one is the same in both.
-abbrev pub HasVariablesSeen : State → Type 0
-HasVariablesSeen state = IsNextVariable state.picture (variables_of state.nodes)

@@ -1,17 +1,18 @@
 //! Slots that are read for the first time.
-ghost use Rattle.std.specs.Prelude.{◌≡◌, [], ◌∷◌, ◌++◌, replicate, IfOk, OnOk};
+ghost use Rattle.std.specs.Prelude.{◌≡◌, [], ◌∷◌, ◌++◌, length, replicate, IfOk, OnOk};
 ghost use Rattle.kb_picture.specs.Growth.{after_read, after_int_read};
 ghost use Rattle.kb_picture.specs.Laws.{with_seen};
+ghost use Rattle.kb_picture.specs.WellFormed.{variables_seen};
 ghost use Rattle.kb_picture.specs.declared.choice.Choice.TheVariants.{Fresh, Location};
 ghost use Rattle.kb_frames.specs.declared.value.Cell.TheVariants.{Untouched};
-ghost use Rattle.kb_frames.specs.FirstReads.{HasVariablesSeen, IsNextVariable, cells_chosen, first_int, first_reference, found_in, new_cells, value_chosen, with_read};
+ghost use Rattle.kb_frames.specs.FirstReads.{cells_chosen, first_int, first_reference, found_in, new_cells, value_chosen, with_read};
 
 use crate::NoMemory;
 use crate::beginning::add_equal;
 use crate::state::{Stage, SymState};
 use crate::value::{Cell, SymValue};
 use kb_names::ExactType;
-use kb_picture::{Choice, Length, Origin, PicLoc, PicObject, Seen, Standing};
+use kb_picture::{Choice, Length, Origin, PicLoc, PicObject, Picture, Seen, Standing};
 use kb_rows::Row;
 use kb_terms::VarKind;
 use kb_world::World;
@@ -37,15 +38,12 @@ impl SymState {
     }
 
     /// Reads an int or a boolean for the first time: it is a new variable, which the slot keeps; an argument is one more that
-    /// was read. The pool must have as many variables as slots are seen as, which every state has to which [`crate::start`] and
-    /// later calls lead. After want of memory the state is only dropped.
+    /// was read. It takes time in proportion to the slots that are seen. After want of memory the state is only dropped.
     pub fn first_int(&mut self, slot: Origin, kind: VarKind) -> Result<(), NoMemory>
-        requires { HasVariablesSeen self.old }
         ensures { OnOk result (self.new ≡ first_int slot kind self.old) }
     {
-        let variable = self.pool.variables();
         let term = self.pool.variable(kind)?;
-        self.see_int(slot, variable)?;
+        self.see_int(slot)?;
         self.keep_found(slot, SymValue::Int(term))
     }
 
@@ -88,10 +86,10 @@ impl SymState {
 
     // The slot is seen as the next variable.
     #[tactic(auto, unfolding(kb_picture::specs::Growth::after_int_read))]
-    fn see_int(&mut self, slot: Origin, variable: u32) -> Result<(), NoMemory>
-        requires { IsNextVariable self.old.picture variable }
+    fn see_int(&mut self, slot: Origin) -> Result<(), NoMemory>
         ensures { OnOk result (self.new ≡ record self.old { picture = after_int_read self.old.picture slot }) }
     {
+        let variable = numbered(variables_seen(&self.picture))?;
         self.see(slot, Seen::Int(variable))
     }
 
@@ -155,6 +153,21 @@ impl SymState {
             Stage::Runs(..) => Ok(()),
         }
     }
+}
+
+// How many slots are seen as variables.
+fn variables_seen(picture: &Picture) -> usize
+    ensures { result ≡ length (variables_seen picture.now) }
+{
+    let mut count = 0;
+    let mut rest = picture.seen.as_slice();
+    while let [(_, seen), others @ ..] = rest {
+        if let Seen::Int(_) = seen {
+            count += 1;
+        }
+        rest = others;
+    }
+    count
 }
 
 // The number of the next one of so many.

@@ -1,12 +1,8 @@
 use Rattle.std.proofs.Common.{ℕ, ◌<◌, sym, subst}
-use Rattle.kb_frames.proofs.FormedPaths.{sees_variables}
 use Rattle.kb_ways.specs.Needs.{CanStep}
 use Rattle.kb_ways.proofs.SoundLaws.{sound_reached}
 use Rattle.kb_ways.proofs.TakeLaws.{can_step}
 use Rattle.kb_stepint.proofs.take.read_or_take_up.Goals as goal
-
-pub first_int-requires : goal.first_int-requires
-first_int-requires c = sees_variables c.args.world.now c.args.state.now c.requires.sound
 
 pub take_up-requires : goal.take_up-requires
 take_up-requires c =

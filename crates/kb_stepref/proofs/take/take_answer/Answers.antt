@@ -1,11 +1,7 @@
 use Rattle.std.proofs.Common.{sym, subst}
-use Rattle.kb_frames.proofs.FormedPaths.{sees_variables}
 use Rattle.kb_ways.specs.Needs.{CanStep}
 use Rattle.kb_stepref.proofs.ReachedLaws.{question_can_step}
 use Rattle.kb_stepref.proofs.take.take_answer.Goals as goal
-
-pub answer-requires : goal.answer-requires
-answer-requires c = sees_variables c.args.world.now c.args.state.now c.requires.at.reached.reached.sound
 
 pub take_up-requires : goal.take_up-requires
 take_up-requires c =
