@@ -1,7 +1,7 @@
 -- A slot is read for the first time: the picture grows by what is found there, and the slot keeps it. Of a reference that is
 -- what was chosen (null, an object of the picture, a new one: Khurshid, Păsăreanu and Visser, TACAS 2003; some object: Deng,
 -- Lee and Robby, ASE 2006), of an int or a boolean a new variable.
-use Rattle.std.specs.Prelude.{ℕ, List, [], ◌∷◌, ◌++◌, length, replicate}
+use Rattle.std.specs.Prelude.{List, [], ◌∷◌, ◌++◌, length, replicate}
 use Rattle.kb_link.specs.World.{World}
 use Rattle.kb_names.specs.declared.types.ExactType.{ExactType}
 use Rattle.kb_names.specs.declared.types.ExactType.TheVariants as exact

@@ -4,7 +4,6 @@ use Rattle.kb_code.specs.declared.instruction.Instr.{Instr}
 use Rattle.kb_code.specs.declared.instruction.IntOp.{IntOp}
 use Rattle.kb_heap.specs.declared.bounds.Bounds.{Bounds}
 use Rattle.kb_link.specs.World.{World, int_entry_of}
-use Rattle.kb_names.specs.declared.types.JType.{JType}
 use Rattle.kb_semantics.specs.Config.{class_number, instruction_at}
 use Rattle.kb_terms.specs.declared.op.Op.TheVariants.{Add, Neg}
 use Rattle.kb_terms.specs.declared.node.TermId.{TermId}

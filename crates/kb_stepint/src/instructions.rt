@@ -2,6 +2,7 @@
 ghost use Rattle.std.specs.Prelude.{◌≡◌, IfOk};
 ghost use Rattle.kb_ways.specs.Needs.{CanStep};
 ghost use Rattle.kb_ways.specs.Turns.{told, led_by};
+ghost use Rattle.kb_stepint.specs.Effects.{effect_of};
 
 use crate::NoMemory;
 use crate::arithmetic::{compute, compute_two, op_of_cut};

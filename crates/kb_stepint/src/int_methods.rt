@@ -3,7 +3,7 @@ ghost use Rattle.std.specs.Prelude.{◌≡◌, true};
 ghost use Rattle.std.specs.List.{list_all};
 ghost use Rattle.kb_picture.specs.declared.choice.Init.{Init};
 ghost use Rattle.kb_frames.specs.State.{start_state};
-ghost use Rattle.kb_ways.specs.Reached.{HasNoHandlers, IsReached, has_none};
+ghost use Rattle.kb_ways.specs.Reached.{HasNoHandlers, IsReached};
 ghost use Rattle.kb_stepint.specs.IntMethods.{is_int_code, is_int_info, is_int_method, is_int_type, is_none_or_int};
 
 use kb_class::{MethodCode, MethodId, MethodInfo};

@@ -44,6 +44,7 @@ use Rattle.kb_picture.specs.Growing.{params_of}
 use Rattle.kb_picture.specs.Growth.{after_read, after_int_read}
 use Rattle.kb_picture.specs.Queries.{kind_for}
 use Rattle.kb_picture.specs.Shapes.{HasShape, IsSuch}
+use Rattle.kb_picture.specs.WellFormed.{variables_seen}
 use Rattle.kb_picture.proofs.ChainLaws.{all_below, below_at}
 use Rattle.kb_picture.proofs.GrownPictures.{item_there}
 use Rattle.kb_picture.proofs.GrownShapes.{as_many, choice_places, int_places}

@@ -9,7 +9,7 @@ ghost use Rattle.kb_lazy.specs.Laws.{AreInRange};
 ghost use Rattle.kb_stepref.specs.Laws.{IsAtReferences};
 ghost use Rattle.kb_stepref.specs.Questions.{question_of};
 ghost use Rattle.kb_stepref.specs.Takes.{taken};
-ghost use Rattle.kb_ways.specs.Questions.{answers, goes_behind};
+ghost use Rattle.kb_ways.specs.Questions.{answers};
 ghost use Rattle.kb_ways.specs.Plans.{takes_next, takes_up};
 ghost use Rattle.kb_picture.specs.declared.choice.Choice.TheVariants.{Only};
 ghost use Rattle.kb_stepref.specs.Effects.{plan_of};

@@ -16,7 +16,7 @@ use Rattle.kb_terms.specs.Op.{is_binary, op_value}
 use Rattle.kb_terms.specs.Terms.{IsSecond, AreOperands, IsPool, IsTerm, NodeFits, Extends, constant_at, second_constant, folded, made_node, term_with, interned, node_at, second_value, node_value, values, value_of, operand_value, variables_of}
 use Rattle.kb_terms.proofs.Entries.{end-cases}
 use Rattle.kb_terms.proofs.Values.{IsTerm-extends, with_value, before-value, value_of-node, value_of-constant, value_of-constant_at, value_of-extends}
-use Rattle.kb_frames.proofs.PathLaws.{variable-below}
+use Rattle.kb_numbered.proofs.PathLaws.{variable-below}
 use Rattle.kb_ways.specs.Asked.{interned_op}
 use Rattle.kb_ways.proofs.AskedLaws.{interned_is_term, interned_node}
 use Rattle.kb_ways.proofs.GrowLaws.{from_found, interned_extends}
