@@ -4,7 +4,8 @@ ghost use Rattle.kb_link.specs.Slots.{is_static};
 ghost use Rattle.kb_semantics.specs.Config.{class_number};
 ghost use Rattle.kb_semantics.specs.Inputs.{argument_types};
 ghost use Rattle.kb_picture.specs.Queries.{kind_for};
-ghost use Rattle.kb_frames.specs.Next.{type_of, kind_of, is_reference, argument_next, method_now, offset_now, instruction_next, is_int_entry, is_int_instruction, is_int_next, next_is_int};
+ghost use Rattle.kb_picture.specs.WellTyped.{is_reference_type};
+ghost use Rattle.kb_frames.specs.Next.{type_of, kind_of, argument_next, method_now, offset_now, instruction_next, is_int_entry, is_int_instruction, is_int_next, next_is_int};
 
 use crate::NoMemory;
 use crate::code::{declaring_class, instruction_at};
@@ -129,7 +130,7 @@ pub fn is_static(info: &MethodInfo) -> bool
 
 /// Whether the type is one of references (JVMS 8 section 2.4).
 pub fn is_reference(kind: &JType) -> bool
-    ensures { result ≡ is_reference kind.now }
+    ensures { result ≡ is_reference_type kind.now }
 {
     matches!(kind, JType::Class(_) | JType::Array(_))
 }

@@ -27,7 +27,8 @@ use Rattle.kb_frames.specs.declared.value.Outcome.TheVariants.{Cut}
 use Rattle.kb_frames.specs.declared.value.SymValue.{SymValue}
 use Rattle.kb_frames.specs.Cuts.{setting_of}
 use Rattle.kb_frames.specs.Lent.{begun, begun_stage, read_count, stack_of}
-use Rattle.kb_frames.specs.Next.{argument_next, instruction_next, is_int, is_int_next, is_reference, method_now, offset_now}
+use Rattle.kb_picture.specs.WellTyped.{is_reference_type}
+use Rattle.kb_frames.specs.Next.{argument_next, instruction_next, is_int, is_int_next, method_now, offset_now}
 use Rattle.kb_frames.specs.StandsFor.{IsInstanceOf, StandsFor}
 use Rattle.kb_frames.specs.State.{State}
 use Rattle.kb_ways.specs.declared.condition.Condition.{Condition}
@@ -198,15 +199,15 @@ module _ (world : World) (bounds : Bounds) (old : State) (at : IsAtInts world ol
   -- an argument that is read is an int
   argument_int : (type : JType) → argument_next world old.method old.stage ≡ Some type → (z : ℤ) × (slice_get input.args (read_count old.stage) ≡ Some (IntValue z))
   argument_int type e = by_stage old.stage e (plain_next (argument_next world old.method old.stage) (is_int_next world (method_now old.method old.stage) (instruction_next world old.method old.stage)) at.next e) where
-    plain_next : (next : Option JType) (else_int : Bool) → is_int (option_map is_reference next) else_int ≡ true → next ≡ Some type → not (is_reference type) ≡ true
+    plain_next : (next : Option JType) (else_int : Bool) → is_int (option_map is_reference_type next) else_int ≡ true → next ≡ Some type → not (is_reference_type type) ≡ true
     plain_next None else_int int same = absurd cc
-    plain_next (Some kind) else_int int same = (let one : kind ≡ type = cc in subst (λ (t : JType). not (is_reference t) ≡ true) one int)
+    plain_next (Some kind) else_int int same = (let one : kind ≡ type = cc in subst (λ (t : JType). not (is_reference_type t) ≡ true) one int)
 
     some_same : (one other : MethodInfo) → Some one ≡ Some other → one ≡ other
     some_same one other both = cc
 
     by_info : (n : ℕ) (info : Option MethodInfo) → info_of world old.method ≡ info → option_and_then (λ (i : MethodInfo). slice_get (argument_types world i) n) info ≡ Some type
-        → is_reference type ≡ false → (z : ℤ) × (slice_get input.args n ≡ Some (IntValue z))
+        → is_reference_type type ≡ false → (z : ℤ) × (slice_get input.args n ≡ Some (IntValue z))
     by_info n None is h plain = absurd cc
     by_info n (Some info) is h plain =
         let same : correct.method ≡ info = some_same correct.method info (sym correct.method_is ∙ is) in
@@ -215,8 +216,8 @@ module _ (world : World) (bounds : Bounds) (old : State) (at : IsAtInts world ol
         let int = int_argument world input.heap type found.0 plain found.2 in
         (int.0, found.1 ∙ ap Some int.1)
 
-    by_stage : (stage : Stage) → argument_next world old.method stage ≡ Some type → not (is_reference type) ≡ true → (z : ℤ) × (slice_get input.args (read_count stage) ≡ Some (IntValue z))
-    by_stage (Begins read) h plain = by_info (length read) (info_of world old.method) refl h (not-true (is_reference type) plain)
+    by_stage : (stage : Stage) → argument_next world old.method stage ≡ Some type → not (is_reference_type type) ≡ true → (z : ℤ) × (slice_get input.args (read_count stage) ≡ Some (IntValue z))
+    by_stage (Begins read) h plain = by_info (length read) (info_of world old.method) refl h (not-true (is_reference_type type) plain)
     by_stage (Runs frame callers) h plain = absurd cc
 
   pub one_taken : ExactlyOneIs (λ (choice : Choice). IsInstanceOf (taken world bounds old choice).state input) (choices_of world old bounds)

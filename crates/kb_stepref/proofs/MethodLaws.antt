@@ -5,7 +5,8 @@ use Rattle.kb_code.specs.declared.instruction.Instr.{Instr}
 use Rattle.kb_link.specs.World.{World}
 use Rattle.kb_names.specs.declared.types.JType.{JType}
 use Rattle.kb_semantics.specs.Config.{instruction_at}
-use Rattle.kb_frames.specs.Next.{argument_next, instruction_next, is_int, is_int_instruction, is_int_next, is_reference, method_now, offset_now}
+use Rattle.kb_picture.specs.WellTyped.{is_reference_type}
+use Rattle.kb_frames.specs.Next.{argument_next, instruction_next, is_int, is_int_instruction, is_int_next, method_now, offset_now}
 use Rattle.kb_frames.specs.State.{State}
 use Rattle.kb_ways.specs.Built.{is_built_instruction, is_reference_instruction}
 use Rattle.kb_stepref.specs.Laws.{IsAtReferences}
@@ -17,7 +18,7 @@ reference_next world state found at none e =
     let here : instruction_next world state.method state.stage ≡ Some found.0 = ap (option_map (λ (f : Instr × ℕ). f.0)) e in
     let no_int : is_int_instruction world (method_now state.method state.stage) found.0 ≡ false =
     ap (λ (o : Option Instr). is_int_next world (method_now state.method state.stage) o) (sym here)
-    ∙ (ap (λ (o : Option JType). is_int (option_map is_reference o) (is_int_next world (method_now state.method state.stage) (instruction_next world state.method state.stage))) (sym none) ∙ at.next) in
+    ∙ (ap (λ (o : Option JType). is_int (option_map is_reference_type o) (is_int_next world (method_now state.method state.stage) (instruction_next world state.method state.stage))) (sym none) ∙ at.next) in
     let built : is_built_instruction world (method_now state.method state.stage) found.0 ≡ true =
     ap (λ (o : Option Instr). option_map_or (is_built_instruction world (method_now state.method state.stage)) o true) (sym here) ∙ at.built in
     second (is_int_instruction world (method_now state.method state.stage) found.0) (is_reference_instruction found.0) no_int built
@@ -36,5 +37,5 @@ some_next world state at none = go (instruction_at world (method_now state.metho
   go None e =
       let never : true ≡ false =
       ap (λ (o : Option Instr). is_int_next world (method_now state.method state.stage) o) (sym (ap (option_map (λ (f : Instr × ℕ). f.0)) e))
-      ∙ (ap (λ (o : Option JType). is_int (option_map is_reference o) (is_int_next world (method_now state.method state.stage) (instruction_next world state.method state.stage))) (sym none) ∙ at.next) in
+      ∙ (ap (λ (o : Option JType). is_int (option_map is_reference_type o) (is_int_next world (method_now state.method state.stage) (instruction_next world state.method state.stage))) (sym none) ∙ at.next) in
       absurd (true≢false never)

@@ -27,7 +27,7 @@ use Rattle.kb_picture.specs.Growth.{after_read}
 use Rattle.kb_picture.specs.Queries.{kind_for}
 use Rattle.kb_picture.specs.Shapes.{HasShape}
 use Rattle.kb_frames.specs.Cuts.{setting_of}
-use Rattle.kb_frames.specs.Next.{is_reference}
+use Rattle.kb_picture.specs.WellTyped.{is_reference_type}
 use Rattle.kb_frames.specs.StandsFor.{IsInstanceOf, StandsFor}
 use Rattle.kb_frames.specs.State.{State}
 use Rattle.kb_ways.specs.Simulation.{ExactlyOneIs, NoneIs, TakesOneWay}
@@ -103,7 +103,7 @@ module _ (world : World) (bounds : Bounds) (old : State) (at : IsAtReferences wo
     takes_back : (choice : Choice) → IsInstanceOf (take true choice).state input → Chosen choice input
     takes_back choice i = subst (λ (p : Picture). HasShape p input) (picture_is choice) i.shape
 
-    one_reference : is_reference type ≡ true
+    one_reference : is_reference_type type ≡ true
         → ExactlyOneIs (λ (choice : Choice). IsInstanceOf (take true choice).state input)
         (read_choices_of old.init world old.picture slot type (is_receiver world old.method slot) bounds.k bounds.array)
     one_reference e =
@@ -114,7 +114,7 @@ module _ (world : World) (bounds : Bounds) (old : State) (at : IsAtReferences wo
 
     -- ---- an int
 
-    only_instance : is_reference type ≡ false → IsInstanceOf (take false Only).state input
+    only_instance : is_reference_type type ≡ false → IsInstanceOf (take false Only).state input
     only_instance e =
         let new : State = (take false Only).state in
         let kind : VarKind = kind_for (Some type) in
@@ -126,7 +126,7 @@ module _ (world : World) (bounds : Bounds) (old : State) (at : IsAtReferences wo
         int_instance world old at.reached.sound (params_of world at.reached.typed.method) slot is.unread input stands.instance_of new
         (Extends-trans old.nodes (told false Only).nodes new.nodes more untold.stays.terms) (untold.when ∙ tells.when) held.0 (untold.stays.picture ∙ tells.picture) held.1
 
-    one_answer : (b : Bool) → is_reference type ≡ b
+    one_answer : (b : Bool) → is_reference_type type ≡ b
         → ExactlyOneIs (λ (choice : Choice). IsInstanceOf (take b choice).state input)
         (if b then read_choices_of old.init world old.picture slot type (is_receiver world old.method slot) bounds.k bounds.array else only)
     one_answer true e = one_reference e
@@ -137,7 +137,7 @@ module _ (world : World) (bounds : Bounds) (old : State) (at : IsAtReferences wo
     go : (q : Option Question) → question_of world old bounds ≡ q
         → ExactlyOneIs (λ (choice : Choice). IsInstanceOf (option_map_or (answers plan_of world bounds choice old) q (takes_next plan_of world bounds Only old)).state input) (option_map_or (alternatives world old bounds) q only)
     go None e = inl (next_instance, tt)
-    go (Some (Reads slot type)) e = one_answer slot type (asked world bounds old at slot type e) (is_reference type) refl
+    go (Some (Reads slot type)) e = one_answer slot type (asked world bounds old at slot type e) (is_reference_type type) refl
 
 pub one : (world : World) (bounds : Bounds) (state : State) → IsAtReferences world state → TakesOneWay world bounds state (choices_of world state bounds) (taken world bounds state)
 one world bounds state at input c correct stands = one_way world bounds state at input c correct stands

@@ -18,7 +18,7 @@ use Rattle.kb_picture.specs.declared.picture.Picture.{Picture}
 use Rattle.kb_picture.specs.Growth.{after_int_read}
 use Rattle.kb_picture.specs.Queries.{kind_for}
 use Rattle.kb_picture.specs.WellFormed.{variables_seen}
-use Rattle.kb_picture.specs.WellTyped.{IsReceiverSeen}
+use Rattle.kb_picture.specs.WellTyped.{IsReceiverSeen, is_reference_type}
 use Rattle.kb_lazy.specs.Choices.{read_choices_of}
 use Rattle.kb_lazy.specs.Laws.{HasNoBeyond, AreInRange}
 use Rattle.kb_frames.specs.declared.value.Outcome.{Outcome}
@@ -26,7 +26,6 @@ use Rattle.kb_frames.specs.declared.value.Outcome.TheVariants.{Asks, Goes, Ends,
 use Rattle.kb_frames.specs.declared.value.SymValue.{SymValue}
 use Rattle.kb_frames.specs.FirstReads.{first_int, first_reference, found_in}
 use Rattle.kb_frames.specs.Lent.{begun}
-use Rattle.kb_frames.specs.Next.{is_reference}
 use Rattle.kb_frames.specs.State.{State}
 use Rattle.kb_ways.specs.Needs.{CanStep}
 use Rattle.kb_ways.specs.Reached.{IsReached}
@@ -109,8 +108,8 @@ module _ (world : World) (bounds : Bounds) (state : State) (at : IsAtReferences 
   now = answered world choice state (Reads slot type)
 
   -- under lazy initialisation no location is offered
-  known_here : is_reference type ≡ true → IsKnownChoice choice
-  known_here reference = go (is_reference type) reference has where
+  known_here : is_reference_type type ≡ true → IsKnownChoice choice
+  known_here reference = go (is_reference_type type) reference has where
     go : (b : Bool) → b ≡ true
         → Has (if b then read_choices_of state.init world state.picture slot type (is_receiver world state.method slot) bounds.k bounds.array else only) choice → IsKnownChoice choice
     go true is offered =
@@ -120,8 +119,8 @@ module _ (world : World) (bounds : Bounds) (state : State) (at : IsAtReferences 
     go false is offered = absurd cc
 
   now_plain : passed_by choice ≡ None → IsPlain now.picture
-  now_plain passed = go (is_reference type) refl where
-    go : (b : Bool) → is_reference type ≡ b → IsPlain (if b then first_reference world slot choice state else first_int slot (kind_for (Some type)) state).picture
+  now_plain passed = go (is_reference_type type) refl where
+    go : (b : Bool) → is_reference_type type ≡ b → IsPlain (if b then first_reference world slot choice state else first_int slot (kind_for (Some type)) state).picture
     go true is =
         subst IsPlain (sym (found_picture slot _ _))
         (known_locs state.picture slot choice (known_here is) ∙ at.known, known_no_beyond state.picture slot choice (known_here is) passed at.within)

@@ -56,7 +56,8 @@ use Rattle.kb_frames.specs.declared.value.SymValue.{SymValue}
 use Rattle.kb_frames.specs.declared.value.SymValue.TheVariants.{Obj}
 use Rattle.kb_frames.specs.Cuts.{setting_of}
 use Rattle.kb_frames.specs.Lent.{stack_of}
-use Rattle.kb_frames.specs.Next.{instruction_next, is_reference, method_now}
+use Rattle.kb_picture.specs.WellTyped.{is_reference_type}
+use Rattle.kb_frames.specs.Next.{instruction_next, method_now}
 use Rattle.kb_frames.specs.StandsFor.{FrameStandsFor, IsInstanceOf, IsLike, StageStandsFor, StandsFor, beginning_of, present_value, reading_at, value_of_sym, written_by}
 use Rattle.kb_frames.specs.State.{State, cell_at}
 use Rattle.kb_frames.proofs.RunLaws.{counters_agree}
@@ -320,4 +321,4 @@ module _ (world : World) (bounds : Bounds) (old : State) (choice : Choice) (at :
   read = go (question_of world old bounds) refl where
     go : (q : Option Question) → question_of world old bounds ≡ q → ReadsWhatItSees world bounds old (option_map_or (answers plan_of world bounds choice old) q (takes_next plan_of world bounds Only old)).state
     go None e = same_reads world bounds old (takes_next plan_of world bounds Only old).state (takes_next_untold world bounds old).stays.picture
-    go (Some (Reads slot type)) e = answer_reads slot type (asked world bounds old at slot type e) (is_reference type)
+    go (Some (Reads slot type)) e = answer_reads slot type (asked world bounds old at slot type e) (is_reference_type type)

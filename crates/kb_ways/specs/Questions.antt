@@ -16,7 +16,7 @@ use Rattle.kb_picture.specs.declared.picture.Origin.TheVariants.{Arg, Field, Ele
 use Rattle.kb_picture.specs.Queries.{kind_for}
 use Rattle.kb_frames.specs.declared.value.Outcome.TheVariants.{Asks, Cut}
 use Rattle.kb_frames.specs.FirstReads.{first_int, first_reference}
-use Rattle.kb_frames.specs.Next.{is_reference}
+use Rattle.kb_picture.specs.WellTyped.{is_reference_type}
 use Rattle.kb_frames.specs.State.{State}
 use Rattle.kb_ways.specs.declared.question.Question.{Question}
 use Rattle.kb_ways.specs.declared.question.Question.TheVariants.{Reads}
@@ -27,7 +27,7 @@ use Rattle.kb_ways.specs.Ways.{Take}
 
 -- the slot is read for the first time
 abbrev pub answered : World → Choice → State → Question → State
-answered world choice state (Reads slot type) = if is_reference type then first_reference world slot choice state else first_int slot (kind_for (Some type)) state
+answered world choice state (Reads slot type) = if is_reference_type type then first_reference world slot choice state else first_int slot (kind_for (Some type)) state
 
 -- the bound on inputs that is passed by what was chosen: the object is deeper than k, or the array is longer than the bound
 abbrev pub passed_by_length : Length → Option Bound
