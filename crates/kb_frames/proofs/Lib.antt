@@ -7,3 +7,4 @@ pub mod BeginLaws
 pub mod StateLaws
 pub mod RunLaws
 pub mod FormedPaths
+pub mod GrowingLaws

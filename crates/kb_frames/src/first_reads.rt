@@ -1,8 +1,7 @@
 //! Slots that are read for the first time.
-ghost use Rattle.std.specs.Prelude.{◌≡◌, [], ◌∷◌, ◌++◌, length, replicate, IfOk, OnOk};
+ghost use Rattle.std.specs.Prelude.{◌≡◌, [], ◌∷◌, ◌++◌, replicate, IfOk, OnOk};
 ghost use Rattle.kb_picture.specs.Growth.{after_read, after_int_read};
 ghost use Rattle.kb_picture.specs.Laws.{with_seen};
-ghost use Rattle.kb_picture.specs.WellFormed.{variables_seen};
 ghost use Rattle.kb_picture.specs.declared.choice.Choice.TheVariants.{Fresh, Location};
 ghost use Rattle.kb_frames.specs.declared.value.Cell.TheVariants.{Untouched};
 ghost use Rattle.kb_frames.specs.FirstReads.{cells_chosen, first_int, first_reference, found_in, new_cells, value_chosen, with_read};
@@ -12,7 +11,7 @@ use crate::beginning::add_equal;
 use crate::state::{Stage, SymState};
 use crate::value::{Cell, SymValue};
 use kb_names::ExactType;
-use kb_picture::{Choice, Length, Origin, PicLoc, PicObject, Picture, Seen, Standing};
+use kb_picture::{Choice, Length, Origin, PicLoc, PicObject, Seen, Standing};
 use kb_rows::Row;
 use kb_terms::VarKind;
 use kb_world::World;
@@ -38,12 +37,12 @@ impl SymState {
     }
 
     /// Reads an int or a boolean for the first time: it is a new variable, which the slot keeps; an argument is one more that
-    /// was read. It takes time in proportion to the slots that are seen. After want of memory the state is only dropped.
+    /// was read. After want of memory the state is only dropped.
     pub fn first_int(&mut self, slot: Origin, kind: VarKind) -> Result<(), NoMemory>
         ensures { OnOk result (self.new ≡ first_int slot kind self.old) }
     {
         let term = self.pool.variable(kind)?;
-        self.see_int(slot)?;
+        self.see_variable(slot)?;
         self.keep_found(slot, SymValue::Int(term))
     }
 
@@ -54,9 +53,11 @@ impl SymState {
         match choice {
             Choice::Alias(number) => Ok(SymValue::Obj(*number)),
             Choice::Fresh(..) => Ok(SymValue::Obj(numbered(
-                self.picture.objects.as_slice().len(),
+                self.picture.get().objects.as_slice().len(),
             )?)),
-            Choice::Location => Ok(SymValue::Loc(numbered(self.picture.locs.as_slice().len())?)),
+            Choice::Location => Ok(SymValue::Loc(numbered(
+                self.picture.get().locs.as_slice().len(),
+            )?)),
             _ => Ok(SymValue::Null),
         }
     }
@@ -80,17 +81,14 @@ impl SymState {
     fn see(&mut self, slot: Origin, seen: Seen) -> Result<(), NoMemory>
         ensures { OnOk result (self.new ≡ record self.old { picture = with_seen self.old.picture (slot, seen) }) }
     {
-        self.picture.seen.push((slot, seen))?;
-        Ok(())
+        self.picture.see(slot, seen)
     }
 
     // The slot is seen as the next variable.
-    #[tactic(auto, unfolding(kb_picture::specs::Growth::after_int_read))]
-    fn see_int(&mut self, slot: Origin) -> Result<(), NoMemory>
+    fn see_variable(&mut self, slot: Origin) -> Result<(), NoMemory>
         ensures { OnOk result (self.new ≡ record self.old { picture = after_int_read self.old.picture slot }) }
     {
-        let variable = numbered(variables_seen(&self.picture))?;
-        self.see(slot, Seen::Int(variable))
+        self.picture.see_variable(slot)
     }
 
     // A location is found in the slot.
@@ -98,8 +96,8 @@ impl SymState {
     fn find_location(&mut self, slot: Origin) -> Result<(), NoMemory>
         ensures { OnOk result (self.new ≡ record self.old { picture = after_read self.old.picture slot Location }) }
     {
-        let number = numbered(self.picture.locs.as_slice().len())?;
-        self.picture.locs.push(PicLoc {
+        let number = numbered(self.picture.get().locs.as_slice().len())?;
+        self.picture.add_location(PicLoc {
             origin: slot,
             standing: Standing::Open,
         })?;
@@ -118,8 +116,8 @@ impl SymState {
         ensures { OnOk result (self.new ≡ record self.old { picture = after_read self.old.picture slot (Fresh kind.now length); cells = self.old.cells ++ new_cells world.now kind.now length ∷ [] }) }
     {
         let alloc = self.alloc;
-        let number = numbered(self.picture.objects.as_slice().len())?;
-        self.picture.objects.push(PicObject {
+        let number = numbered(self.picture.get().objects.as_slice().len())?;
+        self.picture.add_object(PicObject {
             kind: kind.copied(alloc)?,
             length,
             origin: slot,
@@ -153,21 +151,6 @@ impl SymState {
             Stage::Runs(..) => Ok(()),
         }
     }
-}
-
-// How many slots are seen as variables.
-fn variables_seen(picture: &Picture) -> usize
-    ensures { result ≡ length (variables_seen picture.now) }
-{
-    let mut count = 0;
-    let mut rest = picture.seen.as_slice();
-    while let [(_, seen), others @ ..] = rest {
-        if let Seen::Int(_) = seen {
-            count += 1;
-        }
-        rest = others;
-    }
-    count
 }
 
 // The number of the next one of so many.

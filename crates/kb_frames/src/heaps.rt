@@ -15,7 +15,13 @@ impl SymState {
         ensures { option_copied result ≡ exact_type_of self.now value }
     {
         match value {
-            SymValue::Obj(number) => match self.picture.objects.as_slice().get(number as usize) {
+            SymValue::Obj(number) => match self
+                .picture
+                .get()
+                .objects
+                .as_slice()
+                .get(number as usize)
+            {
                 Some(object) => Some(&object.kind),
                 None => None,
             },

@@ -8,6 +8,7 @@ mod beginning;
 mod code;
 mod first_reads;
 mod frame;
+mod growing;
 mod heaps;
 mod laws;
 mod lent;

@@ -22,6 +22,13 @@ impl SymState {
         ensures back { IfErr result (λ stop. stop.leaf ≡ leaf) }
     {
         let when = self.when.as_slice();
-        numbered_path(self.alloc, &self.picture, &self.pool, when, decisions, leaf)
+        numbered_path(
+            self.alloc,
+            self.picture.get(),
+            &self.pool,
+            when,
+            decisions,
+            leaf,
+        )
     }
 }

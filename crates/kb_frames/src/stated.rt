@@ -19,8 +19,8 @@ impl SymState {
     pub fn writes(&self) -> Result<Row<Write>, NoMemory>
         ensures { IfOk result (λ writes. writes ≡ writes_of self.now) }
     {
-        let locs = self.picture.locs.as_slice();
-        let objects = self.picture.objects.as_slice();
+        let locs = self.picture.get().locs.as_slice();
+        let objects = self.picture.get().objects.as_slice();
         let mut writes = Row::new(self.alloc);
         let mut number: u32 = 0;
         let mut rest = self.cells.as_slice();
@@ -37,7 +37,7 @@ impl SymState {
     pub fn made(&self) -> Result<Row<Made>, NoMemory>
         ensures { IfOk result (λ made. made ≡ made_of self.now) }
     {
-        let locs = self.picture.locs.as_slice();
+        let locs = self.picture.get().locs.as_slice();
         let mut made = Row::new(self.alloc);
         for object in self.made.as_slice() {
             made.push(stated_object(self.alloc, locs, object)?)?;
