@@ -23,10 +23,11 @@ use Rattle.kb_picture.specs.Growth.{after_read}
 use Rattle.kb_picture.specs.Instances.{variable_values}
 use Rattle.kb_picture.specs.Queries.{kind_for}
 use Rattle.kb_picture.proofs.GrownShapes.{as_many, choice_places}
+use Rattle.kb_picture.specs.WellTyped.{is_reference_type}
 use Rattle.kb_frames.specs.declared.value.Outcome.TheVariants.{Cut}
 use Rattle.kb_frames.specs.FirstReads.{first_int, first_reference}
 use Rattle.kb_frames.specs.Lent.{begun}
-use Rattle.kb_frames.specs.Next.{is_reference, method_now, offset_now}
+use Rattle.kb_frames.specs.Next.{method_now, offset_now}
 use Rattle.kb_frames.specs.State.{State}
 use Rattle.kb_stepint.specs.Ways.{Take, ill_typed}
 use Rattle.kb_stepint.proofs.GrowLaws.{front_itself, if_has, option_has}
@@ -76,7 +77,7 @@ stays_read world params picture slot choice unread =
 module _ (world : World) (bounds : Bounds) (old : State) (at : IsAtReferences world old) (choice : Choice) where
   stays_told : (slot : Origin) (type : JType) → question_of world old bounds ≡ Some (Reads slot type) → StaysAtInputs old.picture (answered world choice old (Reads slot type)).picture
   stays_told slot type asks =
-      if_has (λ (s : State). StaysAtInputs old.picture s.picture) (is_reference type) (first_reference world slot choice old) (first_int slot (kind_for (Some type)) old)
+      if_has (λ (s : State). StaysAtInputs old.picture s.picture) (is_reference_type type) (first_reference world slot choice old) (first_int slot (kind_for (Some type)) old)
       (subst (StaysAtInputs old.picture) (sym (reference_tells world slot choice old).picture) (stays_read world _ old.picture slot choice (asked world bounds old at slot type asks).unread))
       (subst (StaysAtInputs old.picture) (sym (int_tells slot (kind_for (Some type)) old).picture) (stays_seen old.picture (slot, seens.Int (variables_of old.nodes))))
 

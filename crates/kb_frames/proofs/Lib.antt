@@ -1,10 +1,10 @@
 pub mod StartLaws
 pub mod TruthLaws
 pub mod StackLaws
-pub mod CodeLaws
 pub mod NextLaws
 pub mod StatedLaws
 pub mod BeginLaws
+pub mod MakingLaws
 pub mod StateLaws
 pub mod RunLaws
 pub mod SetLaws

@@ -18,14 +18,14 @@ use Rattle.kb_world.specs.Faults.{is_left_out}
 use Rattle.kb_semantics.specs.Config.{code_of, info_of, instruction_at, instruction_in}
 use Rattle.kb_semantics.specs.Inputs.{argument_types}
 use Rattle.kb_picture.specs.declared.choice.Init.{Init}
-use Rattle.kb_picture.specs.WellTyped.{IsWellTyped}
+use Rattle.kb_picture.specs.WellTyped.{IsWellTyped, is_int_type, is_reference_type}
 use Rattle.kb_frames.specs.declared.state.Stage.{Stage}
 use Rattle.kb_frames.specs.declared.state.Stage.TheVariants.{Begins, Runs}
-use Rattle.kb_frames.specs.Next.{argument_next, instruction_next, is_int, is_int_instruction, is_int_next, is_reference, method_now, next_is_int}
+use Rattle.kb_frames.specs.Next.{argument_next, instruction_next, is_int, is_int_instruction, is_int_next, method_now, next_is_int}
 use Rattle.kb_frames.specs.State.{State, start_state}
 use Rattle.kb_frames.specs.States.{IsState}
 use Rattle.kb_frames.proofs.StateLaws.{start_is_state}
-use Rattle.kb_stepint.specs.IntMethods.{has_none, is_int_code, is_int_info, is_int_method, is_int_type, is_none_or_int}
+use Rattle.kb_stepint.specs.IntMethods.{has_none, is_int_code, is_int_info, is_int_method, is_none_or_int}
 use Rattle.kb_stepint.specs.Reached.{IsAlone, IsReached, SwitchesRise}
 
 -- ---- what an int method has
@@ -76,7 +76,7 @@ code_is world id h = code_found world id h.info h.int_info.code h.info_is h.int_
 
 -- ---- arguments
 
-pub int_is_no_reference : (type : JType) → is_int_type type ≡ true → is_reference type ≡ false
+pub int_is_no_reference : (type : JType) → is_int_type type ≡ true → is_reference_type type ≡ false
 int_is_no_reference types.Int e = refl
 int_is_no_reference types.Bool e = refl
 int_is_no_reference (types.Class name) e = absurd cc
@@ -163,16 +163,16 @@ ints_next world state reached ints = go state.stage reached.alone where
   types_are = rw h.int_info.static refl
 
   by_argument : (type : Option JType) (i : ℕ) → slice_get h.info.kind.params i ≡ type
-      → is_int (option_map is_reference type) (is_int_next world state.method (option_map (λ (found : Instr × ℕ). found.0) (instruction_at world state.method 0))) ≡ true
+      → is_int (option_map is_reference_type type) (is_int_next world state.method (option_map (λ (found : Instr × ℕ). found.0) (instruction_at world state.method 0))) ≡ true
   by_argument None i e = at_offset 0
   by_argument (Some type) i e = let never = int_is_no_reference type (all_at is_int_type h.info.kind.params i type h.int_info.params e) in rw never refl
 
   go : (stage : Stage) → IsAlone state.method stage
-      → is_int (option_map is_reference (argument_next world state.method stage)) (is_int_next world (method_now state.method stage) (instruction_next world state.method stage)) ≡ true
+      → is_int (option_map is_reference_type (argument_next world state.method stage)) (is_int_next world (method_now state.method stage) (instruction_next world state.method stage)) ≡ true
   go (Begins read) alone =
       let next : argument_next world state.method (Begins read) ≡ slice_get h.info.kind.params (length read) =
       ap (option_and_then (λ (info : MethodInfo). slice_get (argument_types world info) (length read))) h.info_is ∙ ap (λ (kinds : List JType). slice_get kinds (length read)) types_are in
-      subst (λ (type : Option JType). is_int (option_map is_reference type) (is_int_next world (method_now state.method (Begins read)) (instruction_next world state.method (Begins read))) ≡ true) (sym next)
+      subst (λ (type : Option JType). is_int (option_map is_reference_type type) (is_int_next world (method_now state.method (Begins read)) (instruction_next world state.method (Begins read))) ≡ true) (sym next)
       (by_argument (slice_get h.info.kind.params (length read)) (length read) refl)
   go (Runs frame callers) alone = rw alone.0 (at_offset frame.at)
 

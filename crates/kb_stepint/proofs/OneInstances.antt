@@ -29,8 +29,8 @@ use Rattle.kb_picture.specs.Shapes.{HasShape, HoldEach, HoldsSeen}
 use Rattle.kb_picture.specs.WellFormed.{variable_seen}
 use Rattle.kb_picture.proofs.PlaceLaws.{places_seen}
 use Rattle.kb_picture.proofs.ShapeLaws.{same_places}
+use Rattle.kb_picture.specs.WellTyped.{is_reference_type}
 use Rattle.kb_frames.specs.Lent.{read_count, read_int, saw_argument}
-use Rattle.kb_frames.specs.Next.{is_reference}
 use Rattle.kb_frames.specs.StandsFor.{IsInstanceOf}
 use Rattle.kb_frames.specs.State.{State}
 use Rattle.kb_frames.specs.States.{IsState}
@@ -157,7 +157,7 @@ argument_is world heap (first ∷ kinds) [] are i type e = absurd are
 argument_is world heap (first ∷ kinds) (value ∷ args) are zero type e = (let same : first ≡ type = cc in (value, refl, subst (λ (t : JType). IsValueOf world heap t value) same are.0))
 argument_is world heap (first ∷ kinds) (value ∷ args) are (suc i) type e = argument_is world heap kinds args are.1 i type e
 
-pub int_argument : (world : World) (heap : Heap) (type : JType) (value : Value) → is_reference type ≡ false → IsValueOf world heap type value → (z : ℤ) × (value ≡ IntValue z)
+pub int_argument : (world : World) (heap : Heap) (type : JType) (value : Value) → is_reference_type type ≡ false → IsValueOf world heap type value → (z : ℤ) × (value ≡ IntValue z)
 int_argument world heap types.Int (IntValue z) e is = (z, refl)
 int_argument world heap types.Bool (IntValue z) e is = (z, refl)
 int_argument world heap (types.Class name) value e is = absurd cc

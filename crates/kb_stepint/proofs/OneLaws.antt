@@ -20,8 +20,10 @@ use Rattle.kb_terms.specs.declared.node.Node.{Node}
 use Rattle.kb_terms.specs.Terms.{IsTerm, Extends}
 use Rattle.kb_terms.proofs.Values.{Extends-trans}
 use Rattle.kb_picture.specs.declared.choice.Choice.{Choice}
+use Rattle.kb_picture.specs.Exactly.{ExactlyOneHas, NoneHas}
 use Rattle.kb_picture.specs.Instances.{variable_values}
 use Rattle.kb_picture.specs.Queries.{kind_for}
+use Rattle.kb_picture.specs.WellTyped.{is_reference_type}
 use Rattle.kb_frames.specs.declared.state.Stage.{Stage}
 use Rattle.kb_frames.specs.declared.state.Stage.TheVariants.{Begins, Runs}
 use Rattle.kb_frames.specs.declared.value.Outcome.TheVariants.{Cut}
@@ -29,7 +31,7 @@ use Rattle.kb_frames.specs.declared.value.SymValue.{SymValue}
 use Rattle.kb_frames.specs.declared.value.SymValue.TheVariants.{Int, Null, Obj, Literal, New, Loc}
 use Rattle.kb_frames.specs.Cuts.{setting_of}
 use Rattle.kb_frames.specs.Lent.{begun, begun_stage, read_count, stack_of, with_nodes}
-use Rattle.kb_frames.specs.Next.{argument_next, instruction_next, is_int, is_int_next, is_reference, method_now, offset_now}
+use Rattle.kb_frames.specs.Next.{argument_next, instruction_next, is_int, is_int_next, method_now, offset_now}
 use Rattle.kb_frames.specs.StandsFor.{IsInstanceOf, StandsFor}
 use Rattle.kb_frames.specs.State.{State}
 use Rattle.kb_frames.specs.States.{Each, IsStage, IsSymValue}
@@ -41,7 +43,7 @@ use Rattle.kb_stepint.specs.Laws.{IsAtInts}
 use Rattle.kb_stepint.specs.Operands.{int_term, one_int, two_ints}
 use Rattle.kb_stepint.specs.Needs.{IsTermOf}
 use Rattle.kb_stepint.specs.Reached.{IsAlone, IsReached}
-use Rattle.kb_stepint.specs.Simulation.{ExactlyOneIs, NoneIs, TakesOneWay}
+use Rattle.kb_stepint.specs.Simulation.{TakesOneWay}
 use Rattle.kb_stepint.specs.Takes.{answered, reads_argument, taken, takes_next, takes_up}
 use Rattle.kb_stepint.specs.Ways.{ill_typed}
 use Rattle.kb_stepint.proofs.AddedLaws.{went_when}
@@ -62,23 +64,24 @@ filter_kept keep x xs e = rw e refl
 filter_dropped : {A : Type 0} (keep : A → Bool) (x : A) (xs : List A) → keep x ≡ false → filter keep (x ∷ xs) ≡ filter keep xs
 filter_dropped keep x xs e = rw e refl
 
-module _ {A : Type 0} (P Q : A → Type 0) (keep : A → Bool) (kept : (x : A) → P x → keep x ≡ true) (there : (x : A) → P x → Q x) (back : (x : A) → keep x ≡ true → Q x → P x) where
-  none_left : (xs : List A) → NoneIs P xs → NoneIs Q (filter keep xs)
+module _ {A B C : Type 0} (P : A → B → Type 0) (Q : A → C → Type 0) (values : B) (input : C) (keep : A → Bool) (kept : (x : A) → P x values → keep x ≡ true)
+    (there : (x : A) → P x values → Q x input) (back : (x : A) → keep x ≡ true → Q x input → P x values) where
+  none_left : (xs : List A) → NoneHas P xs values → NoneHas Q (filter keep xs) input
   none_left [] none = tt
   none_left (x ∷ xs) none = go (none_left xs none.1) (keep x) refl where
-    go : NoneIs Q (filter keep xs) → (b : Bool) → keep x ≡ b → NoneIs Q (filter keep (x ∷ xs))
-    go rest true e = subst (NoneIs Q) (sym (filter_kept keep x xs e)) ((λ q. none.0 (back x e q)), rest)
-    go rest false e = subst (NoneIs Q) (sym (filter_dropped keep x xs e)) rest
+    go : NoneHas Q (filter keep xs) input → (b : Bool) → keep x ≡ b → NoneHas Q (filter keep (x ∷ xs)) input
+    go rest true e = subst (λ (left : List A). NoneHas Q left input) (sym (filter_kept keep x xs e)) ((λ q. none.0 (back x e q)), rest)
+    go rest false e = subst (λ (left : List A). NoneHas Q left input) (sym (filter_dropped keep x xs e)) rest
 
-  one_left : (xs : List A) → ExactlyOneIs P xs → ExactlyOneIs Q (filter keep xs)
+  one_left : (xs : List A) → ExactlyOneHas P xs values → ExactlyOneHas Q (filter keep xs) input
   one_left [] one = one
   one_left (x ∷ xs) one = elim one [
-    | inl here ↦ subst (ExactlyOneIs Q) (sym (filter_kept keep x xs (kept x here.0))) (inl (there x here.0, none_left xs here.1))
+    | inl here ↦ subst (λ (left : List A). ExactlyOneHas Q left input) (sym (filter_kept keep x xs (kept x here.0))) (inl (there x here.0, none_left xs here.1))
     | inr later ↦ go (one_left xs later.1) (keep x) refl later.0
   ] where
-    go : ExactlyOneIs Q (filter keep xs) → (b : Bool) → keep x ≡ b → (P x → ⊥) → ExactlyOneIs Q (filter keep (x ∷ xs))
-    go rest true e never = subst (ExactlyOneIs Q) (sym (filter_kept keep x xs e)) (inr ((λ q. never (back x e q)), rest))
-    go rest false e never = subst (ExactlyOneIs Q) (sym (filter_dropped keep x xs e)) rest
+    go : ExactlyOneHas Q (filter keep xs) input → (b : Bool) → keep x ≡ b → (P x values → ⊥) → ExactlyOneHas Q (filter keep (x ∷ xs)) input
+    go rest true e never = subst (λ (left : List A). ExactlyOneHas Q left input) (sym (filter_kept keep x xs e)) (inr ((λ q. never (back x e q)), rest))
+    go rest false e never = subst (λ (left : List A). ExactlyOneHas Q left input) (sym (filter_dropped keep x xs e)) rest
 
 -- ---- the operands are terms
 
@@ -176,11 +179,17 @@ module _ (world : World) (bounds : Bounds) (old : State) (reached : IsReached wo
       Extends-trans (grown choice).nodes (plan choice).nodes (new choice).nodes (plan_makes world (grown choice) choice found.0).terms
       (went_stays world bounds found.1 (with_nodes (grown choice) (plan choice).nodes) (plan choice).way).terms
 
+  abbrev HeldAt : Choice → List ℤ → Type 0
+  HeldAt choice values = AllHold old.nodes values (cs choice)
+
   abbrev Held : Choice → Type 0
-  Held choice = AllHold old.nodes variables (cs choice)
+  Held choice = HeldAt choice variables
+
+  abbrev InstanceAt : Choice → Input → Type 0
+  InstanceAt choice i = IsInstanceOf (new choice) i
 
   abbrev Instance : Choice → Type 0
-  Instance choice = IsInstanceOf (new choice) input
+  Instance choice = InstanceAt choice input
 
   abbrev keep : Choice → Bool
   keep choice = not (is_refuted old (cs choice))
@@ -202,10 +211,10 @@ module _ (world : World) (bounds : Bounds) (old : State) (reached : IsReached wo
       (met_of_instance old.picture (grown choice).nodes (grown choice).when (all_ready (cs choice) start (sides choice) ready).terms (new choice) input
       (answered_picture choice) (answered_when choice) (answered_terms choice) instance_of.shape i)
 
-  pub one_answered : HasRisingKeys found.0 → ExactlyOneIs Instance (offered old (stack_of old.stage) found.0)
+  pub one_answered : HasRisingKeys found.0 → ExactlyOneHas InstanceAt (offered old (stack_of old.stage) found.0) input
   one_answered rising =
-      subst (λ (s : List SymValue). ExactlyOneIs Instance (offered old s found.0)) (stack_same world old old.stage)
-      (one_left Held Instance keep held_kept held_instance instance_held (listed found.0 stack) (listed_one old.nodes variables found.0 stack rising))
+      subst (λ (s : List SymValue). ExactlyOneHas InstanceAt (offered old s found.0) input) (stack_same world old old.stage)
+      (one_left HeldAt InstanceAt variables input keep held_kept held_instance instance_held (listed found.0 stack) (listed_one old.nodes variables found.0 stack rising))
 
 -- ---- all takes
 
@@ -222,29 +231,29 @@ module _ (world : World) (bounds : Bounds) (old : State) (at : IsAtInts world ol
       at.reached.keys (offset_now (begun_stage world old old.stage)) found
       (ap (λ (m : MethodId). instruction_at world m (offset_now (begun_stage world old old.stage))) (sym (method_same world old old.stage at.reached.alone)) ∙ e)
 
-  one_taken_up : ExactlyOneIs (λ (choice : Choice). IsInstanceOf (takes_up world bounds choice (begun world old)).state input)
-      (option_map_or (offered old (stack_of old.stage)) (instruction_next world old.method old.stage) only)
+  one_taken_up : ExactlyOneHas (λ (choice : Choice) (i : Input). IsInstanceOf (takes_up world bounds choice (begun world old)).state i)
+      (option_map_or (offered old (stack_of old.stage)) (instruction_next world old.method old.stage) only) input
   one_taken_up =
-      subst (λ (found : Option (Instr × ℕ)). ExactlyOneIs (λ (choice : Choice). IsInstanceOf (takes_up world bounds choice (begun world old)).state input)
-      (option_map_or (offered old (stack_of old.stage)) (option_map (λ (f : Instr × ℕ). f.0) found) only)) (place_same world old old.stage) (go place refl)
+      subst (λ (found : Option (Instr × ℕ)). ExactlyOneHas (λ (choice : Choice) (i : Input). IsInstanceOf (takes_up world bounds choice (begun world old)).state i)
+      (option_map_or (offered old (stack_of old.stage)) (option_map (λ (f : Instr × ℕ). f.0) found) only) input) (place_same world old old.stage) (go place refl)
     where
-      go : (it : Option (Instr × ℕ)) → place ≡ it → ExactlyOneIs (λ (choice : Choice). IsInstanceOf (option_map_or (answered world bounds choice (begun world old)) it (ill_typed world (begun world old))).state input)
-          (option_map_or (offered old (stack_of old.stage)) (option_map (λ (f : Instr × ℕ). f.0) it) only)
+      go : (it : Option (Instr × ℕ)) → place ≡ it → ExactlyOneHas (λ (choice : Choice) (i : Input). IsInstanceOf (option_map_or (answered world bounds choice (begun world old)) it (ill_typed world (begun world old))).state i)
+          (option_map_or (offered old (stack_of old.stage)) (option_map (λ (f : Instr × ℕ). f.0) it) only) input
       go None e = inl (begun_instance, tt)
       go (Some found) e = one_answered world bounds old at.reached input stands.instance_of found (rising found e)
 
   -- an argument that is read is an int
   argument_int : (type : JType) → argument_next world old.method old.stage ≡ Some type → (z : ℤ) × (slice_get input.args (read_count old.stage) ≡ Some (IntValue z))
   argument_int type e = by_stage old.stage e (plain_next (argument_next world old.method old.stage) (is_int_next world (method_now old.method old.stage) (instruction_next world old.method old.stage)) at.next e) where
-    plain_next : (next : Option JType) (else_int : Bool) → is_int (option_map is_reference next) else_int ≡ true → next ≡ Some type → not (is_reference type) ≡ true
+    plain_next : (next : Option JType) (else_int : Bool) → is_int (option_map is_reference_type next) else_int ≡ true → next ≡ Some type → not (is_reference_type type) ≡ true
     plain_next None else_int int same = absurd cc
-    plain_next (Some kind) else_int int same = (let one : kind ≡ type = cc in subst (λ (t : JType). not (is_reference t) ≡ true) one int)
+    plain_next (Some kind) else_int int same = (let one : kind ≡ type = cc in subst (λ (t : JType). not (is_reference_type t) ≡ true) one int)
 
     some_same : (one other : MethodInfo) → Some one ≡ Some other → one ≡ other
     some_same one other both = cc
 
     by_info : (n : ℕ) (info : Option MethodInfo) → info_of world old.method ≡ info → option_and_then (λ (i : MethodInfo). slice_get (argument_types world i) n) info ≡ Some type
-        → is_reference type ≡ false → (z : ℤ) × (slice_get input.args n ≡ Some (IntValue z))
+        → is_reference_type type ≡ false → (z : ℤ) × (slice_get input.args n ≡ Some (IntValue z))
     by_info n None is h plain = absurd cc
     by_info n (Some info) is h plain =
         let same : correct.method ≡ info = some_same correct.method info (sym correct.method_is ∙ is) in
@@ -253,20 +262,20 @@ module _ (world : World) (bounds : Bounds) (old : State) (at : IsAtInts world ol
         let int = int_argument world input.heap type found.0 plain found.2 in
         (int.0, found.1 ∙ ap Some int.1)
 
-    by_stage : (stage : Stage) → argument_next world old.method stage ≡ Some type → not (is_reference type) ≡ true → (z : ℤ) × (slice_get input.args (read_count stage) ≡ Some (IntValue z))
-    by_stage (Begins read) h plain = by_info (length read) (info_of world old.method) refl h (not-true (is_reference type) plain)
+    by_stage : (stage : Stage) → argument_next world old.method stage ≡ Some type → not (is_reference_type type) ≡ true → (z : ℤ) × (slice_get input.args (read_count stage) ≡ Some (IntValue z))
+    by_stage (Begins read) h plain = by_info (length read) (info_of world old.method) refl h (not-true (is_reference_type type) plain)
     by_stage (Runs frame callers) h plain = absurd cc
 
-  pub one_taken : ExactlyOneIs (λ (choice : Choice). IsInstanceOf (taken world bounds old choice).state input) (choices_of world old bounds)
+  pub one_taken : ExactlyOneHas (λ (choice : Choice) (i : Input). IsInstanceOf (taken world bounds old choice).state i) (choices_of world old bounds) input
   one_taken = go (argument_next world old.method old.stage) refl where
-    by_steps : (b : Bool) → ExactlyOneIs (λ (choice : Choice). IsInstanceOf (if b then record { state = old; outcome = Cut Steps } else takes_up world bounds choice (begun world old)).state input)
-        (if b then only else option_map_or (offered old (stack_of old.stage)) (instruction_next world old.method old.stage) only)
+    by_steps : (b : Bool) → ExactlyOneHas (λ (choice : Choice) (i : Input). IsInstanceOf (if b then record { state = old; outcome = Cut Steps } else takes_up world bounds choice (begun world old)).state i)
+        (if b then only else option_map_or (offered old (stack_of old.stage)) (instruction_next world old.method old.stage) only) input
     by_steps true = inl (stands.instance_of, tt)
     by_steps false = one_taken_up
 
     go : (next : Option JType) → argument_next world old.method old.stage ≡ next
-        → ExactlyOneIs (λ (choice : Choice). IsInstanceOf (option_map_or (reads_argument old) next (takes_next world bounds choice old)).state input)
-        (if is_some next || nat_le bounds.run.steps old.carried then only else option_map_or (offered old (stack_of old.stage)) (instruction_next world old.method old.stage) only)
+        → ExactlyOneHas (λ (choice : Choice) (i : Input). IsInstanceOf (option_map_or (reads_argument old) next (takes_next world bounds choice old)).state i)
+        (if is_some next || nat_le bounds.run.steps old.carried then only else option_map_or (offered old (stack_of old.stage)) (instruction_next world old.method old.stage) only) input
     go None e = by_steps (nat_le bounds.run.steps old.carried)
     go (Some type) e =
         let int = argument_int type e in

@@ -26,6 +26,7 @@ use Rattle.kb_picture.specs.declared.choice.Choice.{Choice}
 use Rattle.kb_picture.specs.declared.picture.PlaceLists.{PlaceLists}
 use Rattle.kb_picture.specs.Endings.{Reading}
 use Rattle.kb_picture.specs.Instances.{variable_values}
+use Rattle.kb_picture.specs.WellTyped.{is_reference_type}
 use Rattle.kb_frames.specs.declared.state.Stage.{Stage}
 use Rattle.kb_frames.specs.declared.state.Stage.TheVariants.{Begins, Runs}
 use Rattle.kb_frames.specs.declared.value.Outcome.TheVariants.{Cut}
@@ -33,7 +34,7 @@ use Rattle.kb_frames.specs.declared.value.SymValue.{SymValue}
 use Rattle.kb_frames.specs.declared.value.SymValue.TheVariants.{Int}
 use Rattle.kb_frames.specs.Cuts.{setting_of}
 use Rattle.kb_frames.specs.Lent.{begun, begun_stage, stack_of}
-use Rattle.kb_frames.specs.Next.{argument_next, instruction_next, is_int, is_int_instruction, is_int_next, is_reference, method_now, offset_now}
+use Rattle.kb_frames.specs.Next.{argument_next, instruction_next, is_int, is_int_instruction, is_int_next, method_now, offset_now}
 use Rattle.kb_frames.specs.StandsFor.{FrameStandsFor, IsInstanceOf, StandsFor, reading_at}
 use Rattle.kb_frames.specs.State.{State}
 use Rattle.kb_frames.proofs.RunLaws.{counters_agree}
@@ -221,7 +222,7 @@ module _ (world : World) (bounds : Bounds) (old : State) (at : IsAtInts world ol
       ap (λ (m : MethodId). is_int_instruction world m found.0) method
       ∙ ap (is_int_next world (method_now old.method old.stage)) (sym next) ∙ now
     where
-      int_next : (next : Option JType) (at_int : Bool) → next ≡ None → is_int (option_map is_reference next) at_int ≡ true → at_int ≡ true
+      int_next : (next : Option JType) (at_int : Bool) → next ≡ None → is_int (option_map is_reference_type next) at_int ≡ true → at_int ≡ true
       int_next None at_int none int = int
       int_next (Some kind) at_int none int = absurd cc
 

@@ -39,7 +39,7 @@ use Rattle.kb_picture.specs.declared.picture.Picture.{Picture}
 use Rattle.kb_picture.specs.Growing.{HoldsInt, IsUnread, params_of}
 use Rattle.kb_picture.specs.Queries.{kind_for, kind_seen, kinds_seen}
 use Rattle.kb_picture.specs.WellFormed.{slots_seen}
-use Rattle.kb_picture.specs.WellTyped.{IsReceiverSeen, IsWellTyped, is_int_type}
+use Rattle.kb_picture.specs.WellTyped.{IsReceiverSeen, IsWellTyped, is_int_type, is_reference_type}
 use Rattle.kb_frames.specs.declared.frame.SymFrame.{SymFrame}
 use Rattle.kb_frames.specs.declared.state.Stage.{Stage}
 use Rattle.kb_frames.specs.declared.state.Stage.TheVariants.{Begins, Runs}
@@ -51,7 +51,7 @@ use Rattle.kb_frames.specs.declared.value.SymValue.TheVariants.{Int, Null, Obj, 
 use Rattle.kb_frames.specs.FirstReads.{with_read}
 use Rattle.kb_frames.specs.Lent.{begun, begun_locals, begun_stage, read_count, read_int, saw_argument, with_frame, with_nodes}
 use Rattle.kb_frames.specs.Making.{default_sym, new_sym_object, with_made}
-use Rattle.kb_frames.specs.Next.{argument_next, instruction_next, is_int, is_int_next, is_reference, method_now, next_is_int}
+use Rattle.kb_frames.specs.Next.{argument_next, instruction_next, is_int, is_int_next, method_now, next_is_int}
 use Rattle.kb_frames.specs.State.{State}
 use Rattle.kb_frames.specs.States.{AreCells, Each, IsBeginning, IsCell, IsFrame, IsLocal, IsMade, IsStage, IsSymValue, IsTouched}
 use Rattle.kb_frames.specs.Truths.{truth_in}
@@ -380,7 +380,7 @@ not_before n slots are h =
         omega (arith, same, less)
 
 -- the type of an argument that is no reference is int or boolean
-int_type : (type : JType) → is_left_out type ≡ false → is_reference type ≡ false → is_int_type type ≡ true
+int_type : (type : JType) → is_left_out type ≡ false → is_reference_type type ≡ false → is_int_type type ≡ true
 int_type types.Bool out reference = refl
 int_type types.Int out reference = refl
 int_type types.Byte out reference = absurd (true≢false out)
@@ -396,20 +396,20 @@ abbrev types_by : World → Bool → MethodInfo → List JType
 types_by world static info = if static then info.kind.params else types.Class (class_name world info.class.0) ∷ info.kind.params
 
 -- an argument that is no reference is a parameter
-argument_kept : (world : World) (info : MethodInfo) (static : Bool) (n : ℕ) (type : JType) → list_any is_left_out info.kind.params ≡ false → is_reference type ≡ false
+argument_kept : (world : World) (info : MethodInfo) (static : Bool) (n : ℕ) (type : JType) → list_any is_left_out info.kind.params ≡ false → is_reference_type type ≡ false
     → slice_get (types_by world static info) n ≡ Some type → is_left_out type ≡ false
 argument_kept world info true n type none reference at = none_passes is_left_out info.kind.params n type none at
 argument_kept world info false zero type none reference at =
     let same : types.Class (class_name world info.class.0) ≡ type = cc in
-    absurd (true≢false (ap is_reference same ∙ reference))
+    absurd (true≢false (ap is_reference_type same ∙ reference))
 argument_kept world info false (suc n) type none reference at = none_passes is_left_out info.kind.params n type none at
 
 -- and where it is the first one, there is no receiver
-first_static : (world : World) (info : MethodInfo) (static : Bool) (type : JType) → is_reference type ≡ false → slice_get (types_by world static info) 0 ≡ Some type → static ≡ true
+first_static : (world : World) (info : MethodInfo) (static : Bool) (type : JType) → is_reference_type type ≡ false → slice_get (types_by world static info) 0 ≡ Some type → static ≡ true
 first_static world info true type reference at = refl
 first_static world info false type reference at =
     let same : types.Class (class_name world info.class.0) ≡ type = cc in
-    absurd (true≢false (ap is_reference same ∙ reference))
+    absurd (true≢false (ap is_reference_type same ∙ reference))
 
 -- nor is there one where there is no argument
 none_static : (world : World) (info : MethodInfo) (static : Bool) → slice_get (types_by world static info) 0 ≡ None → static ≡ true
@@ -428,7 +428,7 @@ module _ (world : World) (state : State) (sound : Sound world state) where
     go (Runs frame callers) e h = h
 
   -- an int that is read
-  module _ (read : List SymValue) (begins : state.stage ≡ Begins read) (type : JType) (next : argument_next world state.method (Begins read) ≡ Some type) (int : is_reference type ≡ false) where
+  module _ (read : List SymValue) (begins : state.stage ≡ Begins read) (type : JType) (next : argument_next world state.method (Begins read) ≡ Some type) (int : is_reference_type type ≡ false) where
     abbrev n : ℕ
     n = length read
 
@@ -532,9 +532,9 @@ module _ (world : World) (state : State) (sound : Sound world state) where
 
 -- the next argument is read
 module _ (world : World) (state : State) (sound : Sound world state) (type : JType) (next : argument_next world state.method state.stage ≡ Some type) (ints : next_is_int world state ≡ true) where
-  no_reference : is_reference type ≡ false
-  no_reference = go (is_reference type) refl (ap (λ (o : Option JType). is_int (option_map is_reference o) (is_int_next world (method_now state.method state.stage) (instruction_next world state.method state.stage))) (sym next) ∙ ints) where
-    go : (b : Bool) → is_reference type ≡ b → not b ≡ true → b ≡ false
+  no_reference : is_reference_type type ≡ false
+  no_reference = go (is_reference_type type) refl (ap (λ (o : Option JType). is_int (option_map is_reference_type o) (is_int_next world (method_now state.method state.stage) (instruction_next world state.method state.stage))) (sym next) ∙ ints) where
+    go : (b : Bool) → is_reference_type type ≡ b → not b ≡ true → b ≡ false
     go true e h = absurd (true≢false (sym h))
     go false e h = refl
 

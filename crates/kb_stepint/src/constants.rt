@@ -12,6 +12,7 @@ use crate::turn::Turn;
 use crate::ways::{ill_typed, replaces};
 use kb_class::MethodId;
 use kb_frames::{Outcome, SymState, SymValue};
+use kb_lookups::declaring_class;
 use kb_world::World;
 
 /// iconst, bipush, sipush
@@ -47,9 +48,5 @@ pub(crate) fn load_constant(
 fn int_entry(world: &World, method: MethodId, entry: u16) -> Option<i32>
     ensures { result ≡ int_entry_of world.now (class_number world.now method) entry }
 {
-    let class = match world.find_method(method) {
-        Some(info) => info.class,
-        None => kb_class::ClassId(0),
-    };
-    world.find_int(class, entry)
+    world.find_int(declaring_class(world, method), entry)
 }

@@ -45,6 +45,7 @@ use Rattle.kb_picture.proofs.ChainLaws.{all_below, below_at}
 use Rattle.kb_picture.proofs.GrownShapes.{as_many, locs_many, seen_places}
 use Rattle.kb_picture.proofs.PlaceLaws.{places_loc, places_seen}
 use Rattle.kb_picture.proofs.ShapeLaws.{place_inside}
+use Rattle.kb_picture.specs.WellTyped.{is_reference_type}
 use Rattle.kb_frames.specs.declared.state.Stage.{Stage}
 use Rattle.kb_frames.specs.declared.state.Stage.TheVariants.{Begins}
 use Rattle.kb_frames.specs.declared.value.Cell.{Cell}
@@ -54,7 +55,6 @@ use Rattle.kb_frames.specs.declared.value.SymValue.TheVariants.{Int}
 use Rattle.kb_frames.specs.Cuts.{setting_of}
 use Rattle.kb_frames.specs.FirstReads.{cells_chosen, first_int, first_reference, found_in, saw_variable, value_chosen, with_read}
 use Rattle.kb_frames.specs.Heaps.{find_cell, with_cell}
-use Rattle.kb_frames.specs.Next.{is_reference}
 use Rattle.kb_frames.specs.StandsFor.{IsInstanceOf, StageStandsFor, StandsFor, reading_at, value_of_sym}
 use Rattle.kb_frames.specs.State.{State, cell_at}
 use Rattle.kb_frames.specs.States.{IsBeginning, IsStage, IsState}
@@ -352,11 +352,11 @@ module _ (world : World) (bounds : Bounds) (old : State) (sound : IsState world 
 
 -- What was told is what the slot holds at the input: the state stands for the same configuration.
 pub answer_stands : (world : World) (bounds : Bounds) (params : ℕ) (old : State) (choice : Choice) (slot : Origin) (type : JType) (input : Input) (c : Config) → IsState world old
-    → IsUnread world params old.picture slot → IsBlank old slot → (is_reference type ≡ true → IsChoiceIn old.picture choice) → passed_by choice ≡ None
+    → IsUnread world params old.picture slot → IsBlank old slot → (is_reference_type type ≡ true → IsChoiceIn old.picture choice) → passed_by choice ≡ None
     → StandsFor (setting_of world bounds) old input c → IsInstanceOf (answered world choice old (Reads slot type)) input
     → StandsFor (setting_of world bounds) (answered world choice old (Reads slot type)) input c
-answer_stands world bounds params old choice slot type input c sound unread blank speaks passed stands = go (is_reference type) refl where
-  go : (b : Bool) → is_reference type ≡ b → IsInstanceOf (if b then first_reference world slot choice old else first_int slot (kind_for (Some type)) old) input
+answer_stands world bounds params old choice slot type input c sound unread blank speaks passed stands = go (is_reference_type type) refl where
+  go : (b : Bool) → is_reference_type type ≡ b → IsInstanceOf (if b then first_reference world slot choice old else first_int slot (kind_for (Some type)) old) input
       → StandsFor (setting_of world bounds) (if b then first_reference world slot choice old else first_int slot (kind_for (Some type)) old) input c
   go true e = reference_stands world bounds old sound input c stands slot blank params choice unread (speaks e) passed
   go false e = int_stands world bounds old sound input c stands slot blank (kind_for (Some type))
@@ -372,7 +372,7 @@ asked_blank world bounds state (Element array index) type is = absurd is
 module _ (world : World) (bounds : Bounds) (state : State) (choice : Choice) (small : AreInRange bounds) (at : IsAtReferences world state) (slot : Origin) (type : JType)
     (is : IsAsked world bounds state at.reached.reached.typed slot type) where
   -- an alternative of a reference speaks of what is there
-  speaks : is_reference type ≡ true → Has (alternatives world state bounds (Reads slot type)) choice → IsChoiceIn state.picture choice
+  speaks : is_reference_type type ≡ true → Has (alternatives world state bounds (Reads slot type)) choice → IsChoiceIn state.picture choice
   speaks e has =
       let offered : Has (read_choices_of state.init world state.picture slot type (is_receiver world state.method slot) bounds.k bounds.array) choice =
       subst (λ (b : Bool). Has (if b then read_choices_of state.init world state.picture slot type (is_receiver world state.method slot) bounds.k bounds.array else only) choice) e has in

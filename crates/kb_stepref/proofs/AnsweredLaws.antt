@@ -38,7 +38,7 @@ use Rattle.kb_picture.specs.Growing.{IsChoiceFor, IsChoiceIn}
 use Rattle.kb_picture.specs.Growth.{after_int_read, after_read}
 use Rattle.kb_picture.specs.Queries.{kind_for, kind_seen, kinds_seen, type_of_slot}
 use Rattle.kb_picture.specs.WellFormed.{IsLengthOf, slots_seen, variable_seen, variables_seen}
-use Rattle.kb_picture.specs.WellTyped.{IsReceiverSeen, IsWellTyped, SeenFitsDeclared}
+use Rattle.kb_picture.specs.WellTyped.{IsReceiverSeen, IsWellTyped, SeenFitsDeclared, is_reference_type}
 use Rattle.kb_picture.proofs.GrownPictures.{IsFrontOf, slots_grown}
 use Rattle.kb_picture.proofs.GrownTypes.{choice_typed, int_typed, type_more}
 use Rattle.kb_lazy.specs.Choices.{read_choices_of}
@@ -53,7 +53,6 @@ use Rattle.kb_frames.specs.declared.value.SymValue.{SymValue}
 use Rattle.kb_frames.specs.declared.value.SymValue.TheVariants.{Int}
 use Rattle.kb_frames.specs.FirstReads.{cells_chosen, first_int, first_reference, found_in, new_cells, saw_variable, value_chosen, with_read}
 use Rattle.kb_frames.specs.Heaps.{find_cell, with_cell}
-use Rattle.kb_frames.specs.Next.{is_reference}
 use Rattle.kb_frames.specs.State.{State, cell_at}
 use Rattle.kb_frames.specs.States.{Each, HasCells, IsBeginning, IsCell, IsStage, IsSymValue, IsTouched}
 use Rattle.kb_frames.proofs.FormedPaths.{variables-same}
@@ -339,13 +338,13 @@ module _ (world : World) (bounds : Bounds) (state : State) (at : IsAtReferences 
   is_asked = asked world bounds state at slot type asks
 
   -- an alternative for a reference is a choice for the slot
-  pub offered_fits : (choice : Choice) → AreInRange bounds → is_reference type ≡ true → Has (alternatives world state bounds (Reads slot type)) choice
+  pub offered_fits : (choice : Choice) → AreInRange bounds → is_reference_type type ≡ true → Has (alternatives world state bounds (Reads slot type)) choice
       → IsChoiceFor world state.method state.picture slot choice
-  offered_fits choice range reference has = go (is_reference type) refl has where
+  offered_fits choice range reference has = go (is_reference_type type) refl has where
     first : IsFirstRead world state.method state.picture slot type (is_receiver world state.method slot)
     first = first_read world bounds state typed slot type is_asked reference
 
-    go : (b : Bool) → is_reference type ≡ b
+    go : (b : Bool) → is_reference_type type ≡ b
         → Has (if b then read_choices_of state.init world state.picture slot type (is_receiver world state.method slot) bounds.k bounds.array else choices.Only ∷ []) choice
         → IsChoiceFor world state.method state.picture slot choice
     go true is h = fitting_choice state.init world state.method state.picture slot type (is_receiver world state.method slot) bounds.k bounds.array h.0 choice first range h.1
@@ -412,7 +411,7 @@ module _ (world : World) (bounds : Bounds) (state : State) (at : IsAtReferences 
 
   -- ---- an int
 
-  module _ (int : is_reference type ≡ false) where
+  module _ (int : is_reference_type type ≡ false) where
     abbrev v : ℕ
     v = variables_of state.nodes
 
@@ -471,20 +470,20 @@ module _ (world : World) (bounds : Bounds) (state : State) (at : IsAtReferences 
   -- ---- both
 
   pub answered_sound : (choice : Choice) → AreInRange bounds → Has (alternatives world state bounds (Reads slot type)) choice → Sound world (answered world choice state (Reads slot type))
-  answered_sound choice range has = go (is_reference type) refl where
-    go : (b : Bool) → is_reference type ≡ b → Sound world (if b then first_reference world slot choice state else first_int slot (kind_for (Some type)) state)
+  answered_sound choice range has = go (is_reference_type type) refl where
+    go : (b : Bool) → is_reference_type type ≡ b → Sound world (if b then first_reference world slot choice state else first_int slot (kind_for (Some type)) state)
     go true is = reference_sound choice (offered_fits choice range is has)
     go false is = int_sound is
 
   pub answered_receiver : (choice : Choice) → AreInRange bounds → Has (alternatives world state bounds (Reads slot type)) choice
       → IsReceiverSeen world state.method (answered world choice state (Reads slot type)).picture
-  answered_receiver choice range has = go (is_reference type) refl where
+  answered_receiver choice range has = go (is_reference_type type) refl where
     found_picture : (of : Origin) (it : SymValue) (s : State) → (found_in of it s).picture ≡ s.picture
     found_picture (Arg number) it s = refl
     found_picture (Field object place) it s = refl
     found_picture (Element array index) it s = refl
 
-    go : (b : Bool) → is_reference type ≡ b → IsReceiverSeen world state.method (if b then first_reference world slot choice state else first_int slot (kind_for (Some type)) state).picture
+    go : (b : Bool) → is_reference_type type ≡ b → IsReceiverSeen world state.method (if b then first_reference world slot choice state else first_int slot (kind_for (Some type)) state).picture
     go true is =
         subst (IsReceiverSeen world state.method) (sym (found_picture slot (value_chosen state.picture choice) (record state { picture = after_read state.picture slot choice; cells = state.cells ++ cells_chosen world choice })))
         (reference_receiver choice (offered_fits choice range is has))

@@ -25,6 +25,7 @@ use Rattle.kb_picture.specs.declared.picture.Origin.TheVariants.{Arg, Field, Ele
 use Rattle.kb_picture.specs.declared.picture.Picture.{Picture}
 use Rattle.kb_picture.specs.Queries.{kind_for}
 use Rattle.kb_picture.specs.Shapes.{HasShape}
+use Rattle.kb_picture.specs.WellTyped.{is_reference_type}
 use Rattle.kb_frames.specs.declared.state.Stage.{Stage}
 use Rattle.kb_frames.specs.declared.value.Cell.{Cell}
 use Rattle.kb_frames.specs.declared.value.Cell.TheVariants.{Read}
@@ -34,7 +35,7 @@ use Rattle.kb_frames.specs.Cuts.{setting_of}
 use Rattle.kb_frames.specs.FirstReads.{cells_chosen, first_int, first_reference, value_chosen}
 use Rattle.kb_frames.specs.Heaps.{find_cell, with_cell}
 use Rattle.kb_frames.specs.Lent.{stack_of}
-use Rattle.kb_frames.specs.Next.{argument_next, is_reference, method_now, offset_now}
+use Rattle.kb_frames.specs.Next.{argument_next, method_now, offset_now}
 use Rattle.kb_frames.specs.StandsFor.{IsInstanceOf, StandsFor}
 use Rattle.kb_frames.specs.State.{State}
 use Rattle.kb_stepint.specs.Simulation.{FollowsStep}
@@ -88,7 +89,7 @@ answer_told : (world : World) (choice : Choice) (state : State) (number slot : �
     → asks_field world (answered world choice state (Reads (Field number slot) type)) field (Some (Obj number)) ≡ None
 answer_told world choice state number slot type field is =
     subst (λ (place : ℕ). asks_field world (answered world choice state (Reads (Field number place) type)) field (Some (Obj number)) ≡ None) is
-    (if_has (λ (new : State). asks_field world new field (Some (Obj number)) ≡ None) (is_reference type) (first_reference world (Field number field.slot) choice state)
+    (if_has (λ (new : State). asks_field world new field (Some (Obj number)) ≡ None) (is_reference_type type) (first_reference world (Field number field.slot) choice state)
     (first_int (Field number field.slot) (kind_for (Some type)) state)
     (field_told world (first_reference world (Field number field.slot) choice state) number field (state.cells ++ cells_chosen world choice) (value_chosen state.picture choice) refl)
     (field_told world (first_int (Field number field.slot) (kind_for (Some type)) state) number field state.cells (Int (record { 0 = length state.nodes })) refl))
@@ -96,7 +97,7 @@ answer_told world choice state number slot type field is =
 -- the terms of an answer stand behind their operands
 answer_ordered : (world : World) (choice : Choice) (state : State) (slot : Origin) (type : JType) → IsOrdered state.nodes → IsOrdered (answered world choice state (Reads slot type)).nodes
 answer_ordered world choice state slot type ordered =
-    if_has (λ (new : State). IsOrdered new.nodes) (is_reference type) (first_reference world slot choice state) (first_int slot (kind_for (Some type)) state)
+    if_has (λ (new : State). IsOrdered new.nodes) (is_reference_type type) (first_reference world slot choice state) (first_int slot (kind_for (Some type)) state)
     (subst IsOrdered (sym (reference_tells world slot choice state).nodes) ordered)
     (subst IsOrdered (sym (int_tells slot (kind_for (Some type)) state).nodes) (ordered_more state.nodes (Var (variables_of state.nodes) (kind_for (Some type))) ordered tt))
 

@@ -28,7 +28,7 @@ use Rattle.kb_picture.specs.Growing.{params_of}
 use Rattle.kb_picture.specs.Growth.{after_read}
 use Rattle.kb_picture.specs.Queries.{kind_for}
 use Rattle.kb_picture.specs.Shapes.{HasShape}
-use Rattle.kb_picture.specs.WellTyped.{IsWellTyped}
+use Rattle.kb_picture.specs.WellTyped.{IsWellTyped, is_reference_type}
 use Rattle.kb_picture.proofs.GrownShapes.{before_seen, choice_shape}
 use Rattle.kb_frames.specs.declared.state.SymObject.{SymObject}
 use Rattle.kb_frames.specs.declared.value.Cell.{Cell}
@@ -38,7 +38,7 @@ use Rattle.kb_frames.specs.declared.value.SymValue.TheVariants.{Int, Null, Obj, 
 use Rattle.kb_frames.specs.FirstReads.{cells_chosen, first_int, first_reference, found_in, saw_variable, value_chosen}
 use Rattle.kb_frames.specs.Heaps.{with_cell, with_made_value}
 use Rattle.kb_frames.specs.Lent.{begun, local_in, stack_of, with_nodes}
-use Rattle.kb_frames.specs.Next.{is_reference, method_now, offset_now}
+use Rattle.kb_frames.specs.Next.{method_now, offset_now}
 use Rattle.kb_frames.specs.State.{State}
 use Rattle.kb_stepint.specs.Effects.{masked}
 use Rattle.kb_stepint.specs.Simulation.{AddsComparisons, Keeps}
@@ -220,7 +220,7 @@ module _ (world : World) (bounds : Bounds) where
       cut_untold (passed_by choice) told (goes_behind world bounds slot told) (behind_untold slot told)
 
   pub answers_untold : (choice : Choice) (state : State) (question : Question) → Untold (answered world choice state question) (answers world bounds choice state question).state
-  answers_untold choice state (Reads slot type) = take_untold state slot type (is_reference type) choice
+  answers_untold choice state (Reads slot type) = take_untold state slot type (is_reference_type type) choice
 
 -- ---- what an answer tells
 
@@ -253,17 +253,17 @@ int_tells slot kind state =
 -- whichever it is
 pub answered_when : (world : World) (choice : Choice) (state : State) (question : Question) → (answered world choice state question).when ≡ state.when
 answered_when world choice state (Reads slot type) =
-    if_has (λ (s : State). s.when ≡ state.when) (is_reference type) (first_reference world slot choice state) (first_int slot (kind_for (Some type)) state) (reference_tells world slot choice state).when
+    if_has (λ (s : State). s.when ≡ state.when) (is_reference_type type) (first_reference world slot choice state) (first_int slot (kind_for (Some type)) state) (reference_tells world slot choice state).when
     (int_tells slot (kind_for (Some type)) state).when
 
 pub answered_method : (world : World) (choice : Choice) (state : State) (question : Question) → (answered world choice state question).method ≡ state.method
 answered_method world choice state (Reads slot type) =
-    if_has (λ (s : State). s.method ≡ state.method) (is_reference type) (first_reference world slot choice state) (first_int slot (kind_for (Some type)) state) (reference_tells world slot choice state).method
+    if_has (λ (s : State). s.method ≡ state.method) (is_reference_type type) (first_reference world slot choice state) (first_int slot (kind_for (Some type)) state) (reference_tells world slot choice state).method
     (int_tells slot (kind_for (Some type)) state).method
 
 pub answered_carried : (world : World) (choice : Choice) (state : State) (question : Question) → (answered world choice state question).carried ≡ state.carried
 answered_carried world choice state (Reads slot type) =
-    if_has (λ (s : State). s.carried ≡ state.carried) (is_reference type) (first_reference world slot choice state) (first_int slot (kind_for (Some type)) state)
+    if_has (λ (s : State). s.carried ≡ state.carried) (is_reference_type type) (first_reference world slot choice state) (first_int slot (kind_for (Some type)) state)
     (reference_tells world slot choice state).carried (int_tells slot (kind_for (Some type)) state).carried
 
 -- ---- what is kept
@@ -313,7 +313,7 @@ module _ (world : World) (bounds : Bounds) (old : State) (choice : Choice) where
 
     pub answered_kept : Keeps old (answered world choice old (Reads slot type))
     answered_kept =
-        if_has (Keeps old) (is_reference type) (first_reference world slot choice old) (first_int slot (kind_for (Some type)) old) reference_kept (int_kept (kind_for (Some type)))
+        if_has (Keeps old) (is_reference_type type) (first_reference world slot choice old) (first_int slot (kind_for (Some type)) old) reference_kept (int_kept (kind_for (Some type)))
 
   pub kept : IsAtReferences world old → Keeps old (taken world bounds old choice).state
   kept at = go (question_of world old bounds) refl where

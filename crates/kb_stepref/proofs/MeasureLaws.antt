@@ -12,6 +12,7 @@ use Rattle.kb_semantics.specs.Inputs.{argument_types}
 use Rattle.kb_picture.specs.declared.choice.Choice.{Choice}
 use Rattle.kb_picture.specs.declared.picture.Origin.{Origin}
 use Rattle.kb_picture.specs.declared.picture.Origin.TheVariants.{Arg, Field, Element}
+use Rattle.kb_picture.specs.WellTyped.{is_reference_type}
 use Rattle.kb_frames.specs.declared.state.Stage.{Stage}
 use Rattle.kb_frames.specs.declared.state.Stage.TheVariants.{Begins, Runs}
 use Rattle.kb_frames.specs.declared.value.SymValue.{SymValue}
@@ -20,7 +21,7 @@ use Rattle.kb_frames.specs.declared.value.Outcome.TheVariants.{Asks}
 use Rattle.kb_frames.specs.FirstReads.{value_chosen, with_read}
 use Rattle.kb_frames.specs.Lent.{begun}
 use Rattle.kb_frames.specs.Measure.{choices_left, left_of, questions_of, unread_at}
-use Rattle.kb_frames.specs.Next.{argument_next, instruction_next, is_reference, method_now, offset_now}
+use Rattle.kb_frames.specs.Next.{argument_next, instruction_next, method_now, offset_now}
 use Rattle.kb_frames.specs.State.{State}
 use Rattle.kb_stepint.specs.Simulation.{GetsOn}
 use Rattle.kb_stepint.specs.Ways.{Take, ill_typed}
@@ -80,7 +81,7 @@ module _ (world : World) (bounds : Bounds) (old : State) where
   answered_less : (choice : Choice) (number : ℕ) (type : JType) → argument_next world old.method old.stage ≡ Some type
       → choices_left world (answered world choice old (Reads (Arg number) type)) < choices_left world old
   answered_less choice number type e =
-      if_has (λ (s : State). choices_left world s < choices_left world old) (is_reference type) _ _ (argument_on type (value_chosen old.picture choice) e)
+      if_has (λ (s : State). choices_left world s < choices_left world old) (is_reference_type type) _ _ (argument_on type (value_chosen old.picture choice) e)
       (argument_on type (Int (record { 0 = length old.nodes })) e)
 
   -- ---- all takes

@@ -15,9 +15,10 @@ use Rattle.kb_names.specs.declared.types.JType.TheVariants as types
 use Rattle.kb_semantics.specs.Config.{info_of, instruction_at, instruction_in}
 use Rattle.kb_world.specs.Faults.{is_left_out}
 use Rattle.kb_picture.specs.declared.choice.Init.TheVariants.{Lazy}
+use Rattle.kb_picture.specs.WellTyped.{is_reference_type}
 use Rattle.kb_frames.specs.declared.state.Stage.{Stage}
 use Rattle.kb_frames.specs.declared.state.Stage.TheVariants.{Begins, Runs}
-use Rattle.kb_frames.specs.Next.{argument_next, instruction_next, is_int, is_int_instruction, is_int_next, is_reference, method_now, offset_now}
+use Rattle.kb_frames.specs.Next.{argument_next, instruction_next, is_int, is_int_instruction, is_int_next, method_now, offset_now}
 use Rattle.kb_frames.specs.State.{State, start_state}
 use Rattle.kb_frames.specs.States.{IsState}
 use Rattle.kb_frames.proofs.StateLaws.{start_is_state}
@@ -123,7 +124,7 @@ reference_next world state found at none e =
     let own : method_now state.method state.stage ≡ state.method = method_is_own state.method state.stage at.reached.reached.alone in
     let no_int : is_int_instruction world (method_now state.method state.stage) found.0 ≡ false =
     ap (λ (o : Option Instr). is_int_next world (method_now state.method state.stage) o) (sym (ap (option_map (λ (f : Instr × ℕ). f.0)) e))
-    ∙ (ap (λ (o : Option JType). is_int (option_map is_reference o) (is_int_next world (method_now state.method state.stage) (instruction_next world state.method state.stage))) (sym none) ∙ at.next) in
+    ∙ (ap (λ (o : Option JType). is_int (option_map is_reference_type o) (is_int_next world (method_now state.method state.stage) (instruction_next world state.method state.stage))) (sym none) ∙ at.next) in
     let heap : is_heap_instruction world state.method found.0 ≡ true =
     instruction_is_heap world state.method (offset_now state.stage) found at.reached.method (ap (λ (m : MethodId). instruction_at world m (offset_now state.stage)) (sym own) ∙ e) in
     second (is_int_instruction world state.method found.0) (is_reference_instruction found.0)
@@ -143,5 +144,5 @@ some_next world state at none = go (instruction_at world (method_now state.metho
   go None e =
       let never : true ≡ false =
       ap (λ (o : Option Instr). is_int_next world (method_now state.method state.stage) o) (sym (ap (option_map (λ (f : Instr × ℕ). f.0)) e))
-      ∙ (ap (λ (o : Option JType). is_int (option_map is_reference o) (is_int_next world (method_now state.method state.stage) (instruction_next world state.method state.stage))) (sym none) ∙ at.next) in
+      ∙ (ap (λ (o : Option JType). is_int (option_map is_reference_type o) (is_int_next world (method_now state.method state.stage) (instruction_next world state.method state.stage))) (sym none) ∙ at.next) in
       absurd (true≢false never)

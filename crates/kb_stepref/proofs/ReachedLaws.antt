@@ -18,7 +18,7 @@ use Rattle.kb_picture.specs.declared.picture.Origin.TheVariants.{Arg, Field, Ele
 use Rattle.kb_picture.specs.declared.picture.Picture.{Picture}
 use Rattle.kb_picture.specs.declared.picture.Seen.TheVariants as seens
 use Rattle.kb_picture.specs.Queries.{kind_for}
-use Rattle.kb_picture.specs.WellTyped.{IsReceiverSeen}
+use Rattle.kb_picture.specs.WellTyped.{IsReceiverSeen, is_reference_type}
 use Rattle.kb_lazy.specs.Choices.{read_choices_of}
 use Rattle.kb_lazy.specs.Laws.{HasNoBeyond}
 use Rattle.kb_frames.specs.declared.value.Outcome.{Outcome}
@@ -26,7 +26,7 @@ use Rattle.kb_frames.specs.declared.value.Outcome.TheVariants.{Asks, Goes, Ends,
 use Rattle.kb_frames.specs.declared.value.SymValue.{SymValue}
 use Rattle.kb_frames.specs.FirstReads.{first_int, first_reference, found_in, saw_variable}
 use Rattle.kb_frames.specs.Lent.{begun, read_count, read_int}
-use Rattle.kb_frames.specs.Next.{argument_next, is_reference, next_is_int}
+use Rattle.kb_frames.specs.Next.{argument_next, next_is_int}
 use Rattle.kb_frames.specs.State.{State}
 use Rattle.kb_stepint.specs.Laws.{IsAtInts}
 use Rattle.kb_stepint.specs.Needs.{CanStep}
@@ -112,8 +112,8 @@ module _ (world : World) (bounds : Bounds) (state : State) (at : IsAtReferences 
   now = answered world choice state (Reads slot type)
 
   -- under lazy initialisation no location is offered
-  known_here : is_reference type ≡ true → IsKnown choice
-  known_here reference = go (is_reference type) reference has where
+  known_here : is_reference_type type ≡ true → IsKnown choice
+  known_here reference = go (is_reference_type type) reference has where
     go : (b : Bool) → b ≡ true
         → Has (if b then read_choices_of state.init world state.picture slot type (is_receiver world state.method slot) bounds.k bounds.array else only) choice → IsKnown choice
     go true is offered =
@@ -123,8 +123,8 @@ module _ (world : World) (bounds : Bounds) (state : State) (at : IsAtReferences 
     go false is offered = absurd cc
 
   now_plain : passed_by choice ≡ None → IsPlain now.picture
-  now_plain passed = go (is_reference type) refl where
-    go : (b : Bool) → is_reference type ≡ b → IsPlain (if b then first_reference world slot choice state else first_int slot (kind_for (Some type)) state).picture
+  now_plain passed = go (is_reference_type type) refl where
+    go : (b : Bool) → is_reference_type type ≡ b → IsPlain (if b then first_reference world slot choice state else first_int slot (kind_for (Some type)) state).picture
     go true is =
         subst IsPlain (sym (found_picture slot _ _))
         (known_locs state.picture slot choice (known_here is) ∙ at.reached.known, known_no_beyond state.picture slot choice (known_here is) passed at.reached.within)

@@ -30,8 +30,8 @@ use Rattle.kb_picture.specs.WellFormed.{IsSeenAs, IsSlot}
 use Rattle.kb_picture.proofs.GrownShapes.{as_many, choice_places, seen_each, seen_places, slot_same}
 use Rattle.kb_picture.proofs.HeldLaws.{HeldValue, held_value}
 use Rattle.kb_picture.proofs.Taking.{seen_forth}
+use Rattle.kb_picture.specs.WellTyped.{is_reference_type}
 use Rattle.kb_frames.specs.FirstReads.{saw_variable}
-use Rattle.kb_frames.specs.Next.{is_reference}
 use Rattle.kb_frames.specs.StandsFor.{IsInstanceOf}
 use Rattle.kb_frames.specs.State.{State}
 use Rattle.kb_frames.specs.States.{IsState}
@@ -136,7 +136,7 @@ module _ (world : World) (old : State) (sound : IsState world old) (params : ℕ
 
 -- a slot of a type that is no reference's holds an int
 pub int_held : (world : World) (id : MethodId) (picture : Picture) (input : Input) (correct : IsTypeCorrect world id input) (shape : HasShape picture input) (params : ℕ) (slot : Origin) (type : JType)
-    → IsSlot world params picture.objects slot → type_of_slot world id picture.objects slot ≡ Some type → is_reference type ≡ false
+    → IsSlot world params picture.objects slot → type_of_slot world id picture.objects slot ≡ Some type → is_reference_type type ≡ false
     → (z : ℤ) × (slot_value input shape.places.objects slot ≡ Some (IntValue z))
 int_held world id picture input correct shape params slot type there declared plain =
     let held : HeldValue world input shape.places.objects slot type = held_value world id picture input correct shape params slot type there declared in

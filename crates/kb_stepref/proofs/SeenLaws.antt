@@ -49,6 +49,7 @@ use Rattle.kb_picture.proofs.ChainLaws.{all_below, below_at}
 use Rattle.kb_picture.proofs.GrownPictures.{item_there}
 use Rattle.kb_picture.proofs.GrownShapes.{as_many, choice_places, seen_places}
 use Rattle.kb_picture.proofs.HeldLaws.{HeldValue, held_value}
+use Rattle.kb_picture.specs.WellTyped.{is_reference_type}
 use Rattle.kb_frames.specs.declared.state.Stage.{Stage}
 use Rattle.kb_frames.specs.declared.state.Stage.TheVariants.{Runs}
 use Rattle.kb_frames.specs.declared.value.Cell.TheVariants.{Untouched, Written}
@@ -57,7 +58,7 @@ use Rattle.kb_frames.specs.declared.value.SymValue.TheVariants.{Obj}
 use Rattle.kb_frames.specs.Cuts.{setting_of}
 use Rattle.kb_frames.specs.FirstReads.{saw_variable}
 use Rattle.kb_frames.specs.Lent.{stack_of}
-use Rattle.kb_frames.specs.Next.{instruction_next, is_reference, method_now}
+use Rattle.kb_frames.specs.Next.{instruction_next, method_now}
 use Rattle.kb_frames.specs.StandsFor.{FrameStandsFor, IsInstanceOf, IsLike, StageStandsFor, StandsFor, beginning_of, present_value, reading_at, value_of_sym, written_by}
 use Rattle.kb_frames.specs.State.{State, cell_at}
 use Rattle.kb_frames.proofs.RunLaws.{counters_agree}
@@ -312,4 +313,4 @@ module _ (world : World) (bounds : Bounds) (old : State) (choice : Choice) (at :
   read = go (question_of world old bounds) refl where
     go : (q : Option Question) → question_of world old bounds ≡ q → ReadsWhatItSees world bounds old (option_map_or (answers world bounds choice old) q (takes_next world bounds old)).state
     go None e = same_reads world bounds old (takes_next world bounds old).state (takes_next_untold world bounds old).stays.picture
-    go (Some (Reads slot type)) e = answer_reads slot type (asked world bounds old at slot type e) (is_reference type)
+    go (Some (Reads slot type)) e = answer_reads slot type (asked world bounds old at slot type e) (is_reference_type type)

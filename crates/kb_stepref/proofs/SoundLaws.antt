@@ -21,7 +21,7 @@ use Rattle.kb_picture.specs.declared.choice.Choice.TheVariants.{Only}
 use Rattle.kb_picture.specs.declared.picture.Origin.{Origin}
 use Rattle.kb_picture.specs.declared.picture.Origin.TheVariants.{Arg, Field, Element}
 use Rattle.kb_picture.specs.Queries.{kind_for}
-use Rattle.kb_picture.specs.WellTyped.{IsReceiverSeen}
+use Rattle.kb_picture.specs.WellTyped.{IsReceiverSeen, is_reference_type}
 use Rattle.kb_frames.specs.declared.frame.SymFrame.{SymFrame}
 use Rattle.kb_frames.specs.declared.state.Stage.{Stage}
 use Rattle.kb_frames.specs.declared.state.Stage.TheVariants.{Runs}
@@ -30,7 +30,7 @@ use Rattle.kb_frames.specs.declared.value.SymValue.TheVariants.{Int, Null, Obj, 
 use Rattle.kb_frames.specs.declared.value.Outcome.TheVariants.{Cut}
 use Rattle.kb_frames.specs.FirstReads.{first_int, first_reference, found_in}
 use Rattle.kb_frames.specs.Lent.{begun, local_in, locals_of, read_count, stack_of}
-use Rattle.kb_frames.specs.Next.{argument_next, is_reference, method_now, offset_now}
+use Rattle.kb_frames.specs.Next.{argument_next, method_now, offset_now}
 use Rattle.kb_frames.specs.State.{State}
 use Rattle.kb_frames.specs.States.{Each, IsLocal, IsSymValue}
 use Rattle.kb_stepint.specs.Effects.{with_stack}
@@ -290,21 +290,21 @@ module _ (world : World) (choice : Choice) (state : State) where
 
   pub answered_method : (slot : Origin) (type : JType) → (answered world choice state (Reads slot type)).method ≡ state.method
   answered_method slot type =
-      if_has (λ (s : State). s.method ≡ state.method) (is_reference type) (first_reference world slot choice state) (first_int slot (kind_for (Some type)) state)
+      if_has (λ (s : State). s.method ≡ state.method) (is_reference_type type) (first_reference world slot choice state) (first_int slot (kind_for (Some type)) state)
       (found_method slot _ _) (found_method slot _ _)
 
   pub answered_init : (slot : Origin) (type : JType) → (answered world choice state (Reads slot type)).init ≡ state.init
   answered_init slot type =
-      if_has (λ (s : State). s.init ≡ state.init) (is_reference type) (first_reference world slot choice state) (first_int slot (kind_for (Some type)) state)
+      if_has (λ (s : State). s.init ≡ state.init) (is_reference_type type) (first_reference world slot choice state) (first_int slot (kind_for (Some type)) state)
       (found_init slot _ _) (found_init slot _ _)
 
   pub answered_stage : (object place : ℕ) (type : JType) → (answered world choice state (Reads (Field object place) type)).stage ≡ state.stage
   answered_stage object place type =
-      if_has (λ (s : State). s.stage ≡ state.stage) (is_reference type) (first_reference world (Field object place) choice state) (first_int (Field object place) (kind_for (Some type)) state) refl refl
+      if_has (λ (s : State). s.stage ≡ state.stage) (is_reference_type type) (first_reference world (Field object place) choice state) (first_int (Field object place) (kind_for (Some type)) state) refl refl
 
   pub answered_carried : (slot : Origin) (type : JType) → (answered world choice state (Reads slot type)).carried ≡ state.carried
   answered_carried slot type =
-      if_has (λ (s : State). s.carried ≡ state.carried) (is_reference type) (first_reference world slot choice state) (first_int slot (kind_for (Some type)) state)
+      if_has (λ (s : State). s.carried ≡ state.carried) (is_reference_type type) (first_reference world slot choice state) (first_int slot (kind_for (Some type)) state)
       (found_carried slot _ _) (found_carried slot _ _)
     where
       found_carried : (of : Origin) (value : SymValue) (s : State) → (found_in of value s).carried ≡ s.carried

@@ -16,10 +16,11 @@ use Rattle.kb_picture.specs.declared.picture.Length.TheVariants.{Plain, Is, Abov
 use Rattle.kb_picture.specs.declared.picture.Origin.{Origin}
 use Rattle.kb_picture.specs.declared.picture.Origin.TheVariants.{Arg, Field, Element}
 use Rattle.kb_picture.specs.Queries.{kind_for}
+use Rattle.kb_picture.specs.WellTyped.{is_reference_type}
 use Rattle.kb_frames.specs.declared.value.Outcome.TheVariants.{Asks, Cut}
 use Rattle.kb_frames.specs.FirstReads.{first_int, first_reference}
 use Rattle.kb_frames.specs.Lent.{begun}
-use Rattle.kb_frames.specs.Next.{is_reference, method_now, offset_now}
+use Rattle.kb_frames.specs.Next.{method_now, offset_now}
 use Rattle.kb_frames.specs.State.{State}
 use Rattle.kb_stepint.specs.Ways.{Take, ill_typed, went}
 use Rattle.kb_stepref.specs.Effects.{Planned, plan_of}
@@ -29,7 +30,7 @@ use Rattle.kb_stepref.specs.Questions.{Question, Reads, question_of}
 
 -- the slot is read for the first time
 abbrev pub answered : World → Choice → State → Question → State
-answered world choice state (Reads slot type) = if is_reference type then first_reference world slot choice state else first_int slot (kind_for (Some type)) state
+answered world choice state (Reads slot type) = if is_reference_type type then first_reference world slot choice state else first_int slot (kind_for (Some type)) state
 
 -- the bound on inputs that is passed by what was chosen: the object is deeper than k, or the array is longer than the bound
 abbrev pub passed_by_length : Length → Option Bound

@@ -1,7 +1,6 @@
 //! The fields of objects: getfield and putfield (JVMS 8 section 6.5).
 ghost use Rattle.std.specs.Prelude.{◌≡◌, ◌<◌, Some, IfOk, OnOk, if◌then◌else◌};
 ghost use Rattle.std.specs.Option.{option_copied};
-ghost use Rattle.kb_semantics.specs.Instructions.{has_field};
 ghost use Rattle.kb_stepint.specs.Needs.{CanStep, IsTermOf};
 ghost use Rattle.kb_stepint.specs.Turns.{told};
 ghost use Rattle.kb_stepint.specs.Ways.{Fails};
@@ -11,8 +10,9 @@ ghost use Rattle.kb_stepref.specs.Takes.{followed};
 
 use crate::NoMemory;
 use crate::operands::{object_and_value, one_reference};
-use kb_frames::{Cell, Outcome, SymState, SymValue, declaring_class};
-use kb_names::{ExactType, JType};
+use kb_frames::{Cell, Outcome, SymState, SymValue};
+use kb_lookups::{declaring_class, has_field};
+use kb_names::JType;
 use kb_stepint::{Turn, has_room, ill_typed, mask, replaces, throws};
 use kb_world::{FieldSlot, World};
 
@@ -39,15 +39,6 @@ fn has_slot_of(world: &World, state: &SymState, field: &FieldSlot, value: SymVal
     match state.exact_type_of(value) {
         Some(kind) => has_field(world, kind, field),
         None => false,
-    }
-}
-
-fn has_field(world: &World, kind: &ExactType, field: &FieldSlot) -> bool
-    ensures { result ≡ has_field world.now kind.now field.now }
-{
-    match kind {
-        ExactType::Class(name) => world.is_in_chain(name, field.class),
-        ExactType::Array(_) => false,
     }
 }
 
