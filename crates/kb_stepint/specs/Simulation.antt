@@ -1,7 +1,7 @@
 -- What it means that a step of states simulates the step of the machine (King, 1976; generalised symbolic execution: Khurshid,
 -- Păsăreanu and Visser, TACAS 2003), in six parts. Nothing here speaks of ints: `choices` are the alternatives of a state, and
 -- `taken` is what a take of each makes of it. An input is one that is type-correct for the state's method.
-use Rattle.std.specs.Prelude.{◌≡◌, ◌≢◌, ◌⊎◌, ℕ, ◌+◌, ◌<◌, ◌≤◌, Bool, List, [], ◌∷◌, length, take, Option, Some, None, slice_get}
+use Rattle.std.specs.Prelude.{◌≡◌, ◌≢◌, ℕ, ◌+◌, ◌<◌, ◌≤◌, Bool, List, length, take, Option, Some, None, slice_get}
 use Rattle.kb_class.specs.Naming.{Has}
 use Rattle.kb_heap.specs.declared.bounds.Bounds.{Bounds}
 use Rattle.kb_heap.specs.declared.heap.Heap.{Heap}
