@@ -7,7 +7,6 @@ ghost use Rattle.kb_stepref.specs.HeapMethods.{is_heap_code, is_heap_info, is_he
 use kb_class::{MethodCode, MethodId, MethodInfo};
 use kb_code::Instr;
 use kb_frames::is_int_instruction;
-use kb_link::has_slot_type;
 use kb_names::JType;
 use kb_world::World;
 
@@ -49,6 +48,16 @@ fn are_values(types: &[JType]) -> bool
         rest = others;
     }
     true
+}
+
+// Whether the type is one of ints, booleans or references.
+fn has_slot_type(of: &JType) -> bool
+    ensures { result ≡ has_slot_type of.now }
+{
+    matches!(
+        of,
+        JType::Int | JType::Bool | JType::Class(_) | JType::Array(_)
+    )
 }
 
 fn is_none_or_value(given: &Option<JType>) -> bool
