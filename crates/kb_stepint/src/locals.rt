@@ -13,6 +13,7 @@ use crate::terms::{constant, make};
 use crate::turn::Turn;
 use crate::ways::{carry_on, has_room, ill_typed, replaces};
 use kb_frames::{Outcome, SymState, SymValue};
+use kb_lookups::max_locals;
 use kb_terms::{Op, TermId};
 
 /// iload
@@ -60,10 +61,7 @@ pub fn is_local(turn: &Turn<'_>, state: &SymState, local: u16) -> bool
     ensures { result ≡ nat_lt local (max_locals_of turn.now.world.now (method_now state.now.method state.now.stage)) }
 {
     let (method, _) = state.stands_at();
-    match turn.world.find_code(method) {
-        Some(code) => local < code.max_locals,
-        None => false,
-    }
+    local < max_locals(turn.world, method)
 }
 
 // The int of a local that lies below the limit.
