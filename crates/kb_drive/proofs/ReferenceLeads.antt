@@ -22,10 +22,10 @@ use Rattle.kb_picture.specs.Growth.{after_read}
 use Rattle.kb_picture.specs.Instances.{variable_values}
 use Rattle.kb_picture.specs.Queries.{kind_for}
 use Rattle.kb_picture.proofs.GrownShapes.{as_many, choice_places}
+use Rattle.kb_picture.specs.WellTyped.{is_reference_type}
 use Rattle.kb_frames.specs.declared.value.Outcome.TheVariants.{Cut}
 use Rattle.kb_frames.specs.FirstReads.{first_int, first_reference}
 use Rattle.kb_frames.specs.Lent.{begun}
-use Rattle.kb_picture.specs.WellTyped.{is_reference_type}
 use Rattle.kb_frames.specs.Next.{method_now, offset_now}
 use Rattle.kb_frames.specs.State.{State}
 use Rattle.kb_ways.specs.Ways.{Take, ill_typed}

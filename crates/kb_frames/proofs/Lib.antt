@@ -1,9 +1,9 @@
 pub mod StartLaws
 pub mod StackLaws
-pub mod CodeLaws
 pub mod NextLaws
 pub mod StatedLaws
 pub mod BeginLaws
+pub mod MakingLaws
 pub mod StateLaws
 pub mod RunLaws
 pub mod FormedPaths

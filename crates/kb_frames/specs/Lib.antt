@@ -2,7 +2,6 @@ pub mod State
 pub mod StandsFor
 pub mod Truths
 pub mod Cuts
-pub mod Code
 pub mod Next
 pub mod Stated
 pub mod States

@@ -7,6 +7,7 @@ use crate::first_reads::numbered;
 use crate::frame::{SymCallers, SymFrame, SymStack};
 use crate::state::{Stage, SymState};
 use crate::value::SymValue;
+use kb_lookups::max_locals;
 use kb_rows::Row;
 use kb_world::World;
 use std::alloc::Global;
@@ -28,10 +29,7 @@ impl SymState {
     {
         let alloc = self.alloc;
         if let Stage::Begins(read) = &self.stage {
-            let limit = match world.find_code(self.method) {
-                Some(code) => code.max_locals as usize,
-                None => 0,
-            };
+            let limit = usize::from(max_locals(world, self.method));
             let locals = begun_locals(alloc, read.as_slice(), limit)?;
             let frame = SymFrame {
                 method: self.method,

@@ -5,7 +5,6 @@
 #![tactic(auto)]
 
 mod beginning;
-mod code;
 mod first_reads;
 mod frame;
 mod growing;
@@ -20,10 +19,9 @@ mod stated;
 mod truths;
 mod value;
 
-pub use code::{Found, declaring_class, instruction_at};
 pub use kb_numbered::PathStop;
 pub use laws::{paths_are_well_formed, states_begin};
-pub use next::{is_int_instruction, is_reference, is_static, variable_kind};
+pub use next::{is_int_instruction, is_reference, variable_kind};
 pub use state::{SymState, start};
 pub use std::alloc::AllocError as NoMemory;
 pub use value::{Cell, Outcome, SymValue};

@@ -17,13 +17,13 @@ use Rattle.kb_semantics.specs.Inputs.{argument_types}
 use Rattle.kb_picture.specs.declared.choice.Init.{Init}
 use Rattle.kb_frames.specs.declared.state.Stage.{Stage}
 use Rattle.kb_frames.specs.declared.state.Stage.TheVariants.{Begins, Runs}
-use Rattle.kb_picture.specs.WellTyped.{is_reference_type}
+use Rattle.kb_picture.specs.WellTyped.{is_int_type, is_reference_type}
 use Rattle.kb_frames.specs.Next.{argument_next, instruction_next, is_int, is_int_instruction, is_int_next, method_now, next_is_int}
 use Rattle.kb_frames.specs.State.{State, start_state}
 use Rattle.kb_frames.specs.States.{IsState}
 use Rattle.kb_frames.proofs.StateLaws.{start_is_state}
 use Rattle.kb_ways.specs.Reached.{has_none, IsAlone, IsReached, HasNoHandlers}
-use Rattle.kb_stepint.specs.IntMethods.{is_int_code, is_int_info, is_int_method, is_int_type, is_none_or_int}
+use Rattle.kb_stepint.specs.IntMethods.{is_int_code, is_int_info, is_int_method, is_none_or_int}
 use Rattle.kb_ways.proofs.MethodLaws.{and_both, code_found, all_at, all_passed, found_has, start_typed, handlers_none, all_rise}
 
 -- ---- what an int method has

@@ -19,15 +19,16 @@ use Rattle.kb_terms.specs.declared.node.Node.{Node}
 use Rattle.kb_terms.specs.Terms.{IsTerm, Extends}
 use Rattle.kb_terms.proofs.Values.{Extends-trans}
 use Rattle.kb_picture.specs.declared.choice.Choice.{Choice}
+use Rattle.kb_picture.specs.Exactly.{ExactlyOneHas, NoneHas}
 use Rattle.kb_picture.specs.Instances.{variable_values}
 use Rattle.kb_picture.specs.Queries.{kind_for}
+use Rattle.kb_picture.specs.WellTyped.{is_reference_type}
 use Rattle.kb_frames.specs.declared.state.Stage.{Stage}
 use Rattle.kb_frames.specs.declared.state.Stage.TheVariants.{Begins, Runs}
 use Rattle.kb_frames.specs.declared.value.Outcome.TheVariants.{Cut}
 use Rattle.kb_frames.specs.declared.value.SymValue.{SymValue}
 use Rattle.kb_frames.specs.Cuts.{setting_of}
 use Rattle.kb_frames.specs.Lent.{begun, begun_stage, read_count, stack_of}
-use Rattle.kb_picture.specs.WellTyped.{is_reference_type}
 use Rattle.kb_frames.specs.Next.{argument_next, instruction_next, is_int, is_int_next, method_now, offset_now}
 use Rattle.kb_frames.specs.StandsFor.{IsInstanceOf, StandsFor}
 use Rattle.kb_frames.specs.State.{State}
@@ -39,7 +40,7 @@ use Rattle.kb_stepint.specs.Effects.{plan_of, effect_of}
 use Rattle.kb_stepint.specs.Laws.{IsAtInts}
 use Rattle.kb_ways.specs.Operands.{int_term, an_int, two_ints}
 use Rattle.kb_ways.specs.Reached.{IsReached}
-use Rattle.kb_ways.specs.Simulation.{ExactlyOneIs, NoneIs, TakesOneWay}
+use Rattle.kb_ways.specs.Simulation.{TakesOneWay}
 use Rattle.kb_stepint.specs.Takes.{reads_argument, taken}
 use Rattle.kb_ways.specs.Ways.{ill_typed}
 use Rattle.kb_ways.proofs.KeepLaws.{went_when, went_stays}
@@ -62,23 +63,24 @@ filter_kept keep x xs e = rw e refl
 filter_dropped : {A : Type 0} (keep : A → Bool) (x : A) (xs : List A) → keep x ≡ false → filter keep (x ∷ xs) ≡ filter keep xs
 filter_dropped keep x xs e = rw e refl
 
-module _ {A : Type 0} (P Q : A → Type 0) (keep : A → Bool) (kept : (x : A) → P x → keep x ≡ true) (there : (x : A) → P x → Q x) (back : (x : A) → keep x ≡ true → Q x → P x) where
-  none_left : (xs : List A) → NoneIs P xs → NoneIs Q (filter keep xs)
+module _ {A B C : Type 0} (P : A → B → Type 0) (Q : A → C → Type 0) (values : B) (input : C) (keep : A → Bool) (kept : (x : A) → P x values → keep x ≡ true)
+    (there : (x : A) → P x values → Q x input) (back : (x : A) → keep x ≡ true → Q x input → P x values) where
+  none_left : (xs : List A) → NoneHas P xs values → NoneHas Q (filter keep xs) input
   none_left [] none = tt
   none_left (x ∷ xs) none = go (none_left xs none.1) (keep x) refl where
-    go : NoneIs Q (filter keep xs) → (b : Bool) → keep x ≡ b → NoneIs Q (filter keep (x ∷ xs))
-    go rest true e = subst (NoneIs Q) (sym (filter_kept keep x xs e)) ((λ q. none.0 (back x e q)), rest)
-    go rest false e = subst (NoneIs Q) (sym (filter_dropped keep x xs e)) rest
+    go : NoneHas Q (filter keep xs) input → (b : Bool) → keep x ≡ b → NoneHas Q (filter keep (x ∷ xs)) input
+    go rest true e = subst (λ (left : List A). NoneHas Q left input) (sym (filter_kept keep x xs e)) ((λ q. none.0 (back x e q)), rest)
+    go rest false e = subst (λ (left : List A). NoneHas Q left input) (sym (filter_dropped keep x xs e)) rest
 
-  one_left : (xs : List A) → ExactlyOneIs P xs → ExactlyOneIs Q (filter keep xs)
+  one_left : (xs : List A) → ExactlyOneHas P xs values → ExactlyOneHas Q (filter keep xs) input
   one_left [] one = one
   one_left (x ∷ xs) one = elim one [
-    | inl here ↦ subst (ExactlyOneIs Q) (sym (filter_kept keep x xs (kept x here.0))) (inl (there x here.0, none_left xs here.1))
+    | inl here ↦ subst (λ (left : List A). ExactlyOneHas Q left input) (sym (filter_kept keep x xs (kept x here.0))) (inl (there x here.0, none_left xs here.1))
     | inr later ↦ go (one_left xs later.1) (keep x) refl later.0
   ] where
-    go : ExactlyOneIs Q (filter keep xs) → (b : Bool) → keep x ≡ b → (P x → ⊥) → ExactlyOneIs Q (filter keep (x ∷ xs))
-    go rest true e never = subst (ExactlyOneIs Q) (sym (filter_kept keep x xs e)) (inr ((λ q. never (back x e q)), rest))
-    go rest false e never = subst (ExactlyOneIs Q) (sym (filter_dropped keep x xs e)) rest
+    go : ExactlyOneHas Q (filter keep xs) input → (b : Bool) → keep x ≡ b → (P x values → ⊥) → ExactlyOneHas Q (filter keep (x ∷ xs)) input
+    go rest true e never = subst (λ (left : List A). ExactlyOneHas Q left input) (sym (filter_kept keep x xs e)) (inr ((λ q. never (back x e q)), rest))
+    go rest false e never = subst (λ (left : List A). ExactlyOneHas Q left input) (sym (filter_dropped keep x xs e)) rest
 
 -- ---- the operands are terms
 
@@ -140,11 +142,17 @@ module _ (world : World) (bounds : Bounds) (old : State) (reached : IsReached wo
       Extends-trans (grown choice).nodes (effect choice).state.nodes (new choice).nodes (more choice).on.terms
       (went_stays world bounds found.1 (effect choice).state (effect choice).way).terms
 
+  abbrev HeldAt : Choice → List ℤ → Type 0
+  HeldAt choice values = AllHold old.nodes values (cs choice)
+
   abbrev Held : Choice → Type 0
-  Held choice = AllHold old.nodes variables (cs choice)
+  Held choice = HeldAt choice variables
+
+  abbrev InstanceAt : Choice → Input → Type 0
+  InstanceAt choice i = IsInstanceOf (new choice) i
 
   abbrev Instance : Choice → Type 0
-  Instance choice = IsInstanceOf (new choice) input
+  Instance choice = InstanceAt choice input
 
   abbrev keep : Choice → Bool
   keep choice = not (is_refuted old (cs choice))
@@ -166,10 +174,10 @@ module _ (world : World) (bounds : Bounds) (old : State) (reached : IsReached wo
       (met_of_instance old.picture (grown choice).nodes (grown choice).when (all_ready (cs choice) start (sides choice) ready).terms (new choice) input
       (answered_picture choice) (answered_when choice) (answered_terms choice) instance_of.shape i)
 
-  pub one_answered : HasRisingKeys found.0 → ExactlyOneIs Instance (offered old (stack_of old.stage) found.0)
+  pub one_answered : HasRisingKeys found.0 → ExactlyOneHas InstanceAt (offered old (stack_of old.stage) found.0) input
   one_answered rising =
-      subst (λ (s : List SymValue). ExactlyOneIs Instance (offered old s found.0)) (stack_same world old old.stage)
-      (one_left Held Instance keep held_kept held_instance instance_held (listed found.0 stack) (listed_one old.nodes variables found.0 stack rising))
+      subst (λ (s : List SymValue). ExactlyOneHas InstanceAt (offered old s found.0) input) (stack_same world old old.stage)
+      (one_left HeldAt InstanceAt variables input keep held_kept held_instance instance_held (listed found.0 stack) (listed_one old.nodes variables found.0 stack rising))
 
 -- ---- all takes
 
@@ -185,14 +193,14 @@ module _ (world : World) (bounds : Bounds) (old : State) (at : IsAtInts world ol
   rising found e =
       at.reached.keys (method_now old.method (begun_stage world old old.stage)) (offset_now (begun_stage world old old.stage)) found e
 
-  one_taken_up : ExactlyOneIs (λ (choice : Choice). IsInstanceOf (takes_up plan_of world bounds choice (begun world old)).state input)
-      (option_map_or (offered old (stack_of old.stage)) (instruction_next world old.method old.stage) only)
+  one_taken_up : ExactlyOneHas (λ (choice : Choice) (i : Input). IsInstanceOf (takes_up plan_of world bounds choice (begun world old)).state i)
+      (option_map_or (offered old (stack_of old.stage)) (instruction_next world old.method old.stage) only) input
   one_taken_up =
-      subst (λ (found : Option (Instr × ℕ)). ExactlyOneIs (λ (choice : Choice). IsInstanceOf (takes_up plan_of world bounds choice (begun world old)).state input)
-      (option_map_or (offered old (stack_of old.stage)) (option_map (λ (f : Instr × ℕ). f.0) found) only)) (place_same world old old.stage) (go place refl)
+      subst (λ (found : Option (Instr × ℕ)). ExactlyOneHas (λ (choice : Choice) (i : Input). IsInstanceOf (takes_up plan_of world bounds choice (begun world old)).state i)
+      (option_map_or (offered old (stack_of old.stage)) (option_map (λ (f : Instr × ℕ). f.0) found) only) input) (place_same world old old.stage) (go place refl)
     where
-      go : (it : Option (Instr × ℕ)) → place ≡ it → ExactlyOneIs (λ (choice : Choice). IsInstanceOf (option_map_or (carried_out plan_of world bounds choice (begun world old)) it (ill_typed world (begun world old))).state input)
-          (option_map_or (offered old (stack_of old.stage)) (option_map (λ (f : Instr × ℕ). f.0) it) only)
+      go : (it : Option (Instr × ℕ)) → place ≡ it → ExactlyOneHas (λ (choice : Choice) (i : Input). IsInstanceOf (option_map_or (carried_out plan_of world bounds choice (begun world old)) it (ill_typed world (begun world old))).state i)
+          (option_map_or (offered old (stack_of old.stage)) (option_map (λ (f : Instr × ℕ). f.0) it) only) input
       go None e = inl (begun_instance, tt)
       go (Some found) e = one_answered world bounds old at.reached input stands.instance_of found (rising found e)
 
@@ -220,16 +228,16 @@ module _ (world : World) (bounds : Bounds) (old : State) (at : IsAtInts world ol
     by_stage (Begins read) h plain = by_info (length read) (info_of world old.method) refl h (not-true (is_reference_type type) plain)
     by_stage (Runs frame callers) h plain = absurd cc
 
-  pub one_taken : ExactlyOneIs (λ (choice : Choice). IsInstanceOf (taken world bounds old choice).state input) (choices_of world old bounds)
+  pub one_taken : ExactlyOneHas (λ (choice : Choice) (i : Input). IsInstanceOf (taken world bounds old choice).state i) (choices_of world old bounds) input
   one_taken = go (argument_next world old.method old.stage) refl where
-    by_steps : (b : Bool) → ExactlyOneIs (λ (choice : Choice). IsInstanceOf (if b then record { state = old; outcome = Cut Steps } else takes_up plan_of world bounds choice (begun world old)).state input)
-        (if b then only else option_map_or (offered old (stack_of old.stage)) (instruction_next world old.method old.stage) only)
+    by_steps : (b : Bool) → ExactlyOneHas (λ (choice : Choice) (i : Input). IsInstanceOf (if b then record { state = old; outcome = Cut Steps } else takes_up plan_of world bounds choice (begun world old)).state i)
+        (if b then only else option_map_or (offered old (stack_of old.stage)) (instruction_next world old.method old.stage) only) input
     by_steps true = inl (stands.instance_of, tt)
     by_steps false = one_taken_up
 
     go : (next : Option JType) → argument_next world old.method old.stage ≡ next
-        → ExactlyOneIs (λ (choice : Choice). IsInstanceOf (option_map_or (reads_argument old) next (takes_next plan_of world bounds choice old)).state input)
-        (if is_some next || nat_le bounds.run.steps old.carried then only else option_map_or (offered old (stack_of old.stage)) (instruction_next world old.method old.stage) only)
+        → ExactlyOneHas (λ (choice : Choice) (i : Input). IsInstanceOf (option_map_or (reads_argument old) next (takes_next plan_of world bounds choice old)).state i)
+        (if is_some next || nat_le bounds.run.steps old.carried then only else option_map_or (offered old (stack_of old.stage)) (instruction_next world old.method old.stage) only) input
     go None e = by_steps (nat_le bounds.run.steps old.carried)
     go (Some type) e =
         let int = argument_int type e in

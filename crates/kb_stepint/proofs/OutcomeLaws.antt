@@ -25,6 +25,7 @@ use Rattle.kb_picture.specs.declared.choice.Choice.{Choice}
 use Rattle.kb_picture.specs.declared.picture.PlaceLists.{PlaceLists}
 use Rattle.kb_picture.specs.Endings.{Reading}
 use Rattle.kb_picture.specs.Instances.{variable_values}
+use Rattle.kb_picture.specs.WellTyped.{is_reference_type}
 use Rattle.kb_frames.specs.declared.state.Stage.{Stage}
 use Rattle.kb_frames.specs.declared.state.Stage.TheVariants.{Begins, Runs}
 use Rattle.kb_frames.specs.declared.value.Outcome.TheVariants.{Cut}
@@ -32,7 +33,6 @@ use Rattle.kb_frames.specs.declared.value.SymValue.{SymValue}
 use Rattle.kb_frames.specs.declared.value.SymValue.TheVariants.{Int}
 use Rattle.kb_frames.specs.Cuts.{setting_of}
 use Rattle.kb_frames.specs.Lent.{begun, begun_stage, stack_of}
-use Rattle.kb_picture.specs.WellTyped.{is_reference_type}
 use Rattle.kb_frames.specs.Next.{argument_next, instruction_next, is_int, is_int_instruction, is_int_next, method_now, offset_now}
 use Rattle.kb_frames.specs.StandsFor.{FrameStandsFor, IsInstanceOf, StandsFor, reading_at}
 use Rattle.kb_frames.specs.State.{State}

@@ -10,16 +10,10 @@ use Rattle.kb_code.specs.declared.instruction.Instr.{Instr}
 use Rattle.kb_link.specs.Slots.{is_static}
 use Rattle.kb_link.specs.World.{World}
 use Rattle.kb_names.specs.declared.types.JType.{JType}
-use Rattle.kb_names.specs.declared.types.JType.TheVariants as types
 use Rattle.kb_semantics.specs.Config.{info_of}
 use Rattle.kb_frames.specs.Next.{is_int_instruction}
+use Rattle.kb_picture.specs.WellTyped.{is_int_type}
 use Rattle.kb_ways.specs.Reached.{has_none}
-
--- an int or a boolean
-abbrev pub is_int_type : JType → Bool
-is_int_type types.Int = true
-is_int_type types.Bool = true
-is_int_type _ = false
 
 abbrev pub is_none_or_int : Option JType → Bool
 is_none_or_int result = option_map_or is_int_type result true

@@ -13,8 +13,9 @@ ghost use Rattle.kb_picture.specs.declared.choice.Choice.TheVariants.{Default, K
 use crate::NoMemory;
 use crate::keys::Keys;
 use kb_code::{Cond, Instr, IntOp};
-use kb_frames::{SymState, instruction_at};
+use kb_frames::SymState;
 use kb_heap::Bounds;
+use kb_lookups::instruction_at;
 use kb_picture::Choice;
 use kb_terms::TermId;
 use kb_ways::{Condition, Side, an_int, branch_condition, equals_number, is_against, two_ints};

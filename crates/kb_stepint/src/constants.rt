@@ -10,6 +10,7 @@ ghost use Rattle.kb_ways.specs.Turns.{told, led_by};
 use crate::NoMemory;
 use kb_class::MethodId;
 use kb_frames::{Outcome, SymState, SymValue};
+use kb_lookups::declaring_class;
 use kb_ways::{Turn, constant, ill_typed, replaces};
 use kb_world::World;
 
@@ -46,9 +47,5 @@ pub(crate) fn load_constant(
 fn int_entry(world: &World, method: MethodId, entry: u16) -> Option<i32>
     ensures { result ≡ int_entry_of world.now (class_number world.now method) entry }
 {
-    let class = match world.find_method(method) {
-        Some(info) => info.class,
-        None => kb_class::ClassId(0),
-    };
-    world.find_int(class, entry)
+    world.find_int(declaring_class(world, method), entry)
 }

@@ -46,6 +46,7 @@ use Rattle.kb_picture.proofs.ChainLaws.{all_below, below_at}
 use Rattle.kb_picture.proofs.GrownShapes.{as_many, int_places, locs_many}
 use Rattle.kb_picture.proofs.PlaceLaws.{places_loc, places_seen}
 use Rattle.kb_picture.proofs.ShapeLaws.{place_inside}
+use Rattle.kb_picture.specs.WellTyped.{is_reference_type}
 use Rattle.kb_frames.specs.declared.state.Stage.{Stage}
 use Rattle.kb_frames.specs.declared.state.Stage.TheVariants.{Begins}
 use Rattle.kb_frames.specs.declared.value.Cell.{Cell}
@@ -55,7 +56,6 @@ use Rattle.kb_frames.specs.declared.value.SymValue.TheVariants.{Int}
 use Rattle.kb_frames.specs.Cuts.{setting_of}
 use Rattle.kb_frames.specs.FirstReads.{cells_chosen, first_int, first_reference, found_in, value_chosen, with_read}
 use Rattle.kb_frames.specs.Heaps.{find_cell, with_cell}
-use Rattle.kb_picture.specs.WellTyped.{is_reference_type}
 use Rattle.kb_frames.specs.StandsFor.{IsInstanceOf, StageStandsFor, StandsFor, reading_at, value_of_sym}
 use Rattle.kb_frames.specs.State.{State, cell_at}
 use Rattle.kb_frames.specs.States.{IsBeginning, IsStage, IsState}

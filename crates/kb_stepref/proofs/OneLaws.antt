@@ -26,11 +26,11 @@ use Rattle.kb_picture.specs.Growing.{params_of}
 use Rattle.kb_picture.specs.Growth.{after_read}
 use Rattle.kb_picture.specs.Queries.{kind_for}
 use Rattle.kb_picture.specs.Shapes.{HasShape}
-use Rattle.kb_frames.specs.Cuts.{setting_of}
 use Rattle.kb_picture.specs.WellTyped.{is_reference_type}
+use Rattle.kb_frames.specs.Cuts.{setting_of}
 use Rattle.kb_frames.specs.StandsFor.{IsInstanceOf, StandsFor}
 use Rattle.kb_frames.specs.State.{State}
-use Rattle.kb_ways.specs.Simulation.{ExactlyOneIs, NoneIs, TakesOneWay}
+use Rattle.kb_ways.specs.Simulation.{TakesOneWay}
 use Rattle.kb_ways.specs.Ways.{Take}
 use Rattle.kb_ways.proofs.OneAsked.{conditions_there}
 use Rattle.kb_ways.proofs.OneInstances.{instance_of_met}
@@ -50,12 +50,12 @@ use Rattle.kb_stepref.specs.Effects.{plan_of}
 -- ---- one of some things
 
 -- who has one of them, in other words
-module _ {A : Type 0} (Had : A → Input → Type 0) (Is : A → Type 0) (input : Input) (there : (x : A) → Had x input → Is x) (back : (x : A) → Is x → Had x input) where
-  none_is : (xs : List A) → NoneHas Had xs input → NoneIs Is xs
+module _ {A : Type 0} (Had Is : A → Input → Type 0) (input : Input) (there : (x : A) → Had x input → Is x input) (back : (x : A) → Is x input → Had x input) where
+  none_is : (xs : List A) → NoneHas Had xs input → NoneHas Is xs input
   none_is [] none = tt
   none_is (x ∷ xs) none = ((λ is. none.0 (back x is)), none_is xs none.1)
 
-  one_is : (xs : List A) → ExactlyOneHas Had xs input → ExactlyOneIs Is xs
+  one_is : (xs : List A) → ExactlyOneHas Had xs input → ExactlyOneHas Is xs input
   one_is [] one = one
   one_is (x ∷ xs) one = elim one [
     | inl here ↦ inl (there x here.0, none_is xs here.1)
@@ -104,10 +104,10 @@ module _ (world : World) (bounds : Bounds) (old : State) (at : IsAtReferences wo
     takes_back choice i = subst (λ (p : Picture). HasShape p input) (picture_is choice) i.shape
 
     one_reference : is_reference_type type ≡ true
-        → ExactlyOneIs (λ (choice : Choice). IsInstanceOf (take true choice).state input)
-        (read_choices_of old.init world old.picture slot type (is_receiver world old.method slot) bounds.k bounds.array)
+        → ExactlyOneHas (λ (choice : Choice) (i : Input). IsInstanceOf (take true choice).state i)
+        (read_choices_of old.init world old.picture slot type (is_receiver world old.method slot) bounds.k bounds.array) input
     one_reference e =
-        one_is Chosen (λ (choice : Choice). IsInstanceOf (take true choice).state input) input is_instance takes_back
+        one_is Chosen (λ (choice : Choice) (i : Input). IsInstanceOf (take true choice).state i) input is_instance takes_back
         (read_choices_of old.init world old.picture slot type (is_receiver world old.method slot) bounds.k bounds.array)
         (one_taken world old.method old.picture slot type (is_receiver world old.method slot) bounds.k bounds.array input at.linked
         (first_read world bounds old at.reached.typed slot type is e) at.within correct stands.instance_of.shape old.init)
@@ -127,15 +127,15 @@ module _ (world : World) (bounds : Bounds) (old : State) (at : IsAtReferences wo
         (Extends-trans old.nodes (told false Only).nodes new.nodes more untold.stays.terms) (untold.when ∙ tells.when) held.0 (untold.stays.picture ∙ tells.picture) held.1
 
     one_answer : (b : Bool) → is_reference_type type ≡ b
-        → ExactlyOneIs (λ (choice : Choice). IsInstanceOf (take b choice).state input)
-        (if b then read_choices_of old.init world old.picture slot type (is_receiver world old.method slot) bounds.k bounds.array else only)
+        → ExactlyOneHas (λ (choice : Choice) (i : Input). IsInstanceOf (take b choice).state i)
+        (if b then read_choices_of old.init world old.picture slot type (is_receiver world old.method slot) bounds.k bounds.array else only) input
     one_answer true e = one_reference e
     one_answer false e = inl (only_instance e, tt)
 
-  pub one_way : ExactlyOneIs (λ (choice : Choice). IsInstanceOf (taken world bounds old choice).state input) (choices_of world old bounds)
+  pub one_way : ExactlyOneHas (λ (choice : Choice) (i : Input). IsInstanceOf (taken world bounds old choice).state i) (choices_of world old bounds) input
   one_way = go (question_of world old bounds) refl where
     go : (q : Option Question) → question_of world old bounds ≡ q
-        → ExactlyOneIs (λ (choice : Choice). IsInstanceOf (option_map_or (answers plan_of world bounds choice old) q (takes_next plan_of world bounds Only old)).state input) (option_map_or (alternatives world old bounds) q only)
+        → ExactlyOneHas (λ (choice : Choice) (i : Input). IsInstanceOf (option_map_or (answers plan_of world bounds choice old) q (takes_next plan_of world bounds Only old)).state i) (option_map_or (alternatives world old bounds) q only) input
     go None e = inl (next_instance, tt)
     go (Some (Reads slot type)) e = one_answer slot type (asked world bounds old at slot type e) (is_reference_type type) refl
 

@@ -49,6 +49,7 @@ use Rattle.kb_picture.proofs.ChainLaws.{all_below, below_at}
 use Rattle.kb_picture.proofs.GrownPictures.{item_there}
 use Rattle.kb_picture.proofs.GrownShapes.{as_many, choice_places, int_places}
 use Rattle.kb_picture.proofs.HeldLaws.{HeldValue, held_value}
+use Rattle.kb_picture.specs.WellTyped.{is_reference_type}
 use Rattle.kb_frames.specs.declared.state.Stage.{Stage}
 use Rattle.kb_frames.specs.declared.state.Stage.TheVariants.{Runs}
 use Rattle.kb_frames.specs.declared.value.Cell.TheVariants.{Untouched, Written}
@@ -56,7 +57,6 @@ use Rattle.kb_frames.specs.declared.value.SymValue.{SymValue}
 use Rattle.kb_frames.specs.declared.value.SymValue.TheVariants.{Obj}
 use Rattle.kb_frames.specs.Cuts.{setting_of}
 use Rattle.kb_frames.specs.Lent.{stack_of}
-use Rattle.kb_picture.specs.WellTyped.{is_reference_type}
 use Rattle.kb_frames.specs.Next.{instruction_next, method_now}
 use Rattle.kb_frames.specs.StandsFor.{FrameStandsFor, IsInstanceOf, IsLike, StageStandsFor, StandsFor, beginning_of, present_value, reading_at, value_of_sym, written_by}
 use Rattle.kb_frames.specs.State.{State, cell_at}

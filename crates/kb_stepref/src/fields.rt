@@ -1,7 +1,6 @@
 //! The fields of objects: getfield and putfield (JVMS 8 section 6.5).
 ghost use Rattle.std.specs.Prelude.{◌≡◌, ◌<◌, drop, Some, IfOk, if◌then◌else◌};
 ghost use Rattle.std.specs.Option.{option_copied};
-ghost use Rattle.kb_semantics.specs.Instructions.{has_field};
 ghost use Rattle.kb_ways.specs.Needs.{CanStep, IsTermOf};
 ghost use Rattle.kb_ways.specs.Turns.{led, led_by, told};
 ghost use Rattle.kb_frames.specs.Lent.{stack_of};
@@ -11,8 +10,8 @@ ghost use Rattle.kb_ways.specs.Plans.{plain};
 ghost use Rattle.kb_stepref.specs.Fields.{cell_of, field_named, has_place, has_slot_of, held, made_value_of, put_in};
 
 use crate::NoMemory;
-use kb_frames::{Cell, Outcome, SymState, SymValue, declaring_class};
-use kb_names::ExactType;
+use kb_frames::{Cell, Outcome, SymState, SymValue};
+use kb_lookups::{declaring_class, has_field};
 use kb_ways::{
     Turn, a_reference, an_object_and_value, has_room, ill_typed, keep, replaces, throws,
 };
@@ -41,15 +40,6 @@ fn has_slot_of(world: &World, state: &SymState, field: &FieldSlot, value: SymVal
     match state.exact_type_of(value) {
         Some(kind) => has_field(world, kind, field),
         None => false,
-    }
-}
-
-fn has_field(world: &World, kind: &ExactType, field: &FieldSlot) -> bool
-    ensures { result ≡ has_field world.now kind.now field.now }
-{
-    match kind {
-        ExactType::Class(name) => world.is_in_chain(name, field.class),
-        ExactType::Array(_) => false,
     }
 }
 

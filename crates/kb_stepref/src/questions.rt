@@ -6,8 +6,9 @@ ghost use Rattle.kb_stepref.specs.Questions.{asked_by, asks_cell, asks_field, qu
 use crate::NoMemory;
 use crate::fields::{cell_of, field_named};
 use kb_code::Instr;
-use kb_frames::{Cell, SymState, SymValue, instruction_at};
+use kb_frames::{Cell, SymState, SymValue};
 use kb_heap::Bounds;
+use kb_lookups::instruction_at;
 use kb_picture::Origin;
 use kb_ways::Question;
 use kb_world::{FieldSlot, World};

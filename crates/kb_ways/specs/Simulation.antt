@@ -1,7 +1,7 @@
 -- What it means that a step of states simulates the step of the machine (King, 1976; generalised symbolic execution: Khurshid,
 -- Păsăreanu and Visser, TACAS 2003), in six parts. Nothing here speaks of ints: `choices` are the alternatives of a state, and
 -- `taken` is what a take of each makes of it. An input is one that is type-correct for the state's method.
-use Rattle.std.specs.Prelude.{◌≡◌, ◌≢◌, ◌⊎◌, ℕ, ◌+◌, ◌<◌, ◌≤◌, Bool, List, [], ◌∷◌, length, take, Option, Some, None, slice_get}
+use Rattle.std.specs.Prelude.{◌≡◌, ◌≢◌, ℕ, ◌+◌, ◌<◌, ◌≤◌, Bool, List, length, take, Option, Some, None, slice_get}
 use Rattle.kb_class.specs.Naming.{Has}
 use Rattle.kb_heap.specs.declared.bounds.Bounds.{Bounds}
 use Rattle.kb_heap.specs.declared.heap.Heap.{Heap}
@@ -23,6 +23,7 @@ use Rattle.kb_picture.specs.declared.picture.Standing.TheVariants as standings
 use Rattle.kb_picture.specs.declared.picture.PicLoc.{PicLoc}
 use Rattle.kb_picture.specs.declared.picture.PlaceLists.{PlaceLists}
 use Rattle.kb_picture.specs.Endings.{ending_at}
+use Rattle.kb_picture.specs.Exactly.{ExactlyOneHas}
 use Rattle.kb_picture.specs.Instances.{variable_values}
 use Rattle.kb_picture.specs.Shapes.{HasShape}
 use Rattle.kb_picture.specs.WellTyped.{IsWellTyped, IsReceiverSeen}
@@ -37,22 +38,12 @@ use Rattle.kb_ways.specs.Ways.{Take}
 
 -- ---- 1: one alternative
 
--- no item has the property
-abbrev pub NoneIs : {A : Type 0} → (A → Type 0) → List A → Type 0
-NoneIs P [] = Unit {0}
-NoneIs P (first ∷ others) = (P first → ⊥) × NoneIs P others
-
--- one item has it, and no item before or behind that one
-abbrev pub ExactlyOneIs : {A : Type 0} → (A → Type 0) → List A → Type 0
-ExactlyOneIs P [] = ⊥
-ExactlyOneIs P (first ∷ others) = (P first × NoneIs P others) ⊎ ((P first → ⊥) × ExactlyOneIs P others)
-
 -- Where the state stands for a configuration of an input's run, the input is an instance after the take of exactly one
 -- alternative.
 abbrev pub TakesOneWay : World → Bounds → State → List Choice → (Choice → Take) → Type 0
 TakesOneWay world bounds state choices taken =
     (input : Input) (c : Config) → IsTypeCorrect world state.method input → StandsFor (setting_of world bounds) state input c
-    → ExactlyOneIs (λ choice. IsInstanceOf (taken choice).state input) choices
+    → ExactlyOneHas (λ choice i. IsInstanceOf (taken choice).state i) choices input
 
 -- ---- 2: the outcome
 

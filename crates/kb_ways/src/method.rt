@@ -7,6 +7,7 @@ ghost use Rattle.kb_frames.specs.Next.{method_now};
 use crate::turn::Turn;
 use kb_class::MethodId;
 use kb_frames::SymState;
+use kb_lookups::max_locals;
 use kb_names::JType;
 use kb_world::World;
 
@@ -15,10 +16,7 @@ pub fn is_local(turn: &Turn<'_>, state: &SymState, local: u16) -> bool
     ensures { result ≡ nat_lt local (max_locals_of turn.now.world.now (method_now state.now.method state.now.stage)) }
 {
     let (method, _) = state.stands_at();
-    match turn.world.find_code(method) {
-        Some(code) => local < code.max_locals,
-        None => false,
-    }
+    local < max_locals(turn.world, method)
 }
 
 /// The type of a method's result: None of void, and where there is no such method.

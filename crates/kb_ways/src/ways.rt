@@ -1,6 +1,6 @@
 //! The ways in which a step goes on or ends.
 ghost use Rattle.std.specs.Prelude.{◌≡◌, ◌+◌, ◌++◌, ◌<◌, drop, reverse, IfOk, OnOk};
-ghost use Rattle.kb_semantics.specs.Config.{has_room, max_stack_of};
+ghost use Rattle.kb_semantics.specs.Config.{has_room};
 ghost use Rattle.kb_frames.specs.Lent.{carried_on, locals_of, on_frame, stack_of};
 ghost use Rattle.kb_frames.specs.Next.{method_now};
 ghost use Rattle.kb_frames.specs.declared.frame.SymFrame.{SymFrame};
@@ -10,11 +10,10 @@ ghost use Rattle.kb_ways.specs.Ways.{Goes, Jumps, Throws, Fails};
 use crate::NoMemory;
 use crate::place::place_of;
 use crate::turn::Turn;
-use kb_class::MethodId;
 use kb_frames::{Outcome, SymState, SymValue};
 use kb_heap::Bound;
+use kb_lookups::max_stack;
 use kb_picture::{Out, SymEnding};
-use kb_world::World;
 
 /// The run ends as ill-typed at the instruction that was taken up.
 pub fn ill_typed(turn: &Turn<'_>, state: &SymState) -> Result<Outcome, NoMemory>
@@ -29,21 +28,11 @@ pub fn has_room(turn: &Turn<'_>, state: &SymState, kept: usize, more: usize) -> 
     ensures { result ≡ has_room turn.now.world.now (method_now state.now.method state.now.stage) (kept + more) }
 {
     let (method, _) = state.stands_at();
-    let room = max_stack(turn.world, method);
+    let room = usize::from(max_stack(turn.world, method));
     if kept > room {
         return false;
     }
     more <= room - kept
-}
-
-// How many values the stack of a method's frame may have.
-fn max_stack(world: &World, method: MethodId) -> usize
-    ensures { result ≡ max_stack_of world.now method }
-{
-    match world.find_code(method) {
-        Some(code) => code.max_stack as usize,
-        None => 0,
-    }
 }
 
 /// The instruction was carried out, within the bound, and the next one is at that offset.

@@ -1,22 +1,13 @@
 //! The instructions of a method's code, by their offsets.
+
 ghost use Rattle.std.specs.Prelude.{◌≡◌, drop, option_map};
 ghost use Rattle.kb_code.specs.Listing.{offset_of};
-ghost use Rattle.kb_semantics.specs.Config.{class_number, instruction_at};
-ghost use Rattle.kb_frames.specs.Code.{plain_found, from_place};
+ghost use Rattle.kb_semantics.specs.Config.{behind, instruction_at};
+ghost use Rattle.kb_lookups.specs.Listings.{from_place, plain_found};
 
-use kb_class::{ClassId, MethodId};
+use kb_class::MethodId;
 use kb_code::Instr;
 use kb_world::World;
-
-/// The class that declares a method; of a number that no method has the first class. It takes no memory.
-pub fn declaring_class(world: &World, method: MethodId) -> ClassId
-    ensures { result.0 ≡ class_number world.now method }
-{
-    match world.find_method(method) {
-        Some(info) => info.class,
-        None => ClassId(0),
-    }
-}
 
 /// An instruction, and the offset behind it.
 #[derive(Clone, Copy)]
@@ -27,7 +18,7 @@ pub struct Found<'w> {
 
 /// The instruction at an offset of a method's code: None where the code has run off its end, or there is none. It takes no
 /// memory.
-#[tactic(auto, using(crate::proofs::CodeLaws::by_place))]
+#[tactic(auto, using(crate::proofs::ListingLaws::by_place))]
 pub fn instruction_at(world: &World, method: MethodId, at: u32) -> Option<Found<'_>>
     ensures { option_map plain_found result ≡ instruction_at world.now method at }
 {
@@ -57,5 +48,15 @@ fn offset_at(items: &[(u32, Instr)], place: usize, size: u32) -> u32
     match items.get(place) {
         Some((at, _)) => *at,
         None => size,
+    }
+}
+
+/// The offset behind the instruction at an offset. It takes no memory.
+pub fn behind(world: &World, method: MethodId, at: u32) -> u32
+    ensures { result ≡ behind world.now method at }
+{
+    match instruction_at(world, method, at) {
+        Some(found) => found.next,
+        None => at,
     }
 }
