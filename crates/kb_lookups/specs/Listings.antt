@@ -1,4 +1,4 @@
--- What stands at an offset of a method's code.
+-- What stands at an offset of a method's code (JVMS 8 section 4.7.3).
 use Rattle.std.specs.Prelude.{ℕ, suc, List, drop, option_map, Option, Some, None, slice_get}
 use Rattle.kb_code.specs.Listing.{offset_of}
 use Rattle.kb_code.specs.declared.instruction.Instr.{Instr}
