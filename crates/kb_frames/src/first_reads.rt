@@ -50,14 +50,11 @@ impl SymState {
     fn value_chosen(&self, choice: &Choice) -> Result<SymValue, NoMemory>
         ensures { IfOk result (λ value. value ≡ value_chosen self.now.picture choice.now) }
     {
+        let picture = self.picture.get();
         match choice {
             Choice::Alias(number) => Ok(SymValue::Obj(*number)),
-            Choice::Fresh(..) => Ok(SymValue::Obj(numbered(
-                self.picture.get().objects.as_slice().len(),
-            )?)),
-            Choice::Location => Ok(SymValue::Loc(numbered(
-                self.picture.get().locs.as_slice().len(),
-            )?)),
+            Choice::Fresh(..) => Ok(SymValue::Obj(numbered(picture.objects.as_slice().len())?)),
+            Choice::Location => Ok(SymValue::Loc(numbered(picture.locs.as_slice().len())?)),
             _ => Ok(SymValue::Null),
         }
     }

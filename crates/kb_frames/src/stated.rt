@@ -19,8 +19,9 @@ impl SymState {
     pub fn writes(&self) -> Result<Row<Write>, NoMemory>
         ensures { IfOk result (λ writes. writes ≡ writes_of self.now) }
     {
-        let locs = self.picture.get().locs.as_slice();
-        let objects = self.picture.get().objects.as_slice();
+        let picture = self.picture.get();
+        let locs = picture.locs.as_slice();
+        let objects = picture.objects.as_slice();
         let mut writes = Row::new(self.alloc);
         let mut number: u32 = 0;
         let mut rest = self.cells.as_slice();
