@@ -5,6 +5,7 @@ ghost use Rattle.kb_link.specs.Slots.{has_slot_type};
 ghost use Rattle.kb_drive.specs.HeapMethods.{is_heap_code, is_heap_info, is_heap_method, is_none_or_value};
 
 use kb_class::{MethodCode, MethodId, MethodInfo};
+use kb_link::has_slot_type;
 use kb_names::JType;
 use kb_ways::is_built_instruction;
 use kb_world::World;
@@ -47,16 +48,6 @@ fn are_values(types: &[JType]) -> bool
         rest = others;
     }
     true
-}
-
-// Whether the type is one of ints, booleans or references.
-fn has_slot_type(of: &JType) -> bool
-    ensures { result ≡ has_slot_type of.now }
-{
-    matches!(
-        of,
-        JType::Int | JType::Bool | JType::Class(_) | JType::Array(_)
-    )
 }
 
 fn is_none_or_value(given: &Option<JType>) -> bool

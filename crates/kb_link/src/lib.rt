@@ -31,6 +31,6 @@ pub use by_name::add_place;
 pub use laws::{linked_or_refused, one_reason, one_world};
 pub use linked::Linked;
 pub use linking::{LinkRefusal, What, link};
-pub use slots::FieldSlot;
+pub use slots::{FieldSlot, has_slot_type};
 pub use subtypes::is_above_arrays;
 pub use universe::is_concrete;

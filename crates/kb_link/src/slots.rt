@@ -134,8 +134,8 @@ fn has_slot(field: &FieldInfo) -> bool
     has_slot_type(&field.kind)
 }
 
-// Whether a value of the type has a slot.
-fn has_slot_type(kind: &JType) -> bool
+/// Whether a value of the type has a slot.
+pub fn has_slot_type(kind: &JType) -> bool
     ensures { result ≡ has_slot_type kind.now }
 {
     match kind {
