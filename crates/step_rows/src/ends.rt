@@ -3,6 +3,7 @@
 ghost use Rattle.kb_stepint.specs.Reached.{IsReached};
 
 use crate::rows::TableRow;
+use crate::texts::append;
 use kb_frames::{SymState, paths_are_well_formed};
 use kb_picture::{Init, Leaf};
 use kb_report::{Report, Row, report_text};
@@ -71,8 +72,8 @@ fn append_report(
 fn append_block(text: &str, into: &mut Vec<u8>) -> RowResult<()> {
     for line in text.lines().skip(HEAD) {
         if !line.starts_with("total ") {
-            into.extend_from_slice(line.as_bytes())?;
-            into.push(b'\n')?;
+            append(line, into)?;
+            append("\n", into)?;
         }
     }
     Ok(())
