@@ -4,7 +4,7 @@ use Rattle.kb_terms.specs.declared.node.TermId.{TermId}
 use Rattle.kb_drive.specs.declared.piece.Piece.{Piece}
 use Rattle.kb_drive.specs.Met.{AreMetBy}
 use Rattle.kb_drive.proofs.MetLaws.{met_behind, met_by_values, met_joined, values_meet}
-use Rattle.kb_drive.proofs.met.are_met_at_hand.Goals as goal
+use Rattle.kb_drive.proofs.valued.Valued.meets_behind.Goals as goal
 
 pub returns : goal.returns
 returns c =
