@@ -109,7 +109,10 @@ impl Valued {
             return Ok(true);
         }
         let values = piece.values.as_slice();
-        piece.state.pool().extend_values(values, &mut self.computed)?;
+        piece
+            .state
+            .pool()
+            .extend_values(values, &mut self.computed)?;
         Ok(are_met_behind(self.computed.as_slice(), when, stood))
     }
 }
