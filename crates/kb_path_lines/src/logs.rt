@@ -11,6 +11,9 @@ pub fn read_chain(alloc: Global, text: &str, between: char) -> RowResult<Chain> 
     let [start, others @ ..] = numbers.as_slice() else {
         return Err(RowStop::Malformed);
     };
+    if others.len() % 2 != 0 {
+        return Err(RowStop::Malformed);
+    }
     let mut steps = Row::new(alloc);
     for step in others.chunks_exact(2) {
         if let [pivot, number] = step {
