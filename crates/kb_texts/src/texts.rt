@@ -1,10 +1,10 @@
-//! Texts by their places.
+//! Texts by their numbers.
 
-ghost use Rattle.std.specs.Prelude.{◌≡◌, [], Some, slice_get, IfOk, OnOk};
+ghost use Rattle.std.specs.Prelude.{◌≡◌, ℕ, [], Some, slice_get, IfOk, IfSome, IfNone, OnOk};
 ghost use Rattle.std.specs.List.{list_any};
 ghost use Rattle.std.specs.Option.{option_copied};
 ghost use Rattle.std.specs.Str.{bytes_eq};
-ghost use Rattle.kb_asm_pool.specs.Texts.{with_text, Keeps, AreDistinct};
+ghost use Rattle.kb_texts.specs.Texts.{with_text, Keeps, AreDistinct};
 
 use crate::NoMemory;
 use indexmap::IndexSet;
@@ -19,7 +19,7 @@ pub struct Texts {
 
 impl Model for Texts {
     ghost use Rattle.std.specs.Prelude.{List, ℕ, map};
-    ghost use Rattle.kb_asm_pool.specs.Texts.{AreDistinct};
+    ghost use Rattle.kb_texts.specs.Texts.{AreDistinct};
 
     ghost Value = { List (List ℕ) };
 
@@ -51,6 +51,15 @@ impl Texts {
         let key = key_of(alloc, bytes)?;
         let (place, _) = self.set.insert_full(key)?;
         Ok(place)
+    }
+
+    /// The place of a text, if it is there.
+    pub fn place_of(&self, bytes: &[u8]) -> Option<usize>
+        ensures found { IfSome result (λ place. slice_get self.now place ≡ Some bytes.now) }
+        ensures none { IfNone result ((place : ℕ) → slice_get self.now place ≡ Some bytes.now → ⊥) }
+        ensures distinct { AreDistinct self.now }
+    {
+        self.set.get_index_of(bytes)
     }
 
     /// Whether a text is there.

@@ -3,8 +3,8 @@ use Rattle.std.specs.List.{list_any}
 use Rattle.std.specs.Str.{bytes_eq}
 use Rattle.std.specs.declared.vec.Vec.{Vec}
 use Rattle.std.specs.declared.alloc.Global.{Global}
-use Rattle.kb_asm_pool.proofs.TextLaws.{any-map}
-use Rattle.kb_asm_pool.proofs.texts.Texts.has.Goals as goal
+use Rattle.kb_texts.proofs.TextLaws.{any-map}
+use Rattle.kb_texts.proofs.texts.Texts.has.Goals as goal
 
 pub returns : goal.returns
 returns c =

@@ -1,7 +1,7 @@
 use Rattle.std.proofs.Common.{List, ℕ, slice_get, sym, ap, ◌∙◌, subst}
-use Rattle.kb_asm_pool.specs.Texts.{with_text, Keeps, AreDistinct}
-use Rattle.kb_asm_pool.proofs.TextLaws.{items_of, distinct_more, keeps_more, key_added, key_there, key_found, same_texts}
-use Rattle.kb_asm_pool.proofs.texts.Texts.place.Goals as goal
+use Rattle.kb_texts.specs.Texts.{with_text, Keeps, AreDistinct}
+use Rattle.kb_texts.proofs.TextLaws.{items_of, distinct_more, keeps_more, key_added, key_there, key_found, same_texts}
+use Rattle.kb_texts.proofs.texts.Texts.place.Goals as goal
 
 pub returns-clause-texts : goal.returns-clause-texts
 returns-clause-texts c =

@@ -1,0 +1,3 @@
+pub mod NumberLaws
+mod PairLaws
+mod EntryLaws
