@@ -14,6 +14,8 @@ pub mod SlotLaws
 pub mod SharingLaws
 pub mod WholeMethods
 pub mod OwnMethods
+pub mod HavingTexts
+pub mod SignatureLaws
 pub mod OneWorld
 pub mod OneUniverse
 pub mod LiteralLaws

@@ -14,3 +14,4 @@ pub mod Initialisers
 pub mod Mentions
 pub mod Placing
 pub mod Names
+pub mod Signatures

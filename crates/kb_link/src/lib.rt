@@ -22,6 +22,7 @@ mod mentions;
 mod methods;
 mod packages;
 mod placing;
+mod signatures;
 mod slots;
 mod subtypes;
 mod supers;

@@ -12,6 +12,7 @@ ghost use Rattle.kb_link.specs.Links.{AreLoaded, IsLinked, RefusesClasses};
 ghost use Rattle.kb_link.specs.Tables.{AreIndexed, HasPlaces};
 ghost use Rattle.kb_link.specs.Initialisers.{has_initialiser, is_initialised};
 ghost use Rattle.kb_link.specs.Placing.{ArePlacings, place_in};
+ghost use Rattle.kb_link.specs.Signatures.{AreAllNumbered, HaveSignatures};
 ghost use Rattle.kb_link.specs.Universe.{IsUniverse, AreLiterals};
 ghost use Rattle.kb_link.specs.Targets.{Declares, IsTargetOf};
 
@@ -22,13 +23,16 @@ use crate::linking::LinkRefusal;
 use crate::literals::{literals_of, place_in};
 use crate::methods::{MethodPlace, places_of};
 use crate::placing::{placed_at, placings_of};
+use crate::signatures::firsts_of;
 use crate::slots::{FieldSlot, slots_of};
 use crate::supers::{is_super, supers_of};
 use crate::universe::universe_of;
 use kb_class::{ClassId, LoadedClass, MethodId, MethodInfo};
 use kb_classfile::ClassFile;
 use kb_names::{ExactType, MethodType, Name, NoMemory, Row, Target};
+use kb_numbers::Numbers;
 use kb_order::{Order, TextSet};
+use kb_rows::Held;
 use std::alloc::Global;
 use std::marker::Model;
 
@@ -49,6 +53,8 @@ pub struct Linked {
     initialised: Vec<bool>,
     // Of each method the place of the instruction at each offset of its code.
     placings: Vec<Row<Option<u32>>>,
+    // The numbers of the members of each class.
+    numbers: Held<Numbers>,
 }
 
 impl Model for Linked {
@@ -63,10 +69,11 @@ impl Model for Linked {
     ghost use Rattle.kb_link.specs.Tables.{HasPlaces, AreIndexed};
     ghost use Rattle.kb_link.specs.World.{methods_in};
     ghost use Rattle.kb_link.specs.Placing.{ArePlacings};
+    ghost use Rattle.kb_link.specs.Signatures.{AreAllNumbered};
 
     ghost view = { λ w. record { classes = w.classes; chains = w.chains.items; supers = w.supers.items; universe = w.universe; literals = w.literals } };
 
-    ghost invariant = { λ w. IsLinked (record { classes = w.classes; chains = w.chains.items; supers = w.supers.items; universe = w.universe; literals = w.literals }) × (w.slots.items ≡ map (slots_along w.classes) w.chains.items) × HasPlaces w.classes w.places.items × AreIndexed w.classes w.indexes.items × (w.initialised.items ≡ map (has_initialiser w.classes) w.chains.items) × ArePlacings (methods_in w.classes) w.placings.items };
+    ghost invariant = { λ w. IsLinked (record { classes = w.classes; chains = w.chains.items; supers = w.supers.items; universe = w.universe; literals = w.literals }) × (w.slots.items ≡ map (slots_along w.classes) w.chains.items) × HasPlaces w.classes w.places.items × AreIndexed w.classes w.indexes.items × (w.initialised.items ≡ map (has_initialiser w.classes) w.chains.items) × ArePlacings (methods_in w.classes) w.placings.items × AreAllNumbered w.classes w.numbers };
 }
 
 /// The world of these classes, which keep the rules that classes keep together.
@@ -76,13 +83,14 @@ pub(crate) fn linked_of(
     order: Order,
     chains: Vec<Row<u32>>,
     indexes: Vec<MethodIndex>,
+    numbers: Held<Numbers>,
 ) -> Result<Linked, LinkRefusal>
-    requires { (order ≡ direct_supers classes) × HaveDifferentNames classes × AreLoaded classes × HaveSupers classes × HaveNoCircle classes × HaveGoodSupers classes × AreChains classes chains.items × HaveNoSplit classes chains.items × AreIndexed classes indexes.items }
+    requires { (order ≡ direct_supers classes) × HaveDifferentNames classes × AreLoaded classes × HaveSupers classes × HaveNoCircle classes × HaveGoodSupers classes × AreChains classes chains.items × HaveNoSplit classes chains.items × AreIndexed classes indexes.items × AreAllNumbered classes numbers }
     ensures classes { IfOk result (λ world. world.classes ≡ classes) }
     ensures linked { IfOk result IsLinked }
     ensures refused { IfErr result (RefusesClasses classes) }
 {
-    match tables_of(alloc, classes, &order, chains, indexes) {
+    match tables_of(alloc, classes, &order, chains, indexes, numbers) {
         Ok(world) => Ok(world),
         Err(_) => Err(LinkRefusal::NoMemory),
     }
@@ -94,8 +102,9 @@ fn tables_of(
     order: &Order,
     chains: Vec<Row<u32>>,
     indexes: Vec<MethodIndex>,
+    numbers: Held<Numbers>,
 ) -> Result<Linked, NoMemory>
-    requires { (order.now ≡ direct_supers classes) × HaveDifferentNames classes × AreLoaded classes × HaveSupers classes × HaveNoCircle classes × HaveGoodSupers classes × AreChains classes chains.items × HaveNoSplit classes chains.items × AreIndexed classes indexes.items }
+    requires { (order.now ≡ direct_supers classes) × HaveDifferentNames classes × AreLoaded classes × HaveSupers classes × HaveNoCircle classes × HaveGoodSupers classes × AreChains classes chains.items × HaveNoSplit classes chains.items × AreIndexed classes indexes.items × AreAllNumbered classes numbers }
     ensures classes { IfOk result (λ world. world.classes ≡ classes) }
     ensures linked { IfOk result IsLinked }
 {
@@ -123,6 +132,7 @@ fn tables_of(
         indexes,
         initialised,
         placings,
+        numbers,
     })
 }
 
@@ -329,6 +339,13 @@ impl Linked {
             return None;
         }
         Some(id)
+    }
+
+    /// The signature of each method: the number of the first method of its name and type.
+    pub fn signatures(&self, alloc: Global) -> Result<Vec<u32>, NoMemory>
+        ensures { IfOk result (λ signatures. HaveSignatures self.now signatures.items) }
+    {
+        firsts_of(alloc, self.numbers.get())
     }
 
     /// The method of that name and type that the class declares.

@@ -2,6 +2,8 @@
 ghost use Rattle.std.specs.Prelude.{◌≡◌, ◌≤◌, length, IfOk, IfErr, IfSome, IfNone};
 ghost use Rattle.std.specs.List.{AllByRecursion};
 ghost use Rattle.kb_class.specs.Given.{AreGiven};
+ghost use Rattle.kb_numbers.specs.Numbers.{HasTexts};
+ghost use Rattle.kb_link.specs.Signatures.{AreAllNumbered};
 ghost use Rattle.kb_link.specs.Tables.{AreIndexed};
 ghost use Rattle.kb_link.specs.Rules.{HaveDifferentNames, HaveOwnMethods, HaveSupers, HaveNoCircle, HaveGoodSupers};
 ghost use Rattle.kb_link.specs.Split.{HaveNoSplit};
@@ -18,8 +20,10 @@ use crate::linked::{Linked, linked_of};
 use crate::loading::{check_formats, load_all};
 use crate::packages::check_packages;
 use kb_class::{GivenClass, LoadedClass};
-use kb_names::{Name, Row, Target};
+use kb_names::{Name, NoMemory, Row, Target};
+use kb_numbers::{Numbers, numbers_of};
 use kb_order::Order;
+use kb_rows::Held;
 use std::alloc::Global;
 
 /// The most classes that are linked.
@@ -104,14 +108,39 @@ fn link_checked(alloc: Global, given: Vec<GivenClass>) -> Result<Linked, LinkRef
 
 // The world of these classes, whose numbers are their places.
 fn link_classes(alloc: Global, classes: Vec<LoadedClass>) -> Result<Linked, LinkRefusal>
-    requires { AreLoaded classes.items }
+    requires { AreLoaded classes.items × AllByRecursion HasTexts classes.items }
+    ensures classes { IfOk result (λ world. world.classes ≡ classes.items) }
+    ensures linked { IfOk result IsLinked }
+    ensures refused { IfErr result (RefusesClasses classes.items) }
+{
+    match numbers_in(alloc, classes.as_slice()) {
+        Ok(numbers) => link_numbered(alloc, classes, numbers),
+        Err(_) => Err(LinkRefusal::NoMemory),
+    }
+}
+
+// The numbers of the members of these classes.
+fn numbers_in(alloc: Global, classes: &[LoadedClass]) -> Result<Held<Numbers>, NoMemory>
+    requires { AllByRecursion HasTexts classes.now }
+    ensures { IfOk result (AreAllNumbered classes.now) }
+{
+    Held::new(alloc, numbers_of(alloc, classes)?)
+}
+
+// The world of these classes, whose members have these numbers.
+fn link_numbered(
+    alloc: Global,
+    classes: Vec<LoadedClass>,
+    numbers: Held<Numbers>,
+) -> Result<Linked, LinkRefusal>
+    requires { AreLoaded classes.items × AreAllNumbered classes.items numbers }
     ensures classes { IfOk result (λ world. world.classes ≡ classes.items) }
     ensures linked { IfOk result IsLinked }
     ensures refused { IfErr result (RefusesClasses classes.items) }
 {
     let classes = Classes::new(alloc, classes)?;
     let order = order_in(alloc, &classes)?;
-    link_ordered(alloc, classes, order)
+    link_ordered(alloc, classes, order, numbers)
 }
 
 // What stands above each class, where superclasses and interfaces are what they must be.
@@ -128,15 +157,20 @@ fn order_in(alloc: Global, classes: &Classes) -> Result<Order, LinkRefusal>
 }
 
 // The world of these classes, whose superclasses and interfaces are what they must be.
-fn link_ordered(alloc: Global, classes: Classes, order: Order) -> Result<Linked, LinkRefusal>
-    requires { (order ≡ direct_supers classes) × HaveDifferentNames classes × AreLoaded classes × HaveSupers classes × HaveNoCircle classes × HaveGoodSupers classes }
+fn link_ordered(
+    alloc: Global,
+    classes: Classes,
+    order: Order,
+    numbers: Held<Numbers>,
+) -> Result<Linked, LinkRefusal>
+    requires { (order ≡ direct_supers classes) × HaveDifferentNames classes × AreLoaded classes × HaveSupers classes × HaveNoCircle classes × HaveGoodSupers classes × AreAllNumbered classes numbers }
     ensures classes { IfOk result (λ world. world.classes ≡ classes) }
     ensures linked { IfOk result IsLinked }
     ensures refused { IfErr result (RefusesClasses classes) }
 {
     let chains = chains_of(alloc, &classes, &order)?;
     let indexes = indexes_in(alloc, &classes, chains.as_slice())?;
-    linked_of(alloc, classes, order, chains, indexes)
+    linked_of(alloc, classes, order, chains, indexes, numbers)
 }
 
 // The tables of the methods of each class by their names, where no package is split.

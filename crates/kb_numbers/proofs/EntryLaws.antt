@@ -17,8 +17,8 @@ use Rattle.kb_class.specs.declared.members.FieldInfo.{FieldInfo}
 use Rattle.kb_class.specs.declared.members.MemberKind.TheVariants as kinds
 use Rattle.kb_class.specs.declared.members.MethodInfo.{MethodInfo}
 use Rattle.kb_numbers.specs.declared.numbering.ClassNumbers.{ClassNumbers}
-use Rattle.kb_numbers.specs.Numbers.{Table, StandsFor, IsMethodNumber, IsFieldNumber, AreNumbers, IsMethodNamed, IsOfFile, parts_of, parts_by, IsNumberOf, IsEntryNumber}
-use Rattle.kb_numbers.proofs.NumberLaws.{zip_join}
+use Rattle.kb_numbers.specs.Numbers.{Table, Grows, StandsFor, IsMethodNumber, IsFieldNumber, AreNumbers, IsMethodNamed, IsOfFile, parts_of, parts_by, IsNumberOf, IsEntryNumber}
+use Rattle.kb_numbers.proofs.NumberLaws.{zip_join, number_on}
 
 -- the parts of what is sought
 pub record HasParts (pool : List PoolEntry) (entry : Option PoolEntry) (sought : Sought) : Type 0 where
@@ -84,3 +84,6 @@ numbers_are table class file numbers is methods fields each = record {
       (λ field info number named told. told info.name (kinds.Field info.kind) named.name named.kind) is.of_fields fields;
   each_entry = λ entry sought at. sought_number file.pool sought table file.pool class.entries numbers.entries.items entry is.of_entries each at;
 }
+
+pub entry_on : (before after : Table) (pool : List PoolEntry) (entry : PoolEntry) (told : Option ℕ) → Grows before after → IsEntryNumber before pool entry told → IsEntryNumber after pool entry told
+entry_on before after pool entry told grows is name kind parts = (let found = is name kind parts in (found.0, found.1, number_on before after pool name kind found.0 grows found.2))

@@ -1,5 +1,5 @@
 -- Numbers of members: one for each name and type, also while more are added.
-use Rattle.std.proofs.Common.{◌≡◌, ℕ, zero, suc, ◌+◌, ◌<◌, ◌≤◌, below_more, List, [], ◌∷◌, ◌++◌, length, take, get_or, Option, Some, slice_get, slice_index_or, refl, sym, ap, subst, ◌∙◌, arith}
+use Rattle.std.proofs.Common.{◌≡◌, ℕ, zero, suc, ◌+◌, ◌<◌, ◌≤◌, below_more, Result, Ok, Err, IfOk, OnOk, List, [], ◌∷◌, ◌++◌, length, take, get_or, Option, Some, slice_get, slice_index_or, refl, sym, ap, subst, ◌∙◌, arith}
 use Rattle.std.specs.List.{AllZip}
 use Rattle.std.proofs.lemmas.Grind.{take_at_read}
 use Rattle.std.proofs.lemmas.List.{get_or_append_left, get_or_push, length_push}
@@ -9,6 +9,7 @@ use Rattle.kb_classfile.specs.Pool.{utf8_in}
 use Rattle.kb_names.specs.declared.types.JType.{JType}
 use Rattle.kb_names.specs.declared.types.MethodType.{MethodType}
 use Rattle.kb_texts.specs.Texts.{AreDistinct, Keeps}
+use Rattle.std.specs.declared.alloc.AllocError.{AllocError as NoMemory}
 use Rattle.kb_class.specs.Loading.{HasText, SpellsKind}
 use Rattle.kb_class.specs.declared.members.MemberKind.{MemberKind}
 use Rattle.kb_class.specs.declared.members.MemberKind.TheVariants as kinds
@@ -139,3 +140,10 @@ row_more before after pool row new end place grows count pushed told is = (
 
 pub row_whole : (texts : List (List ℕ)) (pool : List PoolEntry) (end : ℕ) (row : List ℕ) → length pool ≤ end → IsRowTo texts pool end row → IsTextRow texts pool row
 row_whole texts pool end row all is index text at = (let within : index < length pool = inside pool index text at in is index (omega (arith, within, all)) text at)
+
+-- the same of a pair that was given a number
+pub number_ok : (result : Result ℕ NoMemory) (before after : Table) (row : List ℕ) (name kind : ℕ) (pair : Pair) → OnOk result (Grows before after) → IfOk result (λ number. slice_get after.pairs number ≡ Some pair)
+    → pair ≡ record { name = slice_index_or row name 0; kind = slice_index_or row kind 0 }
+    → IfOk result (λ number. (pool : List PoolEntry) → IsTextRow before.texts pool row → IsNumberOf after pool name kind number)
+number_ok (Ok number) before after row name kind pair grows there is = λ pool texts. number_told before after pool row name kind number grows (there ∙ ap (λ (p : Pair). Some p) is) texts
+number_ok (Err error) before after row name kind pair grows there is = tt

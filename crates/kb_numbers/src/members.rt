@@ -79,4 +79,9 @@ impl Members {
     {
         self.pairs.get_index(number as usize)
     }
+
+    // Does nothing. That no text and no pair stands twice is known of what is at hand.
+    pub(crate) fn tell_distinct(&self)
+        ensures { IsDistinct self.now }
+    {}
 }

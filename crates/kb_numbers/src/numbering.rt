@@ -1,7 +1,7 @@
 //! The numbers of the members of all classes.
 ghost use Rattle.std.specs.Prelude.{◌≡◌, IfOk, OnOk};
 ghost use Rattle.std.specs.List.{AllByRecursion, AllZip};
-ghost use Rattle.kb_numbers.specs.Numbers.{AreNumbers, Grows, HasTexts};
+ghost use Rattle.kb_numbers.specs.Numbers.{AreNumbers, Grows, HasTexts, IsDistinct};
 
 use crate::given::given_numbers;
 use crate::members::Members;
@@ -29,7 +29,8 @@ pub struct Numbers {
 /// The numbers of the members of these classes.
 pub fn numbers_of(alloc: Global, classes: &[LoadedClass]) -> Result<Numbers, NoMemory>
     requires { AllByRecursion HasTexts classes.now }
-    ensures { IfOk result (λ numbers. AllZip (AreNumbers numbers.members) classes.now numbers.classes.items) }
+    ensures each { IfOk result (λ numbers. AllZip (AreNumbers numbers.members) classes.now numbers.classes.items) }
+    ensures distinct { IfOk result (λ numbers. IsDistinct numbers.members) }
 {
     let mut members = Members::new(alloc);
     let mut numbers = Vec::new(alloc);
@@ -39,6 +40,7 @@ pub fn numbers_of(alloc: Global, classes: &[LoadedClass]) -> Result<Numbers, NoM
             return Err(NoMemory);
         };
     }
+    members.tell_distinct();
     Ok(Numbers {
         members,
         classes: numbers,

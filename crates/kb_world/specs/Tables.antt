@@ -3,8 +3,6 @@ use Rattle.std.specs.Prelude.{◌≡◌, ℕ, suc, ◌<◌, ◌^◌, Bool, false
 use Rattle.std.specs.Option.{option_and_then, option_map_or}
 use Rattle.std.specs.HashMap.{HashMap, get_by}
 use Rattle.std.specs.Str.{bytes_eq}
-use Rattle.kb_names.specs.Descriptors.{method_text}
-use Rattle.kb_names.specs.declared.class_names.Spelling.TheVariants.{Raw}
 use Rattle.kb_names.specs.declared.types.JType.{JType}
 use Rattle.kb_names.specs.declared.types.MethodType.{MethodType}
 use Rattle.kb_class.specs.Class.{Class, Sought}
@@ -15,8 +13,9 @@ use Rattle.kb_class.specs.declared.members.MemberKind.{MemberKind}
 use Rattle.kb_class.specs.declared.members.MemberKind.TheVariants as kinds
 use Rattle.kb_class.specs.declared.members.MethodInfo.{MethodInfo}
 use Rattle.kb_link.specs.declared.slots.FieldSlot.{FieldSlot}
-use Rattle.kb_link.specs.Members.{place_where, same_kind, same_type}
+use Rattle.kb_link.specs.Members.{same_type}
 use Rattle.kb_link.specs.Rules.{is_interface}
+pub use Rattle.kb_link.specs.Signatures.{is_alike, signature_of, signature_at, HaveSignatures}
 use Rattle.kb_link.specs.Slots.{slots_of}
 use Rattle.kb_link.specs.Subtypes.{is_super}
 use Rattle.kb_link.specs.Tables.{places_at}
@@ -127,28 +126,6 @@ abbrev pub AreRows : World → List (List Resolved) → Type 0
 AreRows world rows = (class : ℕ) → class < length world.classes → IsRow world class (slice_index_or rows class [])
 
 -- ---- selection
-
--- whether a method has the name and the type
-abbrev pub is_alike : List ℕ → MethodType → MethodInfo → Bool
-is_alike name kind method = bytes_eq method.name name && same_kind method.kind kind
-
--- a text for the name and the type of a method
-abbrev pub key_of : MethodInfo → List ℕ
-key_of method = method.name ++ method_text Raw method.kind
-
--- The signature of a name and a type: the number of the first method that has them, so that all that have them have one
--- signature, and no others.
-abbrev pub signature_of : World → List ℕ → MethodType → Option ℕ
-signature_of world name kind = place_where (is_alike name kind) (methods_in world.classes)
-
--- that of the method of a number
-abbrev pub signature_at : World → ℕ → Option ℕ
-signature_at world number = option_and_then (λ (m : MethodInfo). signature_of world m.name m.kind) (method_at world number)
-
--- that of each method, in order
-pub record HaveSignatures (world : World) (signatures : List ℕ) : Type 0 where
-  pub len : length signatures ≡ length (methods_in world.classes)
-  pub each : (number signature : ℕ) → slice_get signatures number ≡ Some signature → Some signature ≡ signature_at world number
 
 -- the number of the first method of a class
 abbrev pub first_of : World → ℕ → ℕ

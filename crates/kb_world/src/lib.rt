@@ -22,7 +22,6 @@ mod reach;
 mod resolving;
 mod running;
 mod selection;
-mod signatures;
 mod special;
 mod tables;
 mod walking;

@@ -6,6 +6,6 @@ use Rattle.kb_numbers.proofs.given.field_numbers.Given as goal
 
 abbrev pub invariant-loop-field : goal.invariant-loop-field
 invariant-loop-field l = record {
-  each : AllZip (λ (field : Field) (number : ℕ). IsNumberOf l.members l.file.pool field.name field.kind number) (take l.field-index l.file.fields) l.numbers.items;
+  each : AllZip (λ (field : Field) (number : ℕ). IsNumberOf l.members l.file.pool field.name field.kind number) (take l.field-index l.field-items) l.numbers.items;
   grows : Grows l.fn.members l.members;
 }
