@@ -1,5 +1,5 @@
 -- Lists that grow at their end.
-use Rattle.std.proofs.Common.{◌≡◌, ◌⊎◌, inl, inr, ℕ, zero, suc, Bool, true, false, true≢false, ◌||◌, if◌then◌else◌, List, [], ◌∷◌, ◌++◌, length, map, slice_get, get_or, position, Option, Some, refl, sym, ap, ◌∙◌, arith}
+use Rattle.std.proofs.Common.{◌≡◌, ◌⊎◌, inl, inr, ℕ, zero, suc, Bool, true, false, true≢false, ◌||◌, if◌then◌else◌, List, [], ◌∷◌, ◌++◌, length, map, slice_get, get_or, position, Option, Some, None, is_some, IfSome, IfNone, refl, sym, ap, ◌∙◌, arith}
 use Rattle.std.specs.List.{list_any}
 use Rattle.std.specs.Option.{option_map}
 use Rattle.std.specs.Str.{bytes_eq}
@@ -103,7 +103,14 @@ key_found keys bytes place e =
     slice_get-map (λ (k : Vec ℕ Global). k.items) keys place ∙ ap (λ (o : Option (Vec ℕ Global)). option_map (λ (k : Vec ℕ Global). k.items) o) found.1
     ∙ ap (λ (t : List ℕ). Some t) (sym ((bytes_eq-Decides bytes found.0.items).0 found.2))
 
--- a text that is there stays where it is
-pub same_texts : (texts : List (List ℕ)) (bytes : List ℕ) (place : ℕ) → slice_get texts place ≡ Some bytes → texts ≡ with_text texts bytes
-same_texts texts bytes place e =
-    sym (ap (λ (b : Bool). if b then texts else texts ++ bytes ∷ []) (any_passes_from_place (bytes_eq bytes) texts place bytes e ((bytes_eq-Decides bytes bytes).1 refl)))
+-- ---- a text that is looked up
+
+module _ (keys : List (Vec ℕ Global)) (bytes : List ℕ) where
+  pub text_found : (told : Option ℕ) → told ≡ position (λ (k : Vec ℕ Global). bytes_eq bytes k.items) keys → IfSome told (λ place. slice_get (items_of keys) place ≡ Some bytes)
+  text_found None is = tt
+  text_found (Some place) is = key_found keys bytes place (sym is)
+
+  pub text_missing : (told : Option ℕ) → is_some told ≡ list_any (λ (k : Vec ℕ Global). bytes_eq bytes k.items) keys → IfNone told ((place : ℕ) → slice_get (items_of keys) place ≡ Some bytes → ⊥)
+  text_missing (Some place) is = tt
+  text_missing None is = λ place at.
+      true≢false (sym (any_passes_from_place (bytes_eq bytes) (items_of keys) place bytes at ((bytes_eq-Decides bytes bytes).1 refl)) ∙ any-map (bytes_eq bytes) (λ (k : Vec ℕ Global). k.items) keys ∙ sym is)

@@ -1,6 +1,6 @@
 use Rattle.std.proofs.Common.{List, ℕ, slice_get, sym, ap, ◌∙◌, subst}
 use Rattle.kb_texts.specs.Texts.{with_text, Keeps, AreDistinct}
-use Rattle.kb_texts.proofs.TextLaws.{items_of, distinct_more, keeps_more, key_added, key_there, key_found, same_texts}
+use Rattle.kb_texts.proofs.TextLaws.{items_of, distinct_more, keeps_more, key_added, key_there}
 use Rattle.kb_texts.proofs.texts.Texts.place.Goals as goal
 
 pub returns-clause-texts : goal.returns-clause-texts
@@ -31,14 +31,3 @@ returns-clause-keeps c =
     ∙ key_added c.self.inside.set.keys c.in_ok-key.key c.args.bytes.now c.in_ok-key.ensures
     ∙ ap (λ (t : List (List ℕ)). with_text t c.args.bytes.now) c.self.view_is))
     (keeps_more c.args.self.now c.args.bytes.now)
-
-pub returns-in-Some-clause-place : goal.returns-in-Some-clause-place
-returns-in-Some-clause-place c =
-    ap (λ (t : List (List ℕ)). slice_get t c.in-Some.place) (sym c.self.view_is)
-    ∙ key_found c.self.inside.set.keys c.args.bytes.now c.in-Some.place (sym c.in-Some.ensures.index)
-
-pub returns-in-Some-clause-texts : goal.returns-in-Some-clause-texts
-returns-in-Some-clause-texts c =
-    same_texts c.args.self.now c.args.bytes.now c.in-Some.place
-    (ap (λ (t : List (List ℕ)). slice_get t c.in-Some.place) (sym c.self.view_is)
-    ∙ key_found c.self.inside.set.keys c.args.bytes.now c.in-Some.place (sym c.in-Some.ensures.index))
