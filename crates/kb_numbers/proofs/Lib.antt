@@ -1,3 +1,6 @@
+pub mod PlaceLaws
+pub mod PairLaws
+pub mod ZipLaws
 pub mod NumberLaws
-mod PairLaws
-mod EntryLaws
+pub mod PoolLaws
+pub mod MemberLaws

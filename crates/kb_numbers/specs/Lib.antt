@@ -1,1 +1,5 @@
+pub mod Places
+pub mod Pairs
+pub mod Members
 pub mod Numbers
+pub mod Pools

@@ -1,13 +1,18 @@
-//! Numbers of members: of the classes of a world each different name and type of fields and methods has one number. Each text of
-//! each constant pool is looked up once; what stands behind is numbers alone.
+//! Numbers of members: the different texts of the constant pools of some classes have one number each, and a member is two
+//! numbers, that of its name and that of its type's descriptor. Each text of each constant pool is looked up once; what stands
+//! behind goes by numbers.
 //!
-//! `specs/Numbers.antt` says which number stands for what.
+//! `specs/Numbers.antt` says which numbers stand for what, `specs/Pairs.antt` what tables of them tell.
 #![tactic(auto)]
 
-mod given;
-mod members;
+mod class_numbers;
 mod numbering;
+mod pairs;
+mod pool;
+mod signatures;
 mod written;
 
-pub use members::Members;
-pub use numbering::{ClassNumbers, Numbers, numbers_of};
+pub use class_numbers::ClassNumbers;
+pub use numbering::{Numbers, numbers_of};
+pub use pairs::{EntryNumbers, Pair, add_place};
+pub use signatures::first_methods;

@@ -1,64 +1,131 @@
 //! The numbers of the members of all classes.
-ghost use Rattle.std.specs.Prelude.{◌≡◌, IfOk, OnOk};
-ghost use Rattle.std.specs.List.{AllByRecursion, AllZip};
-ghost use Rattle.kb_numbers.specs.Numbers.{AreNumbers, Grows, HasTexts, IsDistinct};
+ghost use Rattle.std.specs.Prelude.{◌≡◌, ◌+◌, IfOk, OnOk, length};
+ghost use Rattle.std.specs.List.{AllByRecursion};
+ghost use Rattle.kb_texts.specs.Texts.{Keeps};
+ghost use Rattle.kb_numbers.specs.Members.{entry_named, field_place, method_number, method_place};
+ghost use Rattle.kb_numbers.specs.Numbers.{AreNumbered, AreNumberedFrom, HasTexts, IsNumbered};
 
-use crate::given::given_numbers;
-use crate::members::Members;
+use crate::class_numbers::ClassNumbers;
+use crate::pairs::{EntryNumbers, Pair};
+use crate::pool::given_numbers;
 use crate::written::written_numbers;
-use kb_class::LoadedClass;
+use kb_class::{LoadedClass, MethodInfo};
 use kb_names::NoMemory;
+use kb_texts::Texts;
 use std::alloc::Global;
 
-/// The numbers of the methods and of the fields that a class declares, in file order, and of what the entries of its constant
-/// pool name, by their numbers: None of an entry that names no member.
-#[derive(Drop)]
-pub struct ClassNumbers {
-    pub methods: Vec<u32>,
-    pub fields: Vec<u32>,
-    pub entries: Vec<Option<u32>>,
-}
-
-/// The numbers of the members of some classes, and what they stand for.
+/// The different texts of the constant pools of some classes, and the members of the classes by the numbers of their names and
+/// types.
 #[derive(Drop)]
 pub struct Numbers {
-    pub members: Members,
+    pub texts: Texts,
     pub classes: Vec<ClassNumbers>,
 }
 
 /// The numbers of the members of these classes.
 pub fn numbers_of(alloc: Global, classes: &[LoadedClass]) -> Result<Numbers, NoMemory>
     requires { AllByRecursion HasTexts classes.now }
-    ensures each { IfOk result (λ numbers. AllZip (AreNumbers numbers.members) classes.now numbers.classes.items) }
-    ensures distinct { IfOk result (λ numbers. IsDistinct numbers.members) }
+    ensures { IfOk result (AreNumbered classes.now) }
 {
-    let mut members = Members::new(alloc);
-    let mut numbers = Vec::new(alloc);
-    for class in classes {
-        let own = class_numbers(alloc, class, &mut members)?;
-        let Ok(()) = numbers.push(own) else {
-            return Err(NoMemory);
-        };
-    }
-    members.tell_distinct();
+    let mut texts = Texts::new(alloc);
+    let numbers = number_all(alloc, classes, &mut texts)?;
+    texts.tell_distinct();
     Ok(Numbers {
-        members,
+        texts,
         classes: numbers,
     })
 }
 
-// The numbers of the members of a class.
+// The numbers of the members of these classes, by the numbers of the texts, to which theirs are added.
+fn number_all(
+    alloc: Global,
+    classes: &[LoadedClass],
+    texts: &mut Texts,
+) -> Result<Vec<ClassNumbers>, NoMemory>
+    requires { AllByRecursion HasTexts classes.now }
+    ensures { IfOk result (λ numbers. AreNumberedFrom texts.new 0 classes.now numbers.items) }
+{
+    let mut numbers = Vec::new(alloc);
+    let mut first = 0;
+    for class in classes {
+        let next = number_behind(first, class.methods())?;
+        let own = class_numbers(alloc, class, first, texts)?;
+        let Ok(()) = numbers.push(own) else {
+            return Err(NoMemory);
+        };
+        first = next;
+    }
+    Ok(numbers)
+}
+
+// The number behind those of these methods. Methods without numbers of 32 bits are want of memory.
+fn number_behind(first: u32, methods: &[MethodInfo]) -> Result<u32, NoMemory>
+    ensures { IfOk result (λ next. next ≡ first + length methods.now) }
+{
+    let Ok(count) = u32::try_from(methods.len()) else {
+        return Err(NoMemory);
+    };
+    match first.checked_add(count) {
+        Some(next) => Ok(next),
+        None => Err(NoMemory),
+    }
+}
+
+// The numbers of the members of a class whose first method has that number.
 fn class_numbers(
     alloc: Global,
     class: &LoadedClass,
-    members: &mut Members,
+    first: u32,
+    texts: &mut Texts,
 ) -> Result<ClassNumbers, NoMemory>
     requires { HasTexts class.now }
-    ensures grows { OnOk result (Grows members.old members.new) }
-    ensures numbers { IfOk result (AreNumbers members.new class.now) }
+    ensures keeps { OnOk result (Keeps texts.old texts.new) }
+    ensures numbers { IfOk result (IsNumbered texts.new first class.now) }
 {
     match class.file() {
-        Some(file) => given_numbers(alloc, class, file, members),
-        None => written_numbers(alloc, class, members),
+        Some(file) => given_numbers(alloc, file, first, texts),
+        None => written_numbers(alloc, class.methods(), first, texts),
+    }
+}
+
+impl Numbers {
+    /// What an entry of a class names, if it names a member.
+    pub fn entry(&self, class: u32, entry: u16) -> Option<EntryNumbers>
+        ensures { result ≡ entry_named self.now.classes.items class entry }
+    {
+        match self.classes.get(class as usize) {
+            Some(own) => own.entry(entry),
+            None => None,
+        }
+    }
+
+    /// The place of the method of that pair among those that a class declares.
+    pub fn method_place(&self, class: u32, pair: Pair) -> Option<u32>
+        ensures { result ≡ method_place self.now.classes.items class pair }
+    {
+        match self.classes.get(class as usize) {
+            Some(own) => own.method_place(pair),
+            None => None,
+        }
+    }
+
+    /// The number of that method among the methods of all classes.
+    pub fn method(&self, class: u32, pair: Pair) -> Option<u32>
+        ensures { result ≡ method_number self.now.classes.items class pair }
+    {
+        match self.classes.get(class as usize) {
+            Some(own) => own.method(pair),
+            None => None,
+        }
+    }
+
+    /// The place of the field of that pair among those that a class declares.
+    pub fn field_place(&self, class: u32, pair: Pair) -> Option<u32>
+        ensures { result ≡ field_place self.now.classes.items class pair }
+    {
+        match self.classes.get(class as usize) {
+            Some(own) => own.field_place(pair),
+            None => None,
+        }
     }
 }
