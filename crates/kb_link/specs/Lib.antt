@@ -14,4 +14,3 @@ pub mod Initialisers
 pub mod Mentions
 pub mod Placing
 pub mod Names
-pub mod Signatures

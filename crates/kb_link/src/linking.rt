@@ -2,15 +2,12 @@
 ghost use Rattle.std.specs.Prelude.{◌≡◌, ◌≤◌, length, IfOk, IfErr, IfSome, IfNone};
 ghost use Rattle.std.specs.List.{AllByRecursion};
 ghost use Rattle.kb_class.specs.Given.{AreGiven};
-ghost use Rattle.kb_numbers.specs.Numbers.{HasTexts};
-ghost use Rattle.kb_link.specs.Signatures.{AreAllNumbered};
-ghost use Rattle.kb_link.specs.Tables.{AreIndexed};
+ghost use Rattle.kb_numbers.specs.Numbers.{AreNumbered, HasTexts};
 ghost use Rattle.kb_link.specs.Rules.{HaveDifferentNames, HaveOwnMethods, HaveSupers, HaveNoCircle, HaveGoodSupers};
 ghost use Rattle.kb_link.specs.Split.{HaveNoSplit};
 ghost use Rattle.kb_link.specs.Subtypes.{direct_supers, AreChains};
 ghost use Rattle.kb_link.specs.Links.{AreLoaded, KeepsFormat, Loads, Links, IsLinked, RefusesClasses, RefusesLink, most_classes};
 
-use crate::by_name::{MethodIndex, indexes_of};
 use crate::chains::chains_of;
 use crate::circles::check_circles;
 use crate::claims::check_claims;
@@ -20,7 +17,7 @@ use crate::linked::{Linked, linked_of};
 use crate::loading::{check_formats, load_all};
 use crate::packages::check_packages;
 use kb_class::{GivenClass, LoadedClass};
-use kb_names::{Name, NoMemory, Row, Target};
+use kb_names::{Name, NoMemory, Target};
 use kb_numbers::{Numbers, numbers_of};
 use kb_order::Order;
 use kb_rows::Held;
@@ -122,7 +119,7 @@ fn link_classes(alloc: Global, classes: Vec<LoadedClass>) -> Result<Linked, Link
 // The numbers of the members of these classes.
 fn numbers_in(alloc: Global, classes: &[LoadedClass]) -> Result<Held<Numbers>, NoMemory>
     requires { AllByRecursion HasTexts classes.now }
-    ensures { IfOk result (AreAllNumbered classes.now) }
+    ensures { IfOk result (AreNumbered classes.now) }
 {
     Held::new(alloc, numbers_of(alloc, classes)?)
 }
@@ -133,7 +130,7 @@ fn link_numbered(
     classes: Vec<LoadedClass>,
     numbers: Held<Numbers>,
 ) -> Result<Linked, LinkRefusal>
-    requires { AreLoaded classes.items × AreAllNumbered classes.items numbers }
+    requires { AreLoaded classes.items × AreNumbered classes.items numbers }
     ensures classes { IfOk result (λ world. world.classes ≡ classes.items) }
     ensures linked { IfOk result IsLinked }
     ensures refused { IfErr result (RefusesClasses classes.items) }
@@ -163,32 +160,12 @@ fn link_ordered(
     order: Order,
     numbers: Held<Numbers>,
 ) -> Result<Linked, LinkRefusal>
-    requires { (order ≡ direct_supers classes) × HaveDifferentNames classes × AreLoaded classes × HaveSupers classes × HaveNoCircle classes × HaveGoodSupers classes × AreAllNumbered classes numbers }
+    requires { (order ≡ direct_supers classes) × HaveDifferentNames classes × AreLoaded classes × HaveSupers classes × HaveNoCircle classes × HaveGoodSupers classes × AreNumbered classes numbers }
     ensures classes { IfOk result (λ world. world.classes ≡ classes) }
     ensures linked { IfOk result IsLinked }
     ensures refused { IfErr result (RefusesClasses classes) }
 {
     let chains = chains_of(alloc, &classes, &order)?;
-    let indexes = indexes_in(alloc, &classes, chains.as_slice())?;
-    linked_of(alloc, classes, order, chains, indexes, numbers)
-}
-
-// The tables of the methods of each class by their names, where no package is split.
-fn indexes_in(
-    alloc: Global,
-    classes: &Classes,
-    chains: &[Row<u32>],
-) -> Result<Vec<MethodIndex>, LinkRefusal>
-    requires { HaveOwnMethods classes.now × HaveSupers classes.now × HaveNoCircle classes.now × HaveGoodSupers classes.now × AreChains classes.now chains.now }
-    ensures indexed { IfOk result (λ indexes. AreIndexed classes.now indexes.items) }
-    ensures whole { IfOk result (λ indexes. HaveNoSplit classes.now chains.now) }
-    ensures refused { IfErr result (RefusesClasses classes.now) }
-{
-    let Ok(indexes) = indexes_of(alloc, classes) else {
-        return Err(LinkRefusal::NoMemory);
-    };
-    match check_packages(alloc, classes, chains, indexes.as_slice()) {
-        Ok(()) => Ok(indexes),
-        Err(refusal) => Err(refusal),
-    }
+    check_packages(alloc, &classes, chains.as_slice(), numbers.get())?;
+    linked_of(alloc, classes, order, chains, numbers)
 }

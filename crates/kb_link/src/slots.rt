@@ -124,8 +124,8 @@ fn slot_of(
     })
 }
 
-// Whether the field has a slot.
-fn has_slot(field: &FieldInfo) -> bool
+/// Whether the field has a slot.
+pub fn has_slot(field: &FieldInfo) -> bool
     ensures { result ≡ has_slot field.now }
 {
     if field.access & STATIC != 0 {

@@ -1,5 +1,5 @@
 -- The members of a class by numbers.
-use Rattle.std.specs.Prelude.{ℕ, ◌+◌, List, Option, slice_get}
+use Rattle.std.specs.Prelude.{ℕ, ◌+◌, List, [], Option, Some, None, slice_get}
 use Rattle.std.specs.List.{flat_map}
 use Rattle.std.specs.Option.{option_map, option_and_then}
 use Rattle.kb_class.specs.Loaded.{told_at}
@@ -20,6 +20,21 @@ pub record MemberNumbers : Type 0 where
 -- the methods of all classes, in order
 abbrev pub method_pairs : List MemberNumbers → List Pair
 method_pairs classes = flat_map (λ (own : MemberNumbers). own.methods) classes
+
+abbrev pub own_methods : Option MemberNumbers → List Pair
+own_methods None = []
+own_methods (Some own) = own.methods
+
+abbrev pub own_fields : Option MemberNumbers → List Pair
+own_fields None = []
+own_fields (Some own) = own.fields
+
+-- the methods, and the fields, that the class of a number declares
+abbrev pub methods_at : List MemberNumbers → ℕ → List Pair
+methods_at classes class = own_methods (slice_get classes class)
+
+abbrev pub fields_at : List MemberNumbers → ℕ → List Pair
+fields_at classes class = own_fields (slice_get classes class)
 
 -- the place of the first method of that pair among those that a class declares
 abbrev pub method_place : List MemberNumbers → ℕ → Pair → Option ℕ

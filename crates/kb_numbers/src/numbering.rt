@@ -2,7 +2,7 @@
 ghost use Rattle.std.specs.Prelude.{◌≡◌, ◌+◌, IfOk, OnOk, length};
 ghost use Rattle.std.specs.List.{AllByRecursion};
 ghost use Rattle.kb_texts.specs.Texts.{Keeps};
-ghost use Rattle.kb_numbers.specs.Members.{entry_named, field_place, method_number, method_place};
+ghost use Rattle.kb_numbers.specs.Members.{entry_named, field_place, fields_at, method_number, method_place, methods_at};
 ghost use Rattle.kb_numbers.specs.Numbers.{AreNumbered, AreNumberedFrom, HasTexts, IsNumbered};
 
 use crate::class_numbers::ClassNumbers;
@@ -96,6 +96,26 @@ impl Numbers {
         match self.classes.get(class as usize) {
             Some(own) => own.entry(entry),
             None => None,
+        }
+    }
+
+    /// The methods that a class declares, in file order.
+    pub fn methods_at(&self, class: u32) -> &[Pair]
+        ensures { result.now ≡ methods_at self.now.classes.items class }
+    {
+        match self.classes.get(class as usize) {
+            Some(own) => own.methods(),
+            None => &[],
+        }
+    }
+
+    /// The fields that a class declares, in file order.
+    pub fn fields_at(&self, class: u32) -> &[Pair]
+        ensures { result.now ≡ fields_at self.now.classes.items class }
+    {
+        match self.classes.get(class as usize) {
+            Some(own) => own.fields(),
+            None => &[],
         }
     }
 

@@ -26,7 +26,6 @@ invariant_of-result c = (
   c.requires.8,
   c.in_ok-of_methods.ensures.initialised ∙ ap (map (has_initialiser c.args.classes)) c.as_slice-2.ensures.value,
   c.in_ok-of_methods.ensures.placings,
-  c.requires.9,
 )
 
 pub returns-clause-linked : goal.returns-clause-linked
