@@ -1,23 +1,19 @@
 -- Signatures of methods, and the methods that are selected by them.
-use Rattle.std.proofs.Common.{◌≡◌, ℕ, zero, suc, ◌+◌, ◌<◌, ◌≤◌, ◌↔◌, Bool, IsTrue, true, false, true≢false, ◌==◌, ◌&&◌, List, [], ◌∷◌, ◌++◌, length, length-append, ◌-◌, take, drop, Option, Some, None, slice_get, get_or, unwrap_or, inl, inr, refl, sym, ap, subst, ◌∙◌, arith}
-use Rattle.std.specs.HashMap.{HashMap}
-use Rattle.std.specs.List.{find}
+use Rattle.std.proofs.Common.{◌≡◌, ℕ, zero, suc, ◌+◌, ◌<◌, ◌≤◌, Bool, true, false, true≢false, ◌==◌, ◌&&◌, List, [], ◌∷◌, ◌++◌, length, length-append, ◌-◌, take, drop, Option, Some, None, slice_get, get_or, inl, inr, refl, sym, ap, subst, ◌∙◌, arith}
 use Rattle.std.specs.Option.{option_and_then, option_map_or}
 use Rattle.std.specs.Str.{bytes_eq}
-use Rattle.std.specs.declared.vec.Vec.{Vec}
-use Rattle.std.specs.declared.alloc.Global.{Global}
 use Rattle.std.proofs.lemmas.Bool.Decides.{Decides-eqb}
 use Rattle.std.proofs.lemmas.List.{take_all}
-use Rattle.std.proofs.lemmas.Option.{same_Some, none-some, get_or_from_slice_get, slice_get_within, slice_get_cases}
+use Rattle.std.proofs.lemmas.Option.{same_Some, none-some, slice_get_within, slice_get_cases}
 use Rattle.std.proofs.lemmas.Slice.Eq.{bytes_eq-Decides}
 use Rattle.kb_class.specs.Class.{Class}
 use Rattle.kb_class.specs.declared.members.MethodInfo.{MethodInfo}
 use Rattle.kb_names.specs.declared.types.MethodType.{MethodType}
 use Rattle.kb_link.specs.Links.{IsLinked}
-use Rattle.kb_link.specs.Members.{place_where, same_kind}
-use Rattle.kb_link.specs.Tables.{AddsPlace, IsNumberOf, entry_at, places_at}
+use Rattle.kb_link.specs.Members.{same_kind}
+use Rattle.kb_link.specs.Tables.{IsNumberOf}
 use Rattle.kb_link.specs.World.{World, method_at, methods_in}
-use Rattle.kb_link.proofs.MemberNames.{both_true, and_true, kind_is, kind_self, place_there, place_nowhere, declared_is, declared_there}
+use Rattle.kb_link.proofs.MemberNames.{both_true, and_true, kind_is, place_there, declared_is, declared_there}
 use Rattle.kb_link.proofs.MethodNumbers.{number_of_place}
 use Rattle.kb_world.specs.Lookup.{or_else, only_where, first_along, is_open, is_open_at, if_open, declares, declares_open}
 use Rattle.kb_world.specs.Tables.{AddsClass, AddsOpen, HaveSignatures, first_of, has_signature, is_alike, open_from, signature_at, signature_of}

@@ -5,6 +5,7 @@ ghost use Rattle.kb_link.specs.World.{methods_in};
 ghost use Rattle.kb_world.specs.Tables.{AddsClass, AddsFirst, AddsOpen, AreSelected, HaveFirsts, HaveSignatures, HaveSelections, IsSelection, selected_by, selected_in};
 
 use crate::methods::is_open;
+use crate::signatures::signatures_of;
 use kb_class::{ClassId, MethodInfo};
 use kb_link::Linked;
 use kb_names::NoMemory;
@@ -27,7 +28,7 @@ pub(crate) fn selection_of(alloc: Global, linked: &Linked) -> Result<Selection, 
     if linked.method_count() > u32::MAX as usize {
         return Err(NoMemory);
     }
-    let signatures = linked.signatures(alloc)?;
+    let signatures = signatures_of(alloc, linked)?;
     let tables = tables_of(alloc, linked, signatures.as_slice())?;
     Ok(Selection { signatures, tables })
 }
