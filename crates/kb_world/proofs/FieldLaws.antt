@@ -1,5 +1,5 @@
 -- Fields and slots by the pairs of names and types.
-use Rattle.std.proofs.Common.{◌≡◌, ℕ, suc, ◌+◌, ◌≤◌, inl, inr, Bool, true, false, ◌&&◌, ◌==◌, List, [], ◌∷◌, ◌++◌, length, reverse, Option, Some, None, slice_get, is_some, if◌then◌else◌, refl, sym, ap, subst, ◌∙◌, arith}
+use Rattle.std.proofs.Common.{◌≡◌, ℕ, suc, ◌+◌, ◌<◌, ◌≤◌, inl, inr, Bool, true, false, ◌&&◌, ◌==◌, List, [], ◌∷◌, ◌++◌, length, reverse, Option, Some, None, slice_get, is_some, if◌then◌else◌, refl, sym, ap, subst, ◌∙◌, arith}
 use Rattle.std.specs.HashMap.{HashMap}
 use Rattle.std.specs.List.{AllZip, flat_map, list_any}
 use Rattle.std.specs.Option.{option_and_then}
@@ -63,6 +63,15 @@ module _ (world : World) (numbers : Numbers) (are : AreNumbered world.classes nu
       let told : found ≡ place_where (is_field name type) class.fields = is ∙ fields_here world.classes numbers are number class at pair name type stands ∙ sym places in
       ap (λ (o : Option Class). option_and_then (λ (c : Class). only_where (list_any (is_field name type) c.fields) number) o) at
       ∙ ap (λ (b : Bool). only_where b number) (any_place (is_field name type) class.fields ∙ ap (λ (o : Option ℕ). is_some o) (sym told))
+
+-- the same of a number that is a class's
+pub declared_within : (world : World) (numbers : Numbers) → AreNumbered world.classes numbers → (number : ℕ) → number < length world.classes → (pair : Pair) (name : List ℕ) (type : JType)
+    → StandsFor numbers.texts pair name (kinds.Field type) → (found : Option ℕ) → found ≡ field_place numbers.classes.items number pair → only_where (is_some found) number ≡ declaring world name type number
+declared_within world numbers are number inside pair name type stands found is =
+    elim (slice_get_cases world.classes number).1 [
+      | inl h ↦ sym (declared_at world numbers are number h.0 h.2 pair name type stands found is)
+      | inr h ↦ absurd (let no : ⊥ = omega (arith, inside, h.0) in no)
+    ]
 
 -- no class has the number
 pub undeclared : (world : World) (name : List ℕ) (type : JType) (number : ℕ) → length world.classes ≤ number → declaring world name type number ≡ None

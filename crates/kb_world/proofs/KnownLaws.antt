@@ -1,13 +1,13 @@
 -- What is found once is found again.
-use Rattle.std.proofs.Common.{◌≡◌, ℕ, Bool, true, false, true≢false, ◌&&◌, ◌==◌, cond, if◌then◌else◌, List, Option, Some, None, IfSome, refl, sym, ap, subst, ◌∙◌}
+use Rattle.std.proofs.Common.{◌≡◌, ℕ, Bool, true, false, true≢false, ◌==◌, cond, if◌then◌else◌, List, Option, Some, refl, sym, ap, subst, ◌∙◌}
 use Rattle.std.specs.HashMap.{HashMap}
-use Rattle.std.specs.Option.{option_and_then, option_map_or}
+use Rattle.std.specs.Option.{option_map_or}
 use Rattle.std.proofs.lemmas.Bool.Decides.{Decides-eqb}
-use Rattle.std.proofs.lemmas.Option.{same_Some, none-some}
+use Rattle.std.proofs.lemmas.Option.{same_Some}
 use Rattle.kb_names.specs.declared.types.ExactType.{ExactType}
-use Rattle.kb_names.specs.declared.types.JType.{JType}
+use Rattle.kb_names.specs.declared.types.ExactType.TheVariants as exact
 use Rattle.kb_names.specs.declared.types.MethodType.{MethodType}
-use Rattle.kb_class.specs.Class.{Member, Sought}
+use Rattle.kb_class.specs.Class.{Sought}
 use Rattle.kb_class.specs.Loading.{SpellsExact, SpellsKind}
 use Rattle.kb_class.specs.declared.entries.ReferenceKind.{ReferenceKind}
 use Rattle.kb_class.specs.declared.entries.ReferenceKind.TheVariants as references
@@ -15,7 +15,6 @@ use Rattle.kb_class.specs.declared.members.MemberKind.{MemberKind}
 use Rattle.kb_class.specs.declared.members.MemberKind.TheVariants as kinds
 use Rattle.kb_class.proofs.Spellings.{one_exact, one_kind}
 use Rattle.kb_numbers.specs.declared.pairs.EntryNumbers.{EntryNumbers}
-use Rattle.kb_numbers.specs.declared.pairs.Pair.{Pair}
 use Rattle.kb_numbers.specs.Numbers.{HasTextAt, Names}
 use Rattle.kb_numbers.specs.Pairs.{is_pair}
 use Rattle.kb_numbers.proofs.NumberLaws.{method_type, one_name, one_type}
@@ -24,8 +23,8 @@ use Rattle.kb_link.proofs.MemberNames.{both_true}
 use Rattle.kb_link.specs.World.{World}
 use Rattle.kb_world.specs.Calls.{takes}
 use Rattle.kb_world.specs.Faults.{has_left_out, kind_left_out}
-use Rattle.kb_world.specs.Lookup.{class_of, class_of_field, class_of_sought, slot_of_sought, method_of_sought, special_of_sought, slot_in_class, resolved_in, special_for}
-use Rattle.kb_world.specs.Tables.{KnowsClasses, KnowsLeftOut, KnowsMembers, StandsFor, found_in, is_named, is_proper, left_out_of, method_kind, nothing, slot_told, told_in}
+use Rattle.kb_world.specs.Lookup.{class_of}
+use Rattle.kb_world.specs.Tables.{KnowsClasses, KnowsLeftOut, KnowsMembers, StandsFor, found_in, is_named, is_proper, method_kind, nothing, told_in}
 use Rattle.kb_world.specs.declared.calls.Call.{Call}
 use Rattle.kb_world.specs.declared.calls.Call.TheVariants as calls
 use Rattle.kb_world.specs.declared.resolved.Resolved.{Resolved}
@@ -84,8 +83,9 @@ module _ (world : World) (current : ℕ) where
   -- nothing stands for what an entry of another kind names
   pub nothing_stands : (what : ReferenceKind) (class : ExactType) (name : List ℕ) (kind : MemberKind) → is_proper what kind ≡ false
       → StandsFor world current (record { what = what; class = class; member = record { name = name; kind = kind } }) nothing
-  nothing_stands references.Field (exact_class) name (kinds.Field type) e = absurd (true≢false e)
-  nothing_stands references.Field class name (kinds.Method kind) e = record { is_declaring = ?; is_slot = ?; is_method = refl; is_special = refl; is_left_out = refl }
+  nothing_stands references.Field class name (kinds.Field type) e = absurd (true≢false e)
+  nothing_stands references.Field (exact.Class class) name (kinds.Method kind) e = record { is_declaring = refl; is_slot = refl; is_method = refl; is_special = refl; is_left_out = refl }
+  nothing_stands references.Field (exact.Array component) name (kinds.Method kind) e = record { is_declaring = refl; is_slot = refl; is_method = refl; is_special = refl; is_left_out = refl }
   nothing_stands references.Method class name (kinds.Field type) e = record { is_declaring = refl; is_slot = refl; is_method = refl; is_special = refl; is_left_out = refl }
   nothing_stands references.Method class name (kinds.Method kind) e = absurd (true≢false e)
   nothing_stands references.InterfaceMethod class name (kinds.Field type) e = record { is_declaring = refl; is_slot = refl; is_method = refl; is_special = refl; is_left_out = refl }

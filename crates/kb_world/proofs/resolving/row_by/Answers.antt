@@ -1,12 +1,13 @@
 use Rattle.std.proofs.Common.{◌≡◌, length, min, arith}
 use Rattle.kb_world.specs.Tables.{IsResolved, nothing}
 use Rattle.kb_world.proofs.RowLaws.{one_more, is_row}
-use Rattle.kb_world.proofs.resolving.row_of.Goals as goal
+use Rattle.kb_world.proofs.resolving.row_by.Goals as goal
 
 pub loop-entry-preserved : goal.loop-entry-preserved
 loop-entry-preserved c =
-    one_more (IsResolved c.args.linked.now c.args.class) c.loop-entry.row c.push.new.self c.in_ok-told.told nothing c.loop-entry.entry c.in_ok-push.ensures.ok c.loop-entry.invariant.0
-    c.loop-entry.invariant.1 c.in_ok-told.ensures
+    let more = one_more (IsResolved c.args.linked.now c.args.class) c.loop-entry.row c.push.new.self c.in_ok-told.told nothing c.loop-entry.entry c.in_ok-push.ensures.ok c.loop-entry.invariant.0
+    c.loop-entry.invariant.1 c.in_ok-told.ensures.told in
+    (more.0, more.1, c.in_ok-told.ensures.known)
 
 pub returns : goal.returns
 returns c =
