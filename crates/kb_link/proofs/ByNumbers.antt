@@ -114,8 +114,7 @@ module _ (classes : List Class) (numbers : Numbers) (are : AreNumbered classes n
           go (Some place) f =
               let same : methods_before classes number + place ≡ id =
               same_Some (methods_before classes number + place) id (sym (by ∙ ap (λ (o : Option ℕ). option_map (λ (place : ℕ). methods_before classes number + place) o) f) ∙ e) in
-              let method = method_at_place classes numbers are number class at pair place f in
-              (
+              let method = method_at_place classes numbers are number class at pair place f in (
                 method.0.name,
                 method.0.kind,
                 record {

@@ -53,8 +53,7 @@ module _ (texts : List (List ℕ)) (pool : List PoolEntry) (row : List ℕ) (is 
   referred class name_type type member refers =
       let sought = refers.sought in
       let class_is : class_index pool class ≡ Some sought.0 = ap (λ (o : Option PoolEntry). option_and_then name_index_of o) sought.1 in
-      let parts : name_type_at pool name_type ≡ Some (refers.name, refers.kind) = ap (λ (o : Option PoolEntry). option_and_then name_type_of o) refers.there in
-      (
+      let parts : name_type_at pool name_type ≡ Some (refers.name, refers.kind) = ap (λ (o : Option PoolEntry). option_and_then name_type_of o) refers.there in (
         record { class = slice_index_or row sought.0 0; member = pair_at row refers.name refers.kind },
         (λ i. named_by row (class_is i) (parts i)),
         text_there sought.0 (SpellsExact type) sought.2,
@@ -74,8 +73,7 @@ module _ (texts : List (List ℕ)) (pool : List PoolEntry) (row : List ℕ) (is 
     names_sought class name_type type member other same class_is member_is refers =
         let found = referred class name_type type member refers in
         let classes : type ≡ sought.class = sym class_is ∙ ap (λ (s : Sought). s.class) same in
-        let members : member ≡ sought.member = sym member_is ∙ ap (λ (s : Sought). s.member) same in
-        (
+        let members : member ≡ sought.member = sym member_is ∙ ap (λ (s : Sought). s.member) same in (
           found.0,
           found.1,
           record {

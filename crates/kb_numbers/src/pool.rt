@@ -68,11 +68,7 @@ fn text_of(entry: &PoolEntry) -> Option<&[u8]>
 }
 
 /// The number of a text, which is added unless it is there. Texts without numbers of 32 bits are want of memory.
-pub(crate) fn number_of_text(
-    alloc: Global,
-    text: &[u8],
-    texts: &mut Texts,
-) -> Result<u32, NoMemory>
+pub(crate) fn number_of_text(alloc: Global, text: &[u8], texts: &mut Texts) -> Result<u32, NoMemory>
     ensures keeps { OnOk result (Keeps texts.old texts.new) }
     ensures number { IfOk result (λ number. slice_get texts.new number ≡ Some text.now) }
 {
@@ -156,12 +152,7 @@ fn entry_named(pool: &[PoolEntry], row: &[u32], entry: &PoolEntry) -> Option<Ent
 }
 
 // The member of one entry, sought in the type of the other.
-fn numbers_by(
-    pool: &[PoolEntry],
-    row: &[u32],
-    class: u16,
-    name_type: u16,
-) -> Option<EntryNumbers>
+fn numbers_by(pool: &[PoolEntry], row: &[u32], class: u16, name_type: u16) -> Option<EntryNumbers>
     ensures { result ≡ numbers_by pool.now row.now class name_type }
 {
     match (class_index(pool, class), name_type_at(pool, name_type)) {

@@ -30,12 +30,7 @@ pub(crate) struct Wanted<'a> {
 }
 
 // The method of the name and type that the class of a number declares.
-fn declared_in(
-    linked: &Linked,
-    numbers: &Numbers,
-    number: u32,
-    wanted: Wanted<'_>,
-) -> Option<u32>
+fn declared_in(linked: &Linked, numbers: &Numbers, number: u32, wanted: Wanted<'_>) -> Option<u32>
     requires { IsSearched linked.now numbers.now wanted }
     ensures { result ≡ declares linked.now wanted.name.now wanted.kind.now number }
 {
@@ -46,12 +41,7 @@ fn declared_in(
 }
 
 // That method, where it is neither private nor static.
-fn open_in(
-    linked: &Linked,
-    numbers: &Numbers,
-    number: u32,
-    wanted: Wanted<'_>,
-) -> Option<u32>
+fn open_in(linked: &Linked, numbers: &Numbers, number: u32, wanted: Wanted<'_>) -> Option<u32>
     requires { IsSearched linked.now numbers.now wanted }
     ensures { result ≡ declares_open linked.now wanted.name.now wanted.kind.now number }
 {
@@ -114,12 +104,7 @@ pub(crate) fn resolved_in(
 }
 
 // The method in the class and its superclasses, or in the interface and java/lang/Object.
-fn found_first(
-    linked: &Linked,
-    numbers: &Numbers,
-    number: u32,
-    wanted: Wanted<'_>,
-) -> Option<u32>
+fn found_first(linked: &Linked, numbers: &Numbers, number: u32, wanted: Wanted<'_>) -> Option<u32>
     requires { IsSearched linked.now numbers.now wanted × (number < length linked.now.classes) }
     ensures { result ≡ first_along (declares linked.now wanted.name.now wanted.kind.now) (first_sought linked.now number (slice_get linked.now.classes number)) }
 {
@@ -149,12 +134,7 @@ fn found_in_interface(
 }
 
 // The first method that is neither private nor static in a superinterface of the class, in the order of the world.
-fn found_above(
-    linked: &Linked,
-    numbers: &Numbers,
-    low: u32,
-    wanted: Wanted<'_>,
-) -> Option<u32>
+fn found_above(linked: &Linked, numbers: &Numbers, low: u32, wanted: Wanted<'_>) -> Option<u32>
     requires { IsSearched linked.now numbers.now wanted }
     ensures { result ≡ first_along (declares_open linked.now wanted.name.now wanted.kind.now) (superinterfaces linked.now low) }
 {

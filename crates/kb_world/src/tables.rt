@@ -123,11 +123,7 @@ fn add_key(
 }
 
 // The places of the class's own keys among these, by their pairs. Keys without places of 32 bits are want of memory.
-fn places_of(
-    alloc: Global,
-    class: u32,
-    keys: &[SlotKey],
-) -> Result<HashMap<Pair, u32>, NoMemory>
+fn places_of(alloc: Global, class: u32, keys: &[SlotKey]) -> Result<HashMap<Pair, u32>, NoMemory>
     ensures { IfOk result (λ table. IsSlotTable class keys.now table) }
 {
     if keys.len() > u32::MAX as usize {
@@ -156,11 +152,7 @@ fn add_own(
 }
 
 /// The place of the slot of the field of that pair which the class declares, among the slots of the class.
-pub(crate) fn slot_place(
-    tables: &[HashMap<Pair, u32>],
-    class: u32,
-    pair: Pair,
-) -> Option<u32>
+pub(crate) fn slot_place(tables: &[HashMap<Pair, u32>], class: u32, pair: Pair) -> Option<u32>
     ensures { result ≡ slot_place tables.now class pair }
 {
     match tables.get(class as usize) {
