@@ -5,7 +5,7 @@ use Rattle.std.specs.Option.{option_map, option_or}
 use Rattle.std.proofs.lemmas.Bool.Decides.{Decides-eqb}
 use Rattle.std.proofs.lemmas.Grind.{take_at_read}
 use Rattle.std.proofs.lemmas.List.{length-map}
-use Rattle.std.proofs.lemmas.Option.{same_Some, slice_get-map}
+use Rattle.std.proofs.lemmas.Option.{same_Some, get_or_from_slice_get, slice_get-map}
 use Rattle.kb_numbers.specs.declared.pairs.Pair.{Pair}
 use Rattle.kb_numbers.specs.Pairs.{is_pair, first_place, place_told, place_in, HasFirsts, AreFirsts}
 use Rattle.kb_numbers.proofs.PlaceLaws.{place_pushed, place_somewhere, place_inside}
@@ -60,10 +60,11 @@ module _ {S : Type 0} (old : HashMap Pair ℕ S) (pair : Pair) (place : ℕ) whe
 
 -- ---- one pair more
 
-pub first_next : (before after : Pair → Option ℕ) (pairs : List Pair) (place : ℕ) (item : Pair) → place < length pairs → item ≡ get_or pairs place item
+pub first_next : (before after : Pair → Option ℕ) (pairs : List Pair) (place : ℕ) (item : Pair) → place < length pairs → slice_get pairs place ≡ Some item
     → ((q : Pair) → before q ≡ first_place (take place pairs) q) → ((q : Pair) → after q ≡ option_or (before q) (if is_pair item q then Some place else None))
     → (q : Pair) → after q ≡ first_place (take (place + 1) pairs) q
-first_next before after pairs place item inside is so_far added q =
+first_next before after pairs place item inside there so_far added q =
+    let is : item ≡ get_or pairs place item = sym (get_or_from_slice_get pairs place item item there) in
     let taken : take (place + 1) pairs ≡ take place pairs ++ item ∷ [] = (take_at_read pairs place item inside).1 ∙ ap (λ (p : Pair). take place pairs ++ p ∷ []) (sym is) in
     let many : length (take place pairs) ≡ place = omega (arith, length-take place pairs, inside) in
     added q

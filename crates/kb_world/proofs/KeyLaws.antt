@@ -1,10 +1,11 @@
 -- The keys of slots, one class behind the other, and the places of a class's own.
-use Rattle.std.proofs.Common.{◌≡◌, ℕ, ◌+◌, ◌-◌, ◌<◌, Bool, true, false, if◌then◌else◌, ◌&&◌, ◌==◌, List, [], ◌∷◌, ◌++◌, length, length-take, take, reverse, get_or, Option, Some, None, refl, sym, ap, ◌∙◌, arith}
+use Rattle.std.proofs.Common.{◌≡◌, ℕ, ◌+◌, ◌-◌, ◌<◌, Bool, true, false, if◌then◌else◌, ◌&&◌, ◌==◌, List, [], ◌∷◌, ◌++◌, length, length-take, take, reverse, get_or, Option, Some, None, slice_get, refl, sym, ap, ◌∙◌, arith}
 use Rattle.std.specs.List.{flat_map}
 use Rattle.std.specs.Option.{option_or}
 use Rattle.std.proofs.lemmas.Bool.Decides.{Decides-eqb}
 use Rattle.std.proofs.lemmas.Grind.{take_at_read}
 use Rattle.std.proofs.lemmas.List.{append_assoc}
+use Rattle.std.proofs.lemmas.Option.{get_or_from_slice_get}
 use Rattle.kb_class.specs.declared.members.FieldInfo.{FieldInfo}
 use Rattle.kb_numbers.specs.declared.pairs.Pair.{Pair}
 use Rattle.kb_numbers.proofs.PlaceLaws.{place_pushed}
@@ -43,10 +44,11 @@ keys_step own chain back keys after whole within before is =
     ∙ before
 
 -- one key more
-pub key_next : (class : ℕ) (before after : Pair → Option ℕ) (keys : List SlotKey) (place : ℕ) (key : SlotKey) → place < length keys → key ≡ get_or keys place key
+pub key_next : (class : ℕ) (before after : Pair → Option ℕ) (keys : List SlotKey) (place : ℕ) (key : SlotKey) → place < length keys → slice_get keys place ≡ Some key
     → ((p : Pair) → before p ≡ place_where (is_key class p) (take place keys)) → ((p : Pair) → after p ≡ option_or (before p) (if is_key class p key then Some place else None))
     → (p : Pair) → after p ≡ place_where (is_key class p) (take (place + 1) keys)
-key_next class before after keys place key inside is so_far added p =
+key_next class before after keys place key inside there so_far added p =
+    let is : key ≡ get_or keys place key = sym (get_or_from_slice_get keys place key key there) in
     let taken : take (place + 1) keys ≡ take place keys ++ key ∷ [] = (take_at_read keys place key inside).1 ∙ ap (λ (k : SlotKey). take place keys ++ k ∷ []) (sym is) in
     let many : length (take place keys) ≡ place = omega (arith, length-take place keys, inside) in
     added p

@@ -1,11 +1,14 @@
 use Rattle.std.proofs.Common.{◌≡◌, ◌<◌, ◌+◌, List, Some, ◌∷◌, ◌++◌, length, take, drop, get_or, slice_get, refl, sym, ap, subst, ◌∙◌, arith}
 use Rattle.std.proofs.lemmas.List.{drop_more, take-append-drop}
-use Rattle.std.proofs.lemmas.Option.{same_Some, slice_get_read}
+use Rattle.std.proofs.lemmas.Option.{same_Some, slice_get_read, slice_get-get_or}
 use Rattle.kb_class.specs.declared.members.MethodInfo.{MethodInfo}
 use Rattle.kb_numbers.specs.declared.pairs.Pair.{Pair}
 use Rattle.kb_numbers.specs.Numbers.{IsMethodPair}
 use Rattle.kb_numbers.proofs.ZipLaws.{zip_long, zip_there}
 use Rattle.kb_link.proofs.packages.first_shared.Goals as goal
+
+abbrev none : Pair
+none = record { name = 0; kind = 0 }
 
 pub bounds-pairs-place : goal.bounds-pairs-place
 bounds-pairs-place c =
@@ -22,8 +25,8 @@ is_shared-requires c =
     let there : slice_get methods i ≡ Some method = slice_get_read methods (length methods) i method refl c.loop-place-test.true c.method-item.is in
     let beside = zip_there (IsMethodPair c.args.numbers.now.texts) methods pairs i method c.requires.2 there in
     let inside : i < length pairs = omega (arith, long, c.loop-place-test.true) in
-    let pair_there : slice_get pairs i ≡ Some c.index-pairs-place.result = slice_get_read pairs (length pairs) i c.index-pairs-place.result refl inside c.index-pairs-place.is in
-    let same : beside.0 ≡ c.index-pairs-place.result = same_Some beside.0 c.index-pairs-place.result (sym beside.1 ∙ pair_there) in
+    let pair_there : slice_get pairs i ≡ Some (get_or pairs i none) = slice_get-get_or pairs i none inside in
+    let same : beside.0 ≡ get_or pairs i none = same_Some beside.0 (get_or pairs i none) (sym beside.1 ∙ pair_there) in
     (c.requires.0, c.requires.1, subst (λ (p : Pair). IsMethodPair c.args.numbers.now.texts method p) same beside.2)
 
 pub returns-then-is_shared-clause-found : goal.returns-then-is_shared-clause-found
