@@ -4,7 +4,7 @@ ghost use Rattle.std.specs.Prelude.{◌≡◌, ◌<◌, [], ◌∷◌, length, S
 ghost use Rattle.std.specs.Option.{option_map};
 ghost use Rattle.kb_texts.specs.Texts.{Keeps};
 ghost use Rattle.kb_asm_pool.specs.Says.{text as says_text, int as says_int, class as says_class, string as says_string, member as says_member, added, all_added};
-ghost use Rattle.kb_asm_pool.specs.Items.{IsPlace, IsWithin, said};
+ghost use Rattle.kb_asm_pool.specs.Items.{IsWithin, said};
 ghost use Rattle.kb_asm_pool.specs.Needs.{class_needs, member_needs};
 ghost use Rattle.kb_asm_pool.specs.Entries.{number_in, member_entry, entry_of, entries_of};
 

@@ -1,17 +1,17 @@
 -- Loaded classes have texts: those of a file in its constant pool, those of the platform by descriptors that can be written.
-use Rattle.std.proofs.Common.{◌≡◌, ◌≢◌, ℕ, zero, suc, ◌≤◌, List, [], ◌∷◌, ◌++◌, length, map, Option, Some, None, IsTrue, codes, refl, sym, ap, subst, ◌∙◌, arith}
-use Rattle.std.specs.List.{AllByRecursion, AllZip, list_all}
+use Rattle.std.proofs.Common.{◌≢◌, ℕ, suc, List, [], ◌∷◌, ◌++◌, length, Option, refl, sym, subst, arith}
+use Rattle.std.specs.List.{AllByRecursion, AllZip}
 use Rattle.kb_classfile.specs.declared.file.ClassFile.{ClassFile}
 use Rattle.kb_classfile.specs.declared.file.Method.{Method as ClassMethod}
 use Rattle.kb_code.specs.declared.listing.Listing.{Listing}
-use Rattle.kb_names.specs.Descriptors.{IsMethodType, may_stand}
+use Rattle.kb_names.specs.Descriptors.{IsMethodType}
 use Rattle.kb_names.specs.declared.class_names.Spelling.TheVariants.{Raw}
 use Rattle.kb_names.specs.declared.types.MethodType.{MethodType}
 use Rattle.kb_class.specs.declared.given.GivenClass.{GivenClass}
 use Rattle.kb_class.specs.declared.members.MethodInfo.{MethodInfo}
 use Rattle.kb_class.specs.Class.{Class}
 use Rattle.kb_class.specs.Loading.{IsClassOf, AreMethodsOf}
-use Rattle.kb_class.specs.Platform.{PlatformClass, PlatformMethod, IsPlatform, IsPlatformMethod, platform_table, constructor, constructor_of_text, equals, object_name}
+use Rattle.kb_class.specs.Platform.{PlatformClass, PlatformMethod, IsPlatform, IsPlatformMethod, platform_table, constructor, constructor_of_text, equals}
 use Rattle.kb_numbers.specs.Numbers.{IsMethodNamed, HasTextsBy, HasTexts}
 use Rattle.kb_link.specs.Links.{AreClassesOf, ArePlatform, Loads}
 

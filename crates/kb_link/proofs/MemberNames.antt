@@ -1,5 +1,5 @@
 -- Members by their names and types: whether types are the same, and the number of the method that a class declares.
-use Rattle.std.proofs.Common.{◌≡◌, ℕ, zero, suc, ◌⊎◌, Bool, true, false, ◌==◌, ◌&&◌, List, [], ◌∷◌, map, Option, Some, None, IfSome, IfNone, slice_get, refl, sym, ap, subst, ◌∙◌, true≢false}
+use Rattle.std.proofs.Common.{◌≡◌, ℕ, zero, suc, Bool, true, false, ◌==◌, ◌&&◌, List, [], ◌∷◌, Option, Some, None, IfSome, IfNone, slice_get, refl, sym, ap, subst, ◌∙◌, true≢false}
 use Rattle.std.specs.Str.{bytes_eq}
 use Rattle.std.proofs.lemmas.Bool.Decides.{Decides-eqb}
 use Rattle.std.proofs.lemmas.Slice.Eq.{bytes_eq-Decides}
@@ -9,7 +9,6 @@ use Rattle.kb_names.specs.declared.types.JType.{JType}
 use Rattle.kb_names.specs.declared.types.MethodType.{MethodType}
 use Rattle.kb_names.proofs.ShapeLaws.{arrays_of-shape_of}
 use Rattle.kb_class.specs.Class.{Class}
-use Rattle.kb_class.specs.declared.members.MethodInfo.{MethodInfo}
 pub use Rattle.kb_numbers.proofs.PlaceLaws.{place_there, place_nowhere}
 use Rattle.kb_link.specs.World.{methods_in}
 use Rattle.kb_link.specs.Members.{base_key, type_key, same_type, same_types, same_result, same_kind, is_method, declared_method}

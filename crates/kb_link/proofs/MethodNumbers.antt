@@ -1,11 +1,10 @@
 -- The numbers of methods, by their classes and places.
-use Rattle.std.proofs.Common.{◌≡◌, ℕ, zero, suc, ◌+◌, ◌<◌, ◌^◌, ◌≤◌, ◌⊎◌, inl, inr, Bool, true, false, true≢false, List, [], ◌∷◌, ◌++◌, length, map, take, Option, Some, None, slice_get, get_or, refl, sym, ap, subst, ◌∙◌, arith, length-append}
+use Rattle.std.proofs.Common.{◌≡◌, ℕ, zero, suc, ◌+◌, ◌<◌, ◌≤◌, ◌⊎◌, inl, inr, List, [], ◌∷◌, ◌++◌, length, map, take, Option, Some, None, slice_get, get_or, refl, sym, ap, subst, ◌∙◌, arith, length-append}
 use Rattle.std.specs.Option.{option_map, option_and_then}
 use Rattle.std.proofs.lemmas.Grind.{flat_map-append, take_at_read}
 use Rattle.std.proofs.lemmas.List.{length-map, map-append, append-nil, append_assoc}
-use Rattle.std.proofs.lemmas.Option.{same_Some, none-some, option_and_then_some, slice_get_cases, slice_get_read, slice_get_within, slice_get-map, slice_get-get_or, get_or_from_slice_get}
+use Rattle.std.proofs.lemmas.Option.{same_Some, none-some, option_and_then_some, slice_get_cases, slice_get_read, slice_get_within, slice_get-map, get_or_from_slice_get}
 use Rattle.kb_class.specs.Class.{Class}
-use Rattle.kb_class.specs.Naming.{Has}
 use Rattle.kb_class.specs.declared.members.MethodInfo.{MethodInfo}
 use Rattle.kb_link.specs.World.{number_in, methods_in}
 use Rattle.kb_link.specs.Rules.{HaveDifferentNames, HaveOwnMethods, name_of}

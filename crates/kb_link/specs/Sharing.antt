@@ -1,6 +1,5 @@
 -- Methods of a package that a superclass in another package declares too, class by class.
 use Rattle.std.specs.Prelude.{◌≡◌, ℕ, Bool, true, false, not, List, drop, filter, Option, Some, None, slice_get}
-use Rattle.std.specs.List.{AllByRecursion}
 use Rattle.std.specs.Option.{option_and_then, option_map_or}
 use Rattle.std.specs.Str.{bytes_eq}
 use Rattle.kb_class.specs.declared.members.MethodInfo.{MethodInfo}

@@ -12,7 +12,7 @@ use Rattle.kb_names.specs.declared.types.MethodType.{MethodType}
 use Rattle.kb_link.specs.declared.methods.MethodPlace.{MethodPlace}
 use Rattle.kb_link.specs.declared.linking.LinkRefusal.{LinkRefusal}
 use Rattle.kb_link.specs.declared.linking.LinkRefusal.TheVariants as refusals
-use Rattle.kb_link.specs.World.{number_in, methods_in}
+use Rattle.kb_link.specs.World.{methods_in}
 use Rattle.kb_link.specs.Subtypes.{Claim}
 use Rattle.kb_link.specs.Rules.{IsFirst, IsMissing, IsBad, name_of}
 

@@ -1,12 +1,11 @@
 //! From class files to the world of them, and why there is none.
-ghost use Rattle.std.specs.Prelude.{◌≡◌, ◌≤◌, length, IfOk, IfErr, IfSome, IfNone};
+ghost use Rattle.std.specs.Prelude.{◌≡◌, ◌≤◌, length, IfOk, IfErr};
 ghost use Rattle.std.specs.List.{AllByRecursion};
 ghost use Rattle.kb_class.specs.Given.{AreGiven};
 ghost use Rattle.kb_numbers.specs.Numbers.{AreNumbered, HasTexts};
-ghost use Rattle.kb_link.specs.Rules.{HaveDifferentNames, HaveOwnMethods, HaveSupers, HaveNoCircle, HaveGoodSupers};
-ghost use Rattle.kb_link.specs.Split.{HaveNoSplit};
-ghost use Rattle.kb_link.specs.Subtypes.{direct_supers, AreChains};
-ghost use Rattle.kb_link.specs.Links.{AreLoaded, KeepsFormat, Loads, Links, IsLinked, RefusesClasses, RefusesLink, most_classes};
+ghost use Rattle.kb_link.specs.Rules.{HaveDifferentNames, HaveSupers, HaveNoCircle, HaveGoodSupers};
+ghost use Rattle.kb_link.specs.Subtypes.{direct_supers};
+ghost use Rattle.kb_link.specs.Links.{AreLoaded, KeepsFormat, Links, IsLinked, RefusesClasses, RefusesLink, most_classes};
 
 use crate::chains::chains_of;
 use crate::circles::check_circles;

@@ -7,14 +7,16 @@ use Rattle.std.proofs.lemmas.List.{append-nil}
 use Rattle.std.proofs.lemmas.Option.{same_Some, none-some}
 use Rattle.kb_names.specs.declared.types.JType.{JType}
 use Rattle.kb_names.specs.declared.types.MethodType.{MethodType}
-use Rattle.kb_class.specs.Class.{Class}
+use Rattle.kb_class.specs.Class.{Class, Sought, reference_of_entry}
+use Rattle.kb_class.specs.Loaded.{told_at}
 use Rattle.kb_class.specs.declared.members.FieldInfo.{FieldInfo}
 use Rattle.kb_class.specs.declared.members.MethodInfo.{MethodInfo}
 use Rattle.kb_class.specs.declared.members.MemberKind.TheVariants as kinds
 use Rattle.kb_numbers.specs.declared.numbering.Numbers.{Numbers}
 use Rattle.kb_numbers.specs.declared.pairs.Pair.{Pair}
-use Rattle.kb_numbers.specs.Members.{MemberNumbers, method_pairs, method_place, method_number, field_place}
-use Rattle.kb_numbers.specs.Numbers.{StandsFor, IsMethodPair, IsFieldPair, IsNumbered, AreNumberedFrom, AreNumbered}
+use Rattle.kb_numbers.specs.declared.pairs.EntryNumbers.{EntryNumbers}
+use Rattle.kb_numbers.specs.Members.{MemberNumbers, method_pairs, method_place, method_number, field_place, entry_named}
+use Rattle.kb_numbers.specs.Numbers.{StandsFor, Names, IsMethodPair, IsFieldPair, IsNumbered, AreNumberedFrom, AreNumbered}
 use Rattle.kb_numbers.specs.Pairs.{is_pair, first_place}
 use Rattle.kb_numbers.proofs.NumberLaws.{same_member, same_pair, method_type, field_type}
 use Rattle.kb_numbers.proofs.PlaceLaws.{place_there, place_nowhere}
@@ -114,14 +116,12 @@ module _ (classes : List Class) (numbers : Numbers) (are : AreNumbered classes n
         let same = same_pair numbers.texts are.distinct beside.0 pair is.method.name name (kinds.Method is.method.kind) (kinds.Method kind) beside.2 stands is.named (ap (λ (k : MethodType). kinds.Method k) is.typed) in
         place_nowhere (λ (other : Pair). is_pair other pair) own_numbers.own.methods place beside.0 (sym here ∙ none) beside.1 same
 
-  -- the method at a place that the table has
-  pub method_at_place : (pair : Pair) (place : ℕ) → method_place numbers.classes.items number pair ≡ Some place → (method : MethodInfo) × (slice_get class.methods place ≡ Some method)
-  method_at_place pair place at =
-      let here : method_place numbers.classes.items number pair ≡ first_place own_numbers.own.methods pair =
-      ap (λ (o : Option MemberNumbers). option_and_then (λ (n : MemberNumbers). first_place n.methods pair) o) own_numbers.there in
-      let found = place_there (λ (other : Pair). is_pair other pair) own_numbers.own.methods place (sym here ∙ at) in
-      let beside = zip_from (IsMethodPair numbers.texts) class.methods own_numbers.own.methods place found.0 own_numbers.is.numbers.each_method found.1 in
-      (beside.0, beside.1)
+  -- what an entry of the class names
+  pub entry_there : (entry : ℕ) (sought : Sought) → reference_of_entry (slice_get class.entries entry) ≡ Some sought
+      → (told : EntryNumbers) × (entry_named numbers.classes.items number entry ≡ Some told) × Names numbers.texts told sought
+  entry_there entry sought is =
+      let found = own_numbers.is.numbers.each_entry entry sought is in
+      (found.0, ap (λ (o : Option MemberNumbers). option_and_then (λ (n : MemberNumbers). told_at n.entries entry) o) own_numbers.there ∙ found.1, found.2)
 
   -- the number of the method is told by its place
   pub number_by_place : (pair : Pair) → method_number numbers.classes.items number pair ≡ option_map (λ (place : ℕ). methods_before classes number + place) (method_place numbers.classes.items number pair)

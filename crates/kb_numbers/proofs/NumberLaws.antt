@@ -1,14 +1,11 @@
 -- A pair stands for one name and type, and these have one pair, also while texts are added.
-use Rattle.std.proofs.Common.{◌≡◌, ℕ, ◌+◌, Bool, true, false, true≢false, List, [], ◌∷◌, ◌++◌, length, Some, slice_get, sym, ap, subst, ◌∙◌}
-use Rattle.std.specs.List.{AllZip}
+use Rattle.std.proofs.Common.{◌≡◌, ℕ, ◌+◌, true, List, [], ◌∷◌, length, Some, sym, ap, subst, ◌∙◌}
 use Rattle.std.proofs.lemmas.Option.{same_Some}
 use Rattle.kb_names.specs.declared.types.MethodType.{MethodType}
 use Rattle.kb_names.specs.declared.types.JType.{JType}
 use Rattle.kb_texts.specs.Texts.{AreDistinct, Keeps}
 use Rattle.kb_class.specs.Class.{Class, Sought}
 use Rattle.kb_class.specs.Loading.{SpellsKind, SpellsExact}
-use Rattle.kb_class.specs.declared.members.FieldInfo.{FieldInfo}
-use Rattle.kb_class.specs.declared.members.MethodInfo.{MethodInfo}
 use Rattle.kb_class.specs.declared.members.MemberKind.{MemberKind}
 use Rattle.kb_class.specs.declared.members.MemberKind.TheVariants as kinds
 use Rattle.kb_class.proofs.Spellings.{one_kind}

@@ -5,10 +5,9 @@ use Rattle.std.specs.Option.{option_and_then}
 use Rattle.std.proofs.lemmas.Option.{same_Some, none-some}
 use Rattle.kb_classfile.specs.declared.file.ClassFile.{ClassFile}
 use Rattle.kb_classfile.specs.declared.file.Field.{Field}
-use Rattle.kb_classfile.specs.declared.file.Method.{Method as ClassMethod}
 use Rattle.kb_classfile.specs.declared.file.PoolEntry.{PoolEntry}
 use Rattle.kb_classfile.specs.declared.file.PoolEntry.TheVariants as entries
-use Rattle.kb_classfile.specs.Pool.{utf8_in, text_of, name_index_of}
+use Rattle.kb_classfile.specs.Pool.{utf8_in, name_index_of}
 use Rattle.kb_names.specs.declared.types.ExactType.{ExactType}
 use Rattle.kb_class.specs.declared.entries.ReferenceKind.TheVariants as references
 use Rattle.kb_class.specs.Class.{Class, Member, Sought, Entry, IntEntry, TextEntry, TypeEntry, MemberEntry, OtherEntry, reference_of_entry}
@@ -22,7 +21,7 @@ use Rattle.kb_texts.specs.Texts.{Keeps}
 use Rattle.kb_numbers.specs.declared.pairs.Pair.{Pair}
 use Rattle.kb_numbers.specs.declared.pairs.EntryNumbers.{EntryNumbers}
 use Rattle.kb_numbers.specs.Members.{MemberNumbers}
-use Rattle.kb_numbers.specs.Numbers.{HasTextAt, StandsFor, IsMethodPair, IsFieldPair, Names, AreNumbers, IsNumbered, IsMethodNamed, IsOfFile}
+use Rattle.kb_numbers.specs.Numbers.{HasTextAt, StandsFor, IsMethodPair, IsFieldPair, Names, IsNumbered, IsMethodNamed, IsOfFile}
 use Rattle.kb_numbers.specs.Pools.{HasNumber, IsTextRow, pair_at, method_pair, field_pair, name_type_of, class_index, name_type_at, named_by, numbers_by, entry_numbers}
 use Rattle.kb_numbers.proofs.ZipLaws.{zip_mapped}
 

@@ -9,7 +9,6 @@ use Rattle.std.proofs.lemmas.List.{get_or_past}
 use Rattle.std.proofs.lemmas.Option.{slice_get_cases, slice_get_past}
 use Rattle.std.proofs.lemmas.Slice.Eq.{bytes_eq-Decides}
 use Rattle.kb_names.specs.declared.types.JType.{JType}
-use Rattle.kb_texts.specs.Texts.{AreDistinct}
 use Rattle.kb_class.specs.Class.{Class}
 use Rattle.kb_class.specs.declared.members.FieldInfo.{FieldInfo}
 use Rattle.kb_class.specs.declared.members.MemberKind.TheVariants as kinds
@@ -25,7 +24,7 @@ use Rattle.kb_numbers.proofs.ZipLaws.{zip_as, zip_both}
 use Rattle.kb_link.specs.declared.slots.FieldSlot.{FieldSlot}
 use Rattle.kb_link.specs.Links.{IsLinked}
 use Rattle.kb_link.specs.Members.{is_field, place_where, same_type}
-use Rattle.kb_link.specs.Slots.{Declared, has_slot, slot_of, slots_among, own_slots_at, own_slots_there, numbered, slots_along, slots_of}
+use Rattle.kb_link.specs.Slots.{Declared, has_slot, slots_among, own_slots_at, own_slots_there, numbered, slots_along, slots_of}
 use Rattle.kb_link.specs.World.{World, chain_of}
 use Rattle.kb_link.proofs.MemberNames.{and_true, both_true, type_is, type_self}
 use Rattle.kb_link.proofs.SlotLaws.{numbered_behind}

@@ -1,11 +1,11 @@
 -- The keys of slots, one class behind the other, and the places of a class's own.
-use Rattle.std.proofs.Common.{◌≡◌, ℕ, ◌+◌, ◌-◌, ◌<◌, Bool, true, false, if◌then◌else◌, ◌&&◌, ◌==◌, List, [], ◌∷◌, ◌++◌, length, length-take, take, reverse, get_or, Option, Some, None, slice_get, refl, sym, ap, ◌∙◌, arith}
+use Rattle.std.proofs.Common.{◌≡◌, ℕ, zero, suc, ◌+◌, ◌-◌, ◌<◌, Bool, true, false, if◌then◌else◌, ◌&&◌, ◌==◌, List, [], ◌∷◌, ◌++◌, length, length-take, min, take, reverse, get_or, Option, Some, None, slice_get, refl, sym, ap, ◌∙◌, arith}
 use Rattle.std.specs.List.{flat_map}
 use Rattle.std.specs.Option.{option_or}
 use Rattle.std.proofs.lemmas.Bool.Decides.{Decides-eqb}
 use Rattle.std.proofs.lemmas.Grind.{take_at_read}
 use Rattle.std.proofs.lemmas.List.{append_assoc}
-use Rattle.std.proofs.lemmas.Option.{get_or_from_slice_get}
+use Rattle.std.proofs.lemmas.Option.{get_or_from_slice_get, none-some, same_Some}
 use Rattle.kb_class.specs.declared.members.FieldInfo.{FieldInfo}
 use Rattle.kb_numbers.specs.declared.pairs.Pair.{Pair}
 use Rattle.kb_numbers.proofs.PlaceLaws.{place_pushed}
@@ -24,6 +24,48 @@ own_first class field fields pair pairs = go (has_slot field)
         ≡ (if b then record { class = class; pair = pair } ∷ [] else []) ++ own_keys class fields pairs
     go true = refl
     go false = refl
+
+-- those of one field more
+keys_more : (class : ℕ) (fields : List FieldInfo) (pairs : List Pair) (place : ℕ) (field : FieldInfo) (pair : Pair) → slice_get fields place ≡ Some field → slice_get pairs place ≡ Some pair
+    → own_keys class (take (suc place) fields) (take (suc place) pairs) ≡ own_keys class (take place fields) (take place pairs) ++ own_keys class (field ∷ []) (pair ∷ [])
+keys_more class [] pairs place field pair at beside = absurd (none-some field at)
+keys_more class (f ∷ fields) [] place field pair at beside = absurd (none-some pair beside)
+keys_more class (f ∷ fields) (p ∷ pairs) zero field pair at beside =
+    let first : f ≡ field = same_Some f field at in
+    let second : p ≡ pair = same_Some p pair beside in
+    λ i. own_keys class (first i ∷ []) (second i ∷ [])
+keys_more class (f ∷ fields) (p ∷ pairs) (suc place) field pair at beside =
+    own_first class f (take (suc place) fields) p (take (suc place) pairs)
+    ∙ ap (λ (ks : List SlotKey). own_keys class (f ∷ []) (p ∷ []) ++ ks) (keys_more class fields pairs place field pair at beside)
+    ∙ sym (append_assoc (own_keys class (f ∷ []) (p ∷ [])) (own_keys class (take place fields) (take place pairs)) (own_keys class (field ∷ []) (pair ∷ [])))
+    ∙ ap (λ (ks : List SlotKey). ks ++ own_keys class (field ∷ []) (pair ∷ [])) (sym (own_first class f (take place fields) p (take place pairs)))
+
+pub keys_next : (class : ℕ) (fields : List FieldInfo) (pairs : List Pair) (place : ℕ) (field : FieldInfo) (pair : Pair) → slice_get fields place ≡ Some field → slice_get pairs place ≡ Some pair
+    → (start keys after : List SlotKey) → keys ≡ start ++ own_keys class (take place fields) (take place pairs) → after ≡ keys ++ own_keys class (field ∷ []) (pair ∷ [])
+    → after ≡ start ++ own_keys class (take (place + 1) fields) (take (place + 1) pairs)
+keys_next class fields pairs place field pair at beside start keys after so_far is =
+    let next : suc place ≡ place + 1 = omega arith in
+    is
+    ∙ ap (λ (ks : List SlotKey). ks ++ own_keys class (field ∷ []) (pair ∷ [])) so_far
+    ∙ append_assoc start (own_keys class (take place fields) (take place pairs)) (own_keys class (field ∷ []) (pair ∷ []))
+    ∙ ap (λ (ks : List SlotKey). start ++ ks) (sym (keys_more class fields pairs place field pair at beside))
+    ∙ ap (λ (n : ℕ). start ++ own_keys class (take n fields) (take n pairs)) next
+
+-- so many of each are all
+pub keys_all : (class : ℕ) (fields : List FieldInfo) (pairs : List Pair) (count : ℕ) → count ≡ min (length fields) (length pairs)
+    → own_keys class (take count fields) (take count pairs) ≡ own_keys class fields pairs
+keys_all class [] pairs zero e = refl
+keys_all class [] pairs (suc count) e = refl
+keys_all class (f ∷ fields) [] zero e = refl
+keys_all class (f ∷ fields) [] (suc count) e = refl
+keys_all class (f ∷ fields) (p ∷ pairs) zero e =
+    let none : 0 ≡ min (suc (length fields)) (suc (length pairs)) = e in
+    absurd (omega (arith, none))
+keys_all class (f ∷ fields) (p ∷ pairs) (suc count) e =
+    let many : suc count ≡ min (suc (length fields)) (suc (length pairs)) = e in
+    own_first class f (take count fields) p (take count pairs)
+    ∙ ap (λ (ks : List SlotKey). own_keys class (f ∷ []) (p ∷ []) ++ ks) (keys_all class fields pairs count (omega (arith, many)))
+    ∙ sym (own_first class f fields p pairs)
 
 -- one number of a chain more
 pub keys_step : (own : ℕ → List SlotKey) (chain : List ℕ) (back : ℕ) (keys after whole : List SlotKey) → back < length chain → keys ++ flat_map own (reverse (take (length chain - back) chain)) ≡ whole

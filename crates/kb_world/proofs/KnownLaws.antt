@@ -21,9 +21,10 @@ use Rattle.kb_numbers.proofs.NumberLaws.{method_type, one_name, one_type}
 use Rattle.kb_numbers.proofs.PairLaws.{pair_is}
 use Rattle.kb_link.proofs.MemberNames.{both_true}
 use Rattle.kb_link.specs.World.{World}
-use Rattle.kb_world.specs.Calls.{takes}
-use Rattle.kb_world.specs.Faults.{has_left_out, kind_left_out}
-use Rattle.kb_world.specs.Lookup.{class_of}
+use Rattle.kb_link.specs.declared.linking.What.TheVariants as whats
+use Rattle.kb_world.specs.Calls.{fault_of_kind, fault_of_number, takes}
+use Rattle.kb_world.specs.Faults.{Outside, has_left_out, kind_left_out}
+use Rattle.kb_world.specs.Lookup.{class_of, only_where, or_else, resolved_method}
 use Rattle.kb_world.specs.Tables.{KnowsClasses, KnowsLeftOut, KnowsMembers, StandsFor, found_in, is_named, is_proper, method_kind, nothing, told_in}
 use Rattle.kb_world.specs.declared.calls.Call.{Call}
 use Rattle.kb_world.specs.declared.calls.Call.TheVariants as calls
@@ -149,3 +150,11 @@ taken_left_out call references.Method (kinds.Field type) e = refl
 taken_left_out call references.Method (kinds.Method kind) e = refl
 taken_left_out call references.InterfaceMethod (kinds.Field type) e = refl
 taken_left_out call references.InterfaceMethod (kinds.Method kind) e = refl
+
+-- what is wrong with a call of a method, where it is known whether a part of its type is left out
+pub method_told : (world : World) (class : ℕ) (call : Call) (entry : ℕ) (of : ExactType) (kind : MemberKind) (type : MethodType) (left_out : Bool) → kind ≡ kinds.Method type
+    → left_out ≡ kind_left_out kind
+    → fault_of_kind world class call entry of kind ≡ or_else (only_where left_out (Outside whats.Kind)) (fault_of_number world class call entry of (resolved_method world class entry))
+method_told world class call entry of kind type left_out is told =
+    ap (fault_of_kind world class call entry of) is
+    ∙ ap (λ (b : Bool). or_else (only_where b (Outside whats.Kind)) (fault_of_number world class call entry of (resolved_method world class entry))) (sym (told ∙ ap kind_left_out is))

@@ -6,6 +6,7 @@ pub mod SelectionLaws
 pub mod SignatureLaws
 pub mod KeyLaws
 pub mod KnownLaws
+mod StandingLaws
 mod Inside
 mod Marking
 mod Reaching

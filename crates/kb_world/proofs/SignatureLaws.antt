@@ -1,5 +1,5 @@
 -- The number of the first method of a pair is that of the first method of its name and type.
-use Rattle.std.proofs.Common.{◌≡◌, ℕ, zero, suc, ◌<◌, Bool, true, false, true≢false, List, [], ◌∷◌, length, Option, Some, slice_get, refl, sym, ap, ◌∙◌, arith}
+use Rattle.std.proofs.Common.{◌≡◌, ℕ, zero, suc, ◌<◌, true, List, [], ◌∷◌, length, Option, Some, slice_get, refl, sym, ap, ◌∙◌, arith}
 use Rattle.std.specs.List.{AllZip}
 use Rattle.std.specs.Option.{option_and_then}
 use Rattle.std.specs.Str.{bytes_eq}
@@ -20,7 +20,7 @@ use Rattle.kb_numbers.proofs.PlaceLaws.{place_beside}
 use Rattle.kb_numbers.proofs.ZipLaws.{zip_as, zip_from, zip_long}
 use Rattle.kb_link.specs.Members.{place_where, same_kind}
 use Rattle.kb_link.specs.World.{World, methods_in}
-use Rattle.kb_link.proofs.MemberNames.{and_true, kind_self, kind_is, both_true}
+use Rattle.kb_link.proofs.MemberNames.{and_true, kind_self}
 use Rattle.kb_world.specs.Tables.{is_alike, HaveSignatures}
 use Rattle.kb_world.proofs.SelectionLaws.{alike_is}
 use Rattle.kb_universe.proofs.Lists.{same_test}

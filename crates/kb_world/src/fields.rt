@@ -10,7 +10,6 @@ ghost use Rattle.kb_world.specs.Tables.{slot_in, slot_place};
 
 use crate::chains::{chain_at, slots_at};
 use crate::tables::slot_place;
-use kb_class::ClassId;
 use kb_link::{FieldSlot, Linked};
 use kb_names::{ExactType, JType};
 use kb_numbers::{Numbers, Pair};

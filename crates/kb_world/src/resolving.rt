@@ -1,12 +1,12 @@
 //! What the entries of the constant pools stand for, found once for each class and each member that it names.
-ghost use Rattle.std.specs.Prelude.{◌≡◌, ◌<◌, true, false, None, length, IfOk, IfSome, OnOk};
+ghost use Rattle.std.specs.Prelude.{◌≡◌, ◌<◌, true, false, Some, None, length, IfOk, IfSome, OnOk};
 ghost use Rattle.std.specs.Option.{option_and_then};
 ghost use Rattle.kb_class.specs.References.{sought_of};
 ghost use Rattle.kb_class.specs.declared.entries.ReferenceKind.TheVariants as references;
 ghost use Rattle.kb_class.specs.declared.members.MemberKind.TheVariants as kinds;
 ghost use Rattle.kb_numbers.specs.Numbers.{AreNumbered, Names, StandsFor as PairStandsFor};
 ghost use Rattle.kb_link.specs.Links.{IsLinked};
-ghost use Rattle.kb_world.specs.Lookup.{class_of, class_of_field, resolved_in, special_for};
+ghost use Rattle.kb_world.specs.Lookup.{class_of, class_of_field, resolved_in, sought_at, special_for};
 ghost use Rattle.kb_world.specs.Tables.{HaveSlotTables, StandsFor, IsKnown, IsResolved, IsRow, IsSearched, AreRows, is_proper, slot_place};
 
 use crate::fields::{WantedField, class_of_field, slot_sought};
@@ -95,14 +95,33 @@ fn resolved_entry(
     ensures told { IfOk result (IsResolved linked.now class entry) }
     ensures known { OnOk result (IsKnown linked.now class numbers.now.texts known.new) }
 {
-    let Some(reference) = linked.class_of(ClassId(class)).reference_entry(entry) else {
-        return Ok(nothing());
-    };
-    let Some(named) = numbers.entry(class, entry) else {
-        return Ok(nothing());
-    };
-    let told = stands_for(linked, numbers, slots, class, &reference, named, known)?;
-    Ok(told)
+    match linked.class_of(ClassId(class)).reference_entry(entry) {
+        Some(reference) => member_entry(linked, numbers, slots, class, entry, &reference, known),
+        None => Ok(nothing()),
+    }
+}
+
+// What an entry stands for that names a member.
+fn member_entry(
+    linked: &Linked,
+    numbers: &Numbers,
+    slots: &[HashMap<Pair, u32>],
+    class: u32,
+    entry: u16,
+    reference: &Reference<'_>,
+    known: &mut Known,
+) -> Result<Resolved, NoMemory>
+    requires { IsLinked linked.now × AreNumbered linked.now.classes numbers.now × HaveSlotTables linked.now numbers.now.classes.items slots.now × IsKnown linked.now class numbers.now.texts known.old × (sought_at linked.now class entry ≡ Some (sought_of reference.now)) }
+    ensures told { IfOk result (IsResolved linked.now class entry) }
+    ensures known { OnOk result (IsKnown linked.now class numbers.now.texts known.new) }
+{
+    match numbers.entry(class, entry) {
+        Some(named) => {
+            let told = stands_for(linked, numbers, slots, class, reference, named, known)?;
+            Ok(told)
+        }
+        None => Ok(nothing()),
+    }
 }
 
 // What is sought stands for, in code of that class: found where it was not found before.

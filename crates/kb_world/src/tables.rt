@@ -94,12 +94,9 @@ fn add_keys(
 ) -> Result<(), NoMemory>
     ensures { OnOk result (keys.new.items ≡ keys.old.items ++ own_keys class fields.now pairs.now) }
 {
-    let mut fields_left = fields;
-    let mut pairs_left = pairs;
-    while let ([field, others @ ..], [pair, rest @ ..]) = (fields_left, pairs_left) {
-        add_key(class, field, *pair, keys)?;
-        fields_left = others;
-        pairs_left = rest;
+    let count = fields.len().min(pairs.len());
+    for place in 0..count {
+        add_key(class, &fields[place], pairs[place], keys)?;
     }
     Ok(())
 }

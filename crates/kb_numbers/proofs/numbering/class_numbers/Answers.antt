@@ -1,7 +1,6 @@
-use Rattle.std.proofs.Common.{◌≡◌, [], List, Some, None, sym, ap, subst, ◌∙◌}
+use Rattle.std.proofs.Common.{◌≡◌, [], List, None, sym, subst}
 use Rattle.std.specs.List.{AllByRecursion}
 use Rattle.std.proofs.lemmas.Result.{IfOk-weaker}
-use Rattle.kb_classfile.specs.declared.file.ClassFile.{ClassFile}
 use Rattle.kb_class.specs.Class.{Class}
 use Rattle.kb_class.specs.declared.members.MethodInfo.{MethodInfo}
 use Rattle.kb_numbers.specs.Numbers.{HasTextsBy, IsNumbered, IsOfFile, IsWritten}

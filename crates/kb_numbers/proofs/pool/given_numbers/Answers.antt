@@ -1,8 +1,5 @@
-use Rattle.std.proofs.Common.{◌≡◌, List, ℕ, map, ap, subst, ◌∙◌}
+use Rattle.std.proofs.Common.{◌≡◌, List, map, subst, ◌∙◌}
 use Rattle.kb_classfile.specs.declared.file.PoolEntry.{PoolEntry}
-use Rattle.kb_numbers.specs.declared.pairs.Pair.{Pair}
-use Rattle.kb_numbers.specs.declared.pairs.EntryNumbers.{EntryNumbers}
-use Rattle.kb_numbers.specs.Members.{MemberNumbers}
 use Rattle.kb_numbers.specs.Pools.{IsTextRow, method_pair, field_pair, entry_numbers}
 use Rattle.kb_numbers.proofs.PoolLaws.{file_numbered}
 use Rattle.kb_numbers.proofs.pool.given_numbers.Goals as goal

@@ -1,4 +1,4 @@
-use Rattle.std.proofs.Common.{◌≡◌, ◌≤◌, List, length, take, subst, arith}
+use Rattle.std.proofs.Common.{◌≤◌, List, length, take, subst, arith}
 use Rattle.std.specs.List.{AllZip}
 use Rattle.std.proofs.lemmas.List.{take_all}
 use Rattle.kb_classfile.specs.declared.file.PoolEntry.{PoolEntry}

@@ -1,4 +1,4 @@
-use Rattle.std.proofs.Common.{◌≡◌, ◌++◌, [], List, ℕ, Some, slice_get, refl, ap, ◌∙◌}
+use Rattle.std.proofs.Common.{◌≡◌, ◌++◌, List, ℕ, Some, refl, ap, ◌∙◌}
 use Rattle.kb_names.specs.Descriptors.{method_text}
 use Rattle.kb_names.specs.declared.class_names.Spelling.TheVariants.{Raw}
 use Rattle.kb_numbers.proofs.written.written_pair.Goals as goal

@@ -1,4 +1,4 @@
-use Rattle.std.proofs.Common.{◌≡◌, ap, ◌∙◌}
+use Rattle.std.proofs.Common.{ap, ◌∙◌}
 use Rattle.kb_numbers.specs.Members.{MemberNumbers}
 use Rattle.kb_numbers.specs.Pairs.{first_place}
 use Rattle.kb_numbers.proofs.class_numbers.ClassNumbers.method_place.Goals as goal

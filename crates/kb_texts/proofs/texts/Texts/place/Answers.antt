@@ -1,4 +1,4 @@
-use Rattle.std.proofs.Common.{List, ℕ, slice_get, sym, ap, ◌∙◌, subst}
+use Rattle.std.proofs.Common.{List, ℕ, sym, ap, ◌∙◌, subst}
 use Rattle.kb_texts.specs.Texts.{with_text, Keeps, AreDistinct}
 use Rattle.kb_texts.proofs.TextLaws.{items_of, distinct_more, keeps_more, key_added, key_there}
 use Rattle.kb_texts.proofs.texts.Texts.place.Goals as goal

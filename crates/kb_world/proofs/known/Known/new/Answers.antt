@@ -1,4 +1,4 @@
-use Rattle.std.proofs.Common.{◌≡◌, None, Some, sym, ap, ◌∙◌, ◌==◌, ℕ}
+use Rattle.std.proofs.Common.{sym, ap, ◌∙◌, ◌==◌, ℕ}
 use Rattle.std.specs.Map.{lookup}
 use Rattle.std.proofs.lemmas.Option.{none-some}
 use Rattle.kb_numbers.specs.declared.pairs.EntryNumbers.{EntryNumbers}
