@@ -4,6 +4,7 @@ use Rattle.std.specs.HashMap.{HashMap}
 use Rattle.std.specs.Option.{option_and_then}
 use Rattle.std.proofs.lemmas.Option.{none-some, same_Some, slice_get_cases}
 use Rattle.kb_names.specs.declared.types.ExactType.{ExactType}
+use Rattle.kb_names.specs.declared.types.ExactType.TheVariants as exact
 use Rattle.kb_names.specs.declared.types.JType.{JType}
 use Rattle.kb_names.specs.declared.types.MethodType.{MethodType}
 use Rattle.kb_class.specs.Class.{Class, Sought, reference_of_entry}
@@ -21,7 +22,7 @@ use Rattle.kb_link.specs.Links.{IsLinked}
 use Rattle.kb_link.specs.Slots.{slots_of}
 use Rattle.kb_link.specs.World.{World}
 use Rattle.kb_world.specs.Faults.{has_left_out}
-use Rattle.kb_world.specs.Lookup.{class_of, class_of_field, resolved_in, slot_in_class, sought_at, special_for}
+use Rattle.kb_world.specs.Lookup.{class_of, class_of_field, field_class, resolved_in, slot_in_class, sought_at, special_for}
 use Rattle.kb_world.specs.Tables.{HaveSlotTables, StandsFor, is_proper, slot_place}
 use Rattle.kb_world.specs.declared.resolved.Resolved.{Resolved}
 use Rattle.kb_world.proofs.FieldLaws.{slot_there}
@@ -61,6 +62,13 @@ not_unnamed world numbers are class entry sought at is =
 pub class_inside : (world : World) (type : ExactType) (number : Option ℕ) → number ≡ class_of world type → IfSome number (λ class. class < length world.classes)
 class_inside world type None is = tt
 class_inside world type (Some number) is = sought_inside world type number (sym is)
+
+-- a field that is sought in a class
+pub field_in_class : (world : World) (of : ExactType) (class : List ℕ) (name : List ℕ) (type : JType) (number : Option ℕ) → of ≡ exact.Class class → number ≡ class_of world of
+    → option_and_then (λ (n : ℕ). field_class world n name type) number ≡ class_of_field world references.Field of name (kinds.Field type)
+field_in_class world of class name type number is at =
+    ap (λ (o : Option ℕ). option_and_then (λ (n : ℕ). field_class world n name type) o) (at ∙ ap (class_of world) is)
+    ∙ sym (ap (λ (t : ExactType). class_of_field world references.Field t name (kinds.Field type)) is)
 
 module _ (world : World) (current : ℕ) (what : ReferenceKind) (class : ExactType) (name : List ℕ) (kind : MemberKind) where
   abbrev sought : Sought
