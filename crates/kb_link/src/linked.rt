@@ -34,7 +34,7 @@ use std::alloc::Global;
 use std::marker::Model;
 
 /// The given classes in the order given, and then the platform classes, with tables over them: no question searches a list
-/// of classes, members or superclasses.
+/// of classes, members or superclasses, but that of a target, which goes through the methods of its class.
 #[derive(Drop)]
 pub struct Linked {
     classes: Classes,
