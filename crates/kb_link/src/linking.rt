@@ -120,7 +120,8 @@ fn numbers_in(alloc: Global, classes: &[LoadedClass]) -> Result<Held<Numbers>, N
     requires { AllByRecursion HasTexts classes.now }
     ensures { IfOk result (AreNumbered classes.now) }
 {
-    Held::new(alloc, numbers_of(alloc, classes)?)
+    let numbers = numbers_of(alloc, classes)?;
+    Ok(Held::new(alloc, numbers)?)
 }
 
 // The world of these classes, whose members have these numbers.

@@ -10,8 +10,8 @@ use Rattle.kb_numbers.proofs.NumberLaws.{all_numbered_on}
 use Rattle.kb_numbers.proofs.ZipLaws.{all_read}
 use Rattle.kb_numbers.proofs.numbering.number_all.Goals as goal
 
-pub class_numbers-own-requires : goal.class_numbers-own-requires
-class_numbers-own-requires c = all_read HasTexts c.args.classes.now c.loop-class.class-index c.class-item.result c.loop-class-test.true c.class-item.is c.requires
+pub class_numbers-requires : goal.class_numbers-requires
+class_numbers-requires c = all_read HasTexts c.args.classes.now c.loop-class.class-index c.class-item.result c.loop-class-test.true c.class-item.is c.requires
 
 pub loop-class-preserved : goal.loop-class-preserved
 loop-class-preserved c =

@@ -11,8 +11,8 @@ use Rattle.kb_numbers.proofs.written.written_pairs.Goals as goal
 pub loop-method-init : goal.loop-method-init
 loop-method-init c = record { each = tt; keeps = keeps_self c.args.texts.now }
 
-pub written_pair-pair-requires : goal.written_pair-pair-requires
-written_pair-pair-requires c = all_read IsWritten c.args.methods.now c.loop-method.method-index c.method-item.result c.loop-method-test.true c.method-item.is c.requires
+pub written_pair-requires : goal.written_pair-requires
+written_pair-requires c = all_read IsWritten c.args.methods.now c.loop-method.method-index c.method-item.result c.loop-method-test.true c.method-item.is c.requires
 
 pub loop-method-preserved : goal.loop-method-preserved
 loop-method-preserved c =
