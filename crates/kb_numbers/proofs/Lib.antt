@@ -4,3 +4,6 @@ pub mod ZipLaws
 pub mod NumberLaws
 pub mod PoolLaws
 pub mod MemberLaws
+pub mod TypeLaws
+pub mod PartLaws
+pub mod TypedLaws

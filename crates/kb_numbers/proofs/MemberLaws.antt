@@ -15,7 +15,7 @@ use Rattle.kb_class.specs.declared.members.MemberKind.TheVariants as kinds
 use Rattle.kb_numbers.specs.declared.numbering.Numbers.{Numbers}
 use Rattle.kb_numbers.specs.declared.pairs.Pair.{Pair}
 use Rattle.kb_numbers.specs.declared.pairs.EntryNumbers.{EntryNumbers}
-use Rattle.kb_numbers.specs.Members.{MemberNumbers, method_pairs, method_place, method_number, field_place, entry_named}
+use Rattle.kb_numbers.specs.Members.{MemberNumbers, method_pairs, methods_of, method_place, method_number, field_place, entry_named}
 use Rattle.kb_numbers.specs.Numbers.{StandsFor, Names, IsMethodPair, IsFieldPair, IsNumbered, AreNumberedFrom, AreNumbered}
 use Rattle.kb_numbers.specs.Pairs.{is_pair, first_place}
 use Rattle.kb_numbers.proofs.NumberLaws.{same_member, same_pair, method_type, field_type}
@@ -23,10 +23,6 @@ use Rattle.kb_numbers.proofs.PlaceLaws.{place_there, place_nowhere}
 use Rattle.kb_numbers.proofs.ZipLaws.{zip_both, zip_from, zip_there}
 
 -- ---- the numbers of a class of a world
-
--- the methods of these classes, in order
-abbrev pub methods_of : List Class → List MethodInfo
-methods_of classes = flat_map (λ (class : Class). class.methods) classes
 
 -- how many methods the classes before a number have
 abbrev pub methods_before : List Class → ℕ → ℕ

@@ -57,7 +57,7 @@ module _ (before after : List (List ℕ)) (keeps : Keeps before after) where
 -- ---- one pair
 
 -- a type has one descriptor
-one_text : (kind : MemberKind) (one other : List ℕ) → SpellsKind kind one → SpellsKind kind other → one ≡ other
+pub one_text : (kind : MemberKind) (one other : List ℕ) → SpellsKind kind one → SpellsKind kind other → one ≡ other
 one_text (kinds.Field type) one other s t = s.1 ∙ sym t.1
 one_text (kinds.Method kind) one other s t = s.1 ∙ sym t.1
 

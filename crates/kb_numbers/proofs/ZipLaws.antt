@@ -2,7 +2,7 @@
 use Rattle.std.proofs.Common.{◌≡◌, ℕ, zero, suc, ◌+◌, ◌<◌, List, [], ◌∷◌, ◌++◌, length, map, take, get_or, Some, slice_get, refl, sym, ap, subst, ◌∙◌, arith}
 use Rattle.std.specs.List.{AllByRecursion, AllZip}
 use Rattle.std.proofs.lemmas.Grind.{take_at_read}
-use Rattle.std.proofs.lemmas.Option.{same_Some, none-some}
+use Rattle.std.proofs.lemmas.Option.{same_Some, none-some, get_or_from_slice_get, slice_get_within}
 
 module _ {A B : Type 0} where
   pub zip_as : (R S : A → B → Type 0) (xs : List A) (ys : List B) → ((x : A) (y : B) → R x y → S x y) → AllZip R xs ys → AllZip S xs ys
@@ -23,6 +23,17 @@ module _ {A B : Type 0} where
   zip_next R xs ys zs i x y inside at pushed each one =
       let taken : take (i + 1) xs ≡ take i xs ++ x ∷ [] = (take_at_read xs i x inside).1 ∙ ap (λ (z : A). take i xs ++ z ∷ []) (sym at) in
       subst (λ (us : List A). AllZip R us zs) (sym taken) (subst (λ (vs : List B). AllZip R (take i xs ++ x ∷ []) vs) (sym pushed) (zip_more R (take i xs) ys x y each one))
+
+  -- one item more of both
+  pub zip_taken : (R : A → B → Type 0) (xs : List A) (ys : List B) (i : ℕ) (x : A) (y : B) → slice_get xs i ≡ Some x → slice_get ys i ≡ Some y → AllZip R (take i xs) (take i ys) → R x y
+      → AllZip R (take (i + 1) xs) (take (i + 1) ys)
+  zip_taken R xs ys i x y at beside each one =
+      let first : take (i + 1) xs ≡ take i xs ++ x ∷ [] =
+      (take_at_read xs i x (slice_get_within xs i x at)).1 ∙ ap (λ (z : A). take i xs ++ z ∷ []) (get_or_from_slice_get xs i x x at) in
+      let second : take (i + 1) ys ≡ take i ys ++ y ∷ [] =
+      (take_at_read ys i y (slice_get_within ys i y beside)).1 ∙ ap (λ (z : B). take i ys ++ z ∷ []) (get_or_from_slice_get ys i y y beside) in
+      subst (λ (us : List A). AllZip R us (take (i + 1) ys)) (sym first)
+      (subst (λ (vs : List B). AllZip R (take i xs ++ x ∷ []) vs) (sym second) (zip_more R (take i xs) (take i ys) x y each one))
 
   pub zip_both : (R : A → B → Type 0) (xs us : List A) (ys vs : List B) → AllZip R xs ys → AllZip R us vs → AllZip R (xs ++ us) (ys ++ vs)
   zip_both R [] us [] vs first second = second

@@ -3,3 +3,5 @@ pub mod Pairs
 pub mod Members
 pub mod Numbers
 pub mod Pools
+pub mod Types
+pub mod Typed

@@ -2,7 +2,9 @@
 use Rattle.std.specs.Prelude.{ℕ, ◌+◌, List, [], Option, Some, None, slice_get}
 use Rattle.std.specs.List.{flat_map}
 use Rattle.std.specs.Option.{option_map, option_and_then}
+use Rattle.kb_class.specs.Class.{Class}
 use Rattle.kb_class.specs.Loaded.{told_at}
+use Rattle.kb_class.specs.declared.members.MethodInfo.{MethodInfo}
 use Rattle.kb_numbers.specs.declared.pairs.Pair.{Pair}
 use Rattle.kb_numbers.specs.declared.pairs.EntryNumbers.{EntryNumbers}
 use Rattle.kb_numbers.specs.Pairs.{first_place}
@@ -18,6 +20,10 @@ pub record MemberNumbers : Type 0 where
 -- ---- the classes of a world
 
 -- the methods of all classes, in order
+abbrev pub methods_of : List Class → List MethodInfo
+methods_of classes = flat_map (λ (class : Class). class.methods) classes
+
+-- their pairs
 abbrev pub method_pairs : List MemberNumbers → List Pair
 method_pairs classes = flat_map (λ (own : MemberNumbers). own.methods) classes
 

@@ -1,7 +1,7 @@
 -- What numbers stand for (JVMS 8 sections 4.4.6, 4.5 and 4.6): a pair of numbers stands for a name and a type by the places of
 -- two texts, those of the name and of the type's descriptor, in a list of different texts. So two members have one pair exactly
 -- where they have one name and one type.
-use Rattle.std.specs.Prelude.{◌≡◌, ℕ, ◌+◌, List, [], ◌∷◌, length, Option, Some, None, slice_get}
+use Rattle.std.specs.Prelude.{◌≡◌, ℕ, ◌+◌, ◌<◌, ◌^◌, List, [], ◌∷◌, length, Option, Some, None, slice_get}
 use Rattle.std.specs.List.{AllByRecursion, AllZip}
 use Rattle.kb_classfile.specs.declared.file.ClassFile.{ClassFile}
 use Rattle.kb_classfile.specs.declared.file.Method.{Method as ClassMethod}
@@ -19,13 +19,11 @@ use Rattle.kb_class.specs.declared.members.MethodInfo.{MethodInfo}
 use Rattle.kb_numbers.specs.declared.pairs.Pair.{Pair}
 use Rattle.kb_numbers.specs.declared.pairs.EntryNumbers.{EntryNumbers}
 use Rattle.kb_numbers.specs.declared.numbering.Numbers.{Numbers}
-use Rattle.kb_numbers.specs.Members.{MemberNumbers}
+use Rattle.kb_numbers.specs.Members.{MemberNumbers, method_pairs, methods_of}
+use Rattle.kb_numbers.specs.Typed.{IsTypedMethod}
+pub use Rattle.kb_numbers.specs.Types.{HasTextAt}
 
 -- ---- pairs
-
--- the text of that number is such
-abbrev pub HasTextAt : List (List ℕ) → ℕ → (List ℕ → Type 0) → Type 0
-HasTextAt texts number Is = (text : List ℕ) × (slice_get texts number ≡ Some text) × Is text
 
 -- The pair stands for the name and the type.
 pub record StandsFor (texts : List (List ℕ)) (pair : Pair) (name : List ℕ) (kind : MemberKind) : Type 0 where
@@ -65,10 +63,13 @@ AreNumberedFrom texts first (class ∷ classes) (own ∷ numbers) =
     IsNumbered texts first class own × AreNumberedFrom texts (first + length class.methods) classes numbers
 AreNumberedFrom texts first _ _ = ⊥
 
--- The numbers of the members of these classes; no text has two numbers.
+-- The numbers of the members of these classes; no text has two numbers, and the number of the descriptor of a method's type is
+-- told by the parts of the type.
 pub record AreNumbered (classes : List Class) (numbers : Numbers) : Type 0 where
   pub distinct : AreDistinct numbers.texts
+  pub few : length numbers.texts < 2 ^ 32
   pub each : AreNumberedFrom numbers.texts 0 classes numbers.classes.items
+  pub typed : AllZip (IsTypedMethod numbers.texts numbers.types) (methods_of classes) (method_pairs numbers.classes.items)
 
 -- ---- what is known of a class that is numbered
 

@@ -8,11 +8,15 @@
 mod class_numbers;
 mod numbering;
 mod pairs;
+mod parts;
 mod pool;
 mod signatures;
+mod types;
 mod written;
 
 pub use class_numbers::ClassNumbers;
 pub use numbering::{Numbers, numbers_of};
 pub use pairs::{EntryNumbers, Pair, add_place};
+pub use parts::{Part, Parts, Symbol};
 pub use signatures::first_methods;
+pub use types::Types;

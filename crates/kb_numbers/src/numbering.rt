@@ -1,38 +1,49 @@
 //! The numbers of the members of all classes.
-ghost use Rattle.std.specs.Prelude.{◌≡◌, ◌+◌, IfOk, OnOk, length};
-ghost use Rattle.std.specs.List.{AllByRecursion};
+ghost use Rattle.std.specs.Prelude.{◌≡◌, ◌+◌, ◌<◌, ◌^◌, Some, IfOk, OnOk, length};
+ghost use Rattle.std.specs.List.{AllByRecursion, AllZip};
+ghost use Rattle.kb_class.specs.declared.members.MemberKind.TheVariants as kinds;
+ghost use Rattle.kb_numbers.specs.declared.pairs.Pair.{Pair as PlainPair};
 ghost use Rattle.kb_texts.specs.Texts.{Keeps};
-ghost use Rattle.kb_numbers.specs.Members.{entry_named, field_place, fields_at, method_number, method_place, methods_at};
-ghost use Rattle.kb_numbers.specs.Numbers.{AreNumbered, AreNumberedFrom, HasTexts, IsNumbered};
+ghost use Rattle.kb_numbers.specs.Members.{entry_named, field_place, fields_at, method_number, method_pairs, method_place, methods_at, methods_of};
+ghost use Rattle.kb_numbers.specs.Numbers.{AreNumbered, AreNumberedFrom, HasTexts, IsNumbered, StandsFor};
+ghost use Rattle.kb_numbers.specs.Typed.{IsTyped, IsTypedMethod};
 
 use crate::class_numbers::ClassNumbers;
 use crate::pairs::{EntryNumbers, Pair};
+use crate::parts::text_number;
 use crate::pool::given_numbers;
+use crate::types::{Types, add_types};
 use crate::written::written_numbers;
 use kb_class::{LoadedClass, MethodInfo};
-use kb_names::NoMemory;
+use kb_names::{MethodType, Name, NoMemory};
 use kb_texts::Texts;
 use std::alloc::Global;
 
-/// The different texts of the constant pools of some classes, and the members of the classes by the numbers of their names and
-/// types.
+/// The different texts of the constant pools of some classes, the members of the classes by the numbers of their names and
+/// types, and the types of methods by their parts.
 #[derive(Drop)]
 pub struct Numbers {
     pub texts: Texts,
     pub classes: Vec<ClassNumbers>,
+    pub types: Types,
 }
 
-/// The numbers of the members of these classes.
+/// The numbers of the members of these classes. Texts without numbers of 32 bits are want of memory.
 pub fn numbers_of(alloc: Global, classes: &[LoadedClass]) -> Result<Numbers, NoMemory>
     requires { AllByRecursion HasTexts classes.now }
     ensures { IfOk result (AreNumbered classes.now) }
 {
     let mut texts = Texts::new(alloc);
     let numbers = number_all(alloc, classes, &mut texts)?;
+    let types = types_of(alloc, classes, numbers.as_slice(), &mut texts)?;
     texts.tell_distinct();
+    if texts.count() > u32::MAX as usize {
+        return Err(NoMemory);
+    }
     Ok(Numbers {
         texts,
         classes: numbers,
+        types,
     })
 }
 
@@ -56,6 +67,30 @@ fn number_all(
         first = next;
     }
     Ok(numbers)
+}
+
+// The types of the methods of these classes, whose members have these numbers.
+fn types_of(
+    alloc: Global,
+    classes: &[LoadedClass],
+    numbers: &[ClassNumbers],
+    texts: &mut Texts,
+) -> Result<Types, NoMemory>
+    requires { AreNumberedFrom texts.old 0 classes.now numbers.now }
+    ensures keeps { OnOk result (Keeps texts.old texts.new) }
+    ensures typed { IfOk result (λ types. AllZip (IsTypedMethod texts.new types) (methods_of classes.now) (method_pairs numbers.now)) }
+{
+    let mut types = Types::new(alloc);
+    for (number, class) in classes.iter().enumerate() {
+        add_types(
+            alloc,
+            class.methods(),
+            numbers[number].methods(),
+            &mut types,
+            texts,
+        )?;
+    }
+    Ok(types)
 }
 
 // The number behind those of these methods. Methods without numbers of 32 bits are want of memory.
@@ -89,6 +124,16 @@ fn class_numbers(
 }
 
 impl Numbers {
+    /// The pair of a name and of a type, if a method has them: looks into tables.
+    pub fn pair_of(&self, name: &Name, kind: &MethodType) -> Option<Pair>
+        requires { length self.now.texts < 2 ^ 32 }
+        ensures { (pair : PlainPair) → StandsFor self.now.texts pair name.now (kinds.Method kind.now) → IsTyped self.now.texts self.now.types kind.now pair.kind → result ≡ Some pair }
+    {
+        let name = text_number(&self.texts, name.as_slice())?;
+        let kind = self.types.number_of(&self.texts, kind)?;
+        Some(Pair { name, kind })
+    }
+
     /// What an entry of a class names, if it names a member.
     pub fn entry(&self, class: u32, entry: u16) -> Option<EntryNumbers>
         ensures { result ≡ entry_named self.now.classes.items class entry }

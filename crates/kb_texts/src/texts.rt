@@ -1,6 +1,6 @@
 //! Texts by their numbers.
 
-ghost use Rattle.std.specs.Prelude.{◌≡◌, ℕ, [], Some, slice_get, IfOk, IfSome, IfNone, OnOk};
+ghost use Rattle.std.specs.Prelude.{◌≡◌, ℕ, [], Some, length, slice_get, IfOk, IfSome, IfNone, OnOk};
 ghost use Rattle.std.specs.List.{list_any};
 ghost use Rattle.std.specs.Option.{option_copied};
 ghost use Rattle.std.specs.Str.{bytes_eq};
@@ -63,6 +63,13 @@ impl Texts {
         ensures { AreDistinct self.now }
     {
         let _ = &self.set;
+    }
+
+    /// How many texts there are.
+    pub fn count(&self) -> usize
+        ensures { result ≡ length self.now }
+    {
+        self.set.len()
     }
 
     /// Whether a text is there.

@@ -3,9 +3,9 @@ use Rattle.std.proofs.lemmas.Grind.{take_at_read}
 use Rattle.std.proofs.lemmas.List.{take_all}
 use Rattle.kb_class.specs.Class.{Class}
 use Rattle.kb_class.specs.declared.members.MethodInfo.{MethodInfo}
-use Rattle.kb_numbers.specs.Members.{MemberNumbers}
+use Rattle.kb_numbers.specs.Members.{MemberNumbers, methods_of}
 use Rattle.kb_numbers.specs.Numbers.{AreNumberedFrom, HasTexts, IsNumbered}
-use Rattle.kb_numbers.proofs.MemberLaws.{methods_of, methods_pushed, numbered_pushed}
+use Rattle.kb_numbers.proofs.MemberLaws.{methods_pushed, numbered_pushed}
 use Rattle.kb_numbers.proofs.NumberLaws.{all_numbered_on}
 use Rattle.kb_numbers.proofs.ZipLaws.{all_read}
 use Rattle.kb_numbers.proofs.numbering.number_all.Goals as goal

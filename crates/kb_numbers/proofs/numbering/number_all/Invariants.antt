@@ -1,6 +1,6 @@
 use Rattle.std.proofs.Common.{◌≡◌, length, take}
 use Rattle.kb_numbers.specs.Numbers.{AreNumberedFrom}
-use Rattle.kb_numbers.proofs.MemberLaws.{methods_of}
+use Rattle.kb_numbers.specs.Members.{methods_of}
 use Rattle.kb_numbers.proofs.numbering.number_all.Given as goal
 
 abbrev pub invariant-loop-class : goal.invariant-loop-class
