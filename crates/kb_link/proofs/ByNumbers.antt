@@ -9,18 +9,19 @@ use Rattle.kb_class.specs.declared.members.MethodInfo.{MethodInfo}
 use Rattle.kb_class.specs.declared.members.MemberKind.TheVariants as kinds
 use Rattle.kb_numbers.specs.declared.numbering.Numbers.{Numbers}
 use Rattle.kb_numbers.specs.declared.pairs.Pair.{Pair}
-use Rattle.kb_numbers.specs.Members.{MemberNumbers, method_place, method_number, methods_at, own_methods}
+use Rattle.kb_numbers.specs.Members.{MemberNumbers, method_pairs, method_place, method_number, methods_at, own_methods}
 use Rattle.kb_numbers.specs.Numbers.{StandsFor, IsMethodPair, AreNumbered}
 use Rattle.kb_numbers.specs.Pairs.{first_place}
-use Rattle.kb_numbers.proofs.MemberLaws.{numbered_long, own_numbers, method_here, no_method_here, number_by_place}
+use Rattle.kb_numbers.specs.Typed.{IsTyped, IsTypedMethod}
+use Rattle.kb_numbers.proofs.MemberLaws.{numbered_long, own_numbers, method_here, method_at_place, no_method_here, number_by_place, pairs_beside}
 use Rattle.kb_numbers.proofs.ZipLaws.{zip_there}
 use Rattle.kb_link.specs.Members.{declared_method}
 use Rattle.kb_link.specs.Rules.{HaveOwnMethods}
 use Rattle.kb_link.specs.Sharing.{SharesMethod, SharesAbove, shares_at, shares_in}
 use Rattle.kb_link.specs.Split.{is_of_package}
-use Rattle.kb_link.specs.Tables.{IsNumberOf, StandsAt}
+use Rattle.kb_link.specs.Tables.{IsNumberOf}
 use Rattle.kb_link.specs.World.{methods_in}
-use Rattle.kb_link.proofs.MemberNames.{declared_told}
+use Rattle.kb_link.proofs.MemberNames.{declared_there, declared_told}
 use Rattle.kb_link.proofs.MethodNumbers.{methods_before, number_of_place}
 
 module _ (classes : List Class) (numbers : Numbers) (are : AreNumbered classes numbers) (own : HaveOwnMethods classes) where
@@ -94,17 +95,53 @@ module _ (classes : List Class) (numbers : Numbers) (are : AreNumbered classes n
         declared_told classes own number name kind (method_number numbers.classes.items number pair) (some_told (method_number numbers.classes.items number pair) refl)
         (none_told (method_number numbers.classes.items number pair) refl)
 
-  -- the number of the pair that stands beside a method is the method's
-  pub by_place : (number : ℕ) (class : Class) → slice_get classes number ≡ Some class → (name : List ℕ) (kind : MethodType) (place : ℕ) → StandsAt class.methods name kind place
-      → (pair : Pair) → slice_get (methods_at numbers.classes.items number) place ≡ Some pair → (o : Option ℕ) → o ≡ method_number numbers.classes.items number pair
-      → IfSome o (IsNumberOf classes number name kind) × IfNone o ((id : ℕ) → IsNumberOf classes number name kind id → ⊥)
-  by_place number class at name kind place is pair there o e =
-      let beside = zip_there (IsMethodPair numbers.texts) class.methods (methods_at numbers.classes.items number) place is.method (pairs_of number class at) is.there in
-      let same : beside.0 ≡ pair = same_Some beside.0 pair (sym beside.1 ∙ there) in
-      let of_pair : IsMethodPair numbers.texts is.method pair = subst (IsMethodPair numbers.texts is.method) same beside.2 in
-      let named : StandsFor numbers.texts pair name (kinds.Method is.method.kind) = subst (λ (n : List ℕ). StandsFor numbers.texts pair n (kinds.Method is.method.kind)) is.named of_pair in
-      let stands : StandsFor numbers.texts pair name (kinds.Method kind) = subst (λ (k : MethodType). StandsFor numbers.texts pair name (kinds.Method k)) is.typed named in
-      (some_told number pair name kind stands o (sym e), none_told number pair name kind stands o (sym e))
+  -- a method that has a number by some pair
+  pub number_there : (number : ℕ) (pair : Pair) (id : ℕ) → method_number numbers.classes.items number pair ≡ Some id
+      → (name : List ℕ) × (kind : MethodType) × IsNumberOf classes number name kind id
+  number_there number pair id e =
+      elim (slice_get_cases classes number).1 [
+        | inl h ↦ found h.0 h.2
+        | inr h ↦ absurd (none-some id (sym (no_class number pair h.1 h.0) ∙ e))
+      ]
+    where
+      found : (class : Class) → slice_get classes number ≡ Some class → (name : List ℕ) × (kind : MethodType) × IsNumberOf classes number name kind id
+      found class at = go (method_place numbers.classes.items number pair) refl
+        where
+          by : method_number numbers.classes.items number pair ≡ option_map (λ (place : ℕ). methods_before classes number + place) (method_place numbers.classes.items number pair)
+          by = number_by_place classes numbers are number class at pair
+
+          go : (o : Option ℕ) → method_place numbers.classes.items number pair ≡ o → (name : List ℕ) × (kind : MethodType) × IsNumberOf classes number name kind id
+          go None f = absurd (none-some id (sym (by ∙ ap (λ (o : Option ℕ). option_map (λ (place : ℕ). methods_before classes number + place) o) f) ∙ e))
+          go (Some place) f =
+              let same : methods_before classes number + place ≡ id =
+              same_Some (methods_before classes number + place) id (sym (by ∙ ap (λ (o : Option ℕ). option_map (λ (place : ℕ). methods_before classes number + place) o) f) ∙ e) in
+              let method = method_at_place classes numbers are number class at pair place f in (
+                method.0.name,
+                method.0.kind,
+                record {
+                  declaring = class;
+                  class_is = at;
+                  place = place;
+                  stands = record { method = method.0; there = method.1; named = refl; typed = refl };
+                  there = subst (λ (n : ℕ). slice_get (methods_in classes) n ≡ Some method.0) same (number_of_place classes number place class method.0 at method.1);
+                },
+              )
+
+  -- the pair of a method that a class declares
+  pub pair_of_number : (number : ℕ) (name : List ℕ) (kind : MethodType) (id : ℕ) → IsNumberOf classes number name kind id
+      → (pair : Pair) × StandsFor numbers.texts pair name (kinds.Method kind) × (method_number numbers.classes.items number pair ≡ Some id) × IsTyped numbers.texts numbers.types kind pair.kind
+  pair_of_number number name kind id is =
+      let beside = zip_there (IsMethodPair numbers.texts) (methods_in classes) (method_pairs numbers.classes.items) id is.stands.method (pairs_beside numbers.texts 0 classes numbers.classes.items are.each) is.there in
+      let typed = zip_there (IsTypedMethod numbers.texts numbers.types) (methods_in classes) (method_pairs numbers.classes.items) id is.stands.method are.typed is.there in
+      let same : typed.0 ≡ beside.0 = same_Some typed.0 beside.0 (sym typed.1 ∙ beside.1) in
+      let told : IsTyped numbers.texts numbers.types is.stands.method.kind beside.0.kind = subst (λ (p : Pair). IsTyped numbers.texts numbers.types is.stands.method.kind p.kind) same typed.2 in
+      let named : StandsFor numbers.texts beside.0 name (kinds.Method is.stands.method.kind) = subst (λ (n : List ℕ). StandsFor numbers.texts beside.0 n (kinds.Method is.stands.method.kind)) is.stands.named beside.2 in
+      let stands : StandsFor numbers.texts beside.0 name (kinds.Method kind) = subst (λ (k : MethodType). StandsFor numbers.texts beside.0 name (kinds.Method k)) is.stands.typed named in (
+        beside.0,
+        stands,
+        declared_by_pair number beside.0 name kind stands ∙ declared_there classes own number name kind id is,
+        subst (λ (k : MethodType). IsTyped numbers.texts numbers.types k beside.0.kind) is.stands.typed told,
+      )
 
   -- ---- methods that are shared
 

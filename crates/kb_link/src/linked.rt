@@ -1,6 +1,7 @@
 //! Classes that are linked, and what is known of them.
-ghost use Rattle.std.specs.Prelude.{◌≡◌, ◌<◌, ◌↔◌, ℕ, length, map, Some, slice_get, option_map, IsTrue, IfOk, IfErr, IfSome, IfNone};
+ghost use Rattle.std.specs.Prelude.{◌≡◌, ◌<◌, ◌↔◌, List, ℕ, length, map, Some, slice_get, option_map, IsTrue, IfOk, IfErr, IfSome, IfNone};
 ghost use Rattle.std.specs.Option.{option_copied, option_and_then};
+ghost use Rattle.kb_names.specs.declared.types.MethodType.{MethodType as PlainType};
 ghost use Rattle.kb_class.specs.Class.{Class};
 ghost use Rattle.kb_numbers.specs.Numbers.{AreNumbered};
 ghost use Rattle.kb_link.specs.World.{chain_of, method_at, methods_in, number_in, type_entry_of, int_entry_of, literal_entry_of};
@@ -9,7 +10,7 @@ ghost use Rattle.kb_link.specs.Slots.{slots_of, slots_along};
 ghost use Rattle.kb_link.specs.Rules.{HaveDifferentNames, HaveOwnMethods, HaveSupers, HaveNoCircle, HaveGoodSupers};
 ghost use Rattle.kb_link.specs.Split.{HaveNoSplit, is_special};
 ghost use Rattle.kb_link.specs.Links.{AreLoaded, IsLinked, RefusesClasses};
-ghost use Rattle.kb_link.specs.Tables.{HasPlaces, IsNumberOf, StandsAt};
+ghost use Rattle.kb_link.specs.Tables.{HasPlaces, IsNumberOf};
 ghost use Rattle.kb_link.specs.Initialisers.{has_initialiser, is_initialised};
 ghost use Rattle.kb_link.specs.Placing.{ArePlacings, place_in};
 ghost use Rattle.kb_link.specs.Universe.{IsUniverse, AreLiterals};
@@ -34,7 +35,7 @@ use std::alloc::Global;
 use std::marker::Model;
 
 /// The given classes in the order given, and then the platform classes, with tables over them: no question searches a list
-/// of classes, members or superclasses, but that of a target, which goes through the methods of its class.
+/// of classes, members or superclasses.
 #[derive(Drop)]
 pub struct Linked {
     classes: Classes,
@@ -319,20 +320,23 @@ impl Linked {
         ensures alone { IfSome result (λ id. (other : MethodId) → Declares self.now other target.now → other ≡ id) }
     {
         let class = self.classes.number_of(target.class.as_slice())?;
-        let number = self.number_called(class, target)?;
-        Some(MethodId(number))
+        let id = self.paired(class, target)?;
+        if !is_called(self.method_of(id), target) {
+            return None;
+        }
+        Some(id)
     }
 
-    // The number of the method of the target's name and type that the class declares.
-    fn number_called(&self, class: u32, target: &Target) -> Option<u32>
-        requires { class < length self.now.classes }
-        ensures found { IfSome result (IsNumberOf self.now.classes class target.now.name target.now.kind) }
-        ensures none { IfNone result ((id : ℕ) → IsNumberOf self.now.classes class target.now.name target.now.kind id → ⊥) }
+    // The method that the class declares and that has the pair of the target's name and type. A type that has no descriptor
+    // may have a pair too, so it is still compared.
+    fn paired(&self, class: u32, target: &Target) -> Option<MethodId>
+        ensures found { IfSome result (λ id. (name : List ℕ) × (kind : PlainType) × IsNumberOf self.now.classes class name kind id.0) }
+        ensures whole { (id : ℕ) → IsNumberOf self.now.classes class target.now.name target.now.kind id → result ≡ Some (record { 0 = id }) }
     {
-        let place = place_called(self.class_of(ClassId(class)).methods(), target)?;
         let numbers = self.numbers.get();
-        let pairs = numbers.methods_at(class);
-        numbers.method(class, pairs[place])
+        let pair = numbers.pair_of(&target.name, &target.kind)?;
+        let number = numbers.method(class, pair)?;
+        Some(MethodId(number))
     }
 
     /// The method that the target names, where it has code and its name does not begin with `<`.
@@ -396,19 +400,6 @@ impl Linked {
         let class = self.classes.as_slice().get(class.0 as usize)?;
         place_in(&self.literals, class.text_entry(entry)?)
     }
-}
-
-// The place of the method of the target's name and type among these.
-fn place_called(methods: &[MethodInfo], target: &Target) -> Option<usize>
-    ensures found { IfSome result (StandsAt methods.now target.now.name target.now.kind) }
-    ensures none { IfNone result ((place : ℕ) → StandsAt methods.now target.now.name target.now.kind place → ⊥) }
-{
-    for (place, method) in methods.iter().enumerate() {
-        if is_called(method, target) {
-            return Some(place);
-        }
-    }
-    None
 }
 
 // Whether the method has the name and type of the target.

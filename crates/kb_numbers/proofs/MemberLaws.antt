@@ -29,10 +29,16 @@ abbrev pub methods_before : List Class → ℕ → ℕ
 methods_before classes number = length (methods_of (take number classes))
 
 -- one class more
+pub methods_next : (classes : List Class) (class : Class) → methods_of (classes ++ class ∷ []) ≡ methods_of classes ++ class.methods
+methods_next classes class =
+    flat_map-append (λ (c : Class). c.methods) classes (class ∷ []) ∙ ap (λ (ms : List MethodInfo). methods_of classes ++ ms) (append-nil class.methods)
+
+pub pairs_next : (numbers : List MemberNumbers) (own : MemberNumbers) → method_pairs (numbers ++ own ∷ []) ≡ method_pairs numbers ++ own.methods
+pairs_next numbers own =
+    flat_map-append (λ (n : MemberNumbers). n.methods) numbers (own ∷ []) ∙ ap (λ (ps : List Pair). method_pairs numbers ++ ps) (append-nil own.methods)
+
 pub methods_pushed : (classes : List Class) (class : Class) → length (methods_of (classes ++ class ∷ [])) ≡ length (methods_of classes) + length class.methods
-methods_pushed classes class =
-    ap (λ (ms : List MethodInfo). length ms) (flat_map-append (λ (c : Class). c.methods) classes (class ∷ []) ∙ ap (λ (ms : List MethodInfo). methods_of classes ++ ms) (append-nil class.methods))
-    ∙ length-append (methods_of classes) class.methods
+methods_pushed classes class = ap (λ (ms : List MethodInfo). length ms) (methods_next classes class) ∙ length-append (methods_of classes) class.methods
 
 -- The numbers of a class.
 pub record Located (texts : List (List ℕ)) (first : ℕ) (classes : List Class) (numbers : List MemberNumbers) (number : ℕ) (class : Class) : Type 0 where
@@ -111,6 +117,15 @@ module _ (classes : List Class) (numbers : Numbers) (are : AreNumbered classes n
         let beside = zip_there (IsMethodPair numbers.texts) class.methods own_numbers.own.methods place is.method own_numbers.is.numbers.each_method is.there in
         let same = same_pair numbers.texts are.distinct beside.0 pair is.method.name name (kinds.Method is.method.kind) (kinds.Method kind) beside.2 stands is.named (ap (λ (k : MethodType). kinds.Method k) is.typed) in
         place_nowhere (λ (other : Pair). is_pair other pair) own_numbers.own.methods place beside.0 (sym here ∙ none) beside.1 same
+
+  -- the method at a place that the table has
+  pub method_at_place : (pair : Pair) (place : ℕ) → method_place numbers.classes.items number pair ≡ Some place → (method : MethodInfo) × (slice_get class.methods place ≡ Some method)
+  method_at_place pair place at =
+      let here : method_place numbers.classes.items number pair ≡ first_place own_numbers.own.methods pair =
+      ap (λ (o : Option MemberNumbers). option_and_then (λ (n : MemberNumbers). first_place n.methods pair) o) own_numbers.there in
+      let found = place_there (λ (other : Pair). is_pair other pair) own_numbers.own.methods place (sym here ∙ at) in
+      let beside = zip_from (IsMethodPair numbers.texts) class.methods own_numbers.own.methods place found.0 own_numbers.is.numbers.each_method found.1 in
+      (beside.0, beside.1)
 
   -- what an entry of the class names
   pub entry_there : (entry : ℕ) (sought : Sought) → reference_of_entry (slice_get class.entries entry) ≡ Some sought

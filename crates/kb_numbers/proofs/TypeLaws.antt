@@ -47,28 +47,20 @@ part_self part =
     (and_true (part.symbol.base == part.symbol.base) (part.symbol.name == part.symbol.name) ((Decides-eqb part.symbol.base part.symbol.base).1 refl)
     ((Decides-eqb part.symbol.name part.symbol.name).1 refl)))
 
+-- ---- parameters from the last one
+
+one_more : (params : List JType) (back : ℕ) (param : JType) → back < length params → param ≡ get_or params (length params - 1 - back) param
+    → drop (length params - (back + 1)) params ≡ param ∷ drop (length params - back) params
+one_more params back param within is =
+    let place : ℕ = length params - 1 - back in
+    let inside : place < length params = omega (arith, within) in
+    let here : length params - (back + 1) ≡ place = omega (arith, within) in
+    let next : place + 1 ≡ length params - back = omega (arith, within) in
+    ap (λ (n : ℕ). drop n params) here ∙ drop_more params place param inside ∙ (λ i. sym is i ∷ drop (next i) params)
+
 -- ---- symbols
 
 module _ (texts : List (List ℕ)) where
-  one_name : AreDistinct texts → (base : Base) (one other : ℕ) → IsNameOf texts base one → IsNameOf texts base other → one ≡ other
-  one_name distinct bool_base one other s t = s ∙ sym t
-  one_name distinct byte_base one other s t = s ∙ sym t
-  one_name distinct char_base one other s t = s ∙ sym t
-  one_name distinct short_base one other s t = s ∙ sym t
-  one_name distinct int_base one other s t = s ∙ sym t
-  one_name distinct long_base one other s t = s ∙ sym t
-  one_name distinct float_base one other s t = s ∙ sym t
-  one_name distinct double_base one other s t = s ∙ sym t
-  one_name distinct (class_base name) one other s t = distinct one other name s t
-
-  -- a type has one symbol
-  pub one_symbol : AreDistinct texts → (type : JType) (one other : Symbol) → IsTypeSymbol texts type one → IsTypeSymbol texts type other → one ≡ other
-  one_symbol distinct type one other s t =
-      let dims : one.dims ≡ other.dims = s.dims_are ∙ sym t.dims_are in
-      let base : one.base ≡ other.base = s.base_is ∙ sym t.base_is in
-      let name : one.name ≡ other.name = one_name distinct (shape_of type).base one.name other.name s.name_is t.name_is in
-      λ i. record { dims = dims i; base = base i; name = name i }
-
   -- what a code and the number of a name tell
   base_told : ℕ → ℕ → Option Base
   base_told code number =
@@ -170,15 +162,6 @@ module _ (texts : List (List ℕ)) where
     abbrev pub IsSoFar : MethodType → ℕ → ℕ → Type 0
     IsSoFar kind back number = (m : ℕ) → IsPath texts parts kind.result (drop (length kind.params - back) kind.params) m → number ≡ m
 
-    one_more : (params : List JType) (back : ℕ) (param : JType) → back < length params → param ≡ get_or params (length params - 1 - back) param
-        → drop (length params - (back + 1)) params ≡ param ∷ drop (length params - back) params
-    one_more params back param within is =
-        let place : ℕ = length params - 1 - back in
-        let inside : place < length params = omega (arith, within) in
-        let here : length params - (back + 1) ≡ place = omega (arith, within) in
-        let next : place + 1 ≡ length params - back = omega (arith, within) in
-        ap (λ (n : ℕ). drop n params) here ∙ drop_more params place param inside ∙ (λ i. sym is i ∷ drop (next i) params)
-
     pub so_far_next : (kind : MethodType) (back number next : ℕ) (param : JType) → back < length kind.params → param ≡ get_or kind.params (length kind.params - 1 - back) param
         → IsSoFar kind back number → ((m : ℕ) → IsPartOf texts parts number (Some param) m → Some next ≡ Some m) → IsSoFar kind (back + 1) next
     so_far_next kind back number next param within is so_far told m path =
@@ -246,3 +229,11 @@ module _ (texts more : List (List ℕ)) (keeps : Keeps texts more) where
     pub path_on : (result : Option JType) (params : List JType) (number : ℕ) → IsPath texts before result params number → IsPath more after result params number
     path_on result [] number path = part_on 0 result number path
     path_on result (param ∷ params) number path = (path.0, path_on result params path.0 path.1, part_on path.0 (Some param) number path.2)
+
+-- a parameter more before those that are there
+pub path_next : (texts : List (List ℕ)) (before after : List Part) → Keeps before after → (kind : MethodType) (back behind number : ℕ) (param : JType) → back < length kind.params
+    → param ≡ get_or kind.params (length kind.params - 1 - back) param → IsPath texts before kind.result (drop (length kind.params - back) kind.params) behind → IsPartOf texts after behind (Some param) number
+    → IsPath texts after kind.result (drop (length kind.params - (back + 1)) kind.params) number
+path_next texts before after adds kind back behind number param within is path part =
+    subst (λ (ps : List JType). IsPath texts after kind.result ps number) (sym (one_more kind.params back param within is))
+    (behind, path_on texts texts (λ place x at. at) before after adds kind.result (drop (length kind.params - back) kind.params) behind path, part)

@@ -55,8 +55,8 @@ module _ (texts : List (List ℕ)) where
 -- ---- one type more
 
 module _ (texts more : List (List ℕ)) (keeps : Keeps texts more) (distinct : AreDistinct texts) (old new : Types) (adds : Keeps old.parts new.parts) (are : AreEnds texts old) (kind : MethodType) (first number : ℕ)
-  (spelled : HasTextAt texts number (SpellsKind (kinds.Method kind))) (path : IsTypePath more new.parts kind first)
-  (ends : (n : ℕ) → told_in new.ends n ≡ cond (first == n) (Some number) (told_in old.ends n)) (seen : (n : ℕ) → told_in new.seen n ≡ cond (number == n) (Some first) (told_in old.seen n)) where
+    (spelled : HasTextAt texts number (SpellsKind (kinds.Method kind))) (path : IsTypePath more new.parts kind first)
+    (ends : (n : ℕ) → told_in new.ends n ≡ cond (first == n) (Some number) (told_in old.ends n)) (seen : (n : ℕ) → told_in new.seen n ≡ cond (number == n) (Some first) (told_in old.seen n)) where
   path_more : (k : MethodType) (n : ℕ) → IsTypePath texts old.parts k n → IsTypePath more new.parts k n
   path_more k n = path_on texts more keeps old.parts new.parts adds k.result k.params n
 

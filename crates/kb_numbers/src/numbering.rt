@@ -82,13 +82,8 @@ fn types_of(
 {
     let mut types = Types::new(alloc);
     for (number, class) in classes.iter().enumerate() {
-        add_types(
-            alloc,
-            class.methods(),
-            numbers[number].methods(),
-            &mut types,
-            texts,
-        )?;
+        let own = &numbers[number];
+        add_types(alloc, class.methods(), own.methods(), &mut types, texts)?;
     }
     Ok(types)
 }

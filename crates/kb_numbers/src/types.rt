@@ -54,7 +54,8 @@ fn first_part(parts: &Parts, texts: &Texts, kind: &MethodType) -> Option<u32>
     let params = kind.params.as_slice();
     let mut number = result_part(parts, texts, &kind.result)?;
     for back in 0..params.len() {
-        let next = param_part(parts, texts, number, &params[params.len() - 1 - back])?;
+        let place = params.len() - 1 - back;
+        let next = param_part(parts, texts, number, &params[place])?;
         number = next;
     }
     Some(number)
@@ -83,7 +84,8 @@ fn add_parts(parts: &mut Parts, texts: &Texts, kind: &MethodType) -> Result<u32,
     let params = kind.params.as_slice();
     let mut number = add_result(parts, texts, &kind.result)?;
     for back in 0..params.len() {
-        let next = add_param(parts, texts, number, &params[params.len() - 1 - back])?;
+        let place = params.len() - 1 - back;
+        let next = add_param(parts, texts, number, &params[place])?;
         number = next;
     }
     Ok(number)
