@@ -27,7 +27,7 @@ use std::alloc::Global;
 use std::marker::Model;
 
 /// The given classes in the order given, and then the platform classes, with tables over them: no question searches a list
-/// of members or entries, but that of a target, which goes through the methods of its class.
+/// of members or entries.
 #[derive(Drop)]
 pub struct World {
     linked: Linked,
