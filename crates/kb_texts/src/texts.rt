@@ -45,6 +45,7 @@ impl Texts {
         ensures distinct { AreDistinct self.new }
         ensures keeps { Keeps self.old self.new }
     {
+        self.tell_distinct();
         let key = key_of(alloc, bytes)?;
         let (place, _) = self.set.insert_full(key)?;
         Ok(place)
