@@ -4,9 +4,10 @@ use Rattle.std.specs.Option.{option_map}
 use Rattle.std.proofs.lemmas.Bool.Decides.{Decides-eqb}
 use Rattle.std.proofs.lemmas.List.{drop_more}
 use Rattle.std.proofs.lemmas.Option.{same_Some}
-use Rattle.kb_names.specs.Shape.{Base, bool_base, byte_base, char_base, short_base, int_base, long_base, float_base, double_base, class_base}
+use Rattle.kb_names.specs.Shape.{Shape, Base, bool_base, byte_base, char_base, short_base, int_base, long_base, float_base, double_base, class_base}
 use Rattle.kb_names.specs.Types.{shape_of, arrays_of}
 use Rattle.kb_names.specs.declared.types.JType.{JType}
+use Rattle.kb_names.specs.declared.types.JType.TheVariants as types
 use Rattle.kb_names.specs.declared.types.MethodType.{MethodType}
 use Rattle.kb_names.proofs.ShapeLaws.{arrays_of-shape_of}
 use Rattle.kb_texts.specs.Texts.{AreDistinct, Keeps}
@@ -58,6 +59,20 @@ one_more params back param within is =
     let next : place + 1 ≡ length params - back = omega (arith, within) in
     ap (λ (n : ℕ). drop n params) here ∙ drop_more params place param inside ∙ (λ i. sym is i ∷ drop (next i) params)
 
+-- ---- types that are no arrays
+
+pub no_dims : (type : JType) → ((component : Shape) → type ≡ types.Array component → ⊥) → (shape_of type).dims ≡ 0
+no_dims types.Bool other = refl
+no_dims types.Byte other = refl
+no_dims types.Char other = refl
+no_dims types.Short other = refl
+no_dims types.Int other = refl
+no_dims types.Long other = refl
+no_dims types.Float other = refl
+no_dims types.Double other = refl
+no_dims (types.Class name) other = refl
+no_dims (types.Array component) other = absurd (other component refl)
+
 -- ---- symbols
 
 module _ (texts : List (List ℕ)) where
@@ -68,6 +83,7 @@ module _ (texts : List (List ℕ)) where
       else if code == 6 then Some float_base else if code == 7 then Some double_base else if code == 8 then option_map class_base (slice_get texts number) else None
 
   told : (base : Base) (number : ℕ) → IsNameOf texts base number → base_told (code_of base) number ≡ Some base
+  unfolding base_told
   told bool_base number is = refl
   told byte_base number is = refl
   told char_base number is = refl
@@ -189,9 +205,9 @@ module _ (texts : List (List ℕ)) where
         go (param ∷ params) n p = go params p.0 p.1
 
     -- the part by its symbol
-    pub part_found : (behind : ℕ) (type : Option JType) (symbol : Symbol) (told : Option ℕ) → ((s : Symbol) → IsSymbol texts type s → Some symbol ≡ Some s)
-        → ((n : ℕ) → HasPart parts (record { behind = behind; symbol = symbol }) n → told ≡ Some n) → (m : ℕ) → IsPartOf texts parts behind type m → told ≡ Some m
-    part_found behind type symbol told whole found m of =
+    pub part_found : (behind : ℕ) (type : Option JType) (symbol : Symbol) (answer : Option ℕ) → ((s : Symbol) → IsSymbol texts type s → Some symbol ≡ Some s)
+        → ((n : ℕ) → HasPart parts (record { behind = behind; symbol = symbol }) n → answer ≡ Some n) → (m : ℕ) → IsPartOf texts parts behind type m → answer ≡ Some m
+    part_found behind type symbol answer whole found m of =
         let same : symbol ≡ of.symbol = same_Some symbol of.symbol (whole of.symbol of.of_type) in
         found m (subst (λ (s : Symbol). HasPart parts (record { behind = behind; symbol = s }) m) (sym same) of.there)
 

@@ -68,10 +68,10 @@ impl Parts {
         ensures keeps { OnOk result (Keeps self.old self.new) }
     {
         let (place, _) = self.set.insert_full(part)?;
-        match number_of_place(place) {
-            Some(number) => Ok(number),
-            None => Err(NoMemory),
-        }
+        let Some(number) = number_of_place(place) else {
+            return Err(NoMemory);
+        };
+        Ok(number)
     }
 
     /// The number of a part, if it is there.
@@ -86,6 +86,7 @@ impl Parts {
 // The number of the part at a place, if it has one of 32 bits.
 fn number_of_place(place: usize) -> Option<u32>
     ensures some { IfSome result (λ number. number ≡ place + 1) }
+    ensures fits { IfSome result (λ number. number < 2 ^ 32) }
     ensures none { IfNone result (2 ^ 32 ≤ place + 1) }
 {
     match u32::try_from(place) {

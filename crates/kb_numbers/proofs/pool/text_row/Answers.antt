@@ -1,4 +1,4 @@
-use Rattle.std.proofs.Common.{◌≤◌, List, length, take, subst, arith}
+use Rattle.std.proofs.Common.{◌≤◌, ℕ, List, [], length, take, sym, subst, arith}
 use Rattle.std.specs.List.{AllZip}
 use Rattle.std.proofs.lemmas.List.{take_all}
 use Rattle.kb_classfile.specs.declared.file.PoolEntry.{PoolEntry}
@@ -9,7 +9,7 @@ use Rattle.kb_numbers.proofs.ZipLaws.{zip_as, zip_next}
 use Rattle.kb_numbers.proofs.pool.text_row.Goals as goal
 
 pub loop-entry-init : goal.loop-entry-init
-loop-entry-init c = record { each = tt; keeps = keeps_self c.args.texts.now }
+loop-entry-init c = record { each = subst (λ (row : List ℕ). AllZip (HasNumber c.args.texts.now) [] row) (sym c.new-row.ensures.items) tt; keeps = keeps_self c.args.texts.now }
 
 pub loop-entry-preserved : goal.loop-entry-preserved
 loop-entry-preserved c =
