@@ -15,22 +15,22 @@ pub returns-then-contains_key-clause-typed : goal.returns-then-contains_key-clau
 returns-then-contains_key-clause-typed c =
     met_before c.args.texts.now c.args.types.now c.args.kind.now c.args.number c.requires.0 c.requires.1 (sym c.contains_key.ensures ∙ c.if-contains_key.true)
 
-pub returns-in-Ok-insert-2-clause-keeps : goal.returns-in-Ok-insert-2-clause-keeps
-returns-in-Ok-insert-2-clause-keeps c = (
+pub returns-in-Ok-insert-clause-keeps : goal.returns-in-Ok-insert-clause-keeps
+returns-in-Ok-insert-clause-keeps c = (
   c.in_ok-add_names.ensures,
   types_stay c.args.texts.now c.add_names.new.texts c.in_ok-add_names.ensures c.tell_distinct.ensures c.args.types.now
       (record { parts = c.add_parts.new.parts; ends = c.insert.new.self; seen = c.insert-2.new.self }) c.in_ok-first.ensures.keeps c.requires.0 c.args.kind.now c.in_ok-first.first c.args.number c.requires.1
-      c.in_ok-first.ensures.path c.in-Ok.ensures.updates.0 c.in-Ok-insert-2.ensures.updates.0,
+      c.in_ok-first.ensures.path c.in-Ok.ensures.updates.0 c.in-Ok-insert.ensures.updates.0,
 )
 
-pub returns-in-Ok-insert-2-clause-ends : goal.returns-in-Ok-insert-2-clause-ends
-returns-in-Ok-insert-2-clause-ends c =
+pub returns-in-Ok-insert-clause-ends : goal.returns-in-Ok-insert-clause-ends
+returns-in-Ok-insert-clause-ends c =
     ends_more c.args.texts.now c.add_names.new.texts c.in_ok-add_names.ensures c.tell_distinct.ensures c.args.types.now
     (record { parts = c.add_parts.new.parts; ends = c.insert.new.self; seen = c.insert-2.new.self }) c.in_ok-first.ensures.keeps c.requires.0 c.args.kind.now c.in_ok-first.first c.args.number c.requires.1
-    c.in_ok-first.ensures.path c.in-Ok.ensures.updates.0 c.in-Ok-insert-2.ensures.updates.0
+    c.in_ok-first.ensures.path c.in-Ok.ensures.updates.0 c.in-Ok-insert.ensures.updates.0
 
-pub returns-in-Ok-insert-2-clause-typed : goal.returns-in-Ok-insert-2-clause-typed
-returns-in-Ok-insert-2-clause-typed c =
+pub returns-in-Ok-insert-clause-typed : goal.returns-in-Ok-insert-clause-typed
+returns-in-Ok-insert-clause-typed c =
     type_there c.args.texts.now c.add_names.new.texts c.in_ok-add_names.ensures c.tell_distinct.ensures c.args.types.now
     (record { parts = c.add_parts.new.parts; ends = c.insert.new.self; seen = c.insert-2.new.self }) c.in_ok-first.ensures.keeps c.requires.0 c.args.kind.now c.in_ok-first.first c.args.number c.requires.1
-    c.in_ok-first.ensures.path c.in-Ok.ensures.updates.0 c.in-Ok-insert-2.ensures.updates.0
+    c.in_ok-first.ensures.path c.in-Ok.ensures.updates.0 c.in-Ok-insert.ensures.updates.0

@@ -29,12 +29,14 @@ add_type-requires c =
     let methods = c.args.methods.now in
     let pairs = c.args.pairs.now in
     let i = c.loop-place.place in
-    let there : slice_get methods i ≡ Some c.method-item.result = slice_get_read methods (length methods) i c.method-item.result refl c.loop-place-test.true c.method-item.is in
-    let beside = zip_there (IsMethodPair c.args.texts.now) methods pairs i c.method-item.result c.requires.1 there in
-    let pair_there : slice_get pairs i ≡ Some (get_or pairs i none) = slice_get-get_or pairs i none (bounds-pairs-place c) in
+    let there : slice_get methods i ≡ Some c.index-methods-place.result = slice_get_read methods (length methods) i c.index-methods-place.result refl c.loop-place-test.true c.index-methods-place.is in
+    let beside = zip_there (IsMethodPair c.args.texts.now) methods pairs i c.index-methods-place.result c.requires.1 there in
+    let long : length c.args.pairs.now ≡ length c.args.methods.now = zip_long (IsMethodPair c.args.texts.now) c.args.methods.now c.args.pairs.now c.requires.1 in
+    let inside : i < length pairs = omega (arith, long, c.loop-place-test.true) in
+    let pair_there : slice_get pairs i ≡ Some (get_or pairs i none) = slice_get-get_or pairs i none inside in
     let same : beside.0 ≡ get_or pairs i none = same_Some beside.0 (get_or pairs i none) (sym beside.1 ∙ pair_there) in
-    let stands = subst (λ (p : Pair). IsMethodPair c.args.texts.now c.method-item.result p) same beside.2 in
-    (c.loop-place.invariant.ends, text_on c.args.texts.now c.loop-place.texts c.loop-place.invariant.keeps (get_or pairs i none).kind (SpellsKind (kinds.Method c.method-item.result.kind)) stands.typed)
+    let stands = subst (λ (p : Pair). IsMethodPair c.args.texts.now c.index-methods-place.result p) same beside.2 in
+    (c.loop-place.invariant.ends, text_on c.args.texts.now c.loop-place.texts c.loop-place.invariant.keeps (get_or pairs i none).kind (SpellsKind (kinds.Method c.index-methods-place.result.kind)) stands.typed)
 
 pub loop-place-preserved : goal.loop-place-preserved
 loop-place-preserved c =
@@ -46,13 +48,15 @@ loop-place-preserved c =
     let old = c.loop-place.types in
     let new = c.add_type.new.types in
     let keeps = c.in_ok-add_type.ensures.keeps in
-    let there : slice_get methods i ≡ Some c.method-item.result = slice_get_read methods (length methods) i c.method-item.result refl c.loop-place-test.true c.method-item.is in
-    let pair_there : slice_get pairs i ≡ Some (get_or pairs i none) = slice_get-get_or pairs i none (bounds-pairs-place c) in
+    let there : slice_get methods i ≡ Some c.index-methods-place.result = slice_get_read methods (length methods) i c.index-methods-place.result refl c.loop-place-test.true c.index-methods-place.is in
+    let long : length c.args.pairs.now ≡ length c.args.methods.now = zip_long (IsMethodPair c.args.texts.now) c.args.methods.now c.args.pairs.now c.requires.1 in
+    let inside : i < length pairs = omega (arith, long, c.loop-place-test.true) in
+    let pair_there : slice_get pairs i ≡ Some (get_or pairs i none) = slice_get-get_or pairs i none inside in
     record {
       keeps = keeps_both c.args.texts.now before after c.loop-place.invariant.keeps keeps.0;
       stays = stays_both c.args.types.now old new c.loop-place.invariant.stays keeps.1;
       ends = c.in_ok-add_type.ensures.ends;
-      typed = zip_taken (IsTypedMethod after new) methods pairs i c.method-item.result (get_or pairs i none) there pair_there
+      typed = zip_taken (IsTypedMethod after new) methods pairs i c.index-methods-place.result (get_or pairs i none) there pair_there
           (zip_as (IsTypedMethod before old) (IsTypedMethod after new) (take i methods) (take i pairs) (λ method pair is. typed_on before after keeps.0 old new keeps.1 method.kind pair.kind is) c.loop-place.invariant.typed)
           c.in_ok-add_type.ensures.typed;
     }

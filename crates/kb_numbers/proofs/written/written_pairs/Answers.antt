@@ -1,15 +1,16 @@
-use Rattle.std.proofs.Common.{◌≤◌, List, length, take, subst, arith}
+use Rattle.std.proofs.Common.{◌≤◌, List, [], length, take, sym, subst, arith}
 use Rattle.std.specs.List.{AllZip}
 use Rattle.std.proofs.lemmas.List.{take_all}
 use Rattle.kb_class.specs.declared.members.MemberKind.TheVariants as kinds
 use Rattle.kb_class.specs.declared.members.MethodInfo.{MethodInfo}
+use Rattle.kb_numbers.specs.declared.pairs.Pair.{Pair}
 use Rattle.kb_numbers.specs.Numbers.{IsMethodPair, IsWritten}
 use Rattle.kb_numbers.proofs.NumberLaws.{keeps_self, keeps_both, stands_on}
 use Rattle.kb_numbers.proofs.ZipLaws.{all_read, zip_as, zip_next}
 use Rattle.kb_numbers.proofs.written.written_pairs.Goals as goal
 
 pub loop-method-init : goal.loop-method-init
-loop-method-init c = record { each = tt; keeps = keeps_self c.args.texts.now }
+loop-method-init c = record { each = subst (λ (pairs : List Pair). AllZip (IsMethodPair c.args.texts.now) [] pairs) (sym c.new-pairs.ensures.items) tt; keeps = keeps_self c.args.texts.now }
 
 pub written_pair-requires : goal.written_pair-requires
 written_pair-requires c = all_read IsWritten c.args.methods.now c.loop-method.method-index c.method-item.result c.loop-method-test.true c.method-item.is c.requires
