@@ -61,33 +61,11 @@ abbrev AreWritten : PlatformClass → Type 0
 AreWritten class = AllByRecursion IsWritten class.methods
 
 thrown_written : AllByRecursion IsWritten (constructor ∷ constructor_of_text ∷ [])
-thrown_written = (constructor_written, text_written, tt)
+thrown_written = (constructor_written, (text_written, tt))
 
 table_written : AllByRecursion AreWritten platform_table
 unfolding platform_table
-table_written = (
-  (constructor_written, equals_written, tt),
-  tt,
-  thrown_written,
-  thrown_written,
-  thrown_written,
-  thrown_written,
-  thrown_written,
-  thrown_written,
-  thrown_written,
-  thrown_written,
-  thrown_written,
-  thrown_written,
-  thrown_written,
-  thrown_written,
-  thrown_written,
-  thrown_written,
-  thrown_written,
-  tt,
-  tt,
-  tt,
-  tt,
-)
+table_written = ((constructor_written, (equals_written, tt)), (tt, (thrown_written, (thrown_written, (thrown_written, (thrown_written, (thrown_written, (thrown_written, (thrown_written, (thrown_written, (thrown_written, (thrown_written, (thrown_written, (thrown_written, (thrown_written, (thrown_written, (thrown_written, (tt, (tt, (tt, tt))))))))))))))))))))
 
 written_methods : (id : ℕ) (rows : List PlatformMethod) (infos : List MethodInfo) → AllZip (IsPlatformMethod id) rows infos → AllByRecursion IsWritten rows
     → AllByRecursion (λ (method : MethodInfo). IsMethodType Raw method.kind) infos

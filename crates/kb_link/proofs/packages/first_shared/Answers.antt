@@ -20,9 +20,9 @@ is_shared-requires c =
     let methods = c.args.methods.now in
     let pairs = c.args.pairs.now in
     let i = c.loop-place.place in
-    let method = c.method-item.result in
+    let method = c.index-methods-place.result in
     let long : length pairs ≡ length methods = zip_long (IsMethodPair c.args.numbers.now.texts) methods pairs c.requires.2 in
-    let there : slice_get methods i ≡ Some method = slice_get_read methods (length methods) i method refl c.loop-place-test.true c.method-item.is in
+    let there : slice_get methods i ≡ Some method = slice_get_read methods (length methods) i method refl c.loop-place-test.true c.index-methods-place.is in
     let beside = zip_there (IsMethodPair c.args.numbers.now.texts) methods pairs i method c.requires.2 there in
     let inside : i < length pairs = omega (arith, long, c.loop-place-test.true) in
     let pair_there : slice_get pairs i ≡ Some (get_or pairs i none) = slice_get-get_or pairs i none inside in
@@ -33,8 +33,8 @@ pub returns-then-is_shared-clause-found : goal.returns-then-is_shared-clause-fou
 returns-then-is_shared-clause-found c =
     let methods = c.args.methods.now in
     let i = c.loop-place.place in
-    let method = c.method-item.result in
-    let rest : drop i methods ≡ method ∷ drop (i + 1) methods = drop_more methods i method c.loop-place-test.true ∙ ap (λ (m : MethodInfo). m ∷ drop (i + 1) methods) (sym c.method-item.is) in
+    let method = c.index-methods-place.result in
+    let rest : drop i methods ≡ method ∷ drop (i + 1) methods = drop_more methods i method c.loop-place-test.true ∙ ap (λ (m : MethodInfo). m ∷ drop (i + 1) methods) (sym c.index-methods-place.is) in
     record {
       before = take i methods;
       after = drop (i + 1) methods;
