@@ -169,7 +169,7 @@ module _ (world : World) (numbers : Numbers) (are : AreNumbered world.classes nu
     -- the slot at the place that the tables have is that of the field
     pub slot_there : {S : Type 0} (tables : List (HashMap Pair ℕ S)) → HaveSlotTables world numbers.classes.items tables → IsLinked world → (found : Option ℕ) → found ≡ slot_place tables class pair
         → option_and_then (slice_get (slots_of world class)) found ≡ slot_among class name type (slots_of world class)
-    slot_there tables have linked found is =
+    slot_there {S = S} tables have linked found is =
         ap (λ (o : Option ℕ). option_and_then (slice_get (slots_of world class)) o) (is ∙ told) ∙ sym (among_place (slots_of world class))
       where
         none_along : length world.classes ≤ class → place_where (is_slot class name type) (slots_of world class) ≡ None

@@ -31,7 +31,7 @@ fn declaring(
     wanted: WantedField<'_>,
 ) -> Option<u32>
     requires { AreNumbered linked.now.classes numbers.now × StandsFor numbers.now.texts wanted.pair wanted.name.now (kinds.Field wanted.kind.now) }
-    ensures { result ≡ declaring linked.now wanted.name.now wanted.kind.now number }
+    ensures { result ≡ declaring linked.now wanted.entry.name.now wanted.entry.kind.now number }
 {
     if number >= linked.class_count() {
         return None;
@@ -50,7 +50,7 @@ fn first_declaring(
     wanted: WantedField<'_>,
 ) -> Option<u32>
     requires { AreNumbered linked.now.classes numbers.now × StandsFor numbers.now.texts wanted.pair wanted.name.now (kinds.Field wanted.kind.now) }
-    ensures { result ≡ first_along (declaring linked.now wanted.name.now wanted.kind.now) chain.now }
+    ensures { result ≡ first_along (declaring linked.now wanted.entry.name.now wanted.entry.kind.now) chain.now }
 {
     let mut rest = chain;
     while let [number, others @ ..] = rest {
@@ -70,7 +70,7 @@ fn field_class(
     wanted: WantedField<'_>,
 ) -> Option<u32>
     requires { IsLinked linked.now × AreNumbered linked.now.classes numbers.now × StandsFor numbers.now.texts wanted.pair wanted.name.now (kinds.Field wanted.kind.now) }
-    ensures { result ≡ option_and_then (λ class. field_class linked.now class wanted.name.now wanted.kind.now) number }
+    ensures { result ≡ option_and_then (λ class. field_class linked.now class wanted.entry.name.now wanted.entry.kind.now) number }
 {
     match number {
         Some(class) => first_declaring(linked, numbers, chain_at(linked, class), wanted),
@@ -88,7 +88,7 @@ pub(crate) fn class_of_field(
     wanted: WantedField<'_>,
 ) -> Option<u32>
     requires { IsLinked linked.now × AreNumbered linked.now.classes numbers.now × StandsFor numbers.now.texts wanted.pair wanted.name.now (kinds.Field wanted.kind.now) × (number ≡ class_of linked.now of.now) }
-    ensures { result ≡ class_of_field linked.now references.Field of.now wanted.name.now (kinds.Field wanted.kind.now) }
+    ensures { result ≡ class_of_field linked.now references.Field of.now wanted.entry.name.now (kinds.Field wanted.entry.kind.now) }
 {
     match of {
         ExactType::Class(_) => field_class(linked, numbers, number, wanted),

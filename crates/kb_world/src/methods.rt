@@ -32,7 +32,7 @@ pub(crate) struct Wanted<'a> {
 // The method of the name and type that the class of a number declares.
 fn declared_in(linked: &Linked, numbers: &Numbers, number: u32, wanted: Wanted<'_>) -> Option<u32>
     requires { IsSearched linked.now numbers.now wanted }
-    ensures { result ≡ declares linked.now wanted.name.now wanted.kind.now number }
+    ensures { result ≡ declares linked.now wanted.entry.name.now wanted.entry.kind.now number }
 {
     if number >= linked.class_count() {
         return None;
@@ -43,7 +43,7 @@ fn declared_in(linked: &Linked, numbers: &Numbers, number: u32, wanted: Wanted<'
 // That method, where it is neither private nor static.
 fn open_in(linked: &Linked, numbers: &Numbers, number: u32, wanted: Wanted<'_>) -> Option<u32>
     requires { IsSearched linked.now numbers.now wanted }
-    ensures { result ≡ declares_open linked.now wanted.name.now wanted.kind.now number }
+    ensures { result ≡ declares_open linked.now wanted.entry.name.now wanted.entry.kind.now number }
 {
     let Some(id) = declared_in(linked, numbers, number, wanted) else {
         return None;
@@ -75,7 +75,7 @@ pub(crate) fn found_along(
     wanted: Wanted<'_>,
 ) -> Option<u32>
     requires { IsSearched linked.now numbers.now wanted }
-    ensures { result ≡ first_along (declares linked.now wanted.name.now wanted.kind.now) chain.now }
+    ensures { result ≡ first_along (declares linked.now wanted.entry.name.now wanted.entry.kind.now) chain.now }
 {
     let mut rest = chain;
     while let [number, others @ ..] = rest {
@@ -95,7 +95,7 @@ pub(crate) fn resolved_in(
     wanted: Wanted<'_>,
 ) -> Option<u32>
     requires { IsSearched linked.now numbers.now wanted × (number < length linked.now.classes) }
-    ensures { result ≡ resolved_in linked.now wanted.name.now wanted.kind.now number }
+    ensures { result ≡ resolved_in linked.now wanted.entry.name.now wanted.entry.kind.now number }
 {
     match found_first(linked, numbers, number, wanted) {
         Some(id) => Some(id),
@@ -106,7 +106,7 @@ pub(crate) fn resolved_in(
 // The method in the class and its superclasses, or in the interface and java/lang/Object.
 fn found_first(linked: &Linked, numbers: &Numbers, number: u32, wanted: Wanted<'_>) -> Option<u32>
     requires { IsSearched linked.now numbers.now wanted × (number < length linked.now.classes) }
-    ensures { result ≡ first_along (declares linked.now wanted.name.now wanted.kind.now) (first_sought linked.now number (slice_get linked.now.classes number)) }
+    ensures { result ≡ first_along (declares linked.now wanted.entry.name.now wanted.entry.kind.now) (first_sought linked.now number (slice_get linked.now.classes number)) }
 {
     if is_interface(linked.class_of(ClassId(number))) {
         return found_in_interface(linked, numbers, number, wanted);
@@ -122,7 +122,7 @@ fn found_in_interface(
     wanted: Wanted<'_>,
 ) -> Option<u32>
     requires { IsSearched linked.now numbers.now wanted }
-    ensures { result ≡ first_along (declares linked.now wanted.name.now wanted.kind.now) (number ∷ numbers_of linked.now.classes (object_name ∷ [])) }
+    ensures { result ≡ first_along (declares linked.now wanted.entry.name.now wanted.entry.kind.now) (number ∷ numbers_of linked.now.classes (object_name ∷ [])) }
 {
     if let Some(id) = declared_in(linked, numbers, number, wanted) {
         return Some(id);
@@ -136,7 +136,7 @@ fn found_in_interface(
 // The first method that is neither private nor static in a superinterface of the class, in the order of the world.
 fn found_above(linked: &Linked, numbers: &Numbers, low: u32, wanted: Wanted<'_>) -> Option<u32>
     requires { IsSearched linked.now numbers.now wanted }
-    ensures { result ≡ first_along (declares_open linked.now wanted.name.now wanted.kind.now) (superinterfaces linked.now low) }
+    ensures { result ≡ first_along (declares_open linked.now wanted.entry.name.now wanted.entry.kind.now) (superinterfaces linked.now low) }
 {
     for number in 0..linked.class_count() {
         if let Some(id) = found_if_above(linked, numbers, low, number, wanted) {
@@ -155,7 +155,7 @@ fn found_if_above(
     wanted: Wanted<'_>,
 ) -> Option<u32>
     requires { IsSearched linked.now numbers.now wanted × (number < length linked.now.classes) }
-    ensures { result ≡ open_if_above linked.now low wanted.name.now wanted.kind.now number }
+    ensures { result ≡ open_if_above linked.now low wanted.entry.name.now wanted.entry.kind.now number }
 {
     if !is_superinterface(linked, low, number) {
         return None;

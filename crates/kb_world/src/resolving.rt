@@ -203,8 +203,8 @@ fn field_found(
     wanted: WantedField<'_>,
 ) -> Resolved
     requires { IsLinked linked.now × AreNumbered linked.now.classes numbers.now × PairStandsFor numbers.now.texts wanted.pair wanted.name.now (kinds.Field wanted.kind.now) × (number ≡ class_of linked.now of.now) }
-    ensures declaring { result.declaring ≡ class_of_field linked.now references.Field of.now wanted.name.now (kinds.Field wanted.kind.now) }
-    ensures slot { result.slot ≡ option_and_then (λ class. slot_place slots.now class wanted.pair) result.declaring }
+    ensures declaring { result.declaring ≡ class_of_field linked.now references.Field of.now wanted.entry.name.now (kinds.Field wanted.entry.kind.now) }
+    ensures slot { result.slot ≡ option_and_then (λ class. slot_place slots.now class wanted.entry.pair) result.declaring }
     ensures others { (result.method ≡ None) × (result.special ≡ None) × (result.left_out ≡ false) }
 {
     let declaring = class_of_field(linked, numbers, of, number, wanted);
@@ -227,7 +227,7 @@ fn method_found(
     left_out: bool,
 ) -> Resolved
     requires { IsSearched linked.now numbers.now wanted × IfSome number (λ class. class < length linked.now.classes) }
-    ensures { result ≡ record { declaring = None; slot = None; method = option_and_then (resolved_in linked.now wanted.name.now wanted.kind.now) number; special = option_and_then (special_for linked.now current wanted.name.now wanted.kind.now) number; left_out = left_out } }
+    ensures { result ≡ record { declaring = None; slot = None; method = option_and_then (resolved_in linked.now wanted.entry.name.now wanted.entry.kind.now) number; special = option_and_then (special_for linked.now current wanted.entry.name.now wanted.entry.kind.now) number; left_out = left_out } }
 {
     Resolved {
         declaring: None,

@@ -21,7 +21,7 @@ pub(crate) fn method_sought(
     wanted: Wanted<'_>,
 ) -> Option<u32>
     requires { IsSearched linked.now numbers.now wanted × IfSome number (λ class. class < length linked.now.classes) }
-    ensures { result ≡ option_and_then (resolved_in linked.now wanted.name.now wanted.kind.now) number }
+    ensures { result ≡ option_and_then (resolved_in linked.now wanted.entry.name.now wanted.entry.kind.now) number }
 {
     match number {
         Some(class) => resolved_in(linked, numbers, class, wanted),
@@ -38,7 +38,7 @@ pub(crate) fn special_sought(
     wanted: Wanted<'_>,
 ) -> Option<u32>
     requires { IsSearched linked.now numbers.now wanted }
-    ensures { result ≡ option_and_then (special_for linked.now current wanted.name.now wanted.kind.now) number }
+    ensures { result ≡ option_and_then (special_for linked.now current wanted.entry.name.now wanted.entry.kind.now) number }
 {
     match number {
         Some(named) => special_for(linked, numbers, current, wanted, named),
@@ -65,7 +65,7 @@ fn special_for(
     named: u32,
 ) -> Option<u32>
     requires { IsSearched linked.now numbers.now wanted }
-    ensures { result ≡ special_for linked.now current wanted.name.now wanted.kind.now named }
+    ensures { result ≡ special_for linked.now current wanted.entry.name.now wanted.entry.kind.now named }
 {
     let start = special_start(linked, current, wanted.name, named);
     found_along(linked, numbers, chain_at(linked, start), wanted)
