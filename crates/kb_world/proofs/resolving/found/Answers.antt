@@ -18,8 +18,9 @@ field_found-requires c =
 pub returns-in-Field-clause-told : goal.returns-in-Field-clause-told
 returns-in-Field-clause-told c =
     let of = c.args.reference.now in
-    let member = field_found-requires c in
-    field_stands c.args.linked.now c.args.class of.what of.class.now of.name.now of.kind.now c.in-Field.kind c.field_found.result c.args.numbers.now c.args.named.member member.2 c.requires.1 c.requires.0
+    let member : StandsFor c.args.numbers.now.texts c.args.named.member of.name.now (kinds.Field c.in-Field.kind) =
+    subst (λ (k : MemberKind). StandsFor c.args.numbers.now.texts c.args.named.member of.name.now k) c.in-Field.is c.requires.4.member in
+    field_stands c.args.linked.now c.args.class of.what of.class.now of.name.now of.kind.now c.in-Field.kind c.field_found.result c.args.numbers.now c.args.named.member member c.requires.1 c.requires.0
     c.args.slots.now c.requires.2 c.in-Field.is c.requires.5 c.field_found.ensures.declaring c.field_found.ensures.slot c.field_found.ensures.others
 
 pub returns-in-Field-clause-known : goal.returns-in-Field-clause-known
@@ -40,8 +41,8 @@ method_found-requires c =
       class_inside c.args.linked.now of.class.now c.in_ok-number.number (c.in_ok-number.ensures.told texts names.class c.requires.3.of_classes),
     )
 
-pub returns-in-Method-clause-told : goal.returns-in-Method-clause-told
-returns-in-Method-clause-told c =
+pub returns-in_ok-left_out-in-Method-clause-told : goal.returns-in_ok-left_out-in-Method-clause-told
+returns-in_ok-left_out-in-Method-clause-told c =
     let of = c.args.reference.now in
     let texts = c.args.numbers.now.texts in
     let names = c.requires.4 in
@@ -51,8 +52,8 @@ returns-in-Method-clause-told c =
     (c.in_ok-number.ensures.told texts names.class c.requires.3.of_classes) (c.in_ok-left_out-in-Method.ensures.told texts typed c.requires.3.of_types) c.method_found.result c.method_found.ensures
     c.in-Method.is c.requires.5
 
-pub returns-in-Method-clause-known : goal.returns-in-Method-clause-known
-returns-in-Method-clause-known c =
+pub returns-in_ok-left_out-in-Method-clause-known : goal.returns-in_ok-left_out-in-Method-clause-known
+returns-in_ok-left_out-in-Method-clause-known c =
     let texts = c.args.numbers.now.texts in
     let typed : HasTextAt texts c.args.named.member.kind (SpellsKind (kinds.Method c.in-Method.kind)) =
     subst (λ (k : MemberKind). HasTextAt texts c.args.named.member.kind (SpellsKind k)) c.in-Method.is c.requires.4.member.typed in

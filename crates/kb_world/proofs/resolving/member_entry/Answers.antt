@@ -12,11 +12,11 @@ stands_for-requires c = (
   names_told c.args.linked.now c.args.numbers.now c.requires.1 c.args.class c.args.entry (sought_of c.args.reference.now) c.requires.4 c.in-Some.named c.in-Some.ensures,
 )
 
-pub returns-in-Some-clause-told : goal.returns-in-Some-clause-told
-returns-in-Some-clause-told c = stands c.args.linked.now c.args.class c.args.entry (sought_of c.args.reference.now) c.in_ok-told-in-Some.told c.requires.4 c.in_ok-told-in-Some.ensures.told
+pub returns-in_ok-told-in-Some-clause-told : goal.returns-in_ok-told-in-Some-clause-told
+returns-in_ok-told-in-Some-clause-told c = stands c.args.linked.now c.args.class c.args.entry (sought_of c.args.reference.now) c.in_ok-told-in-Some.told c.requires.4 c.in_ok-told-in-Some.ensures.told
 
-pub returns-in-Some-clause-known : goal.returns-in-Some-clause-known
-returns-in-Some-clause-known c = c.in_ok-told-in-Some.ensures.known
+pub returns-in_ok-told-in-Some-clause-known : goal.returns-in_ok-told-in-Some-clause-known
+returns-in_ok-told-in-Some-clause-known c = c.in_ok-told-in-Some.ensures.known
 
 pub returns-in-None-clause-told : goal.returns-in-None-clause-told
 returns-in-None-clause-told c = absurd (not_unnamed c.args.linked.now c.args.numbers.now c.requires.1 c.args.class c.args.entry (sought_of c.args.reference.now) c.requires.4 c.in-None.ensures)
