@@ -1,7 +1,7 @@
 -- A list in which none stands twice is no longer than one that has all that it has.
 use Rattle.std.proofs.Common.{◌≡◌, ◌⊎◌, inl, inr, zero, suc, ◌+◌, ◌≤◌, Bool, true, false, ◌||◌, if◌then◌else◌, List, [], ◌∷◌, length, Some, refl, sym, ap, subst, ◌∙◌, arith}
 use Rattle.std.specs.List.{list_any}
-use Rattle.kb_asm_pool.specs.Texts.{AreDistinct}
+use Rattle.kb_texts.specs.Texts.{AreDistinct}
 use Rattle.kb_asm_pool.specs.Says.{Says, same}
 use Rattle.kb_asm_pool.proofs.ItemLaws.{same-true}
 use Rattle.kb_asm.specs.Pool.{Has}

@@ -10,7 +10,7 @@ use Rattle.kb_asm_text.specs.declared.line.Operand.TheVariants as operands
 use Rattle.kb_asm_text.specs.declared.line.BodyLine.TheVariants as bodies
 use Rattle.kb_asm_text.specs.declared.line.Line.{Line}
 use Rattle.kb_asm_text.specs.declared.line.Line.TheVariants as lines
-use Rattle.kb_asm_pool.specs.Texts.{AreDistinct}
+use Rattle.kb_texts.specs.Texts.{AreDistinct}
 use Rattle.kb_asm_pool.specs.Says.{Says, all_added}
 use Rattle.kb_asm_pool.specs.Needs.{constant_says, line_needs}
 use Rattle.kb_asm_check.specs.Limits.{Standing, ldc_says, is_short, is_sound, has_few_words, is_new, are_few, counted, has_room, fits_behind, with_line, nothing, kept_behind}

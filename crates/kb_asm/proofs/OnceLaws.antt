@@ -14,7 +14,7 @@ use Rattle.kb_asm_text.specs.declared.line.Line.{Line}
 use Rattle.kb_asm_text.specs.declared.line.Line.TheVariants as lines
 use Rattle.kb_asm_pool.specs.declared.items.ReferenceKind.{ReferenceKind}
 use Rattle.kb_asm_pool.specs.declared.items.ReferenceKind.TheVariants as kinds
-use Rattle.kb_asm_pool.specs.Texts.{AreDistinct}
+use Rattle.kb_texts.specs.Texts.{AreDistinct}
 use Rattle.kb_asm_pool.specs.Says.{Says, text, int, class, string, name_type, member}
 use Rattle.kb_asm_pool.specs.Entries.{entry_of, entries_of}
 use Rattle.kb_asm_pool.specs.Needs.{constant_says, constant_needs, line_needs}

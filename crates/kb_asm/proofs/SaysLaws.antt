@@ -9,7 +9,7 @@ use Rattle.std.proofs.lemmas.Slice.Eq.{bytes_eq-Decides}
 use Rattle.std.specs.Str.{bytes_eq}
 use Rattle.kb_asm_pool.specs.declared.items.ReferenceKind.{ReferenceKind}
 use Rattle.kb_asm_pool.specs.declared.items.ReferenceKind.TheVariants as kinds
-use Rattle.kb_asm_pool.specs.Texts.{AreDistinct, Keeps}
+use Rattle.kb_texts.specs.Texts.{AreDistinct, Keeps}
 use Rattle.kb_asm_pool.specs.Says.{Says, text, int, class, string, name_type, member, same_kind, same, added, all_added}
 use Rattle.kb_asm_pool.proofs.ItemLaws.{same-true}
 use Rattle.kb_asm.specs.Pool.{Has}

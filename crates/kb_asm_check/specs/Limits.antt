@@ -9,7 +9,7 @@ use Rattle.kb_asm_text.specs.declared.line.BodyLine.TheVariants as bodies
 use Rattle.kb_asm_text.specs.declared.line.Line.{Line}
 use Rattle.kb_asm_text.specs.declared.line.Line.TheVariants as lines
 use Rattle.kb_asm_body.specs.Words.{argument_words}
-use Rattle.kb_asm_pool.specs.Texts.{with_text}
+use Rattle.kb_texts.specs.Texts.{with_text}
 use Rattle.kb_asm_pool.specs.Says.{Says, text, all_added}
 use Rattle.kb_asm_pool.specs.Needs.{constant_says, line_needs, ldc_constants}
 use Rattle.kb_asm_check.specs.declared.counts.Counts.{Counts}

@@ -10,12 +10,12 @@ use Rattle.std.proofs.lemmas.Option.{slice_get-map}
 use Rattle.std.proofs.lemmas.Slice.Eq.{bytes_eq-Decides}
 use Rattle.kb_asm_pool.specs.contracts.items.ItemPartialEq.TheImpl.{eq-value}
 use Rattle.kb_asm_pool.specs.contracts.items.ReferenceKindPartialEq.TheImpl.{eq-value as kind-eq-value}
-use Rattle.kb_asm_pool.proofs.TextLaws.{distinct_if_new}
+use Rattle.kb_texts.proofs.TextLaws.{distinct_if_new}
 use Rattle.kb_asm_pool.specs.declared.items.ReferenceKind.{ReferenceKind}
 use Rattle.kb_asm_pool.specs.declared.items.ReferenceKind.TheVariants as kinds
 use Rattle.kb_asm_pool.specs.declared.items.Item.{Item}
 use Rattle.kb_asm_pool.specs.declared.items.Item.TheVariants as items
-use Rattle.kb_asm_pool.specs.Texts.{AreDistinct, Keeps}
+use Rattle.kb_texts.specs.Texts.{AreDistinct, Keeps}
 use Rattle.kb_asm_pool.specs.Says.{Says, text, int, class, string, name_type, member, same_kind, same, added, all_added}
 use Rattle.kb_asm_pool.specs.Entries.{number_at, number_in}
 use Rattle.kb_asm_pool.specs.Items.{text_at, said, IsPlace, IsWithin}

@@ -1,4 +1,3 @@
-pub mod Texts
 pub mod Says
 pub mod Items
 pub mod Needs

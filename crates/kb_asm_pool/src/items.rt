@@ -2,17 +2,17 @@
 
 ghost use Rattle.std.specs.Prelude.{◌≡◌, ◌<◌, [], ◌∷◌, length, Some, slice_get, IfOk, OnOk};
 ghost use Rattle.std.specs.Option.{option_map};
-ghost use Rattle.kb_asm_pool.specs.Texts.{Keeps};
+ghost use Rattle.kb_texts.specs.Texts.{Keeps};
 ghost use Rattle.kb_asm_pool.specs.Says.{text as says_text, int as says_int, class as says_class, string as says_string, member as says_member, added, all_added};
-ghost use Rattle.kb_asm_pool.specs.Items.{IsPlace, IsWithin, said};
+ghost use Rattle.kb_asm_pool.specs.Items.{IsWithin, said};
 ghost use Rattle.kb_asm_pool.specs.Needs.{class_needs, member_needs};
 ghost use Rattle.kb_asm_pool.specs.Entries.{number_in, member_entry, entry_of, entries_of};
 
 use crate::NoMemory;
-use crate::texts::Texts;
 use indexmap::IndexSet;
 use kb_classfile::PoolEntry;
 use kb_rows::Row;
+use kb_texts::Texts;
 use std::alloc::Global;
 use std::marker::Model;
 
@@ -46,7 +46,7 @@ pub struct Items {
 impl Model for Items {
     ghost use Rattle.std.specs.Prelude.{map};
     ghost use Rattle.std.specs.List.{AllByRecursion};
-    ghost use Rattle.kb_asm_pool.specs.Texts.{AreDistinct};
+    ghost use Rattle.kb_texts.specs.Texts.{AreDistinct};
     ghost use Rattle.kb_asm_pool.specs.Items.{Entries, said, IsWithin};
 
     ghost Value = { Entries };

@@ -6,12 +6,11 @@
 mod items;
 mod laws;
 mod needs;
-mod texts;
 
 pub use items::{Items, ReferenceKind};
+pub use kb_texts::Texts;
 pub use laws::no_entry_twice;
 pub use needs::{
     add_alone, add_call, add_constant, add_field, add_needs, add_ref, method_bytes, type_bytes,
 };
 pub use std::alloc::AllocError as NoMemory;
-pub use texts::Texts;

@@ -5,15 +5,16 @@ pub mod Named
 pub mod Above
 pub mod Circling
 pub mod Claiming
-pub mod MethodTables
 pub mod MethodNumbers
 pub mod MemberNames
+pub mod ByNumbers
 pub mod TargetLaws
 pub mod Loaded
 pub mod SlotLaws
 pub mod SharingLaws
 pub mod WholeMethods
 pub mod OwnMethods
+pub mod HavingTexts
 pub mod OneWorld
 pub mod OneUniverse
 pub mod LiteralLaws

@@ -1,9 +1,7 @@
 -- Members by their names and types: whether types are the same, and the number of the method that a class declares.
-use Rattle.std.proofs.Common.{◌≡◌, ℕ, zero, suc, ◌⊎◌, Bool, true, false, ◌==◌, ◌&&◌, List, [], ◌∷◌, map, Option, Some, None, IfSome, IfNone, slice_get, refl, sym, ap, subst, ◌∙◌, true≢false}
-use Rattle.std.specs.Option.{option_map}
+use Rattle.std.proofs.Common.{◌≡◌, ℕ, zero, suc, Bool, true, false, ◌==◌, ◌&&◌, List, [], ◌∷◌, Option, Some, None, IfSome, IfNone, slice_get, refl, sym, ap, subst, ◌∙◌, true≢false}
 use Rattle.std.specs.Str.{bytes_eq}
 use Rattle.std.proofs.lemmas.Bool.Decides.{Decides-eqb}
-use Rattle.std.proofs.lemmas.Option.{same_Some, none-some}
 use Rattle.std.proofs.lemmas.Slice.Eq.{bytes_eq-Decides}
 use Rattle.kb_names.specs.Shape.{Base, bool_base, byte_base, char_base, short_base, int_base, long_base, float_base, double_base, class_base}
 use Rattle.kb_names.specs.Types.{shape_of, arrays_of}
@@ -11,9 +9,9 @@ use Rattle.kb_names.specs.declared.types.JType.{JType}
 use Rattle.kb_names.specs.declared.types.MethodType.{MethodType}
 use Rattle.kb_names.proofs.ShapeLaws.{arrays_of-shape_of}
 use Rattle.kb_class.specs.Class.{Class}
-use Rattle.kb_class.specs.declared.members.MethodInfo.{MethodInfo}
+pub use Rattle.kb_numbers.proofs.PlaceLaws.{place_there, place_nowhere}
 use Rattle.kb_link.specs.World.{methods_in}
-use Rattle.kb_link.specs.Members.{base_key, type_key, same_type, same_types, same_result, same_kind, is_method, place_where, declared_method}
+use Rattle.kb_link.specs.Members.{base_key, type_key, same_type, same_types, same_result, same_kind, is_method, declared_method}
 use Rattle.kb_link.specs.Rules.{HaveOwnMethods}
 use Rattle.kb_link.specs.Tables.{IsNumberOf}
 use Rattle.kb_link.proofs.MethodNumbers.{stands_in, one_id}
@@ -99,45 +97,6 @@ kind_is one other e =
 
 pub kind_self : (kind : MethodType) → same_kind kind kind ≡ true
 kind_self kind = and_true (same_types kind.params kind.params) (same_result kind.result kind.result) (types_self kind.params) (result_self kind.result)
-
--- ---- the first place of an item that is such
-
-module _ {A : Type 0} (is : A → Bool) where
-  pub place_there : (xs : List A) (i : ℕ) → place_where is xs ≡ Some i → (x : A) × (slice_get xs i ≡ Some x) × (is x ≡ true)
-  place_there [] i at = absurd cc
-  place_there (x ∷ xs) i at = go (λ n h. place_there xs n h) (is x) refl where
-    go : ((n : ℕ) → place_where is xs ≡ Some n → (y : A) × (slice_get xs n ≡ Some y) × (is y ≡ true)) → (b : Bool) → is x ≡ b → (y : A) × (slice_get (x ∷ xs) i ≡ Some y) × (is y ≡ true)
-    go later true e =
-        let first : place_where is (x ∷ xs) ≡ Some 0 = (rw e refl) in
-        let zeroth : 0 ≡ i = same_Some 0 i (sym first ∙ at) in
-        (x, ap (λ (n : ℕ). slice_get (x ∷ xs) n) (sym zeroth), e)
-    go later false e = behind (place_where is xs) refl where
-      behind : (o : Option ℕ) → place_where is xs ≡ o → (y : A) × (slice_get (x ∷ xs) i ≡ Some y) × (is y ≡ true)
-      behind None none =
-          let no : place_where is (x ∷ xs) ≡ None = (rw e (ap (option_map suc) none)) in
-          absurd (none-some i (sym no ∙ at))
-      behind (Some before) some =
-          let there : place_where is (x ∷ xs) ≡ Some (suc before) = (rw e (ap (option_map suc) some)) in
-          let next : suc before ≡ i = same_Some (suc before) i (sym there ∙ at) in
-          let found = later before some in
-          (found.0, ap (λ (n : ℕ). slice_get (x ∷ xs) n) (sym next) ∙ found.1, found.2)
-
-  pub place_nowhere : (xs : List A) (i : ℕ) (x : A) → place_where is xs ≡ None → slice_get xs i ≡ Some x → is x ≡ true → ⊥
-  place_nowhere [] i x none at such = absurd cc
-  place_nowhere (w ∷ xs) i x none at such = go (λ n y a b c. place_nowhere xs n y a b c) (is w) refl i at where
-    go : ((n : ℕ) (y : A) → place_where is xs ≡ None → slice_get xs n ≡ Some y → is y ≡ true → ⊥) → (b : Bool) → is w ≡ b → (n : ℕ) → slice_get (w ∷ xs) n ≡ Some x → ⊥
-    go later true e n there =
-        let first : place_where is (w ∷ xs) ≡ Some 0 = (rw e refl) in
-        none-some 0 (sym none ∙ first)
-    go later false e zero there =
-        let same : w ≡ x = same_Some w x there in
-        true≢false (sym such ∙ ap is (sym same) ∙ e)
-    go later false e (suc n) there = behind (place_where is xs) refl where
-      behind : (o : Option ℕ) → place_where is xs ≡ o → ⊥
-      behind None nowhere = later n x nowhere there such
-      behind (Some before) some =
-          let found : place_where is (w ∷ xs) ≡ Some (suc before) = (rw e (ap (option_map suc) some)) in
-          none-some (suc before) (sym none ∙ found)
 
 -- ---- the number of a method
 

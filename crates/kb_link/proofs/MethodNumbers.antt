@@ -1,18 +1,15 @@
 -- The numbers of methods, by their classes and places.
-use Rattle.std.proofs.Common.{◌≡◌, ℕ, zero, suc, ◌+◌, ◌<◌, ◌^◌, ◌≤◌, ◌⊎◌, inl, inr, Bool, true, false, true≢false, List, [], ◌∷◌, ◌++◌, length, map, take, Option, Some, None, slice_get, get_or, refl, sym, ap, subst, ◌∙◌, arith, length-append}
+use Rattle.std.proofs.Common.{◌≡◌, ℕ, zero, suc, ◌+◌, ◌<◌, ◌≤◌, ◌⊎◌, inl, inr, List, [], ◌∷◌, ◌++◌, length, map, take, Option, Some, None, slice_get, get_or, refl, sym, ap, subst, ◌∙◌, arith, length-append}
 use Rattle.std.specs.Option.{option_map, option_and_then}
 use Rattle.std.proofs.lemmas.Grind.{flat_map-append, take_at_read}
 use Rattle.std.proofs.lemmas.List.{length-map, map-append, append-nil, append_assoc}
-use Rattle.std.proofs.lemmas.Option.{same_Some, none-some, option_and_then_some, slice_get_cases, slice_get_read, slice_get_within, slice_get-map, slice_get-get_or, get_or_from_slice_get}
+use Rattle.std.proofs.lemmas.Option.{same_Some, none-some, option_and_then_some, slice_get_cases, slice_get_read, slice_get_within, slice_get-map, get_or_from_slice_get}
 use Rattle.kb_class.specs.Class.{Class}
-use Rattle.kb_names.specs.declared.types.MethodType.{MethodType}
-use Rattle.kb_class.specs.Naming.{Has}
 use Rattle.kb_class.specs.declared.members.MethodInfo.{MethodInfo}
 use Rattle.kb_link.specs.World.{number_in, methods_in}
 use Rattle.kb_link.specs.Rules.{HaveDifferentNames, HaveOwnMethods, name_of}
-use Rattle.kb_link.specs.Tables.{places_at, Indexes, StandsAt, IsNumberOf, IsIndexed, AreIndexedFrom, AreIndexed, HasPlaces, method_in}
+use Rattle.kb_link.specs.Tables.{HasPlaces, method_in}
 use Rattle.kb_link.specs.declared.methods.MethodPlace.{MethodPlace}
-use Rattle.kb_link.specs.declared.by_name.MethodIndex.{MethodIndex}
 use Rattle.kb_link.proofs.Named.{number_right, number_there}
 
 -- ---- places in two lists one behind the other
@@ -37,45 +34,11 @@ module _ {A : Type 0} where
   get_either (w ∷ xs) ys (suc i) x at =
       elim (get_either xs ys i x at) [ inl h ↦ inl h | inr h ↦ inr (h.0, (let sum : suc (length xs) + h.0 ≡ suc i = omega (arith, h.1) in sum), h.2) ]
 
--- ---- the tables of classes
-
-pub indexed_pushed : (first : ℕ) (classes : List Class) (indexes : List MethodIndex) (class : Class) (index : MethodIndex)
-    → AreIndexedFrom first classes indexes → IsIndexed (first + length (methods_in classes)) class index → AreIndexedFrom first (classes ++ class ∷ []) (indexes ++ index ∷ [])
-indexed_pushed first [] [] class index are one = (subst (λ (n : ℕ). IsIndexed n class index) (let e : first + 0 ≡ first = omega arith in e) one, tt)
-indexed_pushed first [] (i ∷ indexes) class index are one = absurd are
-indexed_pushed first (c ∷ classes) [] class index are one = absurd are
-indexed_pushed first (c ∷ classes) (i ∷ indexes) class index are one =
-    let sum : first + length (c.methods ++ methods_in classes) ≡ (first + length c.methods) + length (methods_in classes) = omega (arith, length-append c.methods (methods_in classes)) in
-    (are.0, indexed_pushed (first + length c.methods) classes indexes class index are.1 (subst (λ (n : ℕ). IsIndexed n class index) sum one))
+-- ---- methods of classes
 
 -- how many methods the classes before a number have
 abbrev pub methods_before : List Class → ℕ → ℕ
 methods_before classes number = length (methods_in (take number classes))
-
--- The table of a class.
-pub record Located (first : ℕ) (classes : List Class) (indexes : List MethodIndex) (number : ℕ) (class : Class) : Type 0 where
-  pub index : MethodIndex
-  pub there : slice_get indexes number ≡ Some index
-  pub first_is : index.first ≡ first + methods_before classes number
-  pub indexes_is : Indexes (places_at index.places) class.methods
-
-pub located : (first : ℕ) (classes : List Class) (indexes : List MethodIndex) (number : ℕ) (class : Class)
-    → AreIndexedFrom first classes indexes → slice_get classes number ≡ Some class → Located first classes indexes number class
-located first [] indexes number class are at = absurd cc
-located first (c ∷ classes) [] number class are at = absurd are
-located first (c ∷ classes) (i ∷ indexes) zero class are at =
-    let same : c ≡ class = cc in
-    record {
-      index = i;
-      there = refl;
-      first_is = are.0.first_is ∙ (let e : first ≡ first + 0 = omega arith in e);
-      indexes_is = subst (λ (k : Class). Indexes (places_at i.places) k.methods) same are.0.indexes;
-    }
-located first (c ∷ classes) (i ∷ indexes) (suc number) class are at =
-    let rest = located (first + length c.methods) classes indexes number class are.1 at in
-    let sum : (first + length c.methods) + methods_before classes number ≡ first + length (c.methods ++ methods_in (take number classes)) =
-    omega (arith, length-append c.methods (methods_in (take number classes))) in
-    record { index = rest.index; there = rest.there; first_is = rest.first_is ∙ sum; indexes_is = rest.indexes_is }
 
 -- a method of a class stands behind those of the classes before
 pub number_of_place : (classes : List Class) (number place : ℕ) (class : Class) (method : MethodInfo)
@@ -151,54 +114,6 @@ number_of_named classes name number other class differ at there named =
     differ number other name
     (slice_get-map name_of classes number ∙ rw found.1 (ap (λ (n : List ℕ). Some n) found.2))
     (slice_get-map name_of classes other ∙ rw there (ap (λ (n : List ℕ). Some n) named))
-
--- ---- what the tables have at a number
-
-pub indexed_length : (first : ℕ) (classes : List Class) (indexes : List MethodIndex) → AreIndexedFrom first classes indexes → length indexes ≡ length classes
-indexed_length first [] [] are = refl
-indexed_length first [] (i ∷ indexes) are = absurd are
-indexed_length first (c ∷ classes) [] are = absurd are
-indexed_length first (c ∷ classes) (i ∷ indexes) are = ap suc (indexed_length (first + length c.methods) classes indexes are.1)
-
-module _ (classes : List Class) (indexes : List MethodIndex) (are : AreIndexed classes indexes) (number : ℕ) (within : number < length classes) where
-  pub within_indexes : number < length indexes
-  within_indexes = rw (indexed_length 0 classes indexes are.each) within
-
-  module _ (class : Class) (index : MethodIndex) (class_is : class ≡ get_or classes number class) (index_is : index ≡ get_or indexes number index) where
-    pub class_at : slice_get classes number ≡ Some class
-    class_at = slice_get_read classes (length classes) number class refl within class_is
-
-    found_at : Located 0 classes indexes number class
-    found_at = located 0 classes indexes number class are.each class_at
-
-    same_index : found_at.index ≡ index
-    same_index = same_Some found_at.index index (sym found_at.there ∙ slice_get_read indexes (length indexes) number index refl within_indexes index_is)
-
-    pub indexes_at : Indexes (places_at index.places) class.methods
-    indexes_at = subst (λ (i : MethodIndex). Indexes (places_at i.places) class.methods) same_index found_at.indexes_is
-
-    pub first_at : index.first ≡ methods_before classes number
-    first_at = ap (λ (i : MethodIndex). i.first) (sym same_index) ∙ found_at.first_is ∙ (let e : 0 + methods_before classes number ≡ methods_before classes number = omega arith in e)
-
-    pub is_number : (name : List ℕ) (kind : MethodType) (place : ℕ) → StandsAt class.methods name kind place → IsNumberOf classes number name kind (index.first + place)
-    is_number name kind place stands = record {
-      declaring = class;
-      class_is = class_at;
-      place = place;
-      stands = stands;
-      there = rw first_at (number_of_place classes number place class stands.method class_at stands.there);
-    }
-
-    pub number_fits : (name : List ℕ) (kind : MethodType) (place : ℕ) → StandsAt class.methods name kind place → index.first + place < 2 ^ 32
-    number_fits name kind place stands =
-        let is = is_number name kind place stands in
-        let inside : index.first + place < length (methods_in classes) = slice_get_within (methods_in classes) (index.first + place) is.stands.method is.there in
-        omega (arith, inside, are.few)
-
-    pub is_no_number : (name : List ℕ) (kind : MethodType) → ((place : ℕ) → StandsAt class.methods name kind place → ⊥) → (id : ℕ) → IsNumberOf classes number name kind id → ⊥
-    is_no_number name kind none id is =
-        let same : is.declaring ≡ class = same_Some is.declaring class (sym is.class_is ∙ class_at) in
-        none is.place (subst (λ (c : Class). StandsAt c.methods name kind is.place) same is.stands)
 
 -- ---- places by numbers
 

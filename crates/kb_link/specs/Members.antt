@@ -1,6 +1,5 @@
 -- Members by their names and types (JVMS 8 sections 4.3, 4.5 and 4.6).
-use Rattle.std.specs.Prelude.{ℕ, suc, Bool, true, false, ◌==◌, ◌&&◌, List, [], ◌∷◌, Option, Some, None, if◌then◌else◌}
-use Rattle.std.specs.Option.{option_map}
+use Rattle.std.specs.Prelude.{ℕ, Bool, true, false, ◌==◌, ◌&&◌, List, [], ◌∷◌, Option, Some, None}
 use Rattle.std.specs.Str.{bytes_eq}
 use Rattle.kb_names.specs.Shape.{Base, bool_base, byte_base, char_base, short_base, int_base, long_base, float_base, double_base, class_base}
 use Rattle.kb_names.specs.Types.{shape_of}
@@ -9,6 +8,7 @@ use Rattle.kb_names.specs.declared.types.MethodType.{MethodType}
 use Rattle.kb_class.specs.declared.members.FieldInfo.{FieldInfo}
 use Rattle.kb_class.specs.declared.members.MethodInfo.{MethodInfo}
 use Rattle.kb_class.specs.Class.{Class}
+pub use Rattle.kb_numbers.specs.Places.{place_where}
 use Rattle.kb_link.specs.World.{methods_in}
 
 -- ---- whether types are the same
@@ -54,11 +54,6 @@ is_field name type field = bytes_eq field.name name && same_type field.kind type
 -- whether the method is declared by the class of that number, with the name and type
 abbrev pub is_method : ℕ → List ℕ → MethodType → MethodInfo → Bool
 is_method class name kind method = (method.class.0 == class) && bytes_eq method.name name && same_kind method.kind kind
-
--- the place of the first item that is such
-abbrev pub place_where : {A : Type 0} → (A → Bool) → List A → Option ℕ
-place_where is [] = None
-place_where is (x ∷ xs) = if is x then Some 0 else option_map suc (place_where is xs)
 
 -- the number of the method of that name and type that the class of that number declares
 abbrev pub declared_method : List Class → ℕ → List ℕ → MethodType → Option ℕ

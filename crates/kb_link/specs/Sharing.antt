@@ -1,10 +1,12 @@
 -- Methods of a package that a superclass in another package declares too, class by class.
 use Rattle.std.specs.Prelude.{◌≡◌, ℕ, Bool, true, false, not, List, drop, filter, Option, Some, None, slice_get}
-use Rattle.std.specs.List.{AllByRecursion}
+use Rattle.std.specs.Option.{option_and_then, option_map_or}
 use Rattle.std.specs.Str.{bytes_eq}
 use Rattle.kb_class.specs.declared.members.MethodInfo.{MethodInfo}
 use Rattle.kb_class.specs.Class.{Class}
 use Rattle.kb_class.specs.Naming.{Has}
+use Rattle.kb_numbers.specs.declared.pairs.Pair.{Pair}
+use Rattle.kb_numbers.specs.Members.{MemberNumbers, method_place}
 use Rattle.kb_link.specs.declared.linking.LinkRefusal.{LinkRefusal}
 use Rattle.kb_link.specs.declared.linking.LinkRefusal.TheVariants as refusals
 use Rattle.kb_link.specs.Rules.{IsFirst}
@@ -45,11 +47,14 @@ pub record IsShared (classes : List Class) (numbers : List ℕ) (method : Method
   pub of_package : is_of_package method ≡ true
   pub above : SharesAbove classes numbers method
 
--- no two of these methods have one name and type
-abbrev pub AreDifferent : List MethodInfo → Type 0
-AreDifferent methods =
-    (one other : ℕ) (method second : MethodInfo) → slice_get methods one ≡ Some method → slice_get methods other ≡ Some second
-    → method.name ≡ second.name → method.kind ≡ second.kind → one ≡ other
+-- whether the method at a place, if there is one, is one of its package
+abbrev pub shares_at : List MethodInfo → Option ℕ → Bool
+shares_at methods place = option_map_or is_of_package (option_and_then (slice_get methods) place) false
+
+-- whether the class of a number declares a method of that pair which is one of its package
+abbrev pub shares_in : List Class → List MemberNumbers → Pair → ℕ → Bool
+shares_in classes numbers pair number =
+    option_map_or (λ (class : Class). shares_at class.methods (method_place numbers number pair)) (slice_get classes number) false
 
 -- The first method of the class that a class above it in another package shares, unless memory ran out.
 abbrev pub StopsAtShared : List Class → Class → List ℕ → LinkRefusal → Type 0

@@ -1,28 +1,20 @@
 -- Tables that answer what definitions search lists for.
-use Rattle.std.specs.Prelude.{◌≡◌, ◌≢◌, ◌⊎◌, ℕ, ◌+◌, List, [], ◌∷◌, ◌++◌, Option, Some, None, length, map, slice_get, unwrap_or, ◌<◌, ◌^◌}
-use Rattle.std.specs.HashMap.{HashMap, get_by}
+use Rattle.std.specs.Prelude.{◌≡◌, ◌⊎◌, ℕ, List, Option, Some, length, map, slice_get, ◌<◌, ◌^◌}
 use Rattle.indexmap.specs.IndexSet.{IndexSet}
 use Rattle.std.specs.Option.{option_and_then}
-use Rattle.std.specs.Str.{bytes_eq}
 use Rattle.std.specs.declared.vec.Vec.{Vec}
 use Rattle.std.specs.declared.alloc.Global.{Global}
 use Rattle.kb_format.specs.declared.fault.FormatFault.{FormatFault}
 use Rattle.kb_format.specs.declared.fault.FormatFault.TheVariants as faults
 use Rattle.kb_class.specs.declared.members.MethodInfo.{MethodInfo}
 use Rattle.kb_class.specs.Class.{Class}
-use Rattle.kb_class.specs.Naming.{Has}
 use Rattle.kb_names.specs.declared.types.MethodType.{MethodType}
-use Rattle.kb_link.specs.declared.by_name.MethodIndex.{MethodIndex}
 use Rattle.kb_link.specs.declared.methods.MethodPlace.{MethodPlace}
 use Rattle.kb_link.specs.declared.linking.LinkRefusal.{LinkRefusal}
 use Rattle.kb_link.specs.declared.linking.LinkRefusal.TheVariants as refusals
-use Rattle.kb_link.specs.World.{number_in, methods_in}
+use Rattle.kb_link.specs.World.{methods_in}
 use Rattle.kb_link.specs.Subtypes.{Claim}
 use Rattle.kb_link.specs.Rules.{IsFirst, IsMissing, IsBad, name_of}
-
--- the entry at a name
-abbrev pub entry_at : {V S : Type 0} → HashMap (Vec ℕ Global) V S → List ℕ → Option V
-entry_at table name = get_by (λ key. bytes_eq name key.items) table
 
 -- the keys are the names of the classes, in order
 pub record HasNames {S : Type 0} (names : IndexSet (Vec ℕ Global) S) (classes : List Class) : Type 0 where
@@ -73,21 +65,7 @@ StopsAtAgain classes class (refusals.Twice name) =
 StopsAtAgain classes class refusals.NoMemory = Unit {0}
 StopsAtAgain classes class _ = ⊥
 
--- ---- methods by their names
-
--- the places at a name: none where it has no entry
-abbrev pub places_at : {S : Type 0} → HashMap (Vec ℕ Global) (List ℕ) S → List ℕ → List ℕ
-places_at table name = unwrap_or (entry_at table name) []
-
--- the place is behind those of the name after that, and other names have the places that they had
-pub record AddsPlace (before after : List ℕ → List ℕ) (name : List ℕ) (place : ℕ) : Type 0 where
-  pub here : after name ≡ before name ++ place ∷ []
-  pub others : (other : List ℕ) → name ≢ other → after other ≡ before other
-
--- at each name are the places of the methods of that name, and no others
-pub record Indexes (places_of : List ℕ → List ℕ) (methods : List MethodInfo) : Type 0 where
-  pub right : (name : List ℕ) (place : ℕ) → Has (places_of name) place → (method : MethodInfo) × (slice_get methods place ≡ Some method) × (method.name ≡ name)
-  pub whole : (place : ℕ) (method : MethodInfo) → slice_get methods place ≡ Some method → Has (places_of method.name) place
+-- ---- methods by their numbers
 
 -- the method at the place is that of the name and type
 pub record StandsAt (methods : List MethodInfo) (name : List ℕ) (kind : MethodType) (place : ℕ) : Type 0 where
@@ -103,19 +81,3 @@ pub record IsNumberOf (classes : List Class) (class : ℕ) (name : List ℕ) (ki
   pub place : ℕ
   pub stands : StandsAt declaring.methods name kind place
   pub there : slice_get (methods_in classes) number ≡ Some stands.method
-
--- the table of the methods of a class, and the number of its first method
-pub record IsIndexed (first : ℕ) (class : Class) (index : MethodIndex) : Type 0 where
-  pub first_is : index.first ≡ first
-  pub indexes : Indexes (places_at index.places) class.methods
-
--- those of these classes, where so many methods are before
-abbrev pub AreIndexedFrom : ℕ → List Class → List MethodIndex → Type 0
-AreIndexedFrom first [] [] = Unit {0}
-AreIndexedFrom first (class ∷ classes) (index ∷ indexes) =
-    IsIndexed first class index × AreIndexedFrom (first + length class.methods) classes indexes
-AreIndexedFrom first _ _ = ⊥
-
-pub record AreIndexed (classes : List Class) (indexes : List MethodIndex) : Type 0 where
-  pub each : AreIndexedFrom 0 classes indexes
-  pub few : length (methods_in classes) < 2 ^ 32

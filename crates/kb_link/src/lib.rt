@@ -4,7 +4,6 @@
 //! superclasses, slots, subtypes, the universe and literals over lists of classes.
 #![tactic(auto)]
 
-mod by_name;
 mod chains;
 mod circles;
 mod claims;
@@ -27,10 +26,9 @@ mod subtypes;
 mod supers;
 mod universe;
 
-pub use by_name::add_place;
 pub use laws::{linked_or_refused, one_reason, one_world};
 pub use linked::Linked;
 pub use linking::{LinkRefusal, What, link};
-pub use slots::FieldSlot;
+pub use slots::{FieldSlot, has_slot};
 pub use subtypes::is_above_arrays;
 pub use universe::is_concrete;

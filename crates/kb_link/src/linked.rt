@@ -1,21 +1,21 @@
 //! Classes that are linked, and what is known of them.
-ghost use Rattle.std.specs.Prelude.{◌≡◌, ◌<◌, ◌↔◌, length, map, Some, slice_get, slice_index_or, option_map, IsTrue, IfOk, IfErr, IfSome, IfNone};
+ghost use Rattle.std.specs.Prelude.{◌≡◌, ◌<◌, ◌↔◌, List, ℕ, length, map, Some, slice_get, option_map, IsTrue, IfOk, IfErr, IfSome, IfNone};
 ghost use Rattle.std.specs.Option.{option_copied, option_and_then};
+ghost use Rattle.kb_names.specs.declared.types.MethodType.{MethodType as PlainType};
 ghost use Rattle.kb_class.specs.Class.{Class};
+ghost use Rattle.kb_numbers.specs.Numbers.{AreNumbered};
 ghost use Rattle.kb_link.specs.World.{chain_of, method_at, methods_in, number_in, type_entry_of, int_entry_of, literal_entry_of};
 ghost use Rattle.kb_link.specs.Subtypes.{direct_supers, AreChains, AreSupers, is_below, is_super};
-ghost use Rattle.kb_link.specs.Members.{declared_method};
 ghost use Rattle.kb_link.specs.Slots.{slots_of, slots_along};
 ghost use Rattle.kb_link.specs.Rules.{HaveDifferentNames, HaveOwnMethods, HaveSupers, HaveNoCircle, HaveGoodSupers};
 ghost use Rattle.kb_link.specs.Split.{HaveNoSplit, is_special};
 ghost use Rattle.kb_link.specs.Links.{AreLoaded, IsLinked, RefusesClasses};
-ghost use Rattle.kb_link.specs.Tables.{AreIndexed, HasPlaces};
+ghost use Rattle.kb_link.specs.Tables.{HasPlaces, IsNumberOf};
 ghost use Rattle.kb_link.specs.Initialisers.{has_initialiser, is_initialised};
 ghost use Rattle.kb_link.specs.Placing.{ArePlacings, place_in};
 ghost use Rattle.kb_link.specs.Universe.{IsUniverse, AreLiterals};
 ghost use Rattle.kb_link.specs.Targets.{Declares, IsTargetOf};
 
-use crate::by_name::{MethodIndex, number_named, number_of_method};
 use crate::classes::Classes;
 use crate::initialisers::initialised_of;
 use crate::linking::LinkRefusal;
@@ -27,8 +27,10 @@ use crate::supers::{is_super, supers_of};
 use crate::universe::universe_of;
 use kb_class::{ClassId, LoadedClass, MethodId, MethodInfo};
 use kb_classfile::ClassFile;
-use kb_names::{ExactType, MethodType, Name, NoMemory, Row, Target};
+use kb_names::{ExactType, Name, NoMemory, Row, Target};
+use kb_numbers::Numbers;
 use kb_order::{Order, TextSet};
+use kb_rows::Held;
 use std::alloc::Global;
 use std::marker::Model;
 
@@ -43,8 +45,8 @@ pub struct Linked {
     literals: TextSet,
     slots: Vec<Row<FieldSlot>>,
     places: Vec<MethodPlace>,
-    // The methods of each class by their names.
-    indexes: Vec<MethodIndex>,
+    // The members of the classes, and what their entries name, by numbers.
+    numbers: Held<Numbers>,
     // Of each class whether it or a superclass of it declares an initialiser.
     initialised: Vec<bool>,
     // Of each method the place of the instruction at each offset of its code.
@@ -60,13 +62,14 @@ impl Model for Linked {
     ghost use Rattle.kb_link.specs.Links.{IsLinked};
     ghost use Rattle.kb_link.specs.Slots.{slots_along};
     ghost use Rattle.kb_link.specs.Initialisers.{has_initialiser};
-    ghost use Rattle.kb_link.specs.Tables.{HasPlaces, AreIndexed};
+    ghost use Rattle.kb_link.specs.Tables.{HasPlaces};
     ghost use Rattle.kb_link.specs.World.{methods_in};
     ghost use Rattle.kb_link.specs.Placing.{ArePlacings};
+    ghost use Rattle.kb_numbers.specs.Numbers.{AreNumbered};
 
     ghost view = { λ w. record { classes = w.classes; chains = w.chains.items; supers = w.supers.items; universe = w.universe; literals = w.literals } };
 
-    ghost invariant = { λ w. IsLinked (record { classes = w.classes; chains = w.chains.items; supers = w.supers.items; universe = w.universe; literals = w.literals }) × (w.slots.items ≡ map (slots_along w.classes) w.chains.items) × HasPlaces w.classes w.places.items × AreIndexed w.classes w.indexes.items × (w.initialised.items ≡ map (has_initialiser w.classes) w.chains.items) × ArePlacings (methods_in w.classes) w.placings.items };
+    ghost invariant = { λ w. IsLinked (record { classes = w.classes; chains = w.chains.items; supers = w.supers.items; universe = w.universe; literals = w.literals }) × (w.slots.items ≡ map (slots_along w.classes) w.chains.items) × HasPlaces w.classes w.places.items × AreNumbered w.classes w.numbers × (w.initialised.items ≡ map (has_initialiser w.classes) w.chains.items) × ArePlacings (methods_in w.classes) w.placings.items };
 }
 
 /// The world of these classes, which keep the rules that classes keep together.
@@ -75,14 +78,14 @@ pub(crate) fn linked_of(
     classes: Classes,
     order: Order,
     chains: Vec<Row<u32>>,
-    indexes: Vec<MethodIndex>,
+    numbers: Held<Numbers>,
 ) -> Result<Linked, LinkRefusal>
-    requires { (order ≡ direct_supers classes) × HaveDifferentNames classes × AreLoaded classes × HaveSupers classes × HaveNoCircle classes × HaveGoodSupers classes × AreChains classes chains.items × HaveNoSplit classes chains.items × AreIndexed classes indexes.items }
+    requires { (order ≡ direct_supers classes) × HaveDifferentNames classes × AreLoaded classes × HaveSupers classes × HaveNoCircle classes × HaveGoodSupers classes × AreChains classes chains.items × HaveNoSplit classes chains.items × AreNumbered classes numbers }
     ensures classes { IfOk result (λ world. world.classes ≡ classes) }
     ensures linked { IfOk result IsLinked }
     ensures refused { IfErr result (RefusesClasses classes) }
 {
-    match tables_of(alloc, classes, &order, chains, indexes) {
+    match tables_of(alloc, classes, &order, chains, numbers) {
         Ok(world) => Ok(world),
         Err(_) => Err(LinkRefusal::NoMemory),
     }
@@ -93,9 +96,9 @@ fn tables_of(
     classes: Classes,
     order: &Order,
     chains: Vec<Row<u32>>,
-    indexes: Vec<MethodIndex>,
+    numbers: Held<Numbers>,
 ) -> Result<Linked, NoMemory>
-    requires { (order.now ≡ direct_supers classes) × HaveDifferentNames classes × AreLoaded classes × HaveSupers classes × HaveNoCircle classes × HaveGoodSupers classes × AreChains classes chains.items × HaveNoSplit classes chains.items × AreIndexed classes indexes.items }
+    requires { (order.now ≡ direct_supers classes) × HaveDifferentNames classes × AreLoaded classes × HaveSupers classes × HaveNoCircle classes × HaveGoodSupers classes × AreChains classes chains.items × HaveNoSplit classes chains.items × AreNumbered classes numbers }
     ensures classes { IfOk result (λ world. world.classes ≡ classes) }
     ensures linked { IfOk result IsLinked }
 {
@@ -120,7 +123,7 @@ fn tables_of(
         literals,
         slots,
         places,
-        indexes,
+        numbers,
         initialised,
         placings,
     })
@@ -303,6 +306,13 @@ impl Linked {
         is_super(self.supers.as_slice(), below, above)
     }
 
+    /// The members of the classes, and what their entries name, by numbers.
+    pub fn numbers(&self) -> &Numbers
+        ensures { AreNumbered self.now.classes result.now }
+    {
+        self.numbers.get()
+    }
+
     // The method that the target names.
     fn declared(&self, target: &Target) -> Option<MethodId>
         ensures found { IfSome result (λ id. Declares self.now id target.now) }
@@ -310,8 +320,22 @@ impl Linked {
         ensures alone { IfSome result (λ id. (other : MethodId) → Declares self.now other target.now → other ≡ id) }
     {
         let class = self.classes.number_of(target.class.as_slice())?;
-        let indexes = self.indexes.as_slice();
-        let number = number_of_method(&self.classes, indexes, class, &target.name, &target.kind)?;
+        let id = self.paired(class, target)?;
+        if !is_called(self.method_of(id), target) {
+            return None;
+        }
+        Some(id)
+    }
+
+    // The method that the class declares and that has the pair of the target's name and type. A type that has no descriptor
+    // may have a pair too, so it is still compared.
+    fn paired(&self, class: u32, target: &Target) -> Option<MethodId>
+        ensures found { IfSome result (λ id. (name : List ℕ) × (kind : PlainType) × IsNumberOf self.now.classes class name kind id.0) }
+        ensures whole { (id : ℕ) → IsNumberOf self.now.classes class target.now.name target.now.kind id → result ≡ Some (record { 0 = id }) }
+    {
+        let numbers = self.numbers.get();
+        let pair = numbers.pair_of(&target.name, &target.kind)?;
+        let number = numbers.method(class, pair)?;
         Some(MethodId(number))
     }
 
@@ -329,16 +353,6 @@ impl Linked {
             return None;
         }
         Some(id)
-    }
-
-    /// The method of that name and type that the class declares.
-    pub fn method_named(&self, class: ClassId, name: &Name, kind: &MethodType) -> Option<MethodId>
-        requires { class.0 < length self.now.classes }
-        ensures { option_map (λ (id : MethodId). id.0) result ≡ declared_method self.now.classes class.0 name.now kind.now }
-    {
-        let indexes = self.indexes.as_slice();
-        let number = number_named(&self.classes, indexes, class.0, name, kind)?;
-        Some(MethodId(number))
     }
 
     /// A class.
@@ -386,6 +400,16 @@ impl Linked {
         let class = self.classes.as_slice().get(class.0 as usize)?;
         place_in(&self.literals, class.text_entry(entry)?)
     }
+}
+
+// Whether the method has the name and type of the target.
+fn is_called(method: &MethodInfo, target: &Target) -> bool
+    ensures { IsTrue result ↔ ((method.now.name ≡ target.now.name) × (method.now.kind ≡ target.now.kind)) }
+{
+    if method.name != target.name {
+        return false;
+    }
+    method.kind.is_same(&target.kind)
 }
 
 // Whether it is the name of an initialiser or the like.

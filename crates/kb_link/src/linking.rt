@@ -1,14 +1,12 @@
 //! From class files to the world of them, and why there is none.
-ghost use Rattle.std.specs.Prelude.{◌≡◌, ◌≤◌, length, IfOk, IfErr, IfSome, IfNone};
+ghost use Rattle.std.specs.Prelude.{◌≡◌, ◌≤◌, length, IfOk, IfErr};
 ghost use Rattle.std.specs.List.{AllByRecursion};
 ghost use Rattle.kb_class.specs.Given.{AreGiven};
-ghost use Rattle.kb_link.specs.Tables.{AreIndexed};
-ghost use Rattle.kb_link.specs.Rules.{HaveDifferentNames, HaveOwnMethods, HaveSupers, HaveNoCircle, HaveGoodSupers};
-ghost use Rattle.kb_link.specs.Split.{HaveNoSplit};
-ghost use Rattle.kb_link.specs.Subtypes.{direct_supers, AreChains};
-ghost use Rattle.kb_link.specs.Links.{AreLoaded, KeepsFormat, Loads, Links, IsLinked, RefusesClasses, RefusesLink, most_classes};
+ghost use Rattle.kb_numbers.specs.Numbers.{AreNumbered, HasTexts};
+ghost use Rattle.kb_link.specs.Rules.{HaveDifferentNames, HaveSupers, HaveNoCircle, HaveGoodSupers};
+ghost use Rattle.kb_link.specs.Subtypes.{direct_supers};
+ghost use Rattle.kb_link.specs.Links.{AreLoaded, KeepsFormat, Links, IsLinked, RefusesClasses, RefusesLink, most_classes};
 
-use crate::by_name::{MethodIndex, indexes_of};
 use crate::chains::chains_of;
 use crate::circles::check_circles;
 use crate::claims::check_claims;
@@ -18,8 +16,10 @@ use crate::linked::{Linked, linked_of};
 use crate::loading::{check_formats, load_all};
 use crate::packages::check_packages;
 use kb_class::{GivenClass, LoadedClass};
-use kb_names::{Name, Row, Target};
+use kb_names::{Name, NoMemory, Target};
+use kb_numbers::{Numbers, numbers_of};
 use kb_order::Order;
+use kb_rows::Held;
 use std::alloc::Global;
 
 /// The most classes that are linked.
@@ -104,14 +104,40 @@ fn link_checked(alloc: Global, given: Vec<GivenClass>) -> Result<Linked, LinkRef
 
 // The world of these classes, whose numbers are their places.
 fn link_classes(alloc: Global, classes: Vec<LoadedClass>) -> Result<Linked, LinkRefusal>
-    requires { AreLoaded classes.items }
+    requires { AreLoaded classes.items × AllByRecursion HasTexts classes.items }
+    ensures classes { IfOk result (λ world. world.classes ≡ classes.items) }
+    ensures linked { IfOk result IsLinked }
+    ensures refused { IfErr result (RefusesClasses classes.items) }
+{
+    match numbers_in(alloc, classes.as_slice()) {
+        Ok(numbers) => link_numbered(alloc, classes, numbers),
+        Err(_) => Err(LinkRefusal::NoMemory),
+    }
+}
+
+// The numbers of the members of these classes.
+fn numbers_in(alloc: Global, classes: &[LoadedClass]) -> Result<Held<Numbers>, NoMemory>
+    requires { AllByRecursion HasTexts classes.now }
+    ensures { IfOk result (AreNumbered classes.now) }
+{
+    let numbers = numbers_of(alloc, classes)?;
+    Ok(Held::new(alloc, numbers)?)
+}
+
+// The world of these classes, whose members have these numbers.
+fn link_numbered(
+    alloc: Global,
+    classes: Vec<LoadedClass>,
+    numbers: Held<Numbers>,
+) -> Result<Linked, LinkRefusal>
+    requires { AreLoaded classes.items × AreNumbered classes.items numbers }
     ensures classes { IfOk result (λ world. world.classes ≡ classes.items) }
     ensures linked { IfOk result IsLinked }
     ensures refused { IfErr result (RefusesClasses classes.items) }
 {
     let classes = Classes::new(alloc, classes)?;
     let order = order_in(alloc, &classes)?;
-    link_ordered(alloc, classes, order)
+    link_ordered(alloc, classes, order, numbers)
 }
 
 // What stands above each class, where superclasses and interfaces are what they must be.
@@ -128,33 +154,18 @@ fn order_in(alloc: Global, classes: &Classes) -> Result<Order, LinkRefusal>
 }
 
 // The world of these classes, whose superclasses and interfaces are what they must be.
-fn link_ordered(alloc: Global, classes: Classes, order: Order) -> Result<Linked, LinkRefusal>
-    requires { (order ≡ direct_supers classes) × HaveDifferentNames classes × AreLoaded classes × HaveSupers classes × HaveNoCircle classes × HaveGoodSupers classes }
+fn link_ordered(
+    alloc: Global,
+    classes: Classes,
+    order: Order,
+    numbers: Held<Numbers>,
+) -> Result<Linked, LinkRefusal>
+    requires { (order ≡ direct_supers classes) × HaveDifferentNames classes × AreLoaded classes × HaveSupers classes × HaveNoCircle classes × HaveGoodSupers classes × AreNumbered classes numbers }
     ensures classes { IfOk result (λ world. world.classes ≡ classes) }
     ensures linked { IfOk result IsLinked }
     ensures refused { IfErr result (RefusesClasses classes) }
 {
     let chains = chains_of(alloc, &classes, &order)?;
-    let indexes = indexes_in(alloc, &classes, chains.as_slice())?;
-    linked_of(alloc, classes, order, chains, indexes)
-}
-
-// The tables of the methods of each class by their names, where no package is split.
-fn indexes_in(
-    alloc: Global,
-    classes: &Classes,
-    chains: &[Row<u32>],
-) -> Result<Vec<MethodIndex>, LinkRefusal>
-    requires { HaveOwnMethods classes.now × HaveSupers classes.now × HaveNoCircle classes.now × HaveGoodSupers classes.now × AreChains classes.now chains.now }
-    ensures indexed { IfOk result (λ indexes. AreIndexed classes.now indexes.items) }
-    ensures whole { IfOk result (λ indexes. HaveNoSplit classes.now chains.now) }
-    ensures refused { IfErr result (RefusesClasses classes.now) }
-{
-    let Ok(indexes) = indexes_of(alloc, classes) else {
-        return Err(LinkRefusal::NoMemory);
-    };
-    match check_packages(alloc, classes, chains, indexes.as_slice()) {
-        Ok(()) => Ok(indexes),
-        Err(refusal) => Err(refusal),
-    }
+    check_packages(alloc, &classes, chains.as_slice(), numbers.get())?;
+    linked_of(alloc, classes, order, chains, numbers)
 }

@@ -1,20 +1,21 @@
 //! Methods that can be selected inside their package alone.
 ghost use Rattle.std.specs.Prelude.{◌≡◌, ◌↔◌, ◌⊎◌, filter, IsTrue, IfOk, OnOk, IfErr, IfSome, IfNone};
+ghost use Rattle.std.specs.List.{AllZip, list_any};
+ghost use Rattle.kb_numbers.specs.Numbers.{AreNumbered, IsMethodPair};
 ghost use Rattle.kb_link.specs.Subtypes.{AreChains};
 ghost use Rattle.kb_link.specs.Rules.{IsFirst, IsNoneSuch, HaveOwnMethods, HaveSupers, HaveNoCircle, HaveGoodSupers};
 ghost use Rattle.kb_link.specs.Split.{package_of, is_of_package, HaveNoSplit};
-ghost use Rattle.kb_link.specs.Sharing.{is_elsewhere, elsewhere_above, SharesOwn, SharesMethod, SharesAbove, IsShared, AreDifferent, StopsAtShared};
-ghost use Rattle.kb_link.specs.Tables.{AreIndexed, Indexes, places_at};
+ghost use Rattle.kb_link.specs.Sharing.{is_elsewhere, elsewhere_above, shares_at, shares_in, IsShared, StopsAtShared};
 ghost use Rattle.kb_link.specs.declared.linking.LinkRefusal.TheVariants as refusals;
 ghost use Rattle.kb_link.specs.Links.{RefusesClasses};
 
-use crate::by_name::MethodIndex;
 use crate::classes::Classes;
 use crate::items::item_at;
 use crate::linked::is_special;
 use crate::linking::LinkRefusal;
 use kb_class::{LoadedClass, MethodInfo};
 use kb_names::{Name, NoMemory, Row};
+use kb_numbers::{Numbers, Pair};
 use std::alloc::Global;
 
 /// ACC_PUBLIC, ACC_PRIVATE, ACC_PROTECTED and ACC_STATIC (JVMS 8 table 4.6-A).
@@ -25,15 +26,16 @@ pub(crate) fn check_packages(
     alloc: Global,
     classes: &Classes,
     chains: &[Row<u32>],
-    indexes: &[MethodIndex],
+    numbers: &Numbers,
 ) -> Result<(), LinkRefusal>
-    requires { HaveOwnMethods classes.now × HaveSupers classes.now × HaveNoCircle classes.now × HaveGoodSupers classes.now × AreChains classes.now chains.now × AreIndexed classes.now indexes.now }
+    requires { HaveOwnMethods classes.now × HaveSupers classes.now × HaveNoCircle classes.now × HaveGoodSupers classes.now × AreChains classes.now chains.now × AreNumbered classes.now numbers.now }
     ensures whole { OnOk result (HaveNoSplit classes.now chains.now) }
     ensures refused { IfErr result (RefusesClasses classes.now) }
 {
     for (number, class) in classes.as_slice().iter().enumerate() {
         let chain = chains[number].as_slice();
-        match check_class(alloc, classes, indexes, chain, class) {
+        let pairs = numbers.methods_at(number as u32);
+        match check_class(alloc, classes, numbers, chain, class, pairs) {
             Ok(()) => {}
             Err(refusal) => return Err(refusal),
         }
@@ -41,22 +43,23 @@ pub(crate) fn check_packages(
     Ok(())
 }
 
-// Refuses the first such method of a class.
+// Refuses the first such method of a class, whose methods have these pairs.
 fn check_class(
     alloc: Global,
     classes: &Classes,
-    indexes: &[MethodIndex],
+    numbers: &Numbers,
     chain: &[u32],
     class: &LoadedClass,
+    pairs: &[Pair],
 ) -> Result<(), LinkRefusal>
-    requires { HaveOwnMethods classes.now × AreIndexed classes.now indexes.now }
+    requires { HaveOwnMethods classes.now × AreNumbered classes.now numbers.now × AllZip (IsMethodPair numbers.now.texts) class.now.methods pairs.now }
     ensures whole { OnOk result (IsNoneSuch (IsShared classes.now (elsewhere_above classes.now class.now.name chain.now)) class.now.methods) }
     ensures refused { IfErr result (StopsAtShared classes.now class.now chain.now) }
 {
-    let Ok(numbers) = elsewhere_above(alloc, classes.as_slice(), class.name(), chain) else {
+    let Ok(above) = elsewhere_above(alloc, classes.as_slice(), class.name(), chain) else {
         return Err(LinkRefusal::NoMemory);
     };
-    match first_shared(classes, indexes, numbers.as_slice(), class.methods()) {
+    match first_shared(classes, numbers, above.as_slice(), class.methods(), pairs) {
         Some(method) => Err(split_refusal(alloc, class.name(), &method.name)),
         None => Ok(()),
     }
@@ -131,35 +134,38 @@ fn package_of(name: &[u8]) -> &[u8]
 // The first of these methods that is one of its package, and that one of these classes declares too.
 fn first_shared<'a>(
     classes: &Classes,
-    indexes: &[MethodIndex],
-    numbers: &[u32],
+    numbers: &Numbers,
+    above: &[u32],
     methods: &'a [MethodInfo],
+    pairs: &[Pair],
 ) -> Option<&'a MethodInfo>
-    requires { HaveOwnMethods classes.now × AreIndexed classes.now indexes.now }
-    ensures found { IfSome result (λ method. IsFirst (IsShared classes.now numbers.now) methods.now method.now) }
-    ensures none { IfNone result (IsNoneSuch (IsShared classes.now numbers.now) methods.now) }
+    requires { HaveOwnMethods classes.now × AreNumbered classes.now numbers.now × AllZip (IsMethodPair numbers.now.texts) methods.now pairs.now }
+    ensures found { IfSome result (λ method. IsFirst (IsShared classes.now above.now) methods.now method.now) }
+    ensures none { IfNone result (IsNoneSuch (IsShared classes.now above.now) methods.now) }
 {
-    for method in methods {
-        if is_shared(classes, indexes, numbers, method) {
+    for (place, method) in methods.iter().enumerate() {
+        if is_shared(classes, numbers, above, method, pairs[place]) {
             return Some(method);
         }
     }
     None
 }
 
+// Whether the method, which has that pair, is one of its package, and one of these classes declares it too.
 fn is_shared(
     classes: &Classes,
-    indexes: &[MethodIndex],
-    numbers: &[u32],
+    numbers: &Numbers,
+    above: &[u32],
     method: &MethodInfo,
+    pair: Pair,
 ) -> bool
-    requires { HaveOwnMethods classes.now × AreIndexed classes.now indexes.now }
-    ensures { IsTrue result ↔ IsShared classes.now numbers.now method.now }
+    requires { HaveOwnMethods classes.now × AreNumbered classes.now numbers.now × IsMethodPair numbers.now.texts method.now pair }
+    ensures { IsTrue result ↔ IsShared classes.now above.now method.now }
 {
     if !is_of_package(method) {
         return false;
     }
-    shares_above(classes, indexes, numbers, method)
+    shares_above(classes, numbers, above, pair)
 }
 
 // Whether the method is one of its package.
@@ -172,47 +178,39 @@ fn is_of_package(method: &MethodInfo) -> bool
     !is_special(method.name.as_slice())
 }
 
-// Whether one of these classes declares such a method too, as one of its package.
-fn shares_above(
-    classes: &Classes,
-    indexes: &[MethodIndex],
-    numbers: &[u32],
-    method: &MethodInfo,
-) -> bool
-    requires { HaveOwnMethods classes.now × AreIndexed classes.now indexes.now }
-    ensures { IsTrue result ↔ SharesAbove classes.now numbers.now method.now }
+// Whether one of these classes declares a method of that pair too, as one of its package.
+fn shares_above(classes: &Classes, numbers: &Numbers, above: &[u32], pair: Pair) -> bool
+    ensures { result ≡ list_any (shares_in classes.now numbers.now.classes.items pair) above.now }
 {
-    for number in numbers {
-        if shares_method(classes, indexes, *number, method) {
+    let mut rest = above;
+    while let [number, others @ ..] = rest {
+        if shares_in(classes, numbers, pair, *number) {
             return true;
         }
+        rest = others;
     }
     false
 }
 
-// Whether the class of that number declares such a method too, as one of its package.
-fn shares_method(
-    classes: &Classes,
-    indexes: &[MethodIndex],
-    number: u32,
-    method: &MethodInfo,
-) -> bool
-    requires { HaveOwnMethods classes.now × AreIndexed classes.now indexes.now }
-    ensures { IsTrue result ↔ SharesMethod classes.now method.now number }
+// Whether the class of that number declares a method of that pair too, as one of its package.
+fn shares_in(classes: &Classes, numbers: &Numbers, pair: Pair, number: u32) -> bool
+    ensures { result ≡ shares_in classes.now numbers.now.classes.items pair number }
 {
     match item_at(classes.as_slice(), number) {
-        Some(class) => shares_own(&indexes[number as usize], class.methods(), method),
+        Some(class) => shares_at(class.methods(), numbers.method_place(number, pair)),
         None => false,
     }
 }
 
-// Whether one of these methods is such a method too, as one of its package.
-fn shares_own(index: &MethodIndex, methods: &[MethodInfo], method: &MethodInfo) -> bool
-    requires { Indexes (places_at index.now.places) methods.now × AreDifferent methods.now }
-    ensures { IsTrue result ↔ SharesOwn methods.now method.now }
+// Whether the method at that place, if there is one, is one of its package.
+fn shares_at(methods: &[MethodInfo], place: Option<u32>) -> bool
+    ensures { result ≡ shares_at methods.now place }
 {
-    match index.find(methods, &method.name, &method.kind) {
-        Some(place) => is_of_package(&methods[place as usize]),
+    let Some(place) = place else {
+        return false;
+    };
+    match item_at(methods, place) {
+        Some(method) => is_of_package(method),
         None => false,
     }
 }

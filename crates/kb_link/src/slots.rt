@@ -1,8 +1,8 @@
 //! The slots of the objects of each class.
-ghost use Rattle.std.specs.Prelude.{◌≡◌, ℕ, map, length, ◌++◌, ◌∷◌, [], IfOk};
+ghost use Rattle.std.specs.Prelude.{◌≡◌, map, length, ◌++◌, ◌∷◌, [], IfOk};
 ghost use Rattle.kb_class.specs.Class.{Class};
 ghost use Rattle.kb_class.specs.declared.members.FieldInfo.{FieldInfo};
-ghost use Rattle.kb_link.specs.Slots.{has_slot_type, is_static, has_slot, slot_of, slots_among, own_slots_at, slots_along, numbered};
+ghost use Rattle.kb_link.specs.Slots.{has_slot_type, has_slot, slot_of, slots_among, own_slots_at, slots_along, numbered};
 
 use crate::classes::Classes;
 use crate::items::item_at;
@@ -124,8 +124,8 @@ fn slot_of(
     })
 }
 
-// Whether the field has a slot.
-fn has_slot(field: &FieldInfo) -> bool
+/// Whether the field has a slot.
+pub fn has_slot(field: &FieldInfo) -> bool
     ensures { result ≡ has_slot field.now }
 {
     if field.access & STATIC != 0 {

@@ -1,14 +1,14 @@
 -- Rows of what entries stand for.
-use Rattle.std.proofs.Common.{◌≡◌, ◌<◌, ◌≤◌, ◌+◌, ℕ, List, [], ◌∷◌, ◌++◌, length, get_or, Option, Some, None, slice_get, min, inl, inr, below_more, sym, ap, subst, ◌∙◌, arith}
+use Rattle.std.proofs.Common.{◌≡◌, ◌<◌, ◌≤◌, ◌+◌, ℕ, List, [], ◌∷◌, ◌++◌, length, get_or, false, Option, Some, None, slice_get, min, inl, inr, below_more, sym, ap, subst, ◌∙◌, arith}
 use Rattle.std.proofs.lemmas.List.{get_or_append_left, get_or_push, get_or_past, length_push}
 use Rattle.std.proofs.lemmas.Option.{slice_get_past, slice_get_cases}
-use Rattle.std.specs.Option.{option_and_then}
+use Rattle.std.specs.Option.{option_and_then, option_map_or}
 use Rattle.kb_class.specs.Class.{Class, Sought, reference_of_entry}
 use Rattle.kb_link.specs.World.{World}
 use Rattle.kb_link.proofs.Places.{get_pushed}
 use Rattle.kb_world.specs.Lookup.{sought_at, class_of_sought, slot_of_sought, method_of_sought, special_of_sought}
-use Rattle.kb_world.specs.Tables.{StandsFor, IsResolved, IsRow, nothing}
-use Rattle.kb_world.specs.declared.resolving.Resolved.{Resolved}
+use Rattle.kb_world.specs.Tables.{StandsFor, IsResolved, IsRow, left_out_of, nothing}
+use Rattle.kb_world.specs.declared.resolved.Resolved.{Resolved}
 
 -- ---- what an entry stands for
 
@@ -24,6 +24,7 @@ module _ (world : World) (class entry : ℕ) where
     is_slot = is.is_slot ∙ sym (ap (λ (o : Option Sought). option_and_then (slot_of_sought world) o) at);
     is_method = is.is_method ∙ sym (ap (λ (o : Option Sought). option_and_then (method_of_sought world) o) at);
     is_special = is.is_special ∙ sym (ap (λ (o : Option Sought). option_and_then (special_of_sought world class) o) at);
+    is_left_out = is.is_left_out ∙ sym (ap (λ (o : Option Sought). option_map_or left_out_of o false) at);
   }
 
   pub stands_for_nothing : sought_at world class entry ≡ None → IsResolved world class entry nothing
@@ -32,6 +33,7 @@ module _ (world : World) (class entry : ℕ) where
     is_slot = sym (ap (λ (o : Option Sought). option_and_then (slot_of_sought world) o) at);
     is_method = sym (ap (λ (o : Option Sought). option_and_then (method_of_sought world) o) at);
     is_special = sym (ap (λ (o : Option Sought). option_and_then (special_of_sought world class) o) at);
+    is_left_out = sym (ap (λ (o : Option Sought). option_map_or left_out_of o false) at);
   }
 
   -- the class has no entry of that number

@@ -1,30 +1,23 @@
 -- Signatures of methods, and the methods that are selected by them.
-use Rattle.std.proofs.Common.{◌≡◌, ℕ, zero, suc, ◌+◌, ◌<◌, ◌≤◌, ◌↔◌, Bool, IsTrue, true, false, true≢false, ◌==◌, ◌&&◌, List, [], ◌∷◌, ◌++◌, length, length-append, ◌-◌, take, drop, Option, Some, None, slice_get, get_or, unwrap_or, inl, inr, refl, sym, ap, subst, ◌∙◌, arith}
-use Rattle.std.specs.HashMap.{HashMap}
-use Rattle.std.specs.List.{find}
+use Rattle.std.proofs.Common.{◌≡◌, ℕ, zero, suc, ◌+◌, ◌<◌, ◌≤◌, Bool, true, false, true≢false, ◌==◌, ◌&&◌, List, [], ◌∷◌, ◌++◌, length, length-append, ◌-◌, take, drop, Option, Some, None, slice_get, get_or, inl, inr, refl, sym, ap, subst, ◌∙◌, arith}
 use Rattle.std.specs.Option.{option_and_then, option_map_or}
 use Rattle.std.specs.Str.{bytes_eq}
-use Rattle.std.specs.declared.vec.Vec.{Vec}
-use Rattle.std.specs.declared.alloc.Global.{Global}
 use Rattle.std.proofs.lemmas.Bool.Decides.{Decides-eqb}
 use Rattle.std.proofs.lemmas.List.{take_all}
-use Rattle.std.proofs.lemmas.Option.{same_Some, none-some, get_or_from_slice_get, slice_get_within, slice_get_cases}
+use Rattle.std.proofs.lemmas.Option.{same_Some, none-some, slice_get_within, slice_get_cases}
 use Rattle.std.proofs.lemmas.Slice.Eq.{bytes_eq-Decides}
 use Rattle.kb_class.specs.Class.{Class}
 use Rattle.kb_class.specs.declared.members.MethodInfo.{MethodInfo}
-use Rattle.kb_names.specs.Descriptors.{method_text}
-use Rattle.kb_names.specs.declared.class_names.Spelling.TheVariants.{Raw}
 use Rattle.kb_names.specs.declared.types.MethodType.{MethodType}
 use Rattle.kb_link.specs.Links.{IsLinked}
-use Rattle.kb_link.specs.Members.{place_where, same_kind}
-use Rattle.kb_link.specs.Tables.{AddsPlace, IsNumberOf, entry_at, places_at}
+use Rattle.kb_link.specs.Members.{same_kind}
+use Rattle.kb_link.specs.Tables.{IsNumberOf}
 use Rattle.kb_link.specs.World.{World, method_at, methods_in}
-use Rattle.kb_link.proofs.MemberNames.{both_true, and_true, kind_is, kind_self, place_there, place_nowhere, declared_is, declared_there}
+use Rattle.kb_link.proofs.MemberNames.{both_true, and_true, kind_is, place_there, declared_is, declared_there}
 use Rattle.kb_link.proofs.MethodNumbers.{number_of_place}
 use Rattle.kb_world.specs.Lookup.{or_else, only_where, first_along, is_open, is_open_at, if_open, declares, declares_open}
-use Rattle.kb_world.specs.Tables.{AddsClass, AddsOpen, HaveSignatures, IsByName, first_of, has_name, has_signature, is_alike, is_such_at, key_of, open_from, places_named, signature_at, signature_of}
+use Rattle.kb_world.specs.Tables.{AddsClass, AddsOpen, HaveSignatures, first_of, has_signature, is_alike, open_from, signature_at, signature_of}
 use Rattle.kb_world.proofs.MethodLaws.{declared_past}
-use Rattle.kb_world.proofs.NameLaws.{found_named, by_name_next}
 
 -- ---- what is there, or else another
 
@@ -42,34 +35,6 @@ pub alike_is : (name : List ℕ) (kind : MethodType) (method : MethodInfo) → i
 alike_is name kind method e =
     let both = both_true (bytes_eq method.name name) (same_kind method.kind kind) e in ((bytes_eq-Decides method.name name).0 both.0, kind_is method.kind kind both.1)
 
-alike_self : (method : MethodInfo) → is_alike method.name method.kind method ≡ true
-alike_self method =
-    and_true (bytes_eq method.name method.name) (same_kind method.kind method.kind) ((bytes_eq-Decides method.name method.name).1 refl) (kind_self method.kind)
-
--- what is told is whether the types are the same
-pub kind_told : (one other : MethodType) (told : Bool) → (IsTrue told ↔ (one ≡ other)) → told ≡ same_kind one other
-kind_told one other true is = sym (subst (λ (k : MethodType). same_kind one k ≡ true) (is.0 refl) (kind_self one))
-kind_told one other false is = go (same_kind one other) refl
-  where
-    go : (b : Bool) → same_kind one other ≡ b → false ≡ same_kind one other
-    go false e = sym e
-    go true e = absurd (true≢false (sym (is.1 (kind_is one other e))))
-
--- the key says no more than the name and the type
-same_key : (method other : MethodInfo) → has_name key_of (key_of method) (is_alike method.name method.kind) other ≡ is_alike method.name method.kind other
-same_key method other = go (is_alike method.name method.kind other) refl
-  where
-    never : (b : Bool) → (b && false) ≡ false
-    never true = refl
-    never false = refl
-
-    go : (b : Bool) → is_alike method.name method.kind other ≡ b → has_name key_of (key_of method) (is_alike method.name method.kind) other ≡ b
-    go false e = ap (λ (b : Bool). bytes_eq (key_of other) (key_of method) && b) e ∙ never (bytes_eq (key_of other) (key_of method))
-    go true e =
-        let is = alike_is method.name method.kind other e in
-        let keys : key_of other ≡ key_of method = λ i. is.0 i ++ method_text Raw (is.1 i) in
-        and_true (bytes_eq (key_of other) (key_of method)) (is_alike method.name method.kind other) ((bytes_eq-Decides (key_of other) (key_of method)).1 keys) e
-
 module _ (world : World) where
   -- a signature is that of one name and type
   pub one_signature : (name : List ℕ) (kind : MethodType) (method : MethodInfo) (signature : ℕ) → signature_of world method.name method.kind ≡ Some signature → signature_of world name kind ≡ Some signature
@@ -85,37 +50,6 @@ module _ (world : World) where
   -- that of the method of a number
   pub signature_there : (number : ℕ) (method : MethodInfo) → method_at world number ≡ Some method → signature_at world number ≡ signature_of world method.name method.kind
   signature_there number method there = ap (λ (o : Option MethodInfo). option_and_then (λ (m : MethodInfo). signature_of world m.name m.kind) o) there
-
-  -- a method that is there has a signature
-  pub has_one : (number : ℕ) (method : MethodInfo) (found : Option ℕ) → method_at world number ≡ Some method → found ≡ signature_of world method.name method.kind
-      → Some (unwrap_or found number) ≡ signature_at world number
-  has_one number method None there is =
-      absurd (place_nowhere (is_alike method.name method.kind) (methods_in world.classes) number method (sym is) there (alike_self method))
-  has_one number method (Some first) there is = is ∙ sym (signature_there number method there)
-
-  -- one method more at its key
-  pub key_next : (before after : List ℕ → List ℕ) (number : ℕ) (method : MethodInfo) (key : List ℕ) → method_at world number ≡ Some method → key ≡ key_of method
-      → IsByName key_of (take number (methods_in world.classes)) before → AddsPlace before after key number → IsByName key_of (take (number + 1) (methods_in world.classes)) after
-  key_next before after number method key there key_is by adds =
-      by_name_next key_of before after (methods_in world.classes) method number (slice_get_within (methods_in world.classes) number method there)
-      (sym (get_or_from_slice_get (methods_in world.classes) number method method there)) by (subst (λ (k : List ℕ). AddsPlace before after k number) key_is adds)
-
-  -- the first method among those of its key that is alike has its signature
-  pub by_key : (number : ℕ) (method : MethodInfo) (numbers : List ℕ) (found : Option ℕ) → method_at world number ≡ Some method → numbers ≡ places_named key_of (key_of method) 0 (methods_in world.classes)
-      → found ≡ find (is_such_at (is_alike method.name method.kind) (methods_in world.classes)) numbers → Some (unwrap_or found number) ≡ signature_at world number
-  by_key number method numbers found there are is =
-      has_one number method found there
-      (is
-      ∙ found_named key_of (key_of method) (is_alike method.name method.kind) (methods_in world.classes) numbers are
-      ∙ (λ i. place_where (λ (m : MethodInfo). same_key method m i) (methods_in world.classes)))
-
-  -- the same of what a table tells of the key
-  pub told_by_key : {S : Type 0} (table : HashMap (Vec ℕ Global) (List ℕ) S) (number : ℕ) (method : MethodInfo) (key : List ℕ) (told : Option (List ℕ)) (numbers : List ℕ) (found : Option ℕ)
-      → IsByName key_of (methods_in world.classes) (places_at table) → method_at world number ≡ Some method → key ≡ key_of method → told ≡ entry_at table key → numbers ≡ unwrap_or told []
-      → found ≡ find (is_such_at (is_alike method.name method.kind) (methods_in world.classes)) numbers → Some (unwrap_or found number) ≡ signature_at world number
-  told_by_key table number method key told numbers found by there key_is told_is are is =
-      by_key number method numbers found there
-      (are ∙ ap (λ (o : Option (List ℕ)). unwrap_or o []) told_is ∙ by key ∙ ap (λ (k : List ℕ). places_named key_of k 0 (methods_in world.classes)) key_is) is
 
 -- ---- the methods of a class that have a signature
 

@@ -7,6 +7,8 @@ use Rattle.kb_names.specs.declared.types.ExactType.TheVariants as exact
 use Rattle.kb_names.specs.declared.types.JType.{JType}
 use Rattle.kb_names.specs.declared.types.JType.TheVariants as types
 use Rattle.kb_names.specs.declared.types.MethodType.{MethodType}
+use Rattle.kb_class.specs.declared.members.MemberKind.{MemberKind}
+use Rattle.kb_class.specs.declared.members.MemberKind.TheVariants as kinds
 use Rattle.kb_class.specs.declared.entries.ReferenceKind.{ReferenceKind}
 use Rattle.kb_class.specs.declared.entries.ReferenceKind.TheVariants as references
 use Rattle.kb_class.specs.Class.{Class, Entry, Sought, int_of_entry, text_of_entry}
@@ -52,6 +54,11 @@ is_left_out _ = false
 
 abbrev pub has_left_out : MethodType → Bool
 has_left_out kind = list_any is_left_out kind.params || option_map_or is_left_out kind.result false
+
+-- the same of the type of a member: none of a field's
+abbrev pub kind_left_out : MemberKind → Bool
+kind_left_out (kinds.Field type) = false
+kind_left_out (kinds.Method kind) = has_left_out kind
 
 -- the class that a type names, by itself or as an array's element
 abbrev pub class_in_type : ExactType → Option (List ℕ)

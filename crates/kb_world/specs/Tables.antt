@@ -1,80 +1,92 @@
 -- Tables that answer what definitions search lists for.
-use Rattle.std.specs.Prelude.{◌≡◌, ℕ, suc, ◌<◌, ◌^◌, Bool, false, ◌==◌, ◌&&◌, not, List, [], ◌∷◌, ◌++◌, length, take, Option, Some, None, slice_get, slice_index_or, if◌then◌else◌}
+use Rattle.std.specs.Prelude.{◌≡◌, ℕ, suc, ◌<◌, ◌^◌, Bool, true, false, ◌==◌, ◌&&◌, not, List, [], ◌∷◌, length, take, reverse, Option, Some, None, slice_get, slice_index_or, if◌then◌else◌}
+use Rattle.std.specs.List.{flat_map}
 use Rattle.std.specs.Option.{option_and_then, option_map_or}
 use Rattle.std.specs.HashMap.{HashMap, get_by}
 use Rattle.std.specs.Str.{bytes_eq}
-use Rattle.kb_names.specs.Descriptors.{method_text}
-use Rattle.kb_names.specs.declared.class_names.Spelling.TheVariants.{Raw}
-use Rattle.kb_names.specs.declared.types.JType.{JType}
+use Rattle.kb_names.specs.declared.types.ExactType.{ExactType}
 use Rattle.kb_names.specs.declared.types.MethodType.{MethodType}
 use Rattle.kb_class.specs.Class.{Class, Sought}
+use Rattle.kb_class.specs.Loading.{SpellsExact, SpellsKind}
 use Rattle.kb_class.specs.declared.entries.ReferenceKind.{ReferenceKind}
 use Rattle.kb_class.specs.declared.entries.ReferenceKind.TheVariants as references
 use Rattle.kb_class.specs.declared.members.FieldInfo.{FieldInfo}
 use Rattle.kb_class.specs.declared.members.MemberKind.{MemberKind}
 use Rattle.kb_class.specs.declared.members.MemberKind.TheVariants as kinds
 use Rattle.kb_class.specs.declared.members.MethodInfo.{MethodInfo}
+use Rattle.kb_numbers.specs.declared.pairs.EntryNumbers.{EntryNumbers}
+use Rattle.kb_numbers.specs.declared.pairs.Pair.{Pair}
+use Rattle.kb_numbers.specs.Members.{MemberNumbers, fields_at}
+use Rattle.kb_numbers.specs.declared.numbering.Numbers.{Numbers}
+use Rattle.kb_numbers.specs.Numbers.{AreNumbered, HasTextAt, Names, StandsFor as PairStandsFor}
+use Rattle.kb_numbers.specs.Pairs.{is_pair, place_told}
 use Rattle.kb_link.specs.declared.slots.FieldSlot.{FieldSlot}
-use Rattle.kb_link.specs.Members.{place_where, same_kind, same_type}
+use Rattle.kb_link.specs.Links.{IsLinked}
+use Rattle.kb_link.specs.Members.{place_where, same_kind}
 use Rattle.kb_link.specs.Rules.{is_interface}
-use Rattle.kb_link.specs.Slots.{slots_of}
+use Rattle.kb_link.specs.Slots.{has_slot, slots_of}
 use Rattle.kb_link.specs.Subtypes.{is_super}
-use Rattle.kb_link.specs.Tables.{places_at}
-use Rattle.kb_link.specs.World.{World, method_at, methods_in}
-use Rattle.kb_world.specs.Lookup.{is_open, class_of_sought, slot_of_sought, method_of_sought, special_of_sought, resolved_field, resolved_field_class, resolved_method, selected, selected_for, selected_special, declares_open, only_where, or_else}
-use Rattle.kb_world.specs.declared.resolving.Resolved.{Resolved}
+use Rattle.kb_link.specs.World.{World, chain_of, method_at, methods_in}
+use Rattle.kb_world.specs.Faults.{has_left_out}
+use Rattle.kb_world.specs.Lookup.{is_open, class_of, class_of_sought, slot_of_sought, method_of_sought, special_of_sought, sought_at, resolved_field, resolved_field_class, resolved_method, selected, selected_for, selected_special, declares_open, only_where, or_else}
+use Rattle.kb_world.specs.declared.known.Known.{Known}
+use Rattle.kb_world.specs.declared.methods.Wanted.{Wanted}
+use Rattle.kb_world.specs.declared.resolved.Resolved.{Resolved}
 use Rattle.kb_world.specs.declared.selection.Selection.{Selection}
-use Rattle.kb_world.specs.declared.tables.MemberTables.{MemberTables}
+use Rattle.kb_world.specs.declared.tables.SlotKey.{SlotKey}
 
 -- whether the number stands at a place
 abbrev pub stands_at : List ℕ → ℕ → ℕ → Bool
 stands_at chain place number = option_map_or (λ (above : ℕ). above == number) (slice_get chain place) false
 
--- ---- fields and slots by their names
+-- ---- slots by the pairs of their fields
 
--- the places, from a number on, of the items of that name
-abbrev pub places_named : {A : Type 0} → (A → List ℕ) → List ℕ → ℕ → List A → List ℕ
-places_named named name place [] = []
-places_named named name place (item ∷ items) =
-    if bytes_eq (named item) name then place ∷ places_named named name (suc place) items else places_named named name (suc place) items
+-- those of these fields that have slots, by the pairs that stand beside them
+abbrev pub own_keys : ℕ → List FieldInfo → List Pair → List SlotKey
+own_keys class [] pairs = []
+own_keys class fields [] = []
+own_keys class (field ∷ fields) (pair ∷ pairs) =
+    if has_slot field then record { class = class; pair = pair } ∷ own_keys class fields pairs else own_keys class fields pairs
 
--- at each name are the places of all items of that name, in order
-abbrev pub IsByName : {A : Type 0} → (A → List ℕ) → List A → (List ℕ → List ℕ) → Type 0
-IsByName named items places = (name : List ℕ) → places name ≡ places_named named name 0 items
+abbrev pub keys_there : ℕ → Option Class → List Pair → List SlotKey
+keys_there class None pairs = []
+keys_there class (Some of) pairs = own_keys class of.fields pairs
 
--- whether the item has the name, and is such
-abbrev pub has_name : {A : Type 0} → (A → List ℕ) → List ℕ → (A → Bool) → A → Bool
-has_name named name such item = bytes_eq (named item) name && such item
+abbrev pub keys_at : List Class → List MemberNumbers → ℕ → List SlotKey
+keys_at classes numbers class = keys_there class (slice_get classes class) (fields_at numbers class)
 
--- whether the item at the place is such
-abbrev pub is_such_at : {A : Type 0} → (A → Bool) → List A → ℕ → Bool
-is_such_at such items place = option_map_or such (slice_get items place) false
+-- those of the slots of the class at the end of a chain of superclasses, in their order
+abbrev pub keys_along : List Class → List MemberNumbers → List ℕ → List SlotKey
+keys_along classes numbers chain = flat_map (keys_at classes numbers) (reverse chain)
 
-abbrev pub name_of_field : FieldInfo → List ℕ
-name_of_field field = field.name
+-- whether it is the key of a slot of a field of the pair which the class declares
+abbrev pub is_key : ℕ → Pair → SlotKey → Bool
+is_key class pair key = (key.class == class) && is_pair key.pair pair
 
-abbrev pub name_of_slot : FieldSlot → List ℕ
-name_of_slot slot = slot.name
+-- the table has of each pair the first slot of a field which the class declares
+abbrev pub IsSlotTable : {S : Type 0} → ℕ → List SlotKey → HashMap Pair ℕ S → Type 0
+IsSlotTable class keys table = (pair : Pair) → place_told table pair ≡ place_where (is_key class pair) keys
 
--- whether the field has the type: one that a class declares does not tell its class
-abbrev pub is_field_for : FieldInfo → ℕ → JType → Bool
-is_field_for field class type = same_type field.kind type
+-- that of the class of a number
+abbrev pub IsSlotTableOf : {S : Type 0} → World → List MemberNumbers → ℕ → HashMap Pair ℕ S → Type 0
+IsSlotTableOf world numbers class table = IsSlotTable class (keys_along world.classes numbers (chain_of world class)) table
 
--- whether the slot is that of a field of the type which the class declares
-abbrev pub is_slot_for : FieldSlot → ℕ → JType → Bool
-is_slot_for slot class type = (slot.class.0 == class) && same_type slot.kind type
-
--- the tables of the class of that number
-pub record AreTables (world : World) (number : ℕ) (told : MemberTables) : Type 0 where
-  pub by_fields : (class : Class) → slice_get world.classes number ≡ Some class → IsByName name_of_field class.fields (places_at told.fields)
-  pub by_slots : IsByName name_of_slot (slots_of world number) (places_at told.slots)
-
--- those of each class, in order
-pub record HaveTables (world : World) (tables : List MemberTables) : Type 0 where
+-- that of each class, in order
+pub record HaveSlotTables {S : Type 0} (world : World) (numbers : List MemberNumbers) (tables : List (HashMap Pair ℕ S)) : Type 0 where
   pub len : length tables ≡ length world.classes
-  pub each : (number : ℕ) (told : MemberTables) → slice_get tables number ≡ Some told → AreTables world number told
+  pub each : (class : ℕ) (table : HashMap Pair ℕ S) → slice_get tables class ≡ Some table → IsSlotTableOf world numbers class table
+
+-- what the tables have for a class and a pair
+abbrev pub slot_place : {S : Type 0} → List (HashMap Pair ℕ S) → ℕ → Pair → Option ℕ
+slot_place tables class pair = option_and_then (λ table. place_told table pair) (slice_get tables class)
 
 -- ---- methods
+
+-- the pair is that of the name and type of a method that is sought in linked classes
+pub record IsSearched (world : World) (numbers : Numbers) (wanted : Wanted) : Type 0 where
+  pub linked : IsLinked world
+  pub numbered : AreNumbered world.classes numbers
+  pub stands : PairStandsFor numbers.texts wanted.pair wanted.name.now (kinds.Method wanted.kind.now)
 
 -- whether the class of a number is an interface, and another class than the first one and above it
 abbrev pub is_superinterface : World → ℕ → ℕ → Bool
@@ -100,12 +112,17 @@ slot_in world declaring slot = option_and_then (λ class. option_and_then (slice
 abbrev pub slot_told : World → Resolved → Option FieldSlot
 slot_told world told = slot_in world told.declaring told.slot
 
+-- whether a part of the type of the method that is sought is left out: none where a field is
+abbrev pub left_out_of : Sought → Bool
+left_out_of sought = option_map_or has_left_out (method_kind sought.what sought.member.kind) false
+
 -- what is sought stands for what is told, in code of that class
 pub record StandsFor (world : World) (class : ℕ) (sought : Sought) (told : Resolved) : Type 0 where
   pub is_declaring : told.declaring ≡ class_of_sought world sought
   pub is_slot : slot_told world told ≡ slot_of_sought world sought
   pub is_method : told.method ≡ method_of_sought world sought
   pub is_special : told.special ≡ special_of_sought world class sought
+  pub is_left_out : told.left_out ≡ left_out_of sought
 
 -- the entry of the class stands for what is told
 pub record IsResolved (world : World) (class entry : ℕ) (told : Resolved) : Type 0 where
@@ -113,10 +130,56 @@ pub record IsResolved (world : World) (class entry : ℕ) (told : Resolved) : Ty
   pub is_slot : slot_told world told ≡ resolved_field world class entry
   pub is_method : told.method ≡ resolved_method world class entry
   pub is_special : told.special ≡ selected_special world class entry
+  pub is_left_out : told.left_out ≡ option_map_or left_out_of (sought_at world class entry) false
 
 -- nothing is told of an entry that names no member
 abbrev pub nothing : Resolved
-nothing = record { declaring = None; slot = None; method = None; special = None }
+nothing = record { declaring = None; slot = None; method = None; special = None; left_out = false }
+
+-- ---- what is found once
+
+-- what a table has at a number
+abbrev pub told_in : {V S : Type 0} → HashMap ℕ V S → ℕ → Option V
+told_in table number = get_by (λ (key : ℕ). number == key) table
+
+-- the table has, of texts that name types, the class in which the members of the type are sought
+abbrev pub KnowsClasses : {S : Type 0} → World → List (List ℕ) → HashMap ℕ (Option ℕ) S → Type 0
+KnowsClasses world texts table =
+    (text : ℕ) (told : Option ℕ) → told_in table text ≡ Some told → (type : ExactType) → HasTextAt texts text (SpellsExact type) → told ≡ class_of world type
+
+-- the table has, of texts that are descriptors of methods, whether a part of the type is left out
+abbrev pub KnowsLeftOut : {S : Type 0} → List (List ℕ) → HashMap ℕ Bool S → Type 0
+KnowsLeftOut texts table =
+    (text : ℕ) (told : Bool) → told_in table text ≡ Some told → (kind : MethodType) → HasTextAt texts text (SpellsKind (kinds.Method kind)) → told ≡ has_left_out kind
+
+-- whether an entry of that kind names a member of that kind
+abbrev pub is_proper : ReferenceKind → MemberKind → Bool
+is_proper references.Field (kinds.Field type) = true
+is_proper references.Field (kinds.Method kind) = false
+is_proper what (kinds.Field type) = false
+is_proper what (kinds.Method kind) = true
+
+-- whether they are the same
+abbrev pub is_named : EntryNumbers → EntryNumbers → Bool
+is_named one other = (one.class == other.class) && is_pair one.member other.member
+
+-- what a table has for what an entry names
+abbrev pub found_in : {S : Type 0} → HashMap EntryNumbers Resolved S → EntryNumbers → Option Resolved
+found_in table named = get_by (λ (key : EntryNumbers). is_named named key) table
+
+-- the table has what stands for what an entry names, in code of the class
+abbrev pub KnowsMembers : {S : Type 0} → World → ℕ → List (List ℕ) → HashMap EntryNumbers Resolved S → Type 0
+KnowsMembers world class texts table =
+    (named : EntryNumbers) (told : Resolved) → found_in table named ≡ Some told
+    → (sought : Sought) → Names texts named sought → is_proper sought.what sought.member.kind ≡ true → StandsFor world class sought told
+
+-- what is known is so, in code of the class
+pub record IsKnown (world : World) (class : ℕ) (texts : List (List ℕ)) (known : Known) : Type 0 where
+  pub of_classes : KnowsClasses world texts known.classes
+  pub of_types : KnowsLeftOut texts known.left_out
+  pub of_members : KnowsMembers world class texts known.members
+
+-- ---- rows
 
 -- the row has what each entry of the class stands for, and nothing behind its end
 abbrev pub IsRow : World → ℕ → List Resolved → Type 0
@@ -131,10 +194,6 @@ AreRows world rows = (class : ℕ) → class < length world.classes → IsRow wo
 -- whether a method has the name and the type
 abbrev pub is_alike : List ℕ → MethodType → MethodInfo → Bool
 is_alike name kind method = bytes_eq method.name name && same_kind method.kind kind
-
--- a text for the name and the type of a method
-abbrev pub key_of : MethodInfo → List ℕ
-key_of method = method.name ++ method_text Raw method.kind
 
 -- The signature of a name and a type: the number of the first method that has them, so that all that have them have one
 -- signature, and no others.

@@ -7,11 +7,11 @@ ghost use Rattle.kb_link.specs.Slots.{is_static};
 ghost use Rattle.kb_universe.specs.Marks.{class_types};
 ghost use Rattle.kb_world.specs.Lookup.{class_of, resolved_method};
 ghost use Rattle.kb_world.specs.declared.calls.Call.TheVariants as calls;
-ghost use Rattle.kb_world.specs.Faults.{told};
+ghost use Rattle.kb_world.specs.Faults.{kind_left_out, told};
 ghost use Rattle.kb_world.specs.Receivers.{called_among, selected_on_array};
 ghost use Rattle.kb_world.specs.Calls.{takes, selected_on, called_on, called, is_callable_method, is_callable, is_for, fault_of_kind, fault_of_number, call_fault};
 
-use crate::faults::{Fault, has_left_out};
+use crate::faults::Fault;
 use crate::methods::{OBJECT, is_open};
 use crate::world::World;
 use kb_class::{ClassId, MemberKind, MethodId, MethodInfo, ReferenceKind};
@@ -40,10 +40,12 @@ impl World {
         if !takes(call, sought.what) {
             return Some(Fault::Outside(What::Operand));
         }
-        self.kind_fault(class, call, entry, sought.class, sought.kind)
+        let left_out = self.entry_at(class, entry).left_out;
+        self.kind_fault(class, call, entry, sought.class, sought.kind, left_out)
     }
 
-    // What is wrong with a call of the entry, which names a member of that kind.
+    // What is wrong with a call of the entry, which names a member of that kind; whether a part of a method's type is left out
+    // was found before.
     fn kind_fault(
         &self,
         class: ClassId,
@@ -51,14 +53,16 @@ impl World {
         entry: u16,
         of: &ExactType,
         kind: &MemberKind,
+        left_out: bool,
     ) -> Option<Fault<'_>>
-        requires { class.0 < length self.now.classes }
+        requires class { class.0 < length self.now.classes }
+        requires told { left_out ≡ kind_left_out kind.now }
         ensures { option_map told result ≡ fault_of_kind self.now class.0 call entry of.now kind.now }
     {
-        let MemberKind::Method(kind) = kind else {
+        let MemberKind::Method(_) = kind else {
             return Some(Fault::Outside(What::Method));
         };
-        if has_left_out(kind) {
+        if left_out {
             return Some(Fault::Outside(What::Kind));
         }
         self.resolved_fault(class, call, entry, of)

@@ -1,36 +1,42 @@
 //! Resolution of fields (JVMS 8 section 5.4.3.2).
-ghost use Rattle.std.specs.Prelude.{◌≡◌, slice_get};
+ghost use Rattle.std.specs.Prelude.{◌≡◌};
 ghost use Rattle.std.specs.Option.{option_and_then, option_copied};
-ghost use Rattle.kb_class.specs.References.{sought_of};
+ghost use Rattle.kb_class.specs.declared.entries.ReferenceKind.TheVariants as references;
+ghost use Rattle.kb_class.specs.declared.members.MemberKind.TheVariants as kinds;
+ghost use Rattle.kb_numbers.specs.Numbers.{AreNumbered, StandsFor};
 ghost use Rattle.kb_link.specs.Links.{IsLinked};
-ghost use Rattle.kb_link.specs.Slots.{slots_of};
-ghost use Rattle.kb_link.specs.World.{number_in};
-ghost use Rattle.kb_world.specs.Lookup.{first_along, declaring, field_class, class_of_sought, slot_in_class, slot_of_sought};
-ghost use Rattle.kb_world.specs.Tables.{HaveTables, slot_in};
+ghost use Rattle.kb_world.specs.Lookup.{class_of, class_of_field, first_along, declaring, field_class};
+ghost use Rattle.kb_world.specs.Tables.{slot_in, slot_place};
 
-use crate::by_name::place_of;
-use crate::chains::{chain_at, number_named, slots_at};
-use crate::tables::MemberTables;
-use kb_class::{ClassId, MemberKind, Reference, ReferenceKind};
+use crate::chains::{chain_at, slots_at};
+use crate::tables::slot_place;
 use kb_link::{FieldSlot, Linked};
-use kb_names::{ExactType, JType, Name};
+use kb_names::{ExactType, JType};
+use kb_numbers::{Numbers, Pair};
+use std::collections::HashMap;
+
+/// A field that is sought, by its name, its type and the pair of them.
+#[derive(Clone, Copy)]
+pub(crate) struct WantedField<'a> {
+    pub(crate) name: &'a [u8],
+    pub(crate) kind: &'a JType,
+    pub(crate) pair: Pair,
+}
 
 // The number, where its class declares such a field.
 fn declaring(
     linked: &Linked,
-    tables: &[MemberTables],
+    numbers: &Numbers,
     number: u32,
-    name: &[u8],
-    kind: &JType,
+    wanted: WantedField<'_>,
 ) -> Option<u32>
-    requires { HaveTables linked.now tables.now }
-    ensures { result ≡ declaring linked.now name.now kind.now number }
+    requires { AreNumbered linked.now.classes numbers.now × StandsFor numbers.now.texts wanted.pair wanted.name.now (kinds.Field wanted.kind.now) }
+    ensures { result ≡ declaring linked.now wanted.entry.name.now wanted.entry.kind.now number }
 {
-    let Some(told) = tables.get(number as usize) else {
+    if number >= linked.class_count() {
         return None;
-    };
-    let fields = linked.class_of(ClassId(number)).fields();
-    match place_of(fields, &told.fields, name, number, kind) {
+    }
+    match numbers.field_place(number, wanted.pair) {
         Some(_) => Some(number),
         None => None,
     }
@@ -39,17 +45,16 @@ fn declaring(
 // The first of these classes that declares such a field.
 fn first_declaring(
     linked: &Linked,
-    tables: &[MemberTables],
+    numbers: &Numbers,
     chain: &[u32],
-    name: &[u8],
-    kind: &JType,
+    wanted: WantedField<'_>,
 ) -> Option<u32>
-    requires { HaveTables linked.now tables.now }
-    ensures { result ≡ first_along (declaring linked.now name.now kind.now) chain.now }
+    requires { AreNumbered linked.now.classes numbers.now × StandsFor numbers.now.texts wanted.pair wanted.name.now (kinds.Field wanted.kind.now) }
+    ensures { result ≡ first_along (declaring linked.now wanted.entry.name.now wanted.entry.kind.now) chain.now }
 {
     let mut rest = chain;
     while let [number, others @ ..] = rest {
-        if let Some(found) = declaring(linked, tables, *number, name, kind) {
+        if let Some(found) = declaring(linked, numbers, *number, wanted) {
             return Some(found);
         }
         rest = others;
@@ -57,74 +62,52 @@ fn first_declaring(
     None
 }
 
-// The class that declares the field which is sought in the class of that name.
+// The class that declares the field which is sought in the class of that number.
 fn field_class(
     linked: &Linked,
-    tables: &[MemberTables],
-    class: &Name,
-    name: &[u8],
-    kind: &JType,
+    numbers: &Numbers,
+    number: Option<u32>,
+    wanted: WantedField<'_>,
 ) -> Option<u32>
-    requires { IsLinked linked.now × HaveTables linked.now tables.now }
-    ensures { result ≡ option_and_then (λ number. field_class linked.now number name.now kind.now) (number_in linked.now.classes class.now) }
+    requires { IsLinked linked.now × AreNumbered linked.now.classes numbers.now × StandsFor numbers.now.texts wanted.pair wanted.name.now (kinds.Field wanted.kind.now) }
+    ensures { result ≡ option_and_then (λ class. field_class linked.now class wanted.entry.name.now wanted.entry.kind.now) number }
 {
-    let Some(number) = number_named(linked, class.as_slice()) else {
-        return None;
-    };
-    first_declaring(linked, tables, chain_at(linked, number), name, kind)
-}
-
-/// The class that declares the field which is sought.
-pub(crate) fn class_of_field(
-    linked: &Linked,
-    tables: &[MemberTables],
-    reference: &Reference<'_>,
-) -> Option<u32>
-    requires { IsLinked linked.now × HaveTables linked.now tables.now }
-    ensures { result ≡ class_of_sought linked.now (sought_of reference.now) }
-{
-    match (reference.what, reference.class, reference.kind) {
-        (ReferenceKind::Field, ExactType::Class(class), MemberKind::Field(kind)) => {
-            field_class(linked, tables, class, reference.name, kind)
-        }
-        _ => None,
-    }
-}
-
-/// The place of the slot of the field which is sought, among those of the class that declares it.
-pub(crate) fn slot_sought(
-    linked: &Linked,
-    tables: &[MemberTables],
-    declaring: Option<u32>,
-    reference: &Reference<'_>,
-) -> Option<u32>
-    requires { IsLinked linked.now × HaveTables linked.now tables.now × (declaring ≡ class_of_sought linked.now (sought_of reference.now)) }
-    ensures { slot_in linked.now declaring result ≡ slot_of_sought linked.now (sought_of reference.now) }
-{
-    match declaring {
-        Some(class) => place_of_slot(linked, tables, class, reference),
+    match number {
+        Some(class) => first_declaring(linked, numbers, chain_at(linked, class), wanted),
         None => None,
     }
 }
 
-// The place, among the slots of the class, of that of the field which is sought and which the class declares.
-fn place_of_slot(
+/// The class that declares the field which is sought in the type, whose members are sought in the class of that number: none
+/// in an array.
+pub(crate) fn class_of_field(
     linked: &Linked,
-    tables: &[MemberTables],
-    class: u32,
-    reference: &Reference<'_>,
+    numbers: &Numbers,
+    of: &ExactType,
+    number: Option<u32>,
+    wanted: WantedField<'_>,
 ) -> Option<u32>
-    requires { IsLinked linked.now × HaveTables linked.now tables.now }
-    ensures { option_and_then (slice_get (slots_of linked.now class)) result ≡ slot_in_class linked.now reference.now.name.now reference.now.kind.now class }
+    requires { IsLinked linked.now × AreNumbered linked.now.classes numbers.now × StandsFor numbers.now.texts wanted.pair wanted.name.now (kinds.Field wanted.kind.now) × (number ≡ class_of linked.now of.now) }
+    ensures { result ≡ class_of_field linked.now references.Field of.now wanted.entry.name.now (kinds.Field wanted.entry.kind.now) }
 {
-    let MemberKind::Field(kind) = reference.kind else {
-        return None;
-    };
-    let Some(told) = tables.get(class as usize) else {
-        return None;
-    };
-    let slots = linked.fields_of(ClassId(class));
-    place_of(slots, &told.slots, reference.name, class, kind)
+    match of {
+        ExactType::Class(_) => field_class(linked, numbers, number, wanted),
+        ExactType::Array(_) => None,
+    }
+}
+
+/// The place of the slot of the field of that pair, among those of the class that declares it.
+pub(crate) fn slot_sought(
+    slots: &[HashMap<Pair, u32>],
+    declaring: Option<u32>,
+    pair: Pair,
+) -> Option<u32>
+    ensures { result ≡ option_and_then (λ class. slot_place slots.now class pair) declaring }
+{
+    match declaring {
+        Some(class) => slot_place(slots, class, pair),
+        None => None,
+    }
 }
 
 /// The slot at a place among those of the class that declares its field.

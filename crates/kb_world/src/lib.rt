@@ -5,13 +5,13 @@
 //! `specs/Reach.antt` the methods that a target reaches and the first thing there that cannot be carried out.
 #![tactic(auto)]
 
-mod by_name;
 mod calls;
 mod chains;
 mod checks;
 mod faults;
 mod fields;
 mod found;
+mod known;
 mod laws;
 mod linking;
 mod looked;
@@ -19,6 +19,7 @@ mod lookup;
 mod mentions;
 mod methods;
 mod reach;
+mod resolved;
 mod resolving;
 mod running;
 mod selection;

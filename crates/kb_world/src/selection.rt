@@ -25,10 +25,10 @@ pub(crate) fn selection_of(alloc: Global, linked: &Linked) -> Result<Selection, 
     requires { IsLinked linked.now }
     ensures { IfOk result (AreSelected linked.now) }
 {
-    let Ok(count) = u32::try_from(linked.method_count()) else {
+    if linked.method_count() > u32::MAX as usize {
         return Err(NoMemory);
-    };
-    let signatures = signatures_of(alloc, linked, count)?;
+    }
+    let signatures = signatures_of(alloc, linked)?;
     let tables = tables_of(alloc, linked, signatures.as_slice())?;
     Ok(Selection { signatures, tables })
 }

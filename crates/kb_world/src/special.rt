@@ -1,65 +1,53 @@
 //! What an entry of a method stands for: the method that it names, and the one that invokespecial of it calls (JVMS 8
 //! sections 5.4.3.3 and 6.5).
-ghost use Rattle.std.specs.Prelude.{◌≡◌, ◌==◌, drop};
+ghost use Rattle.std.specs.Prelude.{◌≡◌, ◌==◌, ◌<◌, drop, length, IfSome};
 ghost use Rattle.std.specs.List.{list_any};
-ghost use Rattle.std.specs.Option.{option_copied};
-ghost use Rattle.kb_class.specs.References.{sought_of};
+ghost use Rattle.std.specs.Option.{option_and_then};
 ghost use Rattle.kb_link.specs.Links.{IsLinked};
-ghost use Rattle.kb_world.specs.Lookup.{class_of, method_of_sought, special_for, special_of_sought, special_start};
-ghost use Rattle.kb_world.specs.Tables.{method_kind};
+ghost use Rattle.kb_world.specs.Lookup.{class_of, resolved_in, special_for, special_start};
+ghost use Rattle.kb_world.specs.Tables.{IsSearched};
 
 use crate::chains::{chain_at, number_named};
-use crate::methods::{OBJECT, found_along, resolved_in};
-use kb_class::{MemberKind, Reference, ReferenceKind};
+use crate::methods::{OBJECT, Wanted, found_along, resolved_in};
 use kb_link::Linked;
-use kb_names::{ExactType, MethodType, Name};
+use kb_names::ExactType;
+use kb_numbers::Numbers;
 
-/// The method that is sought.
-pub(crate) fn method_sought(linked: &Linked, reference: &Reference<'_>, name: &Name) -> Option<u32>
-    requires { IsLinked linked.now × (name.now ≡ reference.now.name.now) }
-    ensures { result ≡ method_of_sought linked.now (sought_of reference.now) }
-{
-    let Some(kind) = method_kind(reference) else {
-        return None;
-    };
-    let Some(number) = class_of(linked, reference.class) else {
-        return None;
-    };
-    resolved_in(linked, number, name, kind)
-}
-
-/// What invokespecial calls of what is sought, in code of the class `current`.
-pub(crate) fn special_sought(
+/// The method that is sought in the class of that number.
+pub(crate) fn method_sought(
     linked: &Linked,
-    current: u32,
-    reference: &Reference<'_>,
-    name: &Name,
+    numbers: &Numbers,
+    number: Option<u32>,
+    wanted: Wanted<'_>,
 ) -> Option<u32>
-    requires { IsLinked linked.now × (name.now ≡ reference.now.name.now) }
-    ensures { result ≡ special_of_sought linked.now current (sought_of reference.now) }
+    requires { IsSearched linked.now numbers.now wanted × IfSome number (λ class. class < length linked.now.classes) }
+    ensures { result ≡ option_and_then (resolved_in linked.now wanted.entry.name.now wanted.entry.kind.now) number }
 {
-    let Some(kind) = method_kind(reference) else {
-        return None;
-    };
-    let Some(named) = class_of(linked, reference.class) else {
-        return None;
-    };
-    special_for(linked, current, name, kind, named)
-}
-
-// The type of the method that is sought: none where a field is.
-fn method_kind<'a>(reference: &Reference<'a>) -> Option<&'a MethodType>
-    ensures { option_copied result ≡ method_kind reference.now.what reference.now.kind.now }
-{
-    match (reference.what, reference.kind) {
-        (ReferenceKind::Field, _) => None,
-        (_, MemberKind::Field(_)) => None,
-        (_, MemberKind::Method(kind)) => Some(kind),
+    match number {
+        Some(class) => resolved_in(linked, numbers, class, wanted),
+        None => None,
     }
 }
 
-// The number of the class in which the members of a type are sought.
-fn class_of(linked: &Linked, class: &ExactType) -> Option<u32>
+/// What invokespecial calls of what is sought in the class of that number, in code of the class `current`.
+pub(crate) fn special_sought(
+    linked: &Linked,
+    numbers: &Numbers,
+    current: u32,
+    number: Option<u32>,
+    wanted: Wanted<'_>,
+) -> Option<u32>
+    requires { IsSearched linked.now numbers.now wanted }
+    ensures { result ≡ option_and_then (special_for linked.now current wanted.entry.name.now wanted.entry.kind.now) number }
+{
+    match number {
+        Some(named) => special_for(linked, numbers, current, wanted, named),
+        None => None,
+    }
+}
+
+/// The number of the class in which the members of a type are sought.
+pub(crate) fn class_of(linked: &Linked, class: &ExactType) -> Option<u32>
     ensures { result ≡ class_of linked.now class.now }
 {
     match class {
@@ -71,25 +59,25 @@ fn class_of(linked: &Linked, class: &ExactType) -> Option<u32>
 // The first method of the name and type from the class upwards at which invokespecial begins.
 fn special_for(
     linked: &Linked,
+    numbers: &Numbers,
     current: u32,
-    name: &Name,
-    kind: &MethodType,
+    wanted: Wanted<'_>,
     named: u32,
 ) -> Option<u32>
-    requires { IsLinked linked.now }
-    ensures { result ≡ special_for linked.now current name.now kind.now named }
+    requires { IsSearched linked.now numbers.now wanted }
+    ensures { result ≡ special_for linked.now current wanted.entry.name.now wanted.entry.kind.now named }
 {
-    let start = special_start(linked, current, name, named);
-    found_along(linked, chain_at(linked, start), name, kind)
+    let start = special_start(linked, current, wanted.name, named);
+    found_along(linked, numbers, chain_at(linked, start), wanted)
 }
 
 // The class at which invokespecial begins: the superclass of the class whose code calls, where a method other than a
 // constructor of any superclass is named; else the named class.
-fn special_start(linked: &Linked, current: u32, name: &Name, named: u32) -> u32
+fn special_start(linked: &Linked, current: u32, name: &[u8], named: u32) -> u32
     requires { IsLinked linked.now }
     ensures { result ≡ special_start linked.now current name.now named }
 {
-    if name.as_slice() == b"<init>".as_slice() {
+    if name == b"<init>".as_slice() {
         return named;
     }
     let chain = chain_at(linked, current);

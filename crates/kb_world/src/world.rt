@@ -15,7 +15,8 @@ ghost use Rattle.kb_world.specs.Lookup.{selected};
 ghost use Rattle.kb_world.specs.Tables.{AreRows, AreSelected, IsResolved};
 
 use crate::chains::{chain_at, slots_at};
-use crate::resolving::{Resolved, resolved_at, rows_of};
+use crate::resolved::{Resolved, resolved_at};
+use crate::resolving::rows_of;
 use crate::selection::{Selection, selected_by, selection_of};
 use kb_class::{ClassId, LoadedClass, MethodId, MethodInfo};
 use kb_classfile::ClassFile;

@@ -1,6 +1,10 @@
-use Rattle.std.proofs.Common.{◌≡◌, ℕ, ◌<◌, Some, slice_get}
-use Rattle.kb_link.specs.Sharing.{SharesMethod}
+use Rattle.std.proofs.Common.{◌≡◌, length}
+use Rattle.std.specs.List.{list_any}
+use Rattle.kb_link.specs.Sharing.{shares_in}
 use Rattle.kb_link.proofs.packages.shares_above.Given as goal
 
-abbrev pub invariant-loop-number : goal.invariant-loop-number
-invariant-loop-number l = (k number : ℕ) → k < l.number-index → slice_get l.numbers k ≡ Some number → SharesMethod l.classes l.method number → ⊥
+abbrev pub invariant-loop-rest : goal.invariant-loop-rest
+invariant-loop-rest l = list_any (shares_in l.classes l.numbers.classes.items l.pair) l.rest ≡ list_any (shares_in l.classes l.numbers.classes.items l.pair) l.above
+
+abbrev pub decreases-loop-rest : goal.decreases-loop-rest
+decreases-loop-rest l = length l.rest

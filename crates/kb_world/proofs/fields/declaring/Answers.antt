@@ -1,13 +1,18 @@
-use Rattle.std.proofs.Common.{Some, None, sym}
-use Rattle.kb_world.proofs.FieldLaws.{declared_at}
+use Rattle.std.proofs.Common.{◌<◌, ◌≤◌, Some, None, length, sym, arith}
+use Rattle.kb_world.proofs.FieldLaws.{declared_within, undeclared}
 use Rattle.kb_world.proofs.fields.declaring.Goals as goal
 
-pub returns-in-Some-place_of : goal.returns-in-Some-place_of
-returns-in-Some-place_of c =
-    sym
-    (declared_at c.args.linked.now c.args.name.now c.args.kind.now c.args.number c.class_of.result.now c.fields-fields.result.now (Some c.in-Some-place_of.field-0) c.class_of.ensures.there c.fields-fields.ensures
-    c.in-Some-place_of.ensures)
+pub returns-then-number-class_count : goal.returns-then-number-class_count
+returns-then-number-class_count c =
+    let past : length c.args.linked.now.classes ≤ c.args.number = omega (arith, c.if-number-class_count.true, c.class_count.ensures) in
+    sym (undeclared c.args.linked.now c.args.wanted.name.now c.args.wanted.kind.now c.args.number past)
+
+pub returns-in-Some : goal.returns-in-Some
+returns-in-Some c =
+    let inside : c.args.number < length c.args.linked.now.classes = omega (arith, c.if-number-class_count.false, c.class_count.ensures) in
+    declared_within c.args.linked.now c.args.numbers.now c.requires.0 c.args.number inside c.args.wanted.pair c.args.wanted.name.now c.args.wanted.kind.now c.requires.1 (Some c.in-Some.field-0) c.in-Some.ensures
 
 pub returns-in-None : goal.returns-in-None
 returns-in-None c =
-    sym (declared_at c.args.linked.now c.args.name.now c.args.kind.now c.args.number c.class_of.result.now c.fields-fields.result.now None c.class_of.ensures.there c.fields-fields.ensures c.in-None.ensures)
+    let inside : c.args.number < length c.args.linked.now.classes = omega (arith, c.if-number-class_count.false, c.class_count.ensures) in
+    declared_within c.args.linked.now c.args.numbers.now c.requires.0 c.args.number inside c.args.wanted.pair c.args.wanted.name.now c.args.wanted.kind.now c.requires.1 None c.in-None.ensures

@@ -4,4 +4,4 @@ use Rattle.kb_world.proofs.MethodLaws.{found_behind}
 use Rattle.kb_world.proofs.methods.found_above.Given as goal
 
 abbrev pub invariant-loop-number : goal.invariant-loop-number
-invariant-loop-number l = found_behind l.linked l.low l.name l.kind l.number ≡ first_along (declares_open l.linked l.name l.kind) (superinterfaces l.linked l.low)
+invariant-loop-number l = found_behind l.linked l.low l.wanted.name.now l.wanted.kind.now l.number ≡ first_along (declares_open l.linked l.wanted.name.now l.wanted.kind.now) (superinterfaces l.linked l.low)

@@ -1,0 +1,9 @@
+pub mod PlaceLaws
+pub mod PairLaws
+pub mod ZipLaws
+pub mod NumberLaws
+pub mod PoolLaws
+pub mod MemberLaws
+pub mod TypeLaws
+pub mod PartLaws
+pub mod TypedLaws

@@ -1,0 +1,7 @@
+use Rattle.std.proofs.Common.{ap, ◌∙◌}
+use Rattle.kb_numbers.specs.Members.{MemberNumbers}
+use Rattle.kb_numbers.specs.Pairs.{first_place}
+use Rattle.kb_numbers.proofs.class_numbers.ClassNumbers.method_place.Goals as goal
+
+pub returns : goal.returns
+returns c = c.copied.ensures ∙ c.get.ensures.value ∙ c.self.invariant.0 c.args.pair ∙ ap (λ (n : MemberNumbers). first_place n.methods c.args.pair) c.self.view_is

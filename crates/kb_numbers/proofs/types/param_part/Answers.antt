@@ -1,0 +1,10 @@
+use Rattle.std.proofs.Common.{Some}
+use Rattle.std.proofs.lemmas.Option.{none-some}
+use Rattle.kb_numbers.proofs.TypeLaws.{part_found}
+use Rattle.kb_numbers.proofs.types.param_part.Goals as goal
+
+pub returns-in_err-symbol : goal.returns-in_err-symbol
+returns-in_err-symbol c = λ number of. absurd (none-some of.symbol (c.in_err-symbol.ensures.whole of.symbol of.of_type))
+
+pub returns : goal.returns
+returns c = λ number of. part_found c.args.texts.now c.args.parts.now c.args.behind (Some c.args.of.now) c.in_ok-symbol.symbol c.number.result c.in_ok-symbol.ensures.whole c.number.ensures number of

@@ -1,0 +1,24 @@
+use Rattle.std.proofs.Common.{Bool, sym, ap, ◌∙◌}
+use Rattle.kb_link.specs.declared.linking.What.TheVariants as whats
+use Rattle.kb_world.specs.Calls.{fault_of_number}
+use Rattle.kb_world.specs.Faults.{Outside}
+use Rattle.kb_world.specs.Lookup.{only_where, or_else, resolved_method}
+use Rattle.kb_world.proofs.KnownLaws.{method_told}
+use Rattle.kb_world.proofs.world.World.kind_fault.Goals as goal
+
+pub returns-then-left_out : goal.returns-then-left_out
+returns-then-left_out c =
+    let world = c.args.self.now in
+    let rest = fault_of_number world c.args.class.0 c.args.call c.args.entry c.args.of.now (resolved_method world c.args.class.0 c.args.entry) in
+    sym
+    (method_told world c.args.class.0 c.args.call c.args.entry c.args.of.now c.args.kind.now _ c.args.left_out c.in-Method.is c.requires.told
+    ∙ ap (λ (b : Bool). or_else (only_where b (Outside whats.Kind)) rest) c.if-left_out.true)
+
+pub returns : goal.returns
+returns c =
+    let world = c.args.self.now in
+    let rest = fault_of_number world c.args.class.0 c.args.call c.args.entry c.args.of.now (resolved_method world c.args.class.0 c.args.entry) in
+    c.resolved_fault.ensures
+    ∙ sym
+    (method_told world c.args.class.0 c.args.call c.args.entry c.args.of.now c.args.kind.now _ c.args.left_out c.in-Method.is c.requires.told
+    ∙ ap (λ (b : Bool). or_else (only_where b (Outside whats.Kind)) rest) c.if-left_out.false)

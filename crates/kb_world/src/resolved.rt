@@ -1,0 +1,49 @@
+//! What entries of the constant pools stand for.
+ghost use Rattle.std.specs.Prelude.{◌≡◌, [], slice_index_or};
+ghost use Rattle.kb_world.specs.Tables.{nothing};
+
+use kb_names::Row;
+
+/// What an entry stands for, all by numbers: the class that declares the field which it names, the place of the field's slot
+/// among those of that class, the method that it names, and the method that invokespecial of it calls; and whether a part of
+/// the type of the method that is sought is left out.
+#[derive(Clone, Copy)]
+pub(crate) struct Resolved {
+    pub(crate) declaring: Option<u32>,
+    pub(crate) slot: Option<u32>,
+    pub(crate) method: Option<u32>,
+    pub(crate) special: Option<u32>,
+    pub(crate) left_out: bool,
+}
+
+/// Nothing is told of an entry that names no member.
+pub(crate) fn nothing() -> Resolved
+    ensures { result ≡ nothing }
+{
+    Resolved {
+        declaring: None,
+        slot: None,
+        method: None,
+        special: None,
+        left_out: false,
+    }
+}
+
+/// What the rows have for an entry of a class; nothing behind their ends.
+pub(crate) fn resolved_at(rows: &[Row<Resolved>], class: u32, entry: u16) -> Resolved
+    ensures { result ≡ slice_index_or (slice_index_or rows.now class []) entry nothing }
+{
+    match rows.get(class as usize) {
+        Some(row) => told_at(row.as_slice(), entry),
+        None => nothing(),
+    }
+}
+
+fn told_at(row: &[Resolved], entry: u16) -> Resolved
+    ensures { result ≡ slice_index_or row.now entry nothing }
+{
+    match row.get(entry as usize) {
+        Some(told) => *told,
+        None => nothing(),
+    }
+}
