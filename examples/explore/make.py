@@ -3,9 +3,10 @@
 what stands there of each `explore` and each `tests` of the table of rows.
 
 Which report or which tests a row writes is what model.py says, which shares nothing with the crates. It leaves open which
-values of ints a solver finds: those are taken from `stdout`, and must meet the conditions of their path. The ends of all
-paths but the ill-typed ones are those of a Java virtual machine, which runs their inputs (examples/replay/Written.java);
-the files of tests that the table replays are what it wrote.
+values of ints a solver finds, and by which log it leaves conditions undecided: those are taken from `stdout`, and values must
+meet the conditions of their path, and a log must be fresh. The ends of all paths but the ill-typed ones are those of a Java
+virtual machine, which runs their inputs (examples/replay/Written.java); the files of tests that the table replays are what it
+wrote.
 
 With --program FILE the whole of `stdout` is what that program writes; but only what is judged may change. Without it, a row
 that `stdout` lacks is written with values of the model's own.
@@ -25,7 +26,7 @@ from classes import ClassFile
 from methods import NotExplored
 from model import explored
 from rows import first_difference, is_judged, judge, rows_of
-from texts import report_end, report_head
+from texts import report_end, report_head, status_of
 
 HERE = Path(__file__).resolve().parent
 ROOT = HERE.parent.parent
@@ -81,7 +82,8 @@ def of_model(words):
         explorer, leaves = explored(DATA, words.split(" "))
     except NotExplored:
         return ["refused 50"], "status 5"
-    status = f"status {int(any(leaf.kind == 'open' for leaf in leaves))}"
+    assert all(leaf.kind != "undecided" for leaf in leaves), f"{words}: a log is the program's own"
+    status = status_of(leaves)
     if command == "tests":
         return [line for leaf in leaves if leaf.kind == "ended" for line in leaf.test(leaf.state.values)], status
     lines = report_head(explorer.method.target, explorer.bounds)

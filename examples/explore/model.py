@@ -16,7 +16,7 @@ from pathlib import Path
 
 from classes import World, is_reference
 from methods import BINARY, BRANCHES, MOVES, UNARY, Method, NotExplored
-from terms import Pool, computed, solved
+from terms import NotTold, Pool, computed, solved
 from texts import NULL, Leaf
 
 sys.setrecursionlimit(100_000)
@@ -326,10 +326,14 @@ class Explorer:
             return
 
     def entered(self, state, way, conditions, decisions):
-        """The state behind a way on from which it goes on, or None."""
+        """The state behind a way on from which it goes on, or None. What the model cannot tell is undecided."""
         outcome, after = self.take(state, way, conditions)
         if len(after.when) > len(state.when):
-            values = solved(self.pool, after.when)
+            try:
+                values = solved(self.pool, after.when)
+            except NotTold:
+                self.leaves.append(Leaf(self, decisions, ("undecided",), after))
+                return None
             if values is None:
                 return None
             after = replace(after, values=values)

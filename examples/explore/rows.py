@@ -4,7 +4,7 @@ import re
 
 from methods import NotExplored
 from model import explored
-from texts import report_end, report_head
+from texts import report_end, report_head, status_of
 
 
 def rows_of(text):
@@ -28,10 +28,6 @@ def first_difference(some, others):
     return next((pair for pair in zip(some, others) if pair[0] != pair[1]), "one goes on")
 
 
-def input_of(lines):
-    return [line for line in lines if line.startswith(("arg ", "in "))]
-
-
 def is_judged(words, lines, status):
     """Whether the row is an exploration that was not refused, or refused since its method is none that is explored."""
     is_refused = lines and lines[0].startswith("refused") and lines[0] != "refused 50"
@@ -39,8 +35,9 @@ def is_judged(words, lines, status):
 
 
 def judge(folder, words, lines, status):
-    """Fails unless the model writes these lines for the words of a row, but for the values that a solver may choose: these must
-    meet the path's conditions. The tests of the paths that have ended, each as its lines."""
+    """Fails unless the model writes these lines for the words of a row, but for what a solver may choose: values must meet the
+    path's conditions, and a log that leaves them undecided must be fresh. The tests of the paths that have ended, each as its
+    lines."""
     try:
         explorer, leaves = explored(folder, words.split(" "))
     except NotExplored:
@@ -50,12 +47,12 @@ def judge(folder, words, lines, status):
     listed = [leaf for leaf in leaves if is_report or leaf.kind == "ended"]
     told = blocks(lines[3:-1] if is_report else lines, "path " if is_report else "test ")
     assert len(told) == len(listed), f"{words}: {len(told)} paths and not {len(listed)}"
-    values = [{} if leaf.kind == "open" else leaf.values_of(input_of(block)) for leaf, block in zip(listed, told)]
+    chosen = [leaf.found_in(block) for leaf, block in zip(listed, told)]
     if is_report:
-        own = [line for leaf, found in zip(listed, values) for line in leaf.block(found)]
+        own = [line for leaf, found in zip(listed, chosen) for line in leaf.block(found)]
         own = report_head(explorer.method.target, explorer.bounds) + own + [report_end(leaves)]
     else:
-        own = [line for leaf, found in zip(listed, values) for line in leaf.test(found)]
+        own = [line for leaf, found in zip(listed, chosen) for line in leaf.test(found)]
     assert own == lines, f"{words}: {first_difference(own, lines)}"
-    assert status == f"status {int(any(leaf.kind == 'open' for leaf in leaves))}", words
-    return [leaf.test(found) for leaf, found in zip(listed, values) if leaf.kind == "ended"]
+    assert status == status_of(leaves), words
+    return [leaf.test(found) for leaf, found in zip(listed, chosen) if leaf.kind == "ended"]

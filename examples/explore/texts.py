@@ -3,6 +3,7 @@
 import re
 from dataclasses import dataclass
 
+from asked import is_log_of
 from classes import is_reference
 
 NULL = ("null",)
@@ -39,7 +40,7 @@ class Leaf:
 
     @property
     def kind(self):
-        return self.outcome[0] if self.outcome[0] in ("cut", "open") else "ended"
+        return self.outcome[0] if self.outcome[0] in ("cut", "undecided", "open") else "ended"
 
     @property
     def length(self):
@@ -60,8 +61,8 @@ class Leaf:
             roots += [value[1] for value in values if isinstance(value, tuple) and value[0] == "t"]
         return self.explorer.pool.walked(roots)
 
-    def block(self, values):
-        """The lines of a report, where the variables of the input have these values."""
+    def block(self, found):
+        """The lines of a report, where the variables of the input have these values; of an undecided path, with this log."""
         state, pool, world, order = self.state, self.explorer.pool, self.explorer.world, self.order()
         lines = [f"path {'.'.join(map(str, self.decisions)) or '-'}"]
         lines += [f"see {self.slot_text(slot)} {shown}" for slot, _, shown in state.seen]
@@ -74,12 +75,14 @@ class Leaf:
         lines += [f"when {'' if truth else 'not '}t{order[term]}" for term, truth in state.when]
         if self.kind == "open":
             return lines + ["open"]
+        if self.kind == "undecided":
+            return lines + [f"undecided {self.explorer.bounds['budget']}", *found]
         lines.append(self.ending_text(lambda value: self.out_text(value, order)))
         if self.kind == "ended":
             written = [((number, place), value) for number, place, value in self.written()]
             lines += [f"set {self.slot_text(slot)} {self.out_text(value, order)}" for slot, value in written]
             lines += [f"new n{number} {type_text(name)}" for number, (name, _) in enumerate(state.made)]
-        return lines + self.input_lines(values)
+        return lines + self.input_lines(found)
 
     def slot_text(self, slot):
         if slot[0] == "a":
@@ -157,7 +160,18 @@ class Leaf:
         lines += [" ".join([f"out i{number}", *slots]) for number, (_, slots) in enumerate(objects)]
         return lines + [f"new n{number} {type_text(name)}" for number, (name, _) in enumerate(self.state.made)] + ["end"]
 
-    # -- which values an input has
+    # -- what a solver has chosen
+
+    def found_in(self, lines):
+        """What the lines of a report or of a test have of the solver: the values of the variables, or the log of an undecided path,
+        which must be one entry for each unit of the budget, and fresh."""
+        if self.kind == "open":
+            return {}
+        if self.kind != "undecided":
+            return self.values_of([line for line in lines if line.startswith(("arg ", "in "))])
+        log = [line for line in lines if line.startswith("learn ")]
+        assert len(log) == self.explorer.bounds["budget"] and is_log_of(self.explorer.pool, self.state.when, log), log
+        return log
 
     def values_of(self, lines):
         """The values of the variables in the lines of an input, which must be one that the path carries."""
@@ -184,5 +198,10 @@ def report_head(target, bounds):
 
 
 def report_end(leaves):
-    counts = [sum(leaf.kind == kind for leaf in leaves) for kind in ("ended", "cut", "open")]
-    return f"total {len(leaves)} ended {counts[0]} cut {counts[1]} undecided 0 open {counts[2]}"
+    counts = [f"{kind} {sum(leaf.kind == kind for leaf in leaves)}" for kind in ("ended", "cut", "undecided", "open")]
+    return " ".join([f"total {len(leaves)}", *counts])
+
+
+def status_of(leaves):
+    """1 where a path is undecided or open, else 0."""
+    return f"status {int(any(leaf.kind in ('undecided', 'open') for leaf in leaves))}"

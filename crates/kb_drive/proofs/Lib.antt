@@ -28,6 +28,7 @@ pub mod SourceLaws
 pub mod StepLaws
 pub mod SumLaws
 pub mod TakenLaws
+pub mod ValuedLaws
 pub mod WaitLaws
 pub mod WalkLaws
 pub mod WholeLaws

@@ -47,10 +47,14 @@ taken_from world bounds alternative = record {
   stood = length alternative.piece.state.when;
 }
 
+-- the values of a piece meet the first so many of its conditions
+pub record HaveMetFirst (piece : Piece) (stood : ℕ) : Type 0 where
+  pub within : stood ≤ length piece.state.when
+  pub met : AreMetInPool piece.state.nodes piece.values (take stood piece.state.when)
+
 -- the values from before the take meet the conditions that stood before it
-pub record StoodMet (taken : Taken) : Type 0 where
-  pub within : taken.stood ≤ length taken.piece.state.when
-  pub met : AreMetInPool taken.piece.state.nodes taken.piece.values (take taken.stood taken.piece.state.when)
+abbrev pub StoodMet : Taken → Type 0
+StoodMet taken = HaveMetFirst taken.piece taken.stood
 
 -- ---- what is known of its conditions
 

@@ -11,7 +11,6 @@ ghost use Rattle.kb_drive.specs.Stops.{IfOracle, IsOf};
 
 use crate::follow::Known;
 use crate::leaf::path_of;
-use crate::met::are_met_at_hand;
 use crate::piece::Piece;
 use crate::stop::DriveStop;
 use crate::waiting::Taken;
@@ -23,23 +22,24 @@ use std::alloc::Global;
 /// all; those that stood before they meet.
 pub(crate) fn learn<O: Oracle>(
     alloc: Global,
-    taken: &Taken,
+    taken: &mut Taken,
     oracle: &mut O,
 ) -> Result<Known, OracleStop>
-    requires conditions { AreConditions taken.now.piece.state.nodes taken.now.piece.state.when }
-    requires met { StoodMet taken.now }
-    ensures learnt { IfOk result (IsLearnt taken.now) }
-    ensures known { IfOk result (IsKnown (O.budget oracle.old) taken.now) }
+    requires conditions { AreConditions taken.old.piece.state.nodes taken.old.piece.state.when }
+    requires met { StoodMet taken.old }
+    ensures learnt { IfOk result (IsLearnt taken.old) }
+    ensures known { IfOk result (IsKnown (O.budget oracle.old) taken.old) }
     ensures undecided { IfOk result (HasCounted (O.unsure oracle.old) (O.unsure oracle.new)) }
     ensures given { IfOk result (λ known. O.given oracle.new ≡ given_after (O.given oracle.old) known) }
     ensures counted { IfErr result (IfBad (λ _. Rose (O.bad oracle.old) (O.bad oracle.new))) }
-    ensures unserved { IfErr result (IfBad (λ i. O.unfit oracle.old i (query_of taken.now.piece.state.nodes taken.now.piece.state.when))) }
+    ensures unserved { IfErr result (IfBad (λ i. O.unfit oracle.old i (query_of taken.old.piece.state.nodes taken.old.piece.state.when))) }
     ensures same_budget { O.budget oracle.new ≡ O.budget oracle.old }
     ensures same_unfit { (i : ℕ) (q : Query) → O.unfit oracle.new i q ↔ O.unfit oracle.old i q }
     ensures later_bad { O.bad oracle.old ≤ O.bad oracle.new }
     ensures later_unsure { O.unsure oracle.old ≤ O.unsure oracle.new }
+    ensures same { taken.new ≡ taken.old }
 {
-    if are_met_at_hand(alloc, taken)? {
+    if taken.piece.meets_behind(taken.stood)? {
         return Ok(Known::Met);
     }
     let state = &taken.piece.get().state;

@@ -31,12 +31,13 @@ use kb_world::World;
 use std::alloc::Global;
 
 /// Explores a method from the state before its arguments are read: paths whose inputs are those of the method, each on exactly
-/// one of them. It goes depth first, by rising numbers of alternatives, and asks the oracle about each alternative that adds
-/// conditions. Once `paths` paths are listed, each alternative that waits is listed as an open one, and nobody is asked about
-/// it.
+/// one of them. It goes depth first, by rising numbers of alternatives, and asks the oracle about each alternative whose
+/// conditions the values at hand do not meet: those of the last model on its way, with 0 for what was read since. Once `paths`
+/// paths are listed, each alternative that waits is listed as an open one, and nobody is asked about it.
 ///
-/// An undecided path has a log of as many entries as the oracle's budget. It keeps one state for each choice that waits, which
-/// is copied for each alternative but the last, and makes the formula of all conditions for each question.
+/// An undecided path has a log of as many entries as the oracle's budget. It keeps one state for each choice that waits, with
+/// the values of its terms as far as they were computed: it is copied for each alternative but the last. It makes the formula
+/// of all conditions for each question.
 ///
 /// Source: King, 1976; Khurshid, Păsăreanu and Visser, TACAS 2003.
 pub fn explore_from<O: Oracle>(

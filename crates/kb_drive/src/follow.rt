@@ -9,8 +9,9 @@ ghost use Rattle.kb_drive.specs.Taking.{choices_at};
 
 use crate::NoMemory;
 use crate::leaf::{cut_path, ended_path, path_of};
-use crate::piece::{Piece, with_values};
+use crate::piece::Piece;
 use crate::steps::choices;
+use crate::valued::Valued;
 use crate::waiting::{Taken, Waiting};
 use kb_frames::Outcome;
 use kb_heap::Bounds;
@@ -72,7 +73,7 @@ fn follow_answer(
 {
     match answer {
         Answer::Model(values) => {
-            let piece = with_values(taken.piece, values);
+            let piece = taken.piece.with_values(values);
             follow_outcome(alloc, world, bounds, piece, taken.outcome)
         }
         Answer::Refuted(_) => Ok(Next::Leaves),
@@ -93,7 +94,7 @@ fn follow_outcome(
     alloc: Global,
     world: &World,
     bounds: &Bounds,
-    piece: Held<Piece>,
+    piece: Valued,
     outcome: Outcome,
 ) -> Result<Next, NoMemory>
     requires { CanFollowOutcome world.now piece outcome }
@@ -117,12 +118,12 @@ pub(crate) fn begin(
     requires { IsHeapReached world.now piece.state }
     ensures { IfOk result (λ next. next ≡ waits_at piece (choices_at world.now bounds.now piece.state)) }
 {
-    let held = Held::new(alloc, piece)?;
-    wait(alloc, world, bounds, held)
+    let valued = Valued::new(alloc, piece)?;
+    wait(alloc, world, bounds, valued)
 }
 
 // The piece waits at its next choice; where there is no alternative it has no inputs.
-fn wait(alloc: Global, world: &World, bounds: &Bounds, piece: Held<Piece>) -> Result<Next, NoMemory>
+fn wait(alloc: Global, world: &World, bounds: &Bounds, piece: Valued) -> Result<Next, NoMemory>
     requires { IsHeapReached world.now piece.state }
     ensures { IfOk result (λ next. next ≡ waits_at piece (choices_at world.now bounds.now piece.state)) }
 {
@@ -130,7 +131,7 @@ fn wait(alloc: Global, world: &World, bounds: &Bounds, piece: Held<Piece>) -> Re
     Ok(waits_at(piece, choices))
 }
 
-fn waits_at(piece: Held<Piece>, choices: Row<Choice>) -> Next
+fn waits_at(piece: Valued, choices: Row<Choice>) -> Next
     ensures { result ≡ waits_at piece choices }
 {
     if choices.as_slice().is_empty() {

@@ -15,6 +15,8 @@ mod met;
 mod piece;
 mod steps;
 mod stop;
+mod taking;
+mod valued;
 mod waiting;
 mod walk;
 

@@ -3,7 +3,7 @@ ghost use Rattle.std.specs.Prelude.{◌≡◌, [], IfOk};
 
 use crate::NoMemory;
 use kb_frames::SymState;
-use kb_rows::{Held, Row};
+use kb_rows::Row;
 use std::alloc::Global;
 
 /// A state to which an exploration has led, with the decisions that led to it, and with values that meet its conditions: that
@@ -27,7 +27,7 @@ impl Piece {
         }
     }
 
-    fn copied(&self, alloc: Global) -> Result<Piece, NoMemory>
+    pub(crate) fn copied(&self, alloc: Global) -> Result<Piece, NoMemory>
         ensures { IfOk result (λ copy. copy ≡ self.now) }
     {
         let decisions = self.decisions.as_slice().to_vec(alloc)?;
@@ -39,21 +39,4 @@ impl Piece {
             values: Row::from_vec(values),
         })
     }
-}
-
-/// Another piece that equals this one.
-pub(crate) fn copied(alloc: Global, piece: &Held<Piece>) -> Result<Held<Piece>, NoMemory>
-    ensures { IfOk result (λ copy. copy ≡ piece.now) }
-{
-    let copy = piece.get().copied(alloc)?;
-    Held::new(alloc, copy)
-}
-
-/// The piece with these values.
-pub(crate) fn with_values(piece: Held<Piece>, values: Row<i32>) -> Held<Piece>
-    ensures { result ≡ record piece { values = values } }
-{
-    let mut piece = piece;
-    piece.get_mut().values = values;
-    piece
 }

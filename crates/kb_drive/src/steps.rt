@@ -5,6 +5,7 @@ ghost use Rattle.kb_stepint.specs.Reached.{IsReached};
 ghost use Rattle.kb_stepint.specs.Turns.{told};
 ghost use Rattle.kb_stepref.specs.Laws.{AreInRange};
 ghost use Rattle.kb_stepref.specs.Reached.{IsHeapReached};
+ghost use Rattle.kb_terms.specs.Terms.{Extends};
 ghost use Rattle.kb_drive.specs.Taking.{choices_at, taken_at};
 
 use crate::NoMemory;
@@ -48,6 +49,7 @@ pub(crate) fn take(
     requires offered { Has (choices_at world.now bounds.now state.old) choice.now }
     ensures take { IfOk result (λ outcome. told state.new outcome ≡ taken_at world.now bounds.now state.old choice.now) }
     ensures reached { OnOk result (IsReached world.now state.new) }
+    ensures terms { OnOk result (Extends state.old.nodes state.new.nodes) }
 {
     if state.next_is_int(world) {
         let outcome = take_int(alloc, world, state, choice, bounds)?;

@@ -2,16 +2,14 @@
 ghost use Rattle.std.specs.Prelude.{◌≡◌, suc, [], ◌∷◌, length, slice_get, IfOk, IfSome, OnOk};
 ghost use Rattle.kb_stepint.specs.Reached.{IsReached};
 ghost use Rattle.kb_drive.specs.Following.{IsTakenFrom, IsTakenOf, has_more};
-ghost use Rattle.kb_drive.specs.Parts.{decided};
 ghost use Rattle.kb_drive.specs.Walks.{CanBeTaken, EachWaiting};
 
 use crate::NoMemory;
-use crate::piece::{Piece, copied};
-use crate::steps::take;
+use crate::valued::Valued;
 use kb_frames::Outcome;
 use kb_heap::Bounds;
 use kb_picture::Choice;
-use kb_rows::{Held, Row};
+use kb_rows::Row;
 use kb_world::World;
 use std::alloc::Global;
 use std::marker::Model;
@@ -19,7 +17,7 @@ use std::marker::Model;
 /// A choice of a piece: all its alternatives, and the number of the next one that is taken.
 #[derive(Drop)]
 pub(crate) struct Waiting {
-    pub(crate) piece: Held<Piece>,
+    pub(crate) piece: Valued,
     pub(crate) choices: Row<Choice>,
     pub(crate) next: u32,
 }
@@ -28,7 +26,7 @@ pub(crate) struct Waiting {
 /// conditions stood before.
 #[derive(Drop)]
 pub(crate) struct Taken {
-    pub(crate) piece: Held<Piece>,
+    pub(crate) piece: Valued,
     pub(crate) outcome: Outcome,
     pub(crate) stood: usize,
 }
@@ -139,7 +137,7 @@ impl Waiting {
         ensures taken { IfOk result (IsTakenOf world.now bounds.now self.now (slice_get self.now.choices self.now.next)) }
         ensures reached { IfOk result (λ taken. IsReached world.now taken.piece.state) }
     {
-        let piece = copied(alloc, &self.piece)?;
+        let piece = self.piece.copied(alloc)?;
         let choices = self.choices.as_slice();
         take_in(alloc, world, bounds, piece, choices, self.next)
     }
@@ -161,7 +159,7 @@ fn take_in(
     alloc: Global,
     world: &World,
     bounds: &Bounds,
-    piece: Held<Piece>,
+    piece: Valued,
     choices: &[Choice],
     next: u32,
 ) -> Result<Taken, NoMemory>
@@ -169,41 +167,11 @@ fn take_in(
     ensures taken { IfOk result (IsTakenOf world.now bounds.now (record { piece = piece; choices = choices.now; next = next }) (slice_get choices.now next)) }
     ensures reached { IfOk result (λ taken. IsReached world.now taken.piece.state) }
 {
-    let mut piece = piece;
     let stood = piece.get().state.conditions().len();
-    let outcome = go_on(alloc, world, bounds, piece.get_mut(), choices, next)?;
+    let (piece, outcome) = piece.gone_on(alloc, world, bounds, choices, next)?;
     Ok(Taken {
         piece,
         outcome,
         stood,
     })
-}
-
-// The piece goes on by the alternative of that number. After want of memory it is only dropped.
-fn go_on(
-    alloc: Global,
-    world: &World,
-    bounds: &Bounds,
-    piece: &mut Piece,
-    choices: &[Choice],
-    next: u32,
-) -> Result<Outcome, NoMemory>
-    requires { CanBeTaken world.now bounds.now (record { piece = piece.old; choices = choices.now; next = next }) }
-    ensures taken { IfOk result (λ outcome. IsTakenOf world.now bounds.now (record { piece = piece.old; choices = choices.now; next = next }) (slice_get choices.now next) (record { piece = piece.new; outcome = outcome; stood = length piece.old.state.when })) }
-    ensures reached { OnOk result (IsReached world.now piece.new.state) }
-{
-    let choice = &choices[next as usize];
-    let outcome = take(alloc, world, &mut piece.state, choice, bounds)?;
-    decide(piece, choices.len(), next)?;
-    Ok(outcome)
-}
-
-// The piece is then behind the alternative of that number, of so many.
-fn decide(piece: &mut Piece, offered: usize, number: u32) -> Result<(), NoMemory>
-    ensures { OnOk result (piece.new ≡ record piece.old { decisions = decided piece.old.decisions offered number }) }
-{
-    if offered > 1 {
-        return piece.decisions.push(number);
-    }
-    Ok(())
 }

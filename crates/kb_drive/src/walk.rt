@@ -101,10 +101,10 @@ pub(crate) fn step<O: Oracle>(
     ensures later_bad { O.bad oracle.old ≤ O.bad oracle.new }
     ensures later_unsure { O.unsure oracle.old ≤ O.unsure oracle.new }
 {
-    let Some(taken) = walk.waiting.take_next(alloc, world, bounds)? else {
+    let Some(mut taken) = walk.waiting.take_next(alloc, world, bounds)? else {
         return Ok(false);
     };
-    let known = match ask_within(alloc, walk, &taken, oracle) {
+    let known = match ask_within(alloc, walk, &mut taken, oracle) {
         Ok(known) => known,
         Err(stop) => return Err(stop),
     };
@@ -117,22 +117,23 @@ pub(crate) fn step<O: Oracle>(
 fn ask_within<O: Oracle>(
     alloc: Global,
     walk: &Walk,
-    taken: &Taken,
+    taken: &mut Taken,
     oracle: &mut O,
 ) -> Result<Known, DriveStop>
-    requires conditions { AreConditions taken.now.piece.state.nodes taken.now.piece.state.when }
-    requires terms { AreTerms taken.now.piece.state.nodes (path_roots taken.now.piece.state OpenLeaf) }
-    requires met { StoodMet taken.now }
-    ensures known { IfOk result (IsKnown (O.budget oracle.old) taken.now) }
+    requires conditions { AreConditions taken.old.piece.state.nodes taken.old.piece.state.when }
+    requires terms { AreTerms taken.old.piece.state.nodes (path_roots taken.old.piece.state OpenLeaf) }
+    requires met { StoodMet taken.old }
+    ensures known { IfOk result (IsKnown (O.budget oracle.old) taken.old) }
     ensures within { IfOk result (IsAskedWithin walk.now) }
     ensures undecided { IfOk result (HasCounted (O.unsure oracle.old) (O.unsure oracle.new)) }
     ensures given { IfOk result (λ known. O.given oracle.new ≡ given_after (O.given oracle.old) known) }
     ensures counted { IfErr result (IfOracle (λ _ _. Rose (O.bad oracle.old) (O.bad oracle.new))) }
-    ensures unserved { IfErr result (IfOracle (IsRefused (O.unfit oracle.old) taken.now.piece)) }
+    ensures unserved { IfErr result (IfOracle (IsRefused (O.unfit oracle.old) taken.old.piece)) }
     ensures same_budget { O.budget oracle.new ≡ O.budget oracle.old }
     ensures same_unfit { (i : ℕ) (q : Query) → O.unfit oracle.new i q ↔ O.unfit oracle.old i q }
     ensures later_bad { O.bad oracle.old ≤ O.bad oracle.new }
     ensures later_unsure { O.unsure oracle.old ≤ O.unsure oracle.new }
+    ensures same { taken.new ≡ taken.old }
 {
     if walk.closed >= walk.paths {
         return Ok(Known::Open);

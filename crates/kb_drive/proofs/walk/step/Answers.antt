@@ -1,6 +1,6 @@
 -- A step: nothing waits, or an alternative was taken.
-use Rattle.std.proofs.Common.{rules, ◌≡◌, Some, None, sym, ap, ◌∙◌, subst}
-use Rattle.kb_drive.specs.Following.{IsTakenFrom, follows, walk_with}
+use Rattle.std.proofs.Common.{rules, ◌≡◌, Some, None, sym, subst}
+use Rattle.kb_drive.specs.Following.{CanFollow, IsTakenFrom, follows, walk_with}
 use Rattle.kb_drive.specs.Walks.{IsWalk, KeepsCount, KeepsSources}
 use Rattle.kb_drive.specs.declared.walk.Walk.{Walk}
 use Rattle.kb_stepint.specs.Reached.{IsReached}
@@ -8,7 +8,7 @@ use Rattle.kb_frames.proofs.FormedPaths.{roots_are_terms}
 use Rattle.kb_picture.specs.declared.path.Leaf.TheVariants.{Open as OpenLeaf}
 use Rattle.kb_drive.proofs.CountLaws.{keeps_count}
 use Rattle.kb_drive.proofs.StepLaws.{can_be_taken}
-use Rattle.kb_drive.proofs.TakenLaws.{can_follow, none_waits, oracle_unserved, refined_same, same_walk, step_holds, step_sources, stood_met, was_taken}
+use Rattle.kb_drive.proofs.TakenLaws.{can_follow, none_waits, oracle_unserved, refined_same, same_walk, step_holds, step_sources, stood_met, walk_behind, was_taken}
 use Rattle.kb_drive.proofs.walk.step.Goals as goal
 
 pub take_next-requires : goal.take_next-requires
@@ -61,15 +61,17 @@ pub follow-requires : goal.follow-requires
 follow-requires g c =
     let from : IsTakenFrom c.args.world.now c.args.bounds.now c.args.walk.now.waiting c.take_next.new.self (Some c.in-Some.taken) = search rules in
     let reached : IsReached c.args.world.now c.in-Some.taken.piece.state = search rules in
-    can_follow c.args.world.now c.args.walk.now.target c.args.bounds.now c.args.walk.now.waiting c.take_next.new.self c.in-Some.taken (was_taken c.args.world.now c.args.walk.now.target c.args.bounds.now c.args.walk.now.waiting c.take_next.new.self c.in-Some.taken c.requires.waits from)
-    c.requires.explorable reached
+    subst (CanFollow c.args.world.now) (sym c.ask_within.ensures.same)
+    (can_follow c.args.world.now c.args.walk.now.target c.args.bounds.now c.args.walk.now.waiting c.take_next.new.self c.in-Some.taken (was_taken c.args.world.now c.args.walk.now.target c.args.bounds.now c.args.walk.now.waiting c.take_next.new.self c.in-Some.taken c.requires.waits from)
+    c.requires.explorable reached)
 
 pub returns-clause-walk : goal.returns-clause-walk
 returns-clause-walk g c =
     let from : IsTakenFrom c.args.world.now c.args.bounds.now c.args.walk.now.waiting c.take_next.new.self (Some c.in-Some.taken) = search rules in
     let reached : IsReached c.args.world.now c.in-Some.taken.piece.state = search rules in
     let same : c.add.new.self ≡ walk_with (record c.args.walk.now { waiting = c.take_next.new.self }) (follows c.args.world.now c.args.bounds.now c.in-Some.taken c.in-Ok.known) =
-    c.in_ok-add.ensures ∙ ap (walk_with (record c.args.walk.now { waiting = c.take_next.new.self })) c.in_ok-next.ensures in
+    walk_behind c.args.world.now c.args.bounds.now (record c.args.walk.now { waiting = c.take_next.new.self }) c.in-Some.taken c.ask_within.new.taken c.in-Ok.known c.in_ok-next.next c.add.new.self
+    c.in_ok-add.ensures c.in_ok-next.ensures c.ask_within.ensures.same in
     (step_holds c.args.world.now c.args.bounds.now (g.O.Oracle.budget c.args.oracle.now) c.args.walk.now c.take_next.new.self c.in-Some.taken c.in-Ok.known c.add.new.self c.requires from
     c.in-Ok.ensures.known c.in-Ok.ensures.within reached same).walk
 
@@ -78,7 +80,8 @@ returns-clause-refined g c =
     let from : IsTakenFrom c.args.world.now c.args.bounds.now c.args.walk.now.waiting c.take_next.new.self (Some c.in-Some.taken) = search rules in
     let reached : IsReached c.args.world.now c.in-Some.taken.piece.state = search rules in
     let same : c.add.new.self ≡ walk_with (record c.args.walk.now { waiting = c.take_next.new.self }) (follows c.args.world.now c.args.bounds.now c.in-Some.taken c.in-Ok.known) =
-    c.in_ok-add.ensures ∙ ap (walk_with (record c.args.walk.now { waiting = c.take_next.new.self })) c.in_ok-next.ensures in
+    walk_behind c.args.world.now c.args.bounds.now (record c.args.walk.now { waiting = c.take_next.new.self }) c.in-Some.taken c.ask_within.new.taken c.in-Ok.known c.in_ok-next.next c.add.new.self
+    c.in_ok-add.ensures c.in_ok-next.ensures c.ask_within.ensures.same in
     (step_holds c.args.world.now c.args.bounds.now (g.O.Oracle.budget c.args.oracle.now) c.args.walk.now c.take_next.new.self c.in-Some.taken c.in-Ok.known c.add.new.self c.requires from
     c.in-Ok.ensures.known c.in-Ok.ensures.within reached same).refined
 
@@ -87,7 +90,8 @@ returns-clause-further g c =
     let from : IsTakenFrom c.args.world.now c.args.bounds.now c.args.walk.now.waiting c.take_next.new.self (Some c.in-Some.taken) = search rules in
     let reached : IsReached c.args.world.now c.in-Some.taken.piece.state = search rules in
     let same : c.add.new.self ≡ walk_with (record c.args.walk.now { waiting = c.take_next.new.self }) (follows c.args.world.now c.args.bounds.now c.in-Some.taken c.in-Ok.known) =
-    c.in_ok-add.ensures ∙ ap (walk_with (record c.args.walk.now { waiting = c.take_next.new.self })) c.in_ok-next.ensures in
+    walk_behind c.args.world.now c.args.bounds.now (record c.args.walk.now { waiting = c.take_next.new.self }) c.in-Some.taken c.ask_within.new.taken c.in-Ok.known c.in_ok-next.next c.add.new.self
+    c.in_ok-add.ensures c.in_ok-next.ensures c.ask_within.ensures.same in
     (step_holds c.args.world.now c.args.bounds.now (g.O.Oracle.budget c.args.oracle.now) c.args.walk.now c.take_next.new.self c.in-Some.taken c.in-Ok.known c.add.new.self c.requires from
     c.in-Ok.ensures.known c.in-Ok.ensures.within reached same).further
 
@@ -96,7 +100,8 @@ returns-clause-given g c =
     let from : IsTakenFrom c.args.world.now c.args.bounds.now c.args.walk.now.waiting c.take_next.new.self (Some c.in-Some.taken) = search rules in
     let reached : IsReached c.args.world.now c.in-Some.taken.piece.state = search rules in
     let same : c.add.new.self ≡ walk_with (record c.args.walk.now { waiting = c.take_next.new.self }) (follows c.args.world.now c.args.bounds.now c.in-Some.taken c.in-Ok.known) =
-    c.in_ok-add.ensures ∙ ap (walk_with (record c.args.walk.now { waiting = c.take_next.new.self })) c.in_ok-next.ensures in
+    walk_behind c.args.world.now c.args.bounds.now (record c.args.walk.now { waiting = c.take_next.new.self }) c.in-Some.taken c.ask_within.new.taken c.in-Ok.known c.in_ok-next.next c.add.new.self
+    c.in_ok-add.ensures c.in_ok-next.ensures c.ask_within.ensures.same in
     subst (λ (new : Walk). KeepsSources c.args.world.now c.args.walk.now new (g.O.Oracle.given c.args.oracle.now) (g.O.Oracle.given c.ask_within.new.oracle)) (sym same)
     (step_sources c.args.world.now c.args.bounds.now c.args.walk.now c.take_next.new.self c.in-Some.taken c.in-Ok.known (was_taken c.args.world.now c.args.walk.now.target c.args.bounds.now c.args.walk.now.waiting c.take_next.new.self c.in-Some.taken c.requires.waits from) c.requires.explorable reached
     (g.O.Oracle.given c.args.oracle.now) (g.O.Oracle.given c.ask_within.new.oracle) c.in-Ok.ensures.given)
@@ -106,7 +111,8 @@ returns-clause-unsure g c =
     let from : IsTakenFrom c.args.world.now c.args.bounds.now c.args.walk.now.waiting c.take_next.new.self (Some c.in-Some.taken) = search rules in
     let reached : IsReached c.args.world.now c.in-Some.taken.piece.state = search rules in
     let same : c.add.new.self ≡ walk_with (record c.args.walk.now { waiting = c.take_next.new.self }) (follows c.args.world.now c.args.bounds.now c.in-Some.taken c.in-Ok.known) =
-    c.in_ok-add.ensures ∙ ap (walk_with (record c.args.walk.now { waiting = c.take_next.new.self })) c.in_ok-next.ensures in
+    walk_behind c.args.world.now c.args.bounds.now (record c.args.walk.now { waiting = c.take_next.new.self }) c.in-Some.taken c.ask_within.new.taken c.in-Ok.known c.in_ok-next.next c.add.new.self
+    c.in_ok-add.ensures c.in_ok-next.ensures c.ask_within.ensures.same in
     subst (λ (new : Walk). KeepsCount c.args.walk.now new (g.O.Oracle.unsure c.args.oracle.now) (g.O.Oracle.unsure c.ask_within.new.oracle)) (sym same)
     (keeps_count c.args.world.now c.args.bounds.now c.args.walk.now c.take_next.new.self c.in-Some.taken c.in-Ok.known (g.O.Oracle.unsure c.args.oracle.now) (g.O.Oracle.unsure c.ask_within.new.oracle)
     c.in-Ok.ensures.undecided c.ask_within.ensures.later_unsure)

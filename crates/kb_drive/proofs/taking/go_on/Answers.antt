@@ -5,7 +5,7 @@ use Rattle.kb_stepint.specs.Ways.{Take}
 use Rattle.kb_drive.specs.declared.piece.Piece.{Piece}
 use Rattle.kb_drive.specs.Following.{IsTakenOf, alternative_next, taken_from}
 use Rattle.kb_drive.specs.Parts.{decided}
-use Rattle.kb_drive.proofs.waiting.go_on.Goals as goal
+use Rattle.kb_drive.proofs.taking.go_on.Goals as goal
 
 pub take-requires-clause-offered : goal.take-requires-clause-offered
 take-requires-clause-offered c =

@@ -1,0 +1,15 @@
+use Rattle.std.proofs.Common.{rules, ◌≡◌}
+use Rattle.kb_stepint.specs.Turns.{told}
+use Rattle.kb_drive.specs.Taking.{taken_at}
+use Rattle.kb_drive.proofs.ValuedLaws.{terms_stay}
+use Rattle.kb_drive.proofs.steps.take.Goals as goal
+
+pub returns-then-next_is_int-clause-terms : goal.returns-then-next_is_int-clause-terms
+returns-then-next_is_int-clause-terms c =
+    let is : told c.take_int.new.state c.in_ok-outcome.outcome ≡ taken_at c.args.world.now c.args.bounds.now c.args.state.now c.args.choice.now = search rules in
+    terms_stay c.args.world.now c.args.bounds.now c.args.state.now c.take_int.new.state c.args.choice.now c.in_ok-outcome.outcome c.requires.range c.requires.reached c.requires.offered is
+
+pub returns-clause-terms : goal.returns-clause-terms
+returns-clause-terms c =
+    let is : told c.take_ref.new.state c.in_ok-outcome-2.outcome ≡ taken_at c.args.world.now c.args.bounds.now c.args.state.now c.args.choice.now = search rules in
+    terms_stay c.args.world.now c.args.bounds.now c.args.state.now c.take_ref.new.state c.args.choice.now c.in_ok-outcome-2.outcome c.requires.range c.requires.reached c.requires.offered is
