@@ -396,11 +396,11 @@ module _ (given : List GivenClass) where
       let same : xs ≡ world.classes = one_loaded given xs world.classes p l.loads in
       why_apart world r (subst (λ (cs : List Class). Why cs r) same a) l.linked
 
-  -- there is one reason but for want of memory
+  -- there is one reason but that memory ran out
   pub one_refusal : (r s : LinkRefusal) → RefusesLink given r → RefusesLink given s → (r ≡ refusals.NoMemory → ⊥) → (s ≡ refusals.NoMemory → ⊥) → r ≡ s
   one_refusal r s a b other also = why_not_one r s (why_not r a other) (why_not s b also)
 
-  -- class files that have a world have no reason but want of memory
+  -- class files that have a world have no reason but that memory ran out
   pub refused_or_linked : (world : World) (r : LinkRefusal) → RefusesLink given r → (r ≡ refusals.NoMemory → ⊥) → Links given world → ⊥
   refused_or_linked world r a other l =
       then_kept Many (length given ≤ most_classes) FromMisformed (Links given world) (λ k. k.loads.most) many_apart
@@ -414,7 +414,7 @@ module _ (given : List GivenClass) where
   worlds_chains a b p q =
       one_chains b.classes a.chains b.chains (subst (λ (cs : List Class). AreChains cs a.chains) (worlds_classes a b p q) p.linked.chains) q.linked.chains
 
--- a reason against class files that have a world is want of memory
+-- a reason against class files that have a world is that memory ran out
 pub no_reason : (given : List GivenClass) (world : World) (r : LinkRefusal) → Links given world → RefusesLink given r → r ≡ refusals.NoMemory
 no_reason given world refusals.NoMemory l a = refl
 no_reason given world refusals.TooMany l a = absurd (refused_or_linked given world refusals.TooMany a (λ e. let wrong : refusals.TooMany ≡ refusals.NoMemory = e in cc) l)

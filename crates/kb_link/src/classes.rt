@@ -67,7 +67,7 @@ impl Classes {
     }
 }
 
-// The names of these classes. Classes without a number of 32 bits are want of memory.
+// The names of these classes. Classes without a number of 32 bits count as out of memory.
 fn names_of(alloc: Global, classes: &[LoadedClass]) -> Result<IndexSet<Vec<u8>>, LinkRefusal>
     ensures differ { IfOk result (λ names. HaveDifferentNames classes.now) }
     ensures names { IfOk result (λ names. HasNames names classes.now) }

@@ -12,12 +12,12 @@ pub fn one_world()
     ensures { (given : List GivenClass) (one other : World) → Links given one → Links given other → one ≡ other }
 {}
 
-/// Class files that are not linked have one reason, but for want of memory.
+/// Class files that are not linked have one reason, but that memory ran out.
 pub fn one_reason()
     ensures { (given : List GivenClass) (one other : LinkRefusal) → RefusesLink given one → RefusesLink given other → (one ≡ refusals.NoMemory → ⊥) → (other ≡ refusals.NoMemory → ⊥) → one ≡ other }
 {}
 
-/// Class files that have a world have no reason against it but want of memory.
+/// Class files that have a world have no reason against it but that memory ran out.
 pub fn linked_or_refused()
     ensures { (given : List GivenClass) (world : World) (refusal : LinkRefusal) → Links given world → RefusesLink given refusal → refusal ≡ refusals.NoMemory }
 {}

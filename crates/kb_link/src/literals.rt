@@ -53,7 +53,7 @@ fn texts_of(alloc: Global, classes: &[LoadedClass]) -> Result<Vec<Row<u8>>, NoMe
     Ok(texts)
 }
 
-// Adds the texts of the string constants of a class. A constant pool of more than 65,535 entries is want of memory: no file has
+// Adds the texts of the string constants of a class. A constant pool of more than 65,535 entries counts as out of memory: no file has
 // one.
 fn push_texts(alloc: Global, class: &LoadedClass, texts: &mut Vec<Row<u8>>) -> Result<(), NoMemory>
     ensures { OnOk result (AddsTexts texts.old.items texts.new.items (HasLiteral class.now)) }

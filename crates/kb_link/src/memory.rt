@@ -1,4 +1,4 @@
-//! Want of memory, and what takes memory in several places.
+//! Memory that runs out, and what takes memory in several places.
 ghost use Rattle.std.specs.Prelude.{◌≡◌, IfOk};
 
 use kb_names::NoMemory;

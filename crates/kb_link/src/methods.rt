@@ -16,7 +16,7 @@ pub(crate) struct MethodPlace {
     pub(crate) place: u32,
 }
 
-/// Where each method stands, in the order of their numbers. Methods without places of 32 bits are want of memory.
+/// Where each method stands, in the order of their numbers. Methods without places of 32 bits count as out of memory.
 pub(crate) fn places_of(alloc: Global, classes: &Classes) -> Result<Vec<MethodPlace>, NoMemory>
     ensures { IfOk result (λ places. HasPlaces classes.now places.items) }
 {

@@ -104,7 +104,7 @@ fn with_field(
     slots.with(slot)
 }
 
-// The slot of that number. Numbers beyond 32 bits are want of memory.
+// The slot of that number. Numbers beyond 32 bits count as out of memory.
 fn slot_of(
     alloc: Global,
     slot: usize,

@@ -36,7 +36,7 @@ impl Model for ClassNumbers {
 }
 
 impl ClassNumbers {
-    /// A class whose first method has that number. Methods without numbers of 32 bits are want of memory.
+    /// A class whose first method has that number. Methods without numbers of 32 bits count as out of memory.
     pub(crate) fn new(
         alloc: Global,
         first: u32,

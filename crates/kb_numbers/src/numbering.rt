@@ -28,7 +28,7 @@ pub struct Numbers {
     pub types: Types,
 }
 
-/// The numbers of the members of these classes. Texts without numbers of 32 bits are want of memory.
+/// The numbers of the members of these classes. Texts without numbers of 32 bits count as out of memory.
 pub fn numbers_of(alloc: Global, classes: &[LoadedClass]) -> Result<Numbers, NoMemory>
     requires { AllByRecursion HasTexts classes.now }
     ensures { IfOk result (AreNumbered classes.now) }
@@ -88,7 +88,7 @@ fn types_of(
     Ok(types)
 }
 
-// The number behind those of these methods. Methods without numbers of 32 bits are want of memory.
+// The number behind those of these methods. Methods without numbers of 32 bits count as out of memory.
 fn number_behind(first: u32, methods: &[MethodInfo]) -> Result<u32, NoMemory>
     ensures { IfOk result (λ next. next ≡ first + length methods.now) }
 {

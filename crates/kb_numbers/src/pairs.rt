@@ -22,7 +22,7 @@ pub struct EntryNumbers {
     pub member: Pair,
 }
 
-/// The first place of each of these pairs. Pairs without places of 32 bits are want of memory.
+/// The first place of each of these pairs. Pairs without places of 32 bits count as out of memory.
 pub(crate) fn first_places(alloc: Global, pairs: &[Pair]) -> Result<HashMap<Pair, u32>, NoMemory>
     ensures { IfOk result (λ table. HasFirsts table pairs.now) }
 {

@@ -62,7 +62,7 @@ impl Parts {
         }
     }
 
-    /// The number of a part, which goes to the end unless it is there. Parts without numbers of 32 bits are want of memory.
+    /// The number of a part, which goes to the end unless it is there. Parts without numbers of 32 bits count as out of memory.
     pub(crate) fn add(&mut self, part: Part) -> Result<u32, NoMemory>
         ensures number { IfOk result (HasPart self.new part) }
         ensures keeps { OnOk result (Keeps self.old self.new) }

@@ -67,7 +67,7 @@ fn text_of(entry: &PoolEntry) -> Option<&[u8]>
     }
 }
 
-/// The number of a text, which is added unless it is there. Texts without numbers of 32 bits are want of memory.
+/// The number of a text, which is added unless it is there. Texts without numbers of 32 bits count as out of memory.
 pub(crate) fn number_of_text(alloc: Global, text: &[u8], texts: &mut Texts) -> Result<u32, NoMemory>
     ensures keeps { OnOk result (Keeps texts.old texts.new) }
     ensures number { IfOk result (λ number. slice_get texts.new number ≡ Some text.now) }

@@ -91,7 +91,7 @@ fn add_parts(parts: &mut Parts, texts: &Texts, kind: &MethodType) -> Result<u32,
     Ok(number)
 }
 
-// Adds the part of a result. One that has no number is want of memory.
+// Adds the part of a result. One that has no number counts as out of memory.
 fn add_result(parts: &mut Parts, texts: &Texts, of: &Option<JType>) -> Result<u32, NoMemory>
     ensures keeps { OnOk result (Keeps parts.old parts.new) }
     ensures part { IfOk result (IsPartOf texts.now parts.new 0 of.now) }

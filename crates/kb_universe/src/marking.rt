@@ -107,7 +107,7 @@ fn exact_dims(of: &ExactType) -> Result<u32, NoMemory>
     }
 }
 
-/// How many of these types are classes. More than 2^32 are want of memory.
+/// How many of these types are classes. More than 2^32 count as out of memory.
 pub(crate) fn class_count(types: &[ExactType]) -> Result<u32, NoMemory>
     ensures { IfOk result (λ count. count ≡ length (class_types types.now)) }
 {

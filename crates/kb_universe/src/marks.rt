@@ -31,7 +31,7 @@ pub struct Marks {
 }
 
 impl Marks {
-    /// The marks of the universe of linked classes. An array of 2^32 - 1 dimensions or more is want of memory.
+    /// The marks of the universe of linked classes. An array of 2^32 - 1 dimensions or more counts as out of memory.
     pub fn of(alloc: Global, linked: &Linked) -> Result<Marks, NoMemory>
         ensures { IfOk result (HaveMarks linked.now) }
     {

@@ -226,11 +226,11 @@ module _ (world : World) (linked : IsLinked world) (target : Target) where
       let by_place : Tells world b.method b.at a.fault r = subst (λ (p : ℕ). Tells world b.method p a.fault r) same.places by_method in
       one_told b.method b.at b.fault r s (subst (λ (f : Fault). Tells world b.method b.at f r) same.faults by_place) b.tells
 
-  -- there is one reason but for want of memory
+  -- there is one reason but that memory ran out
   pub one_refusal : (r s : LinkRefusal) → Refuses world target r → Refuses world target s → (r ≡ refusals.NoMemory → ⊥) → (s ≡ refusals.NoMemory → ⊥) → r ≡ s
   one_refusal r s a b other also = one_why r s (why r a other) (why s b also)
 
-  -- a target of an accepted method has no reason but want of memory
+  -- a target of an accepted method has no reason but that memory ran out
   pub refused_or_accepted : (r : LinkRefusal) (id : MethodId) → Refuses world target r → (r ≡ refusals.NoMemory → ⊥) → IsTargetOf world target id → IsAccepted world id → ⊥
   refused_or_accepted r id a other found accepted = go (why r a other) where
     go : HasNone r ⊎ HasFault r → ⊥

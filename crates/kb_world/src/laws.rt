@@ -15,7 +15,7 @@ pub fn one_reached()
     ensures { (world : PlainWorld) (target : ℕ) (one other : List ℕ) → IsReached world target one → IsReached world target other → one ≡ other }
 {}
 
-/// A target has one answer but for want of memory: one refusal, or a method that is accepted.
+/// A target has one answer but that memory ran out: one refusal, or a method that is accepted.
 pub fn one_answer()
     ensures refusal { (world : PlainWorld) → IsLinked world → (target : Target) (one other : LinkRefusal) → Refuses world target one → Refuses world target other → (one ≡ refusals.NoMemory → ⊥) → (other ≡ refusals.NoMemory → ⊥) → one ≡ other }
     ensures accepted { (world : PlainWorld) → IsLinked world → (target : Target) (refusal : LinkRefusal) (id : MethodId) → Refuses world target refusal → (refusal ≡ refusals.NoMemory → ⊥) → IsTargetOf world target id → IsAccepted world id → ⊥ }

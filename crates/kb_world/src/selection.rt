@@ -20,7 +20,7 @@ pub(crate) struct Selection {
     pub(crate) tables: Vec<HashMap<u32, u32>>,
 }
 
-/// What is selected, for each class and method. Methods without numbers of 32 bits are want of memory.
+/// What is selected, for each class and method. Methods without numbers of 32 bits count as out of memory.
 pub(crate) fn selection_of(alloc: Global, linked: &Linked) -> Result<Selection, NoMemory>
     requires { IsLinked linked.now }
     ensures { IfOk result (AreSelected linked.now) }

@@ -119,7 +119,7 @@ fn add_key(
     }
 }
 
-// The places of the class's own keys among these, by their pairs. Keys without places of 32 bits are want of memory.
+// The places of the class's own keys among these, by their pairs. Keys without places of 32 bits count as out of memory.
 fn places_of(alloc: Global, class: u32, keys: &[SlotKey]) -> Result<HashMap<Pair, u32>, NoMemory>
     ensures { IfOk result (λ table. IsSlotTable class keys.now table) }
 {
