@@ -1,5 +1,5 @@
 -- Conditions that values meet, in a pool and by the values of its terms.
-use Rattle.std.proofs.Common.{◌≡◌, ◌↔◌, ℕ, zero, suc, ℤ, Bool, List, [], ◌∷◌, take, drop}
+use Rattle.std.proofs.Common.{ℕ, zero, suc, ℤ, Bool, List, [], ◌∷◌, take, drop}
 use Rattle.kb_blast.specs.Meaning.{AreMetInPool}
 use Rattle.kb_terms.specs.Terms.{value_of, values}
 use Rattle.kb_terms.specs.declared.node.Node.{Node}

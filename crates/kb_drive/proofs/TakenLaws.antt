@@ -206,9 +206,9 @@ step_holds world bounds budget walk now taken known new is from knows within rea
     has_stepped steps_lead endings_mean inputs_of_states one_places world bounds budget walk walk.waiting now taken known new is refl from knows within reached same
 
 -- what follows a taken alternative is added to the walk; that the conditions were looked at changes nothing of it
-pub walk_behind : (world : World) (bounds : Bounds) (walk : Walk) (taken looked_at : Taken) (known : Known) (next : Next) (new : Walk)
-    → new ≡ walk_with walk next → next ≡ follows world bounds looked_at known → looked_at ≡ taken → new ≡ walk_with walk (follows world bounds taken known)
-walk_behind world bounds walk taken looked_at known next new added next_is same =
+pub walk_behind : (world : World) (bounds : Bounds) (walk : Walk) (taken looked_at : Taken) (known : Known) (next : Next) (later : Walk)
+    → later ≡ walk_with walk next → next ≡ follows world bounds looked_at known → looked_at ≡ taken → later ≡ walk_with walk (follows world bounds taken known)
+walk_behind world bounds walk taken looked_at known next later added next_is same =
     added ∙ ap (walk_with walk) (next_is ∙ ap (λ (t : Taken). follows world bounds t known) same)
 
 -- what an oracle's stop says of the conditions that were asked, it says of their path

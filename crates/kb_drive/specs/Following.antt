@@ -1,5 +1,5 @@
 -- What follows an alternative that was taken, by what is known of its conditions.
-use Rattle.std.specs.Prelude.{◌≡◌, ◌≢◌, ◌<◌, ◌≤◌, ℕ, suc, Bool, List, [], ◌∷◌, ◌++◌, length, take, nat_lt, Option, Some, None, option_map, slice_get, if◌then◌else◌}
+use Rattle.std.specs.Prelude.{◌≡◌, ◌<◌, ◌≤◌, ℕ, suc, Bool, List, [], ◌∷◌, ◌++◌, length, take, nat_lt, Option, Some, None, option_map, slice_get, if◌then◌else◌}
 use Rattle.kb_blast.specs.Meaning.{AreMetInPool}
 use Rattle.kb_blast.specs.Query.{query_of}
 use Rattle.kb_heap.specs.declared.bounds.Bounds.{Bounds}

@@ -1,4 +1,4 @@
-use Rattle.std.proofs.Common.{◌≡◌, ℤ, List, length, slice_get, sym, ap, ◌∙◌, subst}
+use Rattle.std.proofs.Common.{◌≡◌, ℤ, List, length, slice_get, sym, subst}
 use Rattle.kb_terms.specs.Terms.{AreFirstValues}
 use Rattle.kb_drive.specs.declared.piece.Piece.{Piece}
 use Rattle.kb_drive.proofs.ValuedLaws.{first_stay, values_stay}

@@ -1,4 +1,4 @@
-use Rattle.std.proofs.Common.{◌≡◌, ◌↔◌, IsTrue, ℤ, Bool, List, drop, sym, ap, subst, ◌∙◌}
+use Rattle.std.proofs.Common.{◌≡◌, ◌↔◌, IsTrue, ℤ, Bool, List, drop, ap, subst, ◌∙◌}
 use Rattle.kb_terms.specs.Terms.{values}
 use Rattle.kb_terms.specs.declared.node.TermId.{TermId}
 use Rattle.kb_drive.specs.declared.piece.Piece.{Piece}
