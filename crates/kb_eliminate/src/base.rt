@@ -70,12 +70,12 @@ impl<'a> Base<'a> {
         ensures settled { IfOk result (λ conflict. IfNone conflict (IsPropagated self.new)) }
         ensures grows { OnOk result (TrailGrows self.old.trail self.new.trail) }
     {
-        self.trail.facts();
+        self.trail.tell_trail();
         let conflict = propagate(&self.clauses, &mut self.watches, &mut self.trail, self.head)?;
         if let Some(number) = conflict {
             return Ok(Some(number));
         }
-        self.trail.facts();
+        self.trail.tell_trail();
         self.head = self.trail.literals().len();
         Ok(None)
     }

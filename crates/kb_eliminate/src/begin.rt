@@ -50,7 +50,7 @@ fn watch_clause(
     ensures grows { OnOk result (TrailGrows trail.old trail.new) }
     ensures justified { OnOk result ((all : List (List Literal)) → IsJustified all clauses.now trail.old → IsJustified all clauses.now trail.new) }
 {
-    trail.facts();
+    trail.tell_trail();
     let literals = clauses.literals(number);
     if literals.is_empty() {
         return Ok(false);

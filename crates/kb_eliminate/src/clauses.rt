@@ -49,7 +49,7 @@ impl Clauses {
     }
 
     /// Nothing: it tells a proof what holds of all clauses.
-    pub fn facts(&self)
+    pub fn tell_named(&self)
         ensures { AreNamed self.now }
     {
         let _spans = &self.spans;

@@ -142,7 +142,7 @@ fn examine(
     ensures grows { OnOk result (TrailGrows trail.old trail.new) }
     ensures justified { OnOk result ((all : List (List Literal)) → IsJustified all clauses.now trail.old → IsJustified all clauses.now trail.new) }
 {
-    trail.facts();
+    trail.tell_trail();
     if trail.is_true(watch.blocker) {
         put_watch(lists, falsified, watch)?;
         return Ok(true);

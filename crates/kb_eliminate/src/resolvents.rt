@@ -138,7 +138,7 @@ pub fn add_resolvent(
     ensures clauses { OnOk result (base.new.clauses ≡ base.old.clauses ++ row.now ∷ []) }
     ensures formula { OnOk result (base.new.formula.now ≡ base.old.formula.now) }
 {
-    base.trail.facts();
+    base.trail.tell_trail();
     let mut steps = Vec::new(alloc);
     steps.push((pivot.variable(), right))?;
     let chain = Chain {

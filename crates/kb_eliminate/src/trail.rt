@@ -63,14 +63,14 @@ impl Trail {
     }
 
     /// Nothing: it tells a proof what holds of each trail.
-    pub fn facts(&self)
+    pub fn tell_trail(&self)
         ensures { IsTrail self.now }
     {
         let _marks = &self.marks;
     }
 
     /// Nothing: it tells a proof that each literal stands once.
-    pub fn stands_once(&self)
+    pub fn tell_once(&self)
         ensures { IsDistinct self.now.literals }
     {
         let _marks = &self.marks;

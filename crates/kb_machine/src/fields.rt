@@ -65,7 +65,7 @@ impl State {
         let Some(ExactType::Class(name)) = turn.world.find_type(class, entry) else {
             return Ok(self.ill_typed());
         };
-        let object = new_object(turn.alloc, turn.world, name.as_slice())?;
+        let object = new_object(turn.alloc, turn.world, name.copied(turn.alloc)?)?;
         self.makes(turn, object)
     }
 

@@ -17,6 +17,7 @@ use crate::state::State;
 use crate::turn::{Step, Turn};
 use crate::unwinding::{Landing, unwind};
 use kb_heap::{Bound, Object, Value};
+use kb_names::Name;
 use kb_values::new_object;
 
 /// The exceptions that the machine throws itself.
@@ -50,7 +51,8 @@ impl State {
     pub(crate) fn throws(&mut self, turn: &Turn<'_>, class: &[u8]) -> Result<Step, NoMemory>
         ensures { IfOk result (λ step. told turn.now step self.new ≡ throws (setting_of turn.now) (config_of turn.now self.old) class.now) }
     {
-        let object = new_object(turn.alloc, turn.world, class)?;
+        let name = Name::from_slice(turn.alloc, class)?;
+        let object = new_object(turn.alloc, turn.world, name)?;
         let place = self.ill_typed();
         match unwind(turn, &mut self.frame, &mut self.callers, &object.kind) {
             Landing::Caught => {

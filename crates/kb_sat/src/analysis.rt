@@ -104,7 +104,7 @@ impl Marks {
         ensures order { order.new ≡ order.old }
     {
         let _literals = trail.literals();
-        trail.stands_once();
+        trail.tell_once();
         let position = trail.position(literal.negated());
         if position < levels.zero {
             return Ok(());
@@ -130,7 +130,7 @@ impl Marks {
         ensures { OnTrue result ((is_seen self.now.seen.items literal.variable ≡ true)
             ⊎ (has (take levels.zero trail.now.literals) (negated literal) ≡ true)) }
     {
-        trail.facts();
+        trail.tell_trail();
         if self.seen[literal.variable() as usize] {
             return true;
         }
@@ -186,8 +186,8 @@ pub(crate) fn analyse(
     ensures clean { OnOk result (IsClean trail.now.vars marks.new) }
     ensures order { order.new ≡ order.old }
 {
-    trail.facts();
-    trail.stands_once();
+    trail.tell_trail();
+    trail.tell_once();
     let levels = Levels {
         zero: trail.start(0),
         start: trail.start(trail.level() - 1),
@@ -234,7 +234,7 @@ fn resolve_level(
     ensures marked { OnOk result (AreMarked trail.now.vars trail.now.literals levels levels.start marks.new) }
     ensures order { order.new ≡ order.old }
 {
-    trail.stands_once();
+    trail.tell_once();
     let mut end = trail.literals().len();
     while let Some(position) = last_seen(trail, marks.seen.as_slice(), end) {
         let literal = trail.literals()[position];
@@ -274,8 +274,8 @@ fn minimise(
     ensures put { IfOk result (ArePut trail.now.literals levels row.old.items row.new.items) }
     ensures clean { OnOk result (IsClean trail.now.vars marks.new) }
 {
-    trail.facts();
-    trail.stands_once();
+    trail.tell_trail();
+    trail.tell_once();
     sort(marks.lower.as_mut_slice());
     let mut highest = None;
     while let Some(position) = marks.lower.pop() {
@@ -322,7 +322,7 @@ pub(crate) fn refute(
 fn cited_numbers(alloc: Global, trail: &Trail, number: u32) -> Result<Vec<u32>, NoMemory>
     ensures { IfOk result (λ numbers. (k : ℕ) → MayCite trail.now number k → has_number numbers.items k ≡ true) }
 {
-    trail.facts();
+    trail.tell_trail();
     let mut numbers = Vec::new(alloc);
     numbers.push(number)?;
     for position in 0..trail.literals().len() {
@@ -346,8 +346,8 @@ fn resolve_all(
     ensures refuting { IfOk result (IsRefuting clauses.now.clauses) }
     ensures cited { IfOk result (λ chain. (k : ℕ) → cites chain k ≡ true → MayCite trail.now number k) }
 {
-    trail.facts();
-    trail.stands_once();
+    trail.tell_trail();
+    trail.tell_once();
     let mut seen = vec![in alloc; false; trail.vars() as usize + 1]?;
     let mut steps = Vec::new(alloc);
     see_others(seen.as_mut_slice(), literals_of(clauses, number), None);

@@ -75,7 +75,7 @@ impl Ranks {
 pub fn levels_of(trail: &Trail, literals: &[Lit]) -> u32
     requires { (l : Literal) → has literals.now l ≡ true → has trail.now.literals (negated l) ≡ true }
 {
-    trail.facts();
+    trail.tell_trail();
     if trail.level() == 0 {
         return 1;
     }

@@ -106,17 +106,17 @@ impl<'a> Search<'a> {
         ensures step { IfOk result (StepIs self.old self.new) }
         ensures vars { OnOk result (self.new.base.trail.vars ≡ self.old.base.trail.vars) }
     {
-        self.base.trail.facts();
+        self.base.trail.tell_trail();
         if let Some(number) = self.settle()? {
             return Ok(Step::Conflict(number));
         }
-        self.base.trail.facts();
+        self.base.trail.tell_trail();
         let Some(literal) = pick(&mut self.order, self.phases.as_slice(), &self.base.trail) else {
             return Ok(Step::Complete);
         };
         self.counts.note_decision();
         self.base.trail.decide(literal)?;
-        self.base.trail.facts();
+        self.base.trail.tell_trail();
         Ok(Step::Decided)
     }
 
@@ -132,7 +132,7 @@ impl<'a> Search<'a> {
         ensures entries { OnOk result (length self.new.base.entries ≡ length self.old.base.entries + 1) }
         ensures whole { OnOk result (self.new.base.whole ≡ self.old.base.whole) }
     {
-        self.base.trail.facts();
+        self.base.trail.tell_trail();
         let base = &self.base;
         let learned = analyse(
             alloc,
@@ -191,7 +191,7 @@ impl<'a> Search<'a> {
         ensures keeps { OnOk result (Keeps self.old self.new) }
         ensures ready { OnOk result (IsReady self.new.base) }
     {
-        self.base.trail.facts();
+        self.base.trail.tell_trail();
         if self.base.trail.level() == 0 {
             return Ok(());
         }

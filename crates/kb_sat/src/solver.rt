@@ -394,7 +394,7 @@ fn advance(alloc: Global, search: &mut Search<'_>, pace: &mut Pace) -> Result<Pr
     if search.base.trail.level() == 0 {
         return Ok(Progress::Doomed(number));
     }
-    search.base.trail.facts();
+    search.base.trail.tell_trail();
     search.learn(alloc, number)?;
     if !pace.is_due() {
         return Ok(Progress::Learned);
@@ -418,8 +418,8 @@ fn model_of(
     if !search.base.whole {
         return restored(alloc, &search.base, eliminated);
     }
-    search.base.trail.facts();
-    search.base.clauses.facts();
+    search.base.trail.tell_trail();
+    search.base.clauses.tell_named();
     let bits = model(alloc, &search.base.trail)?;
     Ok(Some(bits))
 }

@@ -14,15 +14,12 @@ use kb_world::{FieldSlot, World};
 use std::alloc::Global;
 
 /// A new object of the class.
-pub fn new_object(alloc: Global, world: &World, class: &[u8]) -> Result<Object, NoMemory>
-    ensures { IfOk result (λ object. object ≡ new_object world.now class.now) }
+pub fn new_object(alloc: Global, world: &World, class: Name) -> Result<Object, NoMemory>
+    ensures { IfOk result (λ object. object ≡ new_object world.now class) }
 {
-    let Ok(name) = Name::from_slice(alloc, class) else {
-        return Err(NoMemory);
-    };
-    let values = default_values(alloc, world.slots_named(&name))?;
+    let values = default_values(alloc, world.slots_named(&class))?;
     Ok(Object {
-        kind: ExactType::Class(name),
+        kind: ExactType::Class(class),
         values,
     })
 }

@@ -52,13 +52,13 @@ job_with settings files target = record {
   files = files;
 }
 
--- the most conflicts of a whole exploration
-abbrev pub most_conflicts : ℕ
-most_conflicts = 2000000
+-- the most clauses that a whole exploration may derive
+abbrev pub most_derived : ℕ
+most_derived = 2000000
 
 -- a job that asks for no more than those
 abbrev pub if_enough : Job → Result Job WordFault
-if_enough job = if nat_le (job.paths * job.budget) most_conflicts then Ok job else Err faults.TooMuch
+if_enough job = if nat_le (job.paths * job.budget) most_derived then Ok job else Err faults.TooMuch
 
 abbrev pub job_on : List Setting → List (List ℕ) → Target → Result Job WordFault
 job_on settings [] target = Err faults.NoFiles
@@ -183,7 +183,7 @@ pub record IsJob (job : Job) : Type 0 where
   pub paths : job.paths ≤ 100000
   pub some_budget : 1 ≤ job.budget
   pub budget : job.budget ≤ 100000
-  pub conflicts : job.paths * job.budget ≤ most_conflicts
+  pub derived : job.paths * job.budget ≤ most_derived
 
 -- an order whose numbers lie in their ranges
 abbrev pub IsOrder : Order → Type 0

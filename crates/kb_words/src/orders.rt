@@ -17,7 +17,7 @@ use kb_rows::Row;
 use std::alloc::{AllocError, Global};
 
 /// The most that the paths times the budget may be.
-const MOST_CONFLICTS: u64 = 2_000_000;
+const MOST_DERIVED: u64 = 2_000_000;
 
 /// The numbers of branches that a sample may have.
 const SAMPLE_RANGE: Range = Range { low: 0, high: 64 };
@@ -244,7 +244,7 @@ fn if_enough(job: Job) -> Result<Job, WordFault>
     ensures job { Gives (λ told. told) result (if_enough job) }
     ensures ranges { IfOk result IsJob }
 {
-    if job.paths as u64 * job.budget as u64 > MOST_CONFLICTS {
+    if job.paths as u64 * job.budget as u64 > MOST_DERIVED {
         return Err(WordFault::TooMuch);
     }
     Ok(job)

@@ -109,7 +109,7 @@ pub enum Refusal {
     NoTestsGiven,
     /// The words name no class file.
     NoFiles,
-    /// The paths times the budget are too many conflicts.
+    /// The paths times the budget are more clauses than may be derived.
     TooMuch,
 }
 

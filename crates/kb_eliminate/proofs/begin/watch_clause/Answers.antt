@@ -64,5 +64,5 @@ returns-clause-justified c all j =
     let row = c.literals-literals.result.now in
     let in_row = first_of row x (not_zero _ c.is_empty.ensures c.if-is_empty.false) c.index-literals-0.is in
     rw c.assign.ensures
-    (IsJustified-push all c.args.clauses.now c.args.trail.now x c.args.number row c.facts.ensures j c.literals-literals.ensures in_row
+    (IsJustified-push all c.args.clauses.now c.args.trail.now x c.args.number row c.tell_trail.ensures j c.literals-literals.ensures in_row
     (λ m i n. absurd (false≢true (sym n ∙ c.in_default.ensures.none m i))))

@@ -125,7 +125,7 @@ returns-in-Some-open_literal-clause-walked c early others part h =
     (record { clause = c.args.watch.clause; blocker = c.in-Some.other }) others c.args.falsified c.index-pair.result.now c.in-Some.other next h part place refl
     (pair_there c.args.clauses.now c.args.pairs.now.items c.args.lists.now.items c.args.trail.now.vars c.args.watch c.index-pair.result.now c.requires.watching c.requires.watch c.index-pair.ensures)
     (not-false c.index-pair.result.now.awake c.if-not-pair.false) c.in-Some.ensures.some
-    (sym (ap (has c.args.trail.now.literals) (negated-negated c.args.falsified)) ∙ c.facts.ensures.consistent (negated c.args.falsified) c.requires.falsified)
+    (sym (ap (has c.args.trail.now.literals) (negated-negated c.args.falsified)) ∙ c.tell_trail.ensures.consistent (negated c.args.falsified) c.requires.falsified)
     c.in-Some-open_literal.ensures.some.1 c.in-Some-open_literal.ensures.some.2 o.0 o.1)
 
 pub returns-in-Some-open_literal-clause-stays : goal.returns-in-Some-open_literal-clause-stays
@@ -191,5 +191,5 @@ returns-clause-justified c all j =
     c.requires.watching c.requires.watch c.index-pair.ensures c.in-Some.ensures.some in
     let s : o.0 ≡ c.literals.result.now = at_same c.args.clauses.now c.args.watch.clause o.0 c.literals.result.now o.1 c.literals.ensures in
     rw c.assign.ensures
-    (IsJustified-push all c.args.clauses.now c.args.trail.now c.in-Some.other c.args.watch.clause c.literals.result.now c.facts.ensures j c.literals.ensures
+    (IsJustified-push all c.args.clauses.now c.args.trail.now c.in-Some.other c.args.watch.clause c.literals.result.now c.tell_trail.ensures j c.literals.ensures
     (ap (λ z. has z c.in-Some.other) (sym s) ∙ o.2) c.in_default-open_literal.ensures.none)

@@ -63,7 +63,7 @@ returns-then-row-eq1-clause-stands c =
     let d = IsDerived-at h.clauses s.clauses s.trail h.justified c.requires.level c.args.left c.args.right c.args.pivot row chain c.requires.left c.requires.right c.requires.absent
     c.requires.possible c.requires.resolvent refl steps in
     rw (c.in_ok-push-2.ensures.ok, c.in_ok-push-3.ensures, c.in_ok-watch_pair.ensures.pairs, c.in_ok-watch_pair.ensures.lists, c.assign.ensures)
-    (IsBase-unit s.formula.now (s.entries ++ chain ∷ []) s.clauses _ _ s.trail row a b n c.requires.level c.facts.ensures p one c.len-number.ensures
+    (IsBase-unit s.formula.now (s.entries ++ chain ∷ []) s.clauses _ _ s.trail row a b n c.requires.level c.tell_trail.ensures p one c.len-number.ensures
     (IsBase-add s.formula.now s.entries s.clauses s.watches.pairs.items s.watches.lists.items s.trail s.whole h chain row a b n c.requires.level d p c.len-number.ensures))
 
 pub returns-then-row-eq1-clause-ready : goal.returns-then-row-eq1-clause-ready

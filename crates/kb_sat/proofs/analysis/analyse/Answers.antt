@@ -35,7 +35,7 @@ resolve_level-requires-clause-pending c =
       start = c.start-2.ensures.value ∙ ap (λ k. level_start c.args.trail.now.starts (k - 1)) c.level.ensures;
     } in
     let negates = conflict_false c.args.clauses.now c.args.trail.now c.args.number c.literals.result.now c.requires.conflict c.literals.ensures in
-    some_pending c.args.trail.now levels c.literals.result.now c.args.marks.now c.mark_others.new.self c.facts.ensures is c.requires.clean c.in_ok-mark_others.ensures.marks
+    some_pending c.args.trail.now levels c.literals.result.now c.args.marks.now c.mark_others.new.self c.tell_trail.ensures is c.requires.clean c.in_ok-mark_others.ensures.marks
     (c.in_ok-mark_others.ensures.marked (length c.args.trail.now.literals)
     (AreMarked-clean c.args.trail.now.vars c.args.trail.now.literals levels c.args.marks.now c.requires.clean) (false_before c.args.trail.now.literals c.literals.result.now negates))
     negates (c.requires.last c.literals.result.now c.literals.ensures)
@@ -49,7 +49,7 @@ returns-clause-learned c all justified =
       start = c.start-2.ensures.value ∙ ap (λ k. level_start c.args.trail.now.starts (k - 1)) c.level.ensures;
     } in
     let negates = conflict_false c.args.clauses.now c.args.trail.now c.args.number c.literals.result.now c.requires.conflict c.literals.ensures in
-    let once = once_of c.args.trail.now c.facts.ensures c.stands_once.ensures in
+    let once = once_of c.args.trail.now c.tell_trail.ensures c.tell_once.ensures in
     let number : ℕ = c.args.number in
     let first : c.push.new.self.items ≡ negated c.in_ok-point.point ∷ [] =
     c.in_ok-push.ensures.items ∙ (ap (λ (z : List Literal). z ++ c.negated.result ∷ []) c.new-literals.ensures.items ∙ ap (λ (z : Literal). z ∷ []) c.negated.ensures) in
@@ -64,7 +64,7 @@ returns-clause-learned c all justified =
     (sym first) pointed) in
     let chain : Chain = record { start = number; steps = c.from_vec.result } in
     learned_of all c.args.trail.now levels chain c.minimise.new.marks.seen.items c.from_vec-2.result c.in_ok-point.point c.in_ok-point.ensures.point.0 c.in_ok-highest.highest
-    c.match-highest.level c.facts.ensures once is c.in_ok-point.ensures.point.1 c.in_ok-point.ensures.point.2
+    c.match-highest.level c.tell_trail.ensures once is c.in_ok-point.ensures.point.1 c.in_ok-point.ensures.point.2
     (subst (λ (z : List Literal). ArePut c.args.trail.now.literals levels (negated c.in_ok-point.point ∷ []) z c.in_ok-highest.highest) (sym c.from_vec-2.ensures)
     (subst (λ (z : List Literal). ArePut c.args.trail.now.literals levels z c.minimise.new.row.items c.in_ok-highest.highest) first c.in_ok-highest.ensures.put))
     (elim c.match-highest.branch [

@@ -36,7 +36,7 @@ loop-position-init c =
       put = refl;
       bound = (
         c.args.levels.start,
-        zero_below c.args.trail.now c.args.levels c.facts.ensures c.requires.levels,
+        zero_below c.args.trail.now c.args.levels c.tell_trail.ensures c.requires.levels,
         (omega arith),
         tt,
         AreMarked-sorted c.args.trail.now.vars c.args.trail.now.literals c.args.levels c.args.levels.start c.args.marks.now sorted refl refl
@@ -124,7 +124,7 @@ loop-position-preserved-in-Continue-1 c =
     let seen : is_seen c.loop-position.marks.seen.items c.index-literals-position.result.variable ≡ c.index.result.now =
     seen_read c.loop-position.marks.seen.items c.variable-variable.result c.index-literals-position.result.variable c.index.result.now c.variable-variable.ensures.value table c.index.ensures in
     let marked = seen ∙ c.if-not-index.false in
-    let once = once_of c.args.trail.now c.facts.ensures c.stands_once.ensures in
+    let once = once_of c.args.trail.now c.tell_trail.ensures c.tell_once.ensures in
     let top = popped c.args.trail.now.vars c.args.trail.now.literals c.args.levels c.loop-position.invariant.bound.0 c.loop-position.marks c.pop.new.self.items c.in-Some.position
     c.index-literals-position.result once at marked shape c.loop-position.invariant.rising c.loop-position.invariant.bound.2 c.loop-position.invariant.bound.4 in
     let later : Marks = record c.loop-position.marks { seen = with_item c.loop-position.marks.seen c.variable-variable.result false; lower = c.pop.new.self } in
@@ -146,7 +146,7 @@ loop-position-preserved-in-Continue-1 c =
         λ all number justified r. subst (λ (z : List (ℕ × ℕ)). IsReached all number z c.args.trail.now.literals c.args.levels.zero c.in-Some.position later.seen.items c.loop-position.row.items)
             (sym c.in_ok-push-in-Some-adds_nothing.ensures.items)
             (reached_away all c.args.clauses.now c.args.trail.now number c.loop-position.steps.items c.args.levels c.loop-position.invariant.bound.0 c.in-Some.position
-            c.loop-position.marks.seen.items c.loop-position.row.items c.index-literals-position.result c.in-Some-adds_nothing.number c.variable-variable.result c.facts.ensures once
+            c.loop-position.marks.seen.items c.loop-position.row.items c.index-literals-position.result c.in-Some-adds_nothing.number c.variable-variable.result c.tell_trail.ensures once
             c.requires.levels justified at c.in-Some-adds_nothing.ensures.reason c.variable-variable.ensures.value marked top c.in-Some-adds_nothing.ensures.covered
             (c.loop-position.invariant.bound.5 all number justified r)),
       );
@@ -163,7 +163,7 @@ loop-position-preserved c =
     let seen : is_seen c.loop-position.marks.seen.items c.index-literals-position.result.variable ≡ c.index.result.now =
     seen_read c.loop-position.marks.seen.items c.variable-variable.result c.index-literals-position.result.variable c.index.result.now c.variable-variable.ensures.value table c.index.ensures in
     let marked = seen ∙ c.if-not-index.false in
-    let once = once_of c.args.trail.now c.facts.ensures c.stands_once.ensures in
+    let once = once_of c.args.trail.now c.tell_trail.ensures c.tell_once.ensures in
     let top = popped c.args.trail.now.vars c.args.trail.now.literals c.args.levels c.loop-position.invariant.bound.0 c.loop-position.marks c.pop.new.self.items c.in-Some.position
     c.index-literals-position.result once at marked shape c.loop-position.invariant.rising c.loop-position.invariant.bound.2 c.loop-position.invariant.bound.4 in
     let later : Marks = record c.loop-position.marks { seen = with_item c.loop-position.marks.seen c.variable-variable.result false; lower = c.pop.new.self } in

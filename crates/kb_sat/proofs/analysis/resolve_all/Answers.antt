@@ -11,7 +11,7 @@ use Rattle.kb_sat.proofs.analysis.resolve_all.Goals as goal
 pub see_others-requires : goal.see_others-requires
 see_others-requires c l i =
     let inside : l.variable < c.args.trail.now.vars + 1 =
-    conflict_inside c.args.clauses.now.clauses c.args.trail.now c.args.number c.literals_of.result.now c.facts.ensures c.requires.conflict c.literals_of.ensures l i in
+    conflict_inside c.args.clauses.now.clauses c.args.trail.now c.args.number c.literals_of.result.now c.tell_trail.ensures c.requires.conflict c.literals_of.ensures l i in
     omega (arith, inside, c.as_mut_slice.ensures.len, c.in_ok-seen.ensures.len, c.vars.ensures)
 
 pub loop-position-init : goal.loop-position-init
@@ -32,8 +32,8 @@ loop-position-init c =
           (sym c.literals-end.ensures.value)
           (subst (λ (z : List (ℕ × ℕ)). IsReached c.args.clauses.now.clauses c.args.number z c.args.trail.now.literals 0 (length c.args.trail.now.literals) c.see_others.new.seen [])
           (sym c.new-steps.ensures.items)
-          (refuted_start c.args.clauses.now.clauses c.args.trail.now c.args.number c.literals_of.result.now c.as_mut_slice.result.now c.see_others.new.seen c.facts.ensures
-          (once_of c.args.trail.now c.facts.ensures c.stands_once.ensures) c.requires.conflict c.literals_of.ensures blank c.see_others.ensures)));
+          (refuted_start c.args.clauses.now.clauses c.args.trail.now c.args.number c.literals_of.result.now c.as_mut_slice.result.now c.see_others.new.seen c.tell_trail.ensures
+          (once_of c.args.trail.now c.tell_trail.ensures c.tell_once.ensures) c.requires.conflict c.literals_of.ensures blank c.see_others.ensures)));
       cited = λ k e. absurd (false≢true (ap (cites_step k) (sym c.new-steps.ensures.items) ∙ e));
     }
 
@@ -54,7 +54,7 @@ see_others-requires-in-Some c l i =
     let at = read_at c.literals.result.now c.args.trail.now.literals c.in-Some.position c.index-literals-position.result c.literals.ensures.value below c.index-literals-position.is in
     let inside : l.variable < c.args.trail.now.vars + 1 =
     reason_row_inside c.args.clauses.now.clauses c.args.trail.now c.in-Some.position c.in-Some-reason.reason c.index-literals-position.result c.literals_of-row.result.now
-    c.facts.ensures c.requires.reasons at c.in-Some-reason.ensures c.literals_of-row.ensures l i in
+    c.tell_trail.ensures c.requires.reasons at c.in-Some-reason.ensures c.literals_of-row.ensures l i in
     omega (arith, inside, ap length c.as_mut_slice-in-Some.ensures.value, c.loop-position.invariant.table)
 
 pub loop-position-preserved : goal.loop-position-preserved
@@ -73,8 +73,8 @@ loop-position-preserved c =
           (subst (λ (z : List (ℕ × ℕ)). IsReached c.args.clauses.now.clauses c.args.number z c.args.trail.now.literals 0 c.in-Some.position c.see_others-in-Some.new.seen [])
           (sym c.in_ok-push.ensures.items)
           (refuted_step c.args.clauses.now.clauses c.args.trail.now c.args.number c.loop-position.steps.items c.loop-position.end c.in-Some.position c.loop-position.seen.items
-          c.see_others-in-Some.new.seen c.literals_of-row.result.now c.index-literals-position.result c.in-Some-reason.reason c.variable-variable.result c.facts.ensures
-          (once_of c.args.trail.now c.facts.ensures c.stands_once.ensures) c.requires.reasons at c.in-Some-reason.ensures c.literals_of-row.ensures c.variable-variable.ensures.value last
+          c.see_others-in-Some.new.seen c.literals_of-row.result.now c.index-literals-position.result c.in-Some-reason.reason c.variable-variable.result c.tell_trail.ensures
+          (once_of c.args.trail.now c.tell_trail.ensures c.tell_once.ensures) c.requires.reasons at c.in-Some-reason.ensures c.literals_of-row.ensures c.variable-variable.ensures.value last
           (λ w. c.see_others-in-Some.ensures w ∙ ap (λ (z : List Bool). is_seen z w || (has_variable c.literals_of-row.result.now w && not (is_pivot (Some c.variable-variable.result) w)))
           c.as_mut_slice-in-Some.ensures.value)
           c.loop-position.invariant.reached));

@@ -39,7 +39,7 @@ returns-then-marks-eq0-clause-reached c all number justified r =
     subst (λ (z : List Bool). IsLastSeen c.args.trail.now.literals z c.loop-position.end c.in-Some.position) c.as_slice.ensures.value c.in-Some.ensures in
     let below : c.in-Some.position < length c.args.trail.now.literals = omega (arith, last.below, c.loop-position.invariant.marked.inside) in
     let at = read_at c.literals.result.now c.args.trail.now.literals c.in-Some.position c.index-literals-position.result c.literals.ensures.value below c.index-literals-position.is in
-    let once = once_of c.args.trail.now c.literals.ensures.trail c.stands_once.ensures in
+    let once = once_of c.args.trail.now c.literals.ensures.trail c.tell_once.ensures in
     let above = found_above c.args.trail.now.vars c.args.trail.now.literals c.args.levels c.loop-position.end c.in-Some.position c.loop-position.marks
     c.loop-position.invariant.marked c.loop-position.invariant.pending last in
     let marked : AreMarked c.args.trail.now.vars c.args.trail.now.literals c.args.levels c.in-Some.position (cleared c.loop-position.marks c.variable-variable.result) =
@@ -57,7 +57,7 @@ returns-then-marks-eq0-clause-marked c =
     subst (λ (z : List Bool). IsLastSeen c.args.trail.now.literals z c.loop-position.end c.in-Some.position) c.as_slice.ensures.value c.in-Some.ensures in
     let below : c.in-Some.position < length c.args.trail.now.literals = omega (arith, last.below, c.loop-position.invariant.marked.inside) in
     let at = read_at c.literals.result.now c.args.trail.now.literals c.in-Some.position c.index-literals-position.result c.literals.ensures.value below c.index-literals-position.is in
-    let once = once_of c.args.trail.now c.literals.ensures.trail c.stands_once.ensures in
+    let once = once_of c.args.trail.now c.literals.ensures.trail c.tell_once.ensures in
     let above = found_above c.args.trail.now.vars c.args.trail.now.literals c.args.levels c.loop-position.end c.in-Some.position c.loop-position.marks
     c.loop-position.invariant.marked c.loop-position.invariant.pending last in
     let marked : AreMarked c.args.trail.now.vars c.args.trail.now.literals c.args.levels c.in-Some.position (cleared c.loop-position.marks c.variable-variable.result) =
@@ -73,7 +73,7 @@ unreachable-requires c =
     subst (λ (z : List Bool). IsLastSeen c.args.trail.now.literals z c.loop-position.end c.in-Some.position) c.as_slice.ensures.value c.in-Some.ensures in
     let below : c.in-Some.position < length c.args.trail.now.literals = omega (arith, last.below, c.loop-position.invariant.marked.inside) in
     let at = read_at c.literals.result.now c.args.trail.now.literals c.in-Some.position c.index-literals-position.result c.literals.ensures.value below c.index-literals-position.is in
-    let once = once_of c.args.trail.now c.literals.ensures.trail c.stands_once.ensures in
+    let once = once_of c.args.trail.now c.literals.ensures.trail c.tell_once.ensures in
     let above = found_above c.args.trail.now.vars c.args.trail.now.literals c.args.levels c.loop-position.end c.in-Some.position c.loop-position.marks
     c.loop-position.invariant.marked c.loop-position.invariant.pending last in
     let marked : AreMarked c.args.trail.now.vars c.args.trail.now.literals c.args.levels c.in-Some.position (cleared c.loop-position.marks c.variable-variable.result) =
@@ -98,7 +98,7 @@ mark_others-requires-clause-marked c =
     subst (λ (z : List Bool). IsLastSeen c.args.trail.now.literals z c.loop-position.end c.in-Some.position) c.as_slice.ensures.value c.in-Some.ensures in
     let below : c.in-Some.position < length c.args.trail.now.literals = omega (arith, last.below, c.loop-position.invariant.marked.inside) in
     let at = read_at c.literals.result.now c.args.trail.now.literals c.in-Some.position c.index-literals-position.result c.literals.ensures.value below c.index-literals-position.is in
-    let once = once_of c.args.trail.now c.literals.ensures.trail c.stands_once.ensures in
+    let once = once_of c.args.trail.now c.literals.ensures.trail c.tell_once.ensures in
     let above = found_above c.args.trail.now.vars c.args.trail.now.literals c.args.levels c.loop-position.end c.in-Some.position c.loop-position.marks
     c.loop-position.invariant.marked c.loop-position.invariant.pending last in
     let marked : AreMarked c.args.trail.now.vars c.args.trail.now.literals c.args.levels c.in-Some.position (cleared c.loop-position.marks c.variable-variable.result) =
@@ -117,7 +117,7 @@ loop-position-preserved c =
     subst (λ (z : List Bool). IsLastSeen c.args.trail.now.literals z c.loop-position.end c.in-Some.position) c.as_slice.ensures.value c.in-Some.ensures in
     let below : c.in-Some.position < length c.args.trail.now.literals = omega (arith, last.below, c.loop-position.invariant.marked.inside) in
     let at = read_at c.literals.result.now c.args.trail.now.literals c.in-Some.position c.index-literals-position.result c.literals.ensures.value below c.index-literals-position.is in
-    let once = once_of c.args.trail.now c.literals.ensures.trail c.stands_once.ensures in
+    let once = once_of c.args.trail.now c.literals.ensures.trail c.tell_once.ensures in
     let above = found_above c.args.trail.now.vars c.args.trail.now.literals c.args.levels c.loop-position.end c.in-Some.position c.loop-position.marks
     c.loop-position.invariant.marked c.loop-position.invariant.pending last in
     let marked : AreMarked c.args.trail.now.vars c.args.trail.now.literals c.args.levels c.in-Some.position (cleared c.loop-position.marks c.variable-variable.result) =

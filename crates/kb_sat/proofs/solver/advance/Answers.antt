@@ -35,7 +35,7 @@ returns-then-not-is_due-clause-advance c =
       omega (arith, more, same),
       λ w. (let whole : s.whole ≡ true = sym c.in_ok-learn.ensures.whole ∙ w in
           subst (λ (z : Cnf). UnitRefutes z.clauses → ⊥) (sym c.in_ok-learn.ensures.goes_on.formula)
-          (not_refuted s.formula.now s.entries s.clauses s.watches.pairs.items s.watches.lists.items s.trail s.whole c.in_ok-number.ensures.keeps.stands c.facts.ensures
+          (not_refuted s.formula.now s.entries s.clauses s.watches.pairs.items s.watches.lists.items s.trail s.whole c.in_ok-number.ensures.keeps.stands c.tell_trail.ensures
           (c.in_ok-number.ensures.keeps.stands.fresh whole).0 lt)),
     )
 
@@ -50,6 +50,6 @@ returns-clause-advance c =
       omega (arith, kept, more, same),
       λ w. (let whole : s.whole ≡ true = sym (c.in_ok-restart.ensures.keeps.whole ∙ c.in_ok-learn.ensures.whole) ∙ w in
           subst (λ (z : Cnf). UnitRefutes z.clauses → ⊥) (sym (c.in_ok-restart.ensures.keeps.formula ∙ c.in_ok-learn.ensures.goes_on.formula))
-          (not_refuted s.formula.now s.entries s.clauses s.watches.pairs.items s.watches.lists.items s.trail s.whole c.in_ok-number.ensures.keeps.stands c.facts.ensures
+          (not_refuted s.formula.now s.entries s.clauses s.watches.pairs.items s.watches.lists.items s.trail s.whole c.in_ok-number.ensures.keeps.stands c.tell_trail.ensures
           (c.in_ok-number.ensures.keeps.stands.fresh whole).0 lt)),
     )

@@ -10,7 +10,7 @@ returns-in-Some-clause-keeps c =
     let s = c.args.self.now in
     record {
       stands = IsBase-propagated s.formula.now s.entries s.clauses s.watches.pairs.items c.propagate.new.watches.pairs.items s.watches.lists.items c.propagate.new.watches.lists.items
-          s.trail c.propagate.new.trail s.whole c.requires.stands c.facts.ensures c.in_ok-conflict.ensures.watching c.in_ok-conflict.ensures.listed c.in_ok-conflict.ensures.stays
+          s.trail c.propagate.new.trail s.whole c.requires.stands c.tell_trail.ensures c.in_ok-conflict.ensures.watching c.in_ok-conflict.ensures.listed c.in_ok-conflict.ensures.stays
           c.in_ok-conflict.ensures.grows c.in_ok-conflict.ensures.justified;
       entries = refl;
       formula = refl;
@@ -22,7 +22,7 @@ returns-clause-keeps c =
     let s = c.args.self.now in
     record {
       stands = IsBase-propagated s.formula.now s.entries s.clauses s.watches.pairs.items c.propagate.new.watches.pairs.items s.watches.lists.items c.propagate.new.watches.lists.items
-          s.trail c.propagate.new.trail s.whole c.requires.stands c.facts.ensures c.in_ok-conflict.ensures.watching c.in_ok-conflict.ensures.listed c.in_ok-conflict.ensures.stays
+          s.trail c.propagate.new.trail s.whole c.requires.stands c.tell_trail.ensures c.in_ok-conflict.ensures.watching c.in_ok-conflict.ensures.listed c.in_ok-conflict.ensures.stays
           c.in_ok-conflict.ensures.grows c.in_ok-conflict.ensures.justified;
       entries = refl;
       formula = refl;

@@ -9,12 +9,12 @@ use Rattle.kb_sat.proofs.analysis.Marks.covers.Goals as goal
 
 pub index-requires : goal.index-requires
 index-requires c =
-    let inside = variable_inside c.args.trail.now (negated c.args.literal) c.facts.ensures c.requires.on_trail in
+    let inside = variable_inside c.args.trail.now (negated c.args.literal) c.tell_trail.ensures c.requires.on_trail in
     omega arith
 
 pub returns-then-index : goal.returns-then-index
 returns-then-index c =
-    let inside = variable_inside c.args.trail.now (negated c.args.literal) c.facts.ensures c.requires.on_trail in
+    let inside = variable_inside c.args.trail.now (negated c.args.literal) c.tell_trail.ensures c.requires.on_trail in
     let lt : c.variable.result < length c.args.self.now.seen.items = omega arith in
     inl (seen_read c.args.self.now.seen.items c.variable.result c.args.literal.variable c.index.result.now c.variable.ensures.value lt c.index.ensures ∙ c.if-index.true)
 

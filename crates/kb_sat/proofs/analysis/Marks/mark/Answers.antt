@@ -12,7 +12,7 @@ position-position-requires c =
 pub returns-then-position-levels-clause-marks : goal.returns-then-position-levels-clause-marks
 returns-then-position-levels-clause-marks c =
     marks_low c.args.trail.now.literals c.args.levels c.args.self.now.seen.items c.args.literal c.position-position.result
-    (once_of c.args.trail.now c.literals-literals.ensures.trail c.stands_once.ensures) (c.position-position.ensures.value ∙ ap Some c.negated.ensures)
+    (once_of c.args.trail.now c.literals-literals.ensures.trail c.tell_once.ensures) (c.position-position.ensures.value ∙ ap Some c.negated.ensures)
     c.if-position-levels.true
 
 pub index-requires : goal.index-requires
@@ -54,7 +54,7 @@ returns-in_ok-push-clause-marked c end h below =
     (negation_on_trail c.args.trail.now.literals end c.args.literal below) in
     let lt : c.variable-variable.result < length c.args.self.now.seen.items = omega (arith, h.table) in
     let at = c.position-position.ensures.value ∙ ap Some c.negated.ensures in
-    let once = once_of c.args.trail.now c.literals-literals.ensures.trail c.stands_once.ensures in
+    let once = once_of c.args.trail.now c.literals-literals.ensures.trail c.tell_once.ensures in
     AreMarked-more c.args.trail.now.vars c.args.trail.now.literals c.args.levels end c.args.self.now _ (negated c.args.literal) c.position-position.result once at
     c.if-position-levels.false (negation_before c.args.trail.now.literals end c.position-position.result c.args.literal once at below) inside
     (seen_read c.args.self.now.seen.items c.variable-variable.result c.args.literal.variable c.index.result.now c.variable-variable.ensures.value lt c.index.ensures
@@ -70,7 +70,7 @@ returns-in_ok-push-clause-marks c =
     let lt : c.variable-variable.result < length c.args.self.now.seen.items = omega (arith, c.requires.marked.1.table) in
     rw c.variable-variable.ensures.value
     (marks_new c.args.trail.now.literals c.args.levels c.args.self.now.seen.items c.args.literal c.position-position.result
-    (once_of c.args.trail.now c.literals-literals.ensures.trail c.stands_once.ensures) (c.position-position.ensures.value ∙ ap Some c.negated.ensures)
+    (once_of c.args.trail.now c.literals-literals.ensures.trail c.tell_once.ensures) (c.position-position.ensures.value ∙ ap Some c.negated.ensures)
     c.if-position-levels.false (omega arith))
 
 pub returns-else-position-levels-2-clause-marked : goal.returns-else-position-levels-2-clause-marked
@@ -79,7 +79,7 @@ returns-else-position-levels-2-clause-marked c end h below =
     (negation_on_trail c.args.trail.now.literals end c.args.literal below) in
     let lt : c.variable-variable.result < length c.args.self.now.seen.items = omega (arith, h.table) in
     let at = c.position-position.ensures.value ∙ ap Some c.negated.ensures in
-    let once = once_of c.args.trail.now c.literals-literals.ensures.trail c.stands_once.ensures in
+    let once = once_of c.args.trail.now c.literals-literals.ensures.trail c.tell_once.ensures in
     AreMarked-more c.args.trail.now.vars c.args.trail.now.literals c.args.levels end c.args.self.now _ (negated c.args.literal) c.position-position.result once at
     c.if-position-levels.false (negation_before c.args.trail.now.literals end c.position-position.result c.args.literal once at below) inside
     (seen_read c.args.self.now.seen.items c.variable-variable.result c.args.literal.variable c.index.result.now c.variable-variable.ensures.value lt c.index.ensures
@@ -95,5 +95,5 @@ returns-else-position-levels-2-clause-marks c =
     let lt : c.variable-variable.result < length c.args.self.now.seen.items = omega (arith, c.requires.marked.1.table) in
     rw c.variable-variable.ensures.value
     (marks_new c.args.trail.now.literals c.args.levels c.args.self.now.seen.items c.args.literal c.position-position.result
-    (once_of c.args.trail.now c.literals-literals.ensures.trail c.stands_once.ensures) (c.position-position.ensures.value ∙ ap Some c.negated.ensures)
+    (once_of c.args.trail.now c.literals-literals.ensures.trail c.tell_once.ensures) (c.position-position.ensures.value ∙ ap Some c.negated.ensures)
     c.if-position-levels.false (omega arith))

@@ -15,7 +15,7 @@ pub analyse-requires-clause-last : goal.analyse-requires-clause-last
 analyse-requires-clause-last c row e =
     let s = c.args.self.now.base in
     let lt : length s.trail.starts - 1 < length s.trail.starts = (let n : 0 < length s.trail.starts = c.requires.level in omega (arith, n)) in
-    not_false_before s.formula.now s.entries s.clauses s.watches.pairs.items s.watches.lists.items s.trail s.whole c.requires.stands c.facts.ensures (length s.trail.starts - 1) lt c.args.conflict row e c.requires.awake
+    not_false_before s.formula.now s.entries s.clauses s.watches.pairs.items s.watches.lists.items s.trail s.whole c.requires.stands c.tell_trail.ensures (length s.trail.starts - 1) lt c.args.conflict row e c.requires.awake
 
 pub levels_of-levels-requires : goal.levels_of-levels-requires
 levels_of-levels-requires c m e =
@@ -31,9 +31,9 @@ keep-requires-clause-first c =
     let k = c.in_ok-learned.ensures.learned c.requires.stands.clauses c.requires.stands.justified in
     let a = c.index-row-0.result in
     let b = c.second_of-second.result in
-    let p = IsAsserting-from c.requires.stands.clauses t l.chain l.literals l.level a b c.facts.ensures k
+    let p = IsAsserting-from c.requires.stands.clauses t l.chain l.literals l.level a b c.tell_trail.ensures k
     (c.index-row-0.is ∙ ap (λ z. get_or z 0 a) c.as_slice-row.ensures) (subst (λ z. IsSecondLiteral z b) c.as_slice-row.ensures c.second_of-second.ensures) in
-    let low : place_of a < 2 * t.vars + 2 = asserting_place t l.literals l.level a b c.facts.ensures p a p.first in
+    let low : place_of a < 2 * t.vars + 2 = asserting_place t l.literals l.level a b c.tell_trail.ensures p a p.first in
     let places : length s.watches.lists.items ≡ 2 * t.vars + 2 = c.requires.stands.watching.places in
     subst (λ (w : Watches). place_of a < length w.lists.items) (sym c.in_ok-go_back.ensures.watches) (omega (arith, low, places))
 
@@ -45,9 +45,9 @@ keep-requires-clause-second c =
     let k = c.in_ok-learned.ensures.learned c.requires.stands.clauses c.requires.stands.justified in
     let a = c.index-row-0.result in
     let b = c.second_of-second.result in
-    let p = IsAsserting-from c.requires.stands.clauses t l.chain l.literals l.level a b c.facts.ensures k
+    let p = IsAsserting-from c.requires.stands.clauses t l.chain l.literals l.level a b c.tell_trail.ensures k
     (c.index-row-0.is ∙ ap (λ z. get_or z 0 a) c.as_slice-row.ensures) (subst (λ z. IsSecondLiteral z b) c.as_slice-row.ensures c.second_of-second.ensures) in
-    let low : place_of b < 2 * t.vars + 2 = asserting_place t l.literals l.level a b c.facts.ensures p b p.second in
+    let low : place_of b < 2 * t.vars + 2 = asserting_place t l.literals l.level a b c.tell_trail.ensures p b p.second in
     let places : length s.watches.lists.items ≡ 2 * t.vars + 2 = c.requires.stands.watching.places in
     subst (λ (w : Watches). place_of b < length w.lists.items) (sym c.in_ok-go_back.ensures.watches) (omega (arith, low, places))
 
@@ -59,9 +59,9 @@ keep-requires-clause-place c =
     let k = c.in_ok-learned.ensures.learned c.requires.stands.clauses c.requires.stands.justified in
     let a = c.index-row-0.result in
     let b = c.second_of-second.result in
-    let p = IsAsserting-from c.requires.stands.clauses t l.chain l.literals l.level a b c.facts.ensures k
+    let p = IsAsserting-from c.requires.stands.clauses t l.chain l.literals l.level a b c.tell_trail.ensures k
     (c.index-row-0.is ∙ ap (λ z. get_or z 0 a) c.as_slice-row.ensures) (subst (λ z. IsSecondLiteral z b) c.as_slice-row.ensures c.second_of-second.ensures) in
-    subst (λ (z : Assigned). place_of a < 2 * z.vars + 2) (sym c.in_ok-go_back.ensures.trail) (asserting_place t l.literals l.level a b c.facts.ensures p a p.first)
+    subst (λ (z : Assigned). place_of a < 2 * z.vars + 2) (sym c.in_ok-go_back.ensures.trail) (asserting_place t l.literals l.level a b c.tell_trail.ensures p a p.first)
 
 pub keep-requires-clause-unassigned : goal.keep-requires-clause-unassigned
 keep-requires-clause-unassigned c =
@@ -71,9 +71,9 @@ keep-requires-clause-unassigned c =
     let k = c.in_ok-learned.ensures.learned c.requires.stands.clauses c.requires.stands.justified in
     let a = c.index-row-0.result in
     let b = c.second_of-second.result in
-    let p = IsAsserting-from c.requires.stands.clauses t l.chain l.literals l.level a b c.facts.ensures k
+    let p = IsAsserting-from c.requires.stands.clauses t l.chain l.literals l.level a b c.tell_trail.ensures k
     (c.index-row-0.is ∙ ap (λ z. get_or z 0 a) c.as_slice-row.ensures) (subst (λ z. IsSecondLiteral z b) c.as_slice-row.ensures c.second_of-second.ensures) in
-    ap (λ (z : Assigned). has z.literals a) c.in_ok-go_back.ensures.trail ∙ asserting_absent t l.literals l.level a b c.facts.ensures p
+    ap (λ (z : Assigned). has z.literals a) c.in_ok-go_back.ensures.trail ∙ asserting_absent t l.literals l.level a b c.tell_trail.ensures p
 
 pub keep-requires-clause-possible : goal.keep-requires-clause-possible
 keep-requires-clause-possible c =
@@ -83,7 +83,7 @@ keep-requires-clause-possible c =
     let k = c.in_ok-learned.ensures.learned c.requires.stands.clauses c.requires.stands.justified in
     let a = c.index-row-0.result in
     let b = c.second_of-second.result in
-    let p = IsAsserting-from c.requires.stands.clauses t l.chain l.literals l.level a b c.facts.ensures k
+    let p = IsAsserting-from c.requires.stands.clauses t l.chain l.literals l.level a b c.tell_trail.ensures k
     (c.index-row-0.is ∙ ap (λ z. get_or z 0 a) c.as_slice-row.ensures) (subst (λ z. IsSecondLiteral z b) c.as_slice-row.ensures c.second_of-second.ensures) in
     ap (λ (z : Assigned). has z.literals (negated a)) c.in_ok-go_back.ensures.trail ∙ p.free l.level (omega arith)
 
@@ -95,7 +95,7 @@ returns-clause-goes_on c =
     let k = c.in_ok-learned.ensures.learned c.requires.stands.clauses c.requires.stands.justified in
     let a = c.index-row-0.result in
     let b = c.second_of-second.result in
-    let p = IsAsserting-from c.requires.stands.clauses t l.chain l.literals l.level a b c.facts.ensures k
+    let p = IsAsserting-from c.requires.stands.clauses t l.chain l.literals l.level a b c.tell_trail.ensures k
     (c.index-row-0.is ∙ ap (λ z. get_or z 0 a) c.as_slice-row.ensures) (subst (λ z. IsSecondLiteral z b) c.as_slice-row.ensures c.second_of-second.ensures) in
     let n = length c.go_back.new.self.base.clauses in
     let g = c.in_ok-go_back.ensures in
@@ -112,7 +112,7 @@ returns-clause-goes_on c =
     new.base.watches.pairs.items (s.watches.pairs.items ++ paired a b ∷ []) new.base.watches.lists.items (put_pair s.watches.lists.items a b n)
     new.base.trail (learned_trail t l.level a n) new.base.whole s.whole
     (kept.formula ∙ g.formula) (kept.entries ∙ (g.entries ∙ c.in_ok-push.ensures.ok)) rows pairs lists trail (kept.whole ∙ g.whole)
-    (IsBase-learn s.formula.now s.entries s.clauses s.watches.pairs.items s.watches.lists.items t s.whole c.requires.stands l.chain l.literals l.level a b n c.facts.ensures k p (ap length g.clauses)) in
+    (IsBase-learn s.formula.now s.entries s.clauses s.watches.pairs.items s.watches.lists.items t s.whole c.requires.stands l.chain l.literals l.level a b n c.tell_trail.ensures k p (ap length g.clauses)) in
     record {
       stands = stands;
       equipped = record {
@@ -131,7 +131,7 @@ returns-clause-ready c =
     let k = c.in_ok-learned.ensures.learned c.requires.stands.clauses c.requires.stands.justified in
     let a = c.index-row-0.result in
     let b = c.second_of-second.result in
-    let p = IsAsserting-from c.requires.stands.clauses t l.chain l.literals l.level a b c.facts.ensures k
+    let p = IsAsserting-from c.requires.stands.clauses t l.chain l.literals l.level a b c.tell_trail.ensures k
     (c.index-row-0.is ∙ ap (λ z. get_or z 0 a) c.as_slice-row.ensures) (subst (λ z. IsSecondLiteral z b) c.as_slice-row.ensures c.second_of-second.ensures) in
     let n = length c.go_back.new.self.base.clauses in
     let g = c.in_ok-go_back.ensures in
@@ -142,7 +142,7 @@ returns-clause-ready c =
     let pairs : new.base.watches.pairs.items ≡ s.watches.pairs.items ++ paired a b ∷ [] =
     kept.pairs ∙ ap (λ (w : Watches). w.pairs.items ++ paired a b ∷ []) g.watches in
     let trail : new.base.trail ≡ learned_trail t l.level a n = kept.trail ∙ ap (λ (z : Assigned). pushed z a (Some n) z.starts) g.trail in
-    let r = ready-learn s.formula.now s.entries s.clauses s.watches.pairs.items s.watches.lists.items t s.whole c.requires.stands l.literals l.level a b c.facts.ensures k.below p in
+    let r = ready-learn s.formula.now s.entries s.clauses s.watches.pairs.items s.watches.lists.items t s.whole c.requires.stands l.literals l.level a b c.tell_trail.ensures k.below p in
     let head : new.base.head ≡ level_start t.starts l.level = kept.head ∙ g.head in
     record {
       head = subst (λ m. m ≤ length new.base.trail.literals) (sym head) (subst (λ (z : Assigned). level_start t.starts l.level ≤ length z.literals) (sym trail) r.0);

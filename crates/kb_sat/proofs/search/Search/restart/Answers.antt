@@ -15,7 +15,7 @@ returns-clause-keeps c =
     record {
       stands = IsBase_same n.formula.now s.formula.now n.entries s.entries n.clauses s.clauses n.watches.pairs.items s.watches.pairs.items n.watches.lists.items s.watches.lists.items
           n.trail (cut_back s.trail 0) n.whole s.whole g.formula g.entries g.clauses (ap (λ (w : Watches). w.pairs.items) g.watches) (ap (λ (w : Watches). w.lists.items) g.watches) g.trail g.whole
-          (IsBase-cut s.formula.now s.entries s.clauses s.watches.pairs.items s.watches.lists.items s.trail 0 s.whole c.requires.stands c.facts.ensures lt);
+          (IsBase-cut s.formula.now s.entries s.clauses s.watches.pairs.items s.watches.lists.items s.trail 0 s.whole c.requires.stands c.tell_trail.ensures lt);
       equipped = g.equipped;
       formula = g.formula;
       entries = g.entries;
@@ -29,7 +29,7 @@ returns-clause-ready c =
     let n = c.go_back.new.self.base in
     let t = s.trail in
     let lt : 0 < length t.starts = omega (arith, c.if-level-eq0.false, c.level.ensures) in
-    let r = quiet-cut s.formula.now s.entries s.clauses s.watches.pairs.items s.watches.lists.items t s.whole 0 c.requires.stands c.facts.ensures lt in
+    let r = quiet-cut s.formula.now s.entries s.clauses s.watches.pairs.items s.watches.lists.items t s.whole 0 c.requires.stands c.tell_trail.ensures lt in
     record {
       head = subst (λ m. m ≤ length n.trail.literals) (sym g.head) (subst (λ (z : Assigned). level_start t.starts 0 ≤ length z.literals) (sym g.trail) r.0);
       quiet = subst (λ z. Quiet z n.watches.pairs.items (has (take n.head n.trail.literals)) (has n.trail.literals)) (sym g.clauses)

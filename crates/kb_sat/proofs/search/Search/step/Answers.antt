@@ -18,7 +18,7 @@ returns-clause-keeps c =
     record {
       stands = subst (λ z. IsBase s.formula.now s.entries s.clauses s.watches.pairs.items s.watches.lists.items z s.whole) (sym c.in_ok-decide.ensures)
           (IsBase-decided s.formula.now s.entries s.clauses s.watches.pairs.items s.watches.lists.items s.trail c.in-Some-pick.literal s.whole
-          k.stands c.facts-2.ensures
+          k.stands c.tell_trail-2.ensures
           (at_none c.in_ok-number.field-0 (IsPropagated s) c.in_default.is c.in_ok-number.ensures.settled).quiet);
       equipped = record {
         order = c.pick.ensures.order ∙ (k.equipped.order ∙ sym vars);
@@ -46,5 +46,5 @@ returns-clause-step c =
             (quiet-decided s.clauses s.watches.pairs.items s.trail.literals c.in-Some-pick.literal settled.quiet));
       },
       omega (arith, more, grown),
-      c.facts-3.ensures.room,
+      c.tell_trail-3.ensures.room,
     )

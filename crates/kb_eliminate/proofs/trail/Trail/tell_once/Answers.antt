@@ -2,7 +2,7 @@ use Rattle.std.proofs.Common.{subst}
 use Rattle.kb_eliminate.specs.Trail.{Assigned}
 use Rattle.kb_eliminate.specs.Tables.{IsDistinct}
 use Rattle.kb_eliminate.proofs.TrailLaws.{IsDistinct-from}
-use Rattle.kb_eliminate.proofs.trail.Trail.stands_once.Goals as goal
+use Rattle.kb_eliminate.proofs.trail.Trail.tell_once.Goals as goal
 
 pub returns : goal.returns
 returns c =
