@@ -3,11 +3,13 @@
 ghost use Rattle.std.specs.Prelude.{◌<◌, length, IfSome};
 ghost use Rattle.kb_link.specs.World.{methods_in};
 
-use kb_class::{ClassId, MethodId};
-use kb_names::{
-    ExactType, JType, Name, Spelling, Target, read_target, read_type, write_name, write_type,
+use crate::texts::{
+    add, add_number, add_origin, add_whether, read_entry, write_exact, write_kind, write_none,
+    write_text, write_type_entry,
 };
-use kb_table::{RowResult, RowStop, kept};
+use kb_class::{ClassId, MethodId};
+use kb_names::{ExactType, Name, Target, read_target, read_type};
+use kb_table::{RowResult, RowStop, read_number};
 use kb_world::{FieldSlot, LinkRefusal, What, World};
 use std::alloc::Global;
 
@@ -20,7 +22,7 @@ pub fn write_answer(
 ) -> RowResult<()> {
     let (question, first, second) = words;
     match question {
-        "subtype" => write_subtype(alloc, world, first, second, text),
+        "subtype" => write_told(is_subtype(alloc, world, first, second), text),
         "universe" => write_universe(world, text),
         "literals" => write_number(alloc, world.literals(), text),
         "class" => write_class(alloc, world, first, text),
@@ -29,34 +31,37 @@ pub fn write_answer(
         "method" => write_method(alloc, world, first, text),
         "place" => write_place(alloc, world, first, second, text),
         "reach" => write_reach(alloc, world, first, text),
-        "within" => write_within(alloc, world, first, text),
+        "within" => write_told(is_within(alloc, world, first), text),
         _ => Err(RowStop::Malformed),
     }
 }
 
+/// Writes whether it is so, where the words of the question are types.
+fn write_told(told: Option<bool>, text: &mut Vec<u8>) -> RowResult<()> {
+    match told {
+        Some(holds) => add_whether(holds, text),
+        None => Err(RowStop::Malformed),
+    }
+}
+
 /// Whether an object of the first type, which is exact, is of the second one.
-fn write_subtype(
-    alloc: Global,
-    world: &World,
-    low: &str,
-    high: &str,
-    text: &mut Vec<u8>,
-) -> RowResult<()> {
-    let Some(low) = exact_type(alloc, low.as_bytes()) else {
-        return Err(RowStop::Malformed);
-    };
-    let Ok(high) = read_type(alloc, high.as_bytes()) else {
-        return Err(RowStop::Malformed);
-    };
-    let answer = world.subtype(&low, &high);
-    Ok(text.extend_from_slice(format!(in alloc; "{answer}\n")?.as_bytes())?)
+fn is_subtype(alloc: Global, world: &World, low: &str, high: &str) -> Option<bool> {
+    let low = exact_type(alloc, low.as_bytes())?;
+    let high = read_type(alloc, high.as_bytes()).ok()?;
+    Some(world.subtype(&low, &high))
+}
+
+/// Whether the exact type is of the universe.
+fn is_within(alloc: Global, world: &World, of: &str) -> Option<bool> {
+    let of = exact_type(alloc, of.as_bytes())?;
+    Some(world.is_in_universe(&of))
 }
 
 /// The types of the universe, each on a line.
 fn write_universe(world: &World, text: &mut Vec<u8>) -> RowResult<()> {
     for of in world.universe() {
         write_exact(of, text)?;
-        text.push(b'\n')?;
+        add("\n", text)?;
     }
     Ok(())
 }
@@ -66,13 +71,9 @@ fn write_class(alloc: Global, world: &World, name: &str, text: &mut Vec<u8>) -> 
     let Some(class) = class_of(alloc, world, name) else {
         return write_none(text);
     };
-    text.extend_from_slice(format!(in alloc; "{} ", class.0)?.as_bytes())?;
+    add_number(alloc, "", i64::from(class.0), " ", text)?;
     write_text(world.name_of(class), text)?;
-    let from = match world.file_of(class) {
-        Some(_) => " from a file\n",
-        None => " of the platform\n",
-    };
-    Ok(text.extend_from_slice(from.as_bytes())?)
+    add_origin(world.file_of(class).is_some(), text)
 }
 
 /// The slots of the objects of the class, each on a line.
@@ -88,12 +89,12 @@ fn write_slots(alloc: Global, world: &World, name: &str, text: &mut Vec<u8>) -> 
 
 /// The number of the slot, that of the class that declares it, its name and its type.
 fn write_slot(alloc: Global, field: &FieldSlot, text: &mut Vec<u8>) -> RowResult<()> {
-    let numbers = format!(in alloc; "{} of class {}: ", field.slot, field.class.0)?;
-    text.extend_from_slice(numbers.as_bytes())?;
+    add_number(alloc, "", i64::from(field.slot), " of class ", text)?;
+    add_number(alloc, "", i64::from(field.class.0), ": ", text)?;
     write_text(&field.name, text)?;
-    text.push(b' ')?;
+    add(" ", text)?;
     write_kind(&field.kind, text)?;
-    Ok(text.push(b'\n')?)
+    add("\n", text)
 }
 
 /// What the entry of that number of the class's constant pool is, of the kinds that the world tells.
@@ -107,21 +108,15 @@ fn write_entry(
     let Some(class) = class_of(alloc, world, name) else {
         return write_none(text);
     };
-    let Ok(entry) = entry.parse::<u16>() else {
-        return Err(RowStop::Malformed);
-    };
+    let entry = read_entry(entry)?;
     if let Some(of) = world.type_entry(class, entry) {
-        text.extend_from_slice(b"type ")?;
-        write_exact(of, text)?;
-        return Ok(text.push(b'\n')?);
+        return write_type_entry(of, text);
     }
     if let Some(value) = world.int_entry(class, entry) {
-        return Ok(text.extend_from_slice(format!(in alloc; "int {value}\n")?.as_bytes())?);
+        return add_number(alloc, "int ", i64::from(value), "\n", text);
     }
     match world.literal_entry(class, entry) {
-        Some(number) => {
-            Ok(text.extend_from_slice(format!(in alloc; "literal {number}\n")?.as_bytes())?)
-        }
+        Some(number) => add_number(alloc, "literal ", i64::from(number), "\n", text),
         None => write_none(text),
     }
 }
@@ -133,11 +128,8 @@ fn write_method(alloc: Global, world: &World, target: &str, text: &mut Vec<u8>) 
     };
     let method = world.method_of(id);
     write_text(&method.name, text)?;
-    let numbers = format!(in alloc;
-        " of class {} with flags {}\n",
-        method.class.0, method.access
-    )?;
-    Ok(text.extend_from_slice(numbers.as_bytes())?)
+    add_number(alloc, " of class ", i64::from(method.class.0), "", text)?;
+    add_number(alloc, " with flags ", i64::from(method.access), "\n", text)
 }
 
 /// The place of the instruction at that offset of the method's code.
@@ -151,9 +143,7 @@ fn write_place(
     let Some(id) = method_of(alloc, world, target) else {
         return write_none(text);
     };
-    let Ok(at) = at.parse::<u32>() else {
-        return Err(RowStop::Malformed);
-    };
+    let at = read_number(at)?;
     match world.place_at(id, at) {
         Some(place) => write_number(alloc, place, text),
         None => write_none(text),
@@ -170,34 +160,32 @@ enum Reach {
 
 /// Whether what the target reaches can be carried out, or which call cannot.
 fn write_reach(alloc: Global, world: &World, target: &str, text: &mut Vec<u8>) -> RowResult<()> {
-    let Ok(target) = read_target(alloc, target.as_bytes()) else {
-        return Err(RowStop::Malformed);
-    };
-    match reach_of(alloc, world, &target) {
-        Reach::Whole => Ok(text.extend_from_slice(b"reached\n")?),
-        Reach::Uncallable(at) => {
-            text.extend_from_slice(b"no such call at ")?;
-            write_number(alloc, at, text)
-        }
-        Reach::Refused => Ok(text.extend_from_slice(b"refused\n")?),
+    match reach_asked(alloc, world, target)? {
+        Reach::Whole => add("reached\n", text),
+        Reach::Uncallable(at) => add_number(alloc, "no such call at ", i64::from(at), "\n", text),
+        Reach::Refused => add("refused\n", text),
+    }
+}
+
+fn reach_asked(alloc: Global, world: &World, target: &str) -> RowResult<Reach> {
+    match read_target(alloc, target.as_bytes()) {
+        Ok(target) => Ok(reach_of(alloc, world, &target)),
+        Err(_) => Err(RowStop::Malformed),
     }
 }
 
 fn reach_of(alloc: Global, world: &World, target: &Target) -> Reach {
     match world.reach(alloc, target) {
         Ok(_) => Reach::Whole,
-        Err(LinkRefusal::Outside(_, at, What::Method)) => Reach::Uncallable(at),
-        Err(_) => Reach::Refused,
+        Err(refusal) => reach_refused(&refusal),
     }
 }
 
-/// Whether the exact type is of the universe.
-fn write_within(alloc: Global, world: &World, of: &str, text: &mut Vec<u8>) -> RowResult<()> {
-    let Some(of) = exact_type(alloc, of.as_bytes()) else {
-        return Err(RowStop::Malformed);
-    };
-    let answer = world.is_in_universe(&of);
-    Ok(text.extend_from_slice(format!(in alloc; "{answer}\n")?.as_bytes())?)
+fn reach_refused(refusal: &LinkRefusal) -> Reach {
+    match refusal {
+        LinkRefusal::Outside(_, at, What::Method) => Reach::Uncallable(*at),
+        _ => Reach::Refused,
+    }
 }
 
 /// The class of that name.
@@ -229,28 +217,6 @@ fn exact_type(alloc: Global, text: &[u8]) -> Option<ExactType> {
     }
 }
 
-pub fn write_exact(of: &ExactType, text: &mut Vec<u8>) -> RowResult<()> {
-    match of {
-        ExactType::Class(name) => write_text(name, text),
-        ExactType::Array(component) => {
-            text.push(b'[')?;
-            write_kind(component, text)
-        }
-    }
-}
-
-pub fn write_kind(kind: &JType, text: &mut Vec<u8>) -> RowResult<()> {
-    kept(write_type(kind, Spelling::Escaped, text))
-}
-
-pub fn write_text(name: &Name, text: &mut Vec<u8>) -> RowResult<()> {
-    kept(write_name(name, text))
-}
-
 fn write_number(alloc: Global, number: u32, text: &mut Vec<u8>) -> RowResult<()> {
-    Ok(text.extend_from_slice(format!(in alloc; "{number}\n")?.as_bytes())?)
-}
-
-pub fn write_none(text: &mut Vec<u8>) -> RowResult<()> {
-    Ok(text.extend_from_slice(b"none\n")?)
+    add_number(alloc, "", i64::from(number), "\n", text)
 }

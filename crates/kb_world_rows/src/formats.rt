@@ -1,6 +1,7 @@
 //! The first rule of class files that a file breaks.
 
-use kb_classfile::read_class;
+use crate::texts::{add, add_number};
+use kb_classfile::{ClassFile, read_class};
 use kb_format::{FormatFault, format_fault};
 use kb_outside::Shelf;
 use kb_table::{RowResult, RowStop, read_file};
@@ -15,13 +16,18 @@ pub fn write_fault<S: Shelf>(
     text: &mut Vec<u8>,
 ) -> RowResult<()> {
     let mut bytes = read_file(alloc, file, shelf)?;
-    if changes != "-" {
-        for change in changes.split(',') {
-            change_byte(bytes.as_mut_slice(), change)?;
-        }
+    change_bytes(bytes.as_mut_slice(), changes)?;
+    write_fault_of(alloc, bytes.as_slice(), text)
+}
+
+fn change_bytes(bytes: &mut [u8], changes: &str) -> RowResult<()> {
+    if changes == "-" {
+        return Ok(());
     }
-    let fault = fault_text(alloc, bytes.as_slice())?;
-    Ok(text.extend_from_slice(fault.as_bytes())?)
+    for change in changes.split(',') {
+        change_byte(bytes, change)?;
+    }
+    Ok(())
 }
 
 fn change_byte(bytes: &mut [u8], change: &str) -> RowResult<()> {
@@ -40,17 +46,26 @@ fn change_byte(bytes: &mut [u8], change: &str) -> RowResult<()> {
     }
 }
 
-fn fault_text(alloc: Global, bytes: &[u8]) -> RowResult<String> {
-    let Ok(file) = read_class(alloc, bytes) else {
-        return Ok(String::from_str(alloc, "not read\n")?);
-    };
-    match format_fault(alloc, &file) {
-        Ok(None) => Ok(String::from_str(alloc, "no fault\n")?),
-        Ok(Some(FormatFault::BadName(entry))) => Ok(format!(in alloc; "bad name {entry}\n")?),
-        Ok(Some(FormatFault::BadDescriptor(entry))) => {
-            Ok(format!(in alloc; "bad descriptor {entry}\n")?)
-        }
-        Ok(Some(FormatFault::TwoMembers(entry))) => Ok(format!(in alloc; "two members {entry}\n")?),
+fn write_fault_of(alloc: Global, bytes: &[u8], text: &mut Vec<u8>) -> RowResult<()> {
+    match read_class(alloc, bytes) {
+        Ok(file) => write_first_fault(alloc, &file, text),
+        Err(_) => add("not read\n", text),
+    }
+}
+
+fn write_first_fault(alloc: Global, file: &ClassFile, text: &mut Vec<u8>) -> RowResult<()> {
+    match format_fault(alloc, file) {
+        Ok(Some(fault)) => write_format_fault(alloc, fault, text),
+        Ok(None) => add("no fault\n", text),
         Err(_) => Err(RowStop::NoMemory),
     }
+}
+
+fn write_format_fault(alloc: Global, fault: FormatFault, text: &mut Vec<u8>) -> RowResult<()> {
+    let (what, entry) = match fault {
+        FormatFault::BadName(entry) => ("bad name ", entry),
+        FormatFault::BadDescriptor(entry) => ("bad descriptor ", entry),
+        FormatFault::TwoMembers(entry) => ("two members ", entry),
+    };
+    add_number(alloc, what, i64::from(entry), "\n", text)
 }

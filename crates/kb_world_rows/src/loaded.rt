@@ -2,14 +2,17 @@
 ghost use Rattle.std.specs.Prelude.{◌≡◌, ◌<◌};
 ghost use Rattle.kb_class.specs.Given.{IsGiven};
 
-use crate::answers::{write_exact, write_kind, write_none, write_text};
+use crate::texts::{
+    add, add_access, add_number, add_origin, read_entry, write_exact, write_kind, write_none,
+    write_text, write_type_entry,
+};
 use kb_class::{
     ClassId, FieldInfo, GivenClass, LoadedClass, MethodInfo, PLATFORM_CLASSES, Reference,
     ReferenceKind,
 };
 use kb_format::format_fault;
 use kb_load::given_class;
-use kb_names::{MethodType, Spelling, write_method_type};
+use kb_names::{MethodType, Name, Spelling, write_method_type};
 use kb_outside::Shelf;
 use kb_rows::Held;
 use kb_table::{RowResult, RowStop, kept, read_file};
@@ -86,62 +89,71 @@ fn platform_class(alloc: Global, place: usize) -> Option<Held<LoadedClass>> {
 /// Its name, its flags, its superclass and its interfaces, and whether it has a file.
 fn write_head(alloc: Global, class: &LoadedClass, text: &mut Vec<u8>) -> RowResult<()> {
     write_text(class.name(), text)?;
-    let access = class.access();
-    text.extend_from_slice(format!(in alloc; " {access:#06x}")?.as_bytes())?;
-    if let Some(parent) = class.parent() {
-        text.extend_from_slice(b" extends ")?;
-        write_text(parent, text)?;
+    add(" ", text)?;
+    add_access(alloc, class.access(), text)?;
+    write_parent(class, text)?;
+    write_interfaces(class, text)?;
+    add_origin(class.file().is_some(), text)
+}
+
+fn write_parent(class: &LoadedClass, text: &mut Vec<u8>) -> RowResult<()> {
+    match class.parent() {
+        Some(parent) => {
+            add(" extends ", text)?;
+            write_text(parent, text)
+        }
+        None => Ok(()),
     }
+}
+
+fn write_interfaces(class: &LoadedClass, text: &mut Vec<u8>) -> RowResult<()> {
     for place in 0..class.interface_count() {
         if let Some(name) = class.interface(place) {
-            text.extend_from_slice(b" implements ")?;
+            add(" implements ", text)?;
             text.extend_from_slice(name)?;
         }
     }
-    let from = match class.file() {
-        Some(_) => " from a file\n",
-        None => " of the platform\n",
-    };
-    Ok(text.extend_from_slice(from.as_bytes())?)
+    Ok(())
 }
 
 fn write_fields(alloc: Global, fields: &[FieldInfo], text: &mut Vec<u8>) -> RowResult<()> {
     for field in fields {
-        let access = field.access;
-        text.extend_from_slice(format!(in alloc; "{access:#06x} ")?.as_bytes())?;
-        write_text(&field.name, text)?;
-        text.push(b' ')?;
+        write_member(alloc, field.access, &field.name, text)?;
         write_kind(&field.kind, text)?;
-        text.push(b'\n')?;
+        add("\n", text)?;
     }
     Ok(())
 }
 
 fn write_methods(alloc: Global, methods: &[MethodInfo], text: &mut Vec<u8>) -> RowResult<()> {
     for method in methods {
-        let access = method.access;
-        text.extend_from_slice(format!(in alloc; "{access:#06x} ")?.as_bytes())?;
-        write_text(&method.name, text)?;
-        text.push(b' ')?;
+        write_member(alloc, method.access, &method.name, text)?;
         write_type_of(&method.kind, text)?;
         write_code(alloc, method, text)?;
-        text.push(b'\n')?;
     }
     Ok(())
 }
 
-/// The largest stack, the number of locals, the size, and how many instructions and handlers there are.
+/// The flags of a field or a method and its name, each with a space behind it.
+fn write_member(alloc: Global, access: u16, name: &Name, text: &mut Vec<u8>) -> RowResult<()> {
+    add_access(alloc, access, text)?;
+    add(" ", text)?;
+    write_text(name, text)?;
+    add(" ", text)
+}
+
+/// The largest stack, the number of locals, the size, and how many instructions and handlers there are, and the end of the line.
 fn write_code(alloc: Global, method: &MethodInfo, text: &mut Vec<u8>) -> RowResult<()> {
     let Some(code) = &method.code else {
-        return Ok(());
+        return add("\n", text);
     };
     let (stack, locals, size) = (code.max_stack, code.max_locals, code.size);
     let listed = code.listing.items.as_slice().len();
     let handlers = code.handlers.as_slice().len();
     let counts = format!(in alloc;
-        ": stack {stack}, locals {locals}, {size} bytes, {listed} instructions, {handlers} handlers"
+        ": stack {stack}, locals {locals}, {size} bytes, {listed} instructions, {handlers} handlers\n"
     )?;
-    Ok(text.extend_from_slice(counts.as_bytes())?)
+    add(counts.as_str(), text)
 }
 
 /// What the entry of that number stands for.
@@ -151,21 +163,15 @@ fn write_entry(
     number: &str,
     text: &mut Vec<u8>,
 ) -> RowResult<()> {
-    let Ok(number) = number.parse::<u16>() else {
-        return Err(RowStop::Malformed);
-    };
+    let number = read_entry(number)?;
     if let Some(of) = class.type_entry(number) {
-        text.extend_from_slice(b"type ")?;
-        write_exact(of, text)?;
-        return Ok(text.push(b'\n')?);
+        return write_type_entry(of, text);
     }
     if let Some(told) = class.text_entry(number) {
-        text.extend_from_slice(b"text ")?;
-        text.extend_from_slice(told)?;
-        return Ok(text.push(b'\n')?);
+        return write_text_entry(told, text);
     }
     if let Some(value) = class.int_entry(number) {
-        return Ok(text.extend_from_slice(format!(in alloc; "int {value}\n")?.as_bytes())?);
+        return add_number(alloc, "int ", i64::from(value), "\n", text);
     }
     match class.reference_entry(number) {
         Some(reference) => write_reference(&reference, text),
@@ -173,17 +179,23 @@ fn write_entry(
     }
 }
 
+fn write_text_entry(told: &[u8], text: &mut Vec<u8>) -> RowResult<()> {
+    add("text ", text)?;
+    text.extend_from_slice(told)?;
+    add("\n", text)
+}
+
 fn write_reference(reference: &Reference<'_>, text: &mut Vec<u8>) -> RowResult<()> {
-    let what: &[u8] = match reference.what {
-        ReferenceKind::Field => b"field ",
-        ReferenceKind::Method => b"method ",
-        ReferenceKind::InterfaceMethod => b"method of an interface ",
+    let what = match reference.what {
+        ReferenceKind::Field => "field ",
+        ReferenceKind::Method => "method ",
+        ReferenceKind::InterfaceMethod => "method of an interface ",
     };
-    text.extend_from_slice(what)?;
+    add(what, text)?;
     write_exact(reference.class, text)?;
-    text.push(b' ')?;
+    add(" ", text)?;
     text.extend_from_slice(reference.name)?;
-    Ok(text.push(b'\n')?)
+    add("\n", text)
 }
 
 /// How many types its Class entries name, and how many different descriptors it has.
@@ -199,7 +211,7 @@ fn write_named(alloc: Global, class: &LoadedClass, text: &mut Vec<u8>) -> RowRes
         .filter(|told| told.is_some())
         .count();
     let counts = format!(in alloc; "{types} types, {kinds} descriptors\n")?;
-    Ok(text.extend_from_slice(counts.as_bytes())?)
+    add(counts.as_str(), text)
 }
 
 fn write_type_of(kind: &MethodType, text: &mut Vec<u8>) -> RowResult<()> {

@@ -8,6 +8,7 @@
 mod answers;
 mod formats;
 mod loaded;
+mod texts;
 
 use answers::write_answer;
 use formats::write_fault;
@@ -18,6 +19,7 @@ use loaded::write_loaded;
 use std::alloc::Global;
 use std::io;
 use std::process::ExitCode;
+use texts::add;
 
 /// Each row is answered by itself.
 #[derive(Drop)]
@@ -31,10 +33,9 @@ impl Rows for Questions {
         shelf: &mut S,
         out: &mut W,
     ) -> RowResult<()> {
-        let words = read_words(alloc, row, ' ')?;
         let mut text = Vec::new(alloc);
-        text.extend_from_slice(format!(in alloc; "> {row}\n")?.as_bytes())?;
-        write_asked(alloc, words.as_slice(), shelf, &mut text)?;
+        add_row(row, &mut text)?;
+        write_of_row(alloc, row, shelf, &mut text)?;
         send(out, text.as_slice())
     }
 }
@@ -45,6 +46,22 @@ fn main(rt: HostRuntime) -> io::Result<ExitCode> {
     let mut out = OutSink::new(io::writer(&rt));
     write_rows(rt.alloc(), "rows", &mut Questions, &mut shelf, &mut out)?;
     Ok(ExitCode::from(0))
+}
+
+fn add_row(row: &str, text: &mut Vec<u8>) -> RowResult<()> {
+    add("> ", text)?;
+    add(row, text)?;
+    add("\n", text)
+}
+
+fn write_of_row<S: Shelf>(
+    alloc: Global,
+    row: &str,
+    shelf: &mut S,
+    text: &mut Vec<u8>,
+) -> RowResult<()> {
+    let words = read_words(alloc, row, ' ')?;
+    write_asked(alloc, words.as_slice(), shelf, text)
 }
 
 /// Writes the answer of the class or of the world that the words name, or that there is none.
@@ -68,8 +85,18 @@ fn write_asked<S: Shelf>(
         }
     }
     let words = (question.as_str(), first.as_str(), second.as_str());
+    write_in_world(alloc, words, files, shelf, text)
+}
+
+fn write_in_world<S: Shelf>(
+    alloc: Global,
+    words: (&str, &str, &str),
+    files: &[String],
+    shelf: &mut S,
+    text: &mut Vec<u8>,
+) -> RowResult<()> {
     match read_world(alloc, files, shelf) {
         Ok(world) => write_answer(alloc, world.get(), words, text),
-        Err(_) => Ok(text.extend_from_slice(b"no world\n")?),
+        Err(_) => add("no world\n", text),
     }
 }
