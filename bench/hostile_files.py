@@ -40,7 +40,7 @@ MOST_BYTES = 1 << 20
 TEXT_BYTES = 1 << 26
 # access flags of classes and methods (JVMS 8 tables 4.1-A and 4.6-A)
 ABSTRACT_CLASS, OPEN, STATIC, ABSTRACT, PACKAGE = 0x0421, 0x0001, 0x0009, 0x0401, 0x0400
-INVOKEVIRTUAL, INVOKESTATIC, NEW, RETURN = 0xB6, 0xB8, 0xBB, 0xB1
+INVOKEVIRTUAL, INVOKESTATIC, NEW, POP, RETURN = 0xB6, 0xB8, 0xBB, 0x57, 0xB1
 # the most calls of three bytes in one method, beside the one that leads on and the return
 CALLS_IN_METHOD = 21_840
 PLATFORM = (
@@ -330,6 +330,18 @@ def creations(share, is_twin):
     return Case([file.bytes(), made.bytes()], "H.m0()V", wanted=b"refused 50", texts=[[name], [name]])
 
 
+def made_objects(share, is_twin):
+    """400 tests of a method that makes 1,024 objects, the most of a run, of a class whose name has 65,535 bytes."""
+    name = long_name(is_twin)
+    made, file = ClassFile(name), ClassFile("H")
+    create = struct.pack(">BHB", NEW, file.named(name), POP)
+    file.add_method(STATIC, "m", "()V", create * 1_025 + bytes([RETURN]))
+    count = int(400 * share)
+    verdicts = "".join(f"test {number} passes\n" for number in range(count)) + f"tests {count} passed {count} differed 0\n"
+    test = b"test H.m()V\nbounds alloc 1024 loops 10 depth 16 steps 5000\npast alloc\nend\n"
+    return Case([file.bytes(), made.bytes()], tests=test * count, wanted=verdicts.encode())
+
+
 FAMILIES = [
     methods,
     references,
@@ -342,6 +354,7 @@ FAMILIES = [
     arrays,
     tests,
     creations,
+    made_objects,
 ]
 
 
