@@ -56,7 +56,7 @@ pub(crate) fn follow(
 {
     match known {
         Known::Open => lists(alloc, taken.piece.get(), Leaf::Open),
-        Known::Met => follow_outcome(alloc, world, bounds, taken.piece, taken.outcome),
+        Known::Met => follow_met(alloc, world, bounds, taken),
         Known::Answered(answer) => follow_answer(alloc, world, bounds, taken, answer),
     }
 }
@@ -72,10 +72,7 @@ fn follow_answer(
     ensures { IfOk result (λ next. next ≡ follows_answer world.now bounds.now taken answer) }
 {
     match answer {
-        Answer::Model(values) => {
-            let piece = taken.piece.with_values(values);
-            follow_outcome(alloc, world, bounds, piece, taken.outcome)
-        }
+        Answer::Model(values) => follow_met(alloc, world, bounds, taken.with_values(values)),
         Answer::Refuted(_) => Ok(Next::Leaves),
         Answer::Undecided(log) => lists(alloc, taken.piece.get(), Leaf::Undecided(log)),
     }
@@ -87,6 +84,14 @@ fn lists(alloc: Global, piece: &Piece, leaf: Leaf) -> Result<Next, NoMemory>
     ensures { IfOk result (λ next. next ≡ nexts.Lists (path_of_piece piece.now leaf)) }
 {
     Ok(Next::Lists(path_of(alloc, piece, leaf)?))
+}
+
+// What follows where the values from before the take meet all conditions behind it.
+fn follow_met(alloc: Global, world: &World, bounds: &Bounds, taken: Taken) -> Result<Next, NoMemory>
+    requires { CanFollow world.now taken }
+    ensures { IfOk result (λ next. next ≡ follows_outcome world.now bounds.now taken.piece taken.outcome) }
+{
+    follow_outcome(alloc, world, bounds, taken.piece, taken.outcome)
 }
 
 // What follows where the values of the piece meet its conditions.

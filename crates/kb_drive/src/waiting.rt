@@ -154,6 +154,19 @@ impl Waiting {
     }
 }
 
+impl Taken {
+    /// The same with these values.
+    pub(crate) fn with_values(self, values: Row<i32>) -> Taken
+        ensures { result ≡ record self { piece = record self.piece { values = values } } }
+    {
+        Taken {
+            piece: self.piece.with_values(values),
+            outcome: self.outcome,
+            stood: self.stood,
+        }
+    }
+}
+
 // Takes the alternative of that number in the state of the piece. Where it is one of several, it is a decision.
 fn take_in(
     alloc: Global,
