@@ -6,7 +6,7 @@ What is reached is told as in docs/REFUSALS.md; a class that is not known names 
 from .class_file import STATIC, Unfit
 from .instructions import CALLS, CLASS_USES, FIELD_ACCESSES, SELECTING, SPECIAL, entry_of, instructions
 from .names import class_of_entry, class_of_type
-from .world import BOUNDLESS, PLATFORM, World, parameter_types
+from .world import BOUNDLESS, World, parameter_types
 
 CODE = "the code"
 
@@ -55,9 +55,7 @@ class Needs:
 
     def need(self, name, why):
         """The class is needed, with all that it stands below."""
-        if name is None or name in PLATFORM or name in self.taken:
-            return
-        if name in self.is_offered:
+        if name in self.is_offered and name not in self.taken:
             self.taken[name] = why
             self._come(self.world.get(name), why)
 
@@ -121,7 +119,7 @@ class Needs:
     def _access(self, named, name, kind):
         self.need(class_of_entry(named), CODE)
         found = self.world.find_field(named, name, kind)
-        if found and not found[1].access & STATIC:
+        if found:
             self.fields.setdefault((found[0].name, name, kind), None)
             self.need_type(kind)
 
@@ -131,11 +129,14 @@ class Needs:
             self._call_selected(named, name, kind)
             return
         start = named
-        if opcode == SPECIAL and name != "<init>" and named != owner and self.world.is_below(owner, named):
+        if opcode == SPECIAL and name != "<init>" and self._is_superclass(named, owner):
             start = self.world.get(owner).parent
-        found = self.world.find_method(start or named, name, kind)
+        found = self.world.find_method(start, name, kind)
         if found:
             self.reach(found[0].name, found[1])
+
+    def _is_superclass(self, named, owner):
+        return named != owner and any(known.name == named for known in self.world.superclasses(owner))
 
     def _call_selected(self, named, name, kind):
         calls = self._calls.setdefault(named, {})

@@ -60,9 +60,8 @@ def statuses():
 
 
 def refusal_of(line):
-    """The one row that a refusal line has, or None."""
-    found = [row for row in refusals() if row.parts(line) is not None]
-    return found[0] if len(found) == 1 else None
+    """The row that a refusal line has, or None; no line has two, to which a test holds the page."""
+    return next((row for row in refusals() if row.parts(line) is not None), None)
 
 
 def status_of(number):

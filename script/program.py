@@ -60,12 +60,12 @@ class Undisturbed:
 
 
 def hold_low_files():
-    """Files 0 to 2 that are closed stay closed for the program, and no other file gets their numbers here."""
+    """Files 0 to 2 that are closed stay closed for the program; no other file gets their numbers, and none is written to."""
     for file in range(3):
         try:
             os.fstat(file)
         except OSError:
-            os.open(os.devnull, os.O_RDWR)
+            os.open(os.devnull, os.O_RDONLY)
 
 
 def start(signals, program, words, actions=()):

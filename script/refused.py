@@ -2,11 +2,23 @@
 
 from .class_file import UTF8, Unfit
 from .instructions import CLASS_USES, entry_of, first_unexplored, in_words, instructions, mnemonic
-from .names import class_of_entry, guessed, is_near, read_name, read_target, spelled, spelled_method, spelled_target
+from .names import (
+    class_of_entry,
+    guessed,
+    is_near,
+    read_name,
+    read_target,
+    spelled,
+    spelled_method,
+    spelled_target,
+    split_method,
+)
 from .remarks import beside
 from .say import MOST_NAMES
 
 MOST_BYTES = 200
+# The types of parameters and results that are left out, by their descriptors.
+LEFT_OUT = {"B": "byte", "C": "char", "S": "short", "J": "long", "F": "float", "D": "double"}
 # The commands that explore and are built.
 BUILT = ("explore", "tests")
 
@@ -154,6 +166,9 @@ class Parts:
         found = self._found(text)
         if found is None or "N" not in self.texts or found[1].code is None:
             return []
+        left_out = left_out_type(found[1])
+        if left_out:
+            return [f"{text} has a parameter or result of type {left_out}"]
         return place_lines(text, found[0], found[1].code, int(self.texts["N"]), "HH" not in self.texts)
 
     def _so_many(self):
@@ -212,6 +227,12 @@ class Parts:
             return []
         place = place_lines(text, file, method.code, at, False)
         return [f"{text} at {at} is {in_words(file, method.code.bytes, at)}, which is not explored yet", *place]
+
+
+def left_out_type(method):
+    """The first type of a parameter or result that is left out, or None: for it a method is refused before its code."""
+    params, result = split_method(method.kind) or ([], "")
+    return next((LEFT_OUT[kind] for kind in [*params, result] if kind in LEFT_OUT), None)
 
 
 def named_class(file, code, at):

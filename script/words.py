@@ -79,7 +79,7 @@ class Order:
             self.values.setdefault(name, at + 1)
             fine = fine and is_value(takes[name], self.words[at + 1])
             at += 2
-        self.files = min(at, len(self.words))
+        self.files = at
         needed = "--tests" if self.command == "replay" else "--method"
         self.in_order = fine and needed in self.values and at < len(self.words) and self._is_enough(takes)
 

@@ -4,12 +4,12 @@ from .class_file import ABSTRACT, INTERFACE, PRIVATE, STATIC
 from .names import class_of_type, element, split_method, type_end
 
 OBJECT = "java/lang/Object"
-PLATFORM_INTERFACES = ("java/lang/Cloneable", "java/lang/Comparable", "java/io/Serializable")
-SERIALIZABLE = "java/io/Serializable"
+SERIALIZABLE, CLONEABLE, COMPARABLE = "java/io/Serializable", "java/lang/Cloneable", "java/lang/Comparable"
+PLATFORM_INTERFACES = (CLONEABLE, COMPARABLE, SERIALIZABLE)
 # Superclass and interfaces, by name, in the order of docs/USING.md ('Class files').
 PLATFORM = {
     OBJECT: (None, ()),
-    "java/lang/String": (OBJECT, (SERIALIZABLE, "java/lang/Comparable")),
+    "java/lang/String": (OBJECT, (SERIALIZABLE, COMPARABLE)),
     "java/lang/Throwable": (OBJECT, (SERIALIZABLE,)),
     "java/lang/Exception": ("java/lang/Throwable", ()),
     "java/lang/RuntimeException": ("java/lang/Exception", ()),
@@ -24,8 +24,10 @@ PLATFORM = {
     "java/lang/NegativeArraySizeException": ("java/lang/RuntimeException", ()),
     "java/lang/NullPointerException": ("java/lang/RuntimeException", ()),
     "java/lang/UnsupportedOperationException": ("java/lang/RuntimeException", ()),
+    CLONEABLE: (OBJECT, ()),
+    COMPARABLE: (OBJECT, ()),
     "java/util/NoSuchElementException": ("java/lang/RuntimeException", ()),
-    **{name: (OBJECT, ()) for name in PLATFORM_INTERFACES},
+    SERIALIZABLE: (OBJECT, ()),
 }
 # Declared types below which nothing is looked for: each class fits them.
 BOUNDLESS = frozenset((OBJECT, *PLATFORM_INTERFACES))
@@ -48,10 +50,6 @@ class Known:
         if self.file is None:
             return self.name not in PLATFORM_INTERFACES
         return not self.file.access & (INTERFACE | ABSTRACT)
-
-    @property
-    def is_interface(self):
-        return self.name in PLATFORM_INTERFACES if self.file is None else bool(self.file.access & INTERFACE)
 
     @property
     def above(self):
@@ -125,16 +123,13 @@ class World:
         return None
 
     def find_method(self, owner, name, kind):
-        """The class that declares a method, and the method, or None: superclasses first, then superinterfaces."""
-        owner = OBJECT if owner.startswith("[") else owner
+        """The class that declares the method of a call that does not select, and the method, or None.
+
+        What a superinterface alone declares is refused there (docs/REFUSALS.md), so nothing is reached by it.
+        """
         for known in self.superclasses(owner):
             method = known.method(name, kind)
             if method:
-                return known, method
-        for above in sorted(self.supertypes(owner)):
-            known = self.classes.get(above)
-            method = known.method(name, kind) if known and known.is_interface else None
-            if method and not method.access & (PRIVATE | STATIC):
                 return known, method
         return None
 
@@ -190,6 +185,6 @@ class Universe:
 
     def fitting(self, name):
         """The classes, and the arrays, that may stand in a slot of that class."""
-        fits = name in (OBJECT, "java/lang/Cloneable", SERIALIZABLE)
+        fits = name in (OBJECT, CLONEABLE, SERIALIZABLE)
         return [each for each in self.classes if self.world.is_below(each, name)], self.arrays if fits else []
 

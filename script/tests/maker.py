@@ -25,6 +25,12 @@ class Maker:
             self.numbers[(tag, content)] = len(self.entries)
         return self.numbers[(tag, content)]
 
+    def long_entry(self):
+        """A Long, which takes two numbers (JVMS 8 section 4.4.5)."""
+        number = self.entry(5, bytes(8))
+        self.entries.append(b"")
+        return number
+
     def utf8(self, text):
         data = text.encode("latin-1")
         return self.entry(1, struct.pack(">H", len(data)) + data)
@@ -56,13 +62,17 @@ class Maker:
         return self
 
     def method(self, name, kind, code=None, access=STATIC, handlers=(), lines=(), names=()):
-        """A method; `lines` are pairs of offset and line, `names` the names of locals by their numbers."""
+        """A method; `lines` are pairs of offset and line, `names` the names of locals by their numbers, each
+        from the first offset on or from one that is given."""
         tables = []
         if lines:
             rows = b"".join(struct.pack(">HH", *pair) for pair in lines)
             tables.append(self.attribute("LineNumberTable", struct.pack(">H", len(lines)) + rows))
         if names:
-            rows = b"".join(struct.pack(">HHHHH", 0, len(code), self.utf8(name), self.utf8("I"), at) for at, name in names)
+            rows = b"".join(
+                struct.pack(">HHHHH", *(start or [0]), len(code), self.utf8(name), self.utf8("I"), at)
+                for at, name, *start in names
+            )
             tables.append(self.attribute("LocalVariableTable", struct.pack(">H", len(names)) + rows))
         attributes = []
         if code is not None:

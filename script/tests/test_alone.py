@@ -1,6 +1,7 @@
 """A copy of the tracked files, where there is little else than a shell: what answers, and what starts a build."""
 
 import hashlib
+import os
 import shutil
 import subprocess
 from contextlib import contextmanager
@@ -128,6 +129,7 @@ def test_with_python3():
         path = bare(top, "python3")
         ran = call("explore", script=top / "kiasan", cwd=top, env=without_program(PATH=path))
         same((ran.status, ran.out, ran.said[-1].split(":")[0]), (2, b"refused 95\n", "to do"), "a refusal with python3")
+        same(list((top / "script").rglob("*.pyc")), [], "what python3 keeps beside the sources")
 
 
 OLD = """#!/bin/sh
@@ -169,6 +171,7 @@ def test_what_starts_a_build():
         stand_in.chmod(0o755)
         env = without_program(PATH=path)
         none = ["", "--help", "-h", "explore --help", "targets --help", "explain 47", "explain status 6", "explain"]
+        none += ["diagrams --help", "none --help"]
         for words in [*none, "targets examples/A.class", "targets none.class", "build x", "--help x"]:
             ran = call(*words.split(), script=top / "kiasan", cwd=top, env=env)
             same((told.exists(), ran.status in (0, 2, 6)), (False, True), f"a build by {words!r}")
@@ -186,3 +189,65 @@ def test_without_a_toolchain():
             ran = call(*words, script=top / "kiasan", cwd=top, env=env)
             same((ran.status, ran.out, ran.said), (70, b"", [NO_TOOLCHAIN]), words)
             same((top / "build/kiasan").exists(), False, words)
+
+
+def is_used(top, env):
+    """Whether a call is answered by the program that is there; else one would have to be built."""
+    ran = call(*FIRST, script=top / "kiasan", cwd=top, env=env)
+    if ran.status == 0:
+        same((ran.err, ran.out.split(b"\n")[1]), ("", b"target A.f(II)I"), "an answer")
+        return True
+    same((ran.status, ran.out, ran.said), (70, b"", [NO_TOOLCHAIN]), "no answer")
+    return False
+
+
+def make_old(file, top):
+    """The file and the folders that it lies in are older than all that is written today."""
+    while file != top:
+        os.utime(file, (0, 0))
+        file = file.parent
+
+
+def test_a_source_that_is_newer_asks_for_a_build():
+    """Each file that says what the program does, or what is proved of it, and no other."""
+    sources = ["crates.txt", "release/BUILT", "crates/kiasan_main/src/a.rt", "crates/kiasan_main/src/deep/a.rt"]
+    sources += ["crates/kiasan_main/specs/A.antt", "crates/kiasan_main/specs/deep/A.antt"]
+    others = ["crates/kiasan_main/proofs/A.antt", "README.md", "crates/kiasan_main/out/log", "script/page.txt"]
+    with copy() as top:
+        env = without_program(PATH=bare(top, "python3"))
+        for name in [*others, *sources]:
+            (top / name).parent.mkdir(parents=True, exist_ok=True)
+            (top / name).touch()
+            make_old(top / name, top)
+        keep(top)
+        same(is_used(top, env), True, "the kept program")
+        (top / "release/kiasan-linux-x86_64").unlink()
+        make_old(top / "release/BUILT", top)
+        same(is_used(top, env), True, "a copy of it")
+        behind = (top / "build/kiasan").stat().st_mtime + 2
+        for name in [*others, *sources]:
+            os.utime(top / name, (behind, behind))
+            same(is_used(top, env), name in others, f"a newer {name}")
+            make_old(top / name, top)
+        (top / "build/kiasan").chmod(0o644)
+        same(is_used(top, env), False, "a program that cannot be run")
+
+
+def test_a_kept_program_is_used_where_it_fits():
+    with copy() as top:
+        env = without_program(PATH=bare(top, "python3"))
+        keep(top)
+        (top / "build").write_text("no folder", encoding="ascii")
+        same(is_used(top, env), True, "the kept program, where it lies")
+        (top / "release/BUILT").write_text(f"a toolchain\n{'0' * 64}\n", encoding="ascii")
+        same(is_used(top, env), False, "a kept program of other sources")
+        keep(top)
+        same(is_used(top, env), True, "a kept program of these sources")
+        change_a_source(top)
+        same(is_used(top, env), False, "a kept program of the sources before")
+        keep(top)
+        (top / "release/kiasan-linux-x86_64").write_text("#!/bin/sh\necho refused 91\n", encoding="ascii")
+        same(is_used(top, env), False, "a kept program that does not run here")
+        keep(top)
+        (top / "release/BUILT").unlink()
+        same(is_used(top, env), False, "a kept program of which nothing is said")

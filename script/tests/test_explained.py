@@ -4,8 +4,21 @@ import os
 import struct
 import subprocess
 
-from script.tests.maker import ALOAD_0, ARETURN, GETFIELD, ICONST_0, IRETURN, NEW, STATIC, STATIC_CALL, Maker
-from script.tests.tools import DATA, call, environment, explained, folder, same, status_lines
+from script.tests.maker import (
+    ABSTRACT,
+    ALOAD_0,
+    ARETURN,
+    GETFIELD,
+    ICONST_0,
+    IRETURN,
+    NEW,
+    NEW_ARRAY_OF,
+    POP,
+    STATIC,
+    STATIC_CALL,
+    Maker,
+)
+from script.tests.tools import DATA, SCRIPT, call, environment, explained, folder, same, stand_in, status_lines
 
 # Words in the folder of the stored rows' files, and what is said of them.
 TABLE = [
@@ -24,6 +37,11 @@ TABLE = [
         "explore --method A.f(II A.class",
         explained("refused 98 word W", "word 2 is --method A.f(II", "there is A.f(II)I"),
     ),
+    *(
+        (f"explore --method {word} A.class", explained("refused 98 word W", f"word 2 is --method {word}", "there is A.f(II)I"))
+        for word in ("A.f", "A::f", "A#f", "p.A.f(II)I", "A.g")
+    ),
+    ("explore --method B.g()I A.class", explained("refused 45 TARGET", "class B is not given")),
     ("explore --method A.g()I A.class", explained("refused 45 TARGET", "there is A.f(II)I")),
     ("explore --method B.f(II)I A.class", explained("refused 45 TARGET", "class B is not given", "there is A.f(II)I")),
     (
@@ -51,8 +69,11 @@ TABLE = [
     ("explore --init lazier --method A.f(II)I A.class", explained("refused 50", "word 2 is --init lazier")),
     ("diagrams --method A.f(II)I A.class", explained("refused 50", "word 0 is diagrams")),
     ("sample 6", explained("refused 50", "word 0 is sample")),
+    ("sample 65", explained("refused 94 word W", "word 1 is 65, sample takes 0 to 64")),
     ("explore --method A.f(II)I Lst.class", ["cannot read Lst.class: No such file or directory"]),
+    ("explore --method A.f(II)I A.class one.class two.class", ["cannot read one.class: No such file or directory"]),
     ("replay --tests gone.tests A.class", ["cannot read gone.tests: No such file or directory"]),
+    ("replay --tests gone.tests gone.class", ["cannot read gone.tests: No such file or directory"]),
     ("replay --tests sums.tests A.class", status_lines(10)),
     ("explore --paths 1 --method Choice.flag(Z)I Choice.class", status_lines(1)),
 ]
@@ -73,6 +94,28 @@ def test_a_slip_in_a_method():
         ran = call("explore", "--method", "Q.sizes()I", "Q.class", cwd=path)
         there = [f"there is Q.{name}()I" for name in ("size", "sized", "a", "b", "c", "d", "e", "f")]
         same(ran.said, explained("refused 45 TARGET", *there, "and 2 more"), "a slip in a method's name")
+
+
+def test_which_methods_are_told_first():
+    """Those of the method's name, then those of its class; of the class near names first; last of a class of its last name."""
+    other = Maker("p/B").method("other", "()I", ICONST_0 + IRETURN).method("size", "()I", ICONST_0 + IRETURN)
+    same_end = Maker("q/A").method("far", "()I", ICONST_0 + IRETURN)
+    own = Maker("p/A").method("far", "()I", ICONST_0 + IRETURN).method("sizes", "()I", ICONST_0 + IRETURN)
+    with folder() as path:
+        files = [made.write(path) for made in (other, same_end, own)]
+        ran = call("explore", "--method", "p/A.size()I", *files, cwd=path)
+        there = ["there is p/B.size()I", "there is p/A.sizes()I", "there is p/A.far()I", "there is q/A.far()I"]
+        same(ran.said, explained("refused 45 TARGET", *there), "methods that may be meant")
+
+
+def test_eight_methods_are_told_without_more():
+    made = Maker("Q")
+    for name in "abcdefgh":
+        made.method(name, "()I", ICONST_0 + IRETURN)
+    with folder() as path:
+        made.write(path)
+        there = [f"there is Q.{name}()I" for name in "abcdefgh"]
+        same(call("explore", "--method", "Q.zz()I", "Q.class", cwd=path).said, explained("refused 45 TARGET", *there), "eight")
 
 
 def test_no_words():
@@ -147,12 +190,16 @@ def test_what_is_not_explored_yet():
     handler = (0, 1, 2, made.named("java/lang/Exception"))
     made.method("three", "()I", ICONST_0 + IRETURN + b"\x57" + ICONST_0 + IRETURN, handlers=[handler], lines=[(0, 7), (2, 9)])
     made.method("four", "([I)I", ALOAD_0 + ICONST_0 + b"\x2e" + IRETURN)
+    anything = (0, 1, 2, 0)
+    code = ICONST_0 + IRETURN + POP + call_none + IRETURN
+    made.method("five", "()I", code, handlers=[anything, handler])
     with folder() as path:
         made.write(path)
         for target, *parts in [
             ("Q.two()I", "Q.two()I at 1 is invokestatic Q.one()I, which is not explored yet", "Q.two()I at 1 is Q.java:4"),
             ("Q.three()I", "Q.three()I at 2 handles java/lang/Exception (Q.java:9), which is not explored yet"),
             ("Q.four([I)I", "Q.four([I)I at 2 is iaload, which is not explored yet"),
+            ("Q.five()I", "Q.five()I at 2 handles anything, which is not explored yet"),
         ]:
             ran = call("explore", "--method", target, "Q.class", cwd=path)
             same(ran.said, explained("refused 50", *parts), target)
@@ -173,17 +220,73 @@ def test_places_in_a_class_file():
     with folder() as path:
         made = Maker("Q").method("f", "()I", ICONST_0 + IRETURN).method("g", "(LQ;I)V", b"\xcb")
         made.write(path)
-        ran = call("explore", "--method", "Q.f()I", "Q.class", cwd=path)
-        parts = ["file 0 is Q.class", "method 1 is g(LQ;I)V", "opcode cb is no opcode"]
-        same(ran.said, explained("refused 20 file F method M at N opcode HH", *parts), "an opcode that is none")
+        (path / "a.tests").write_text("", encoding="ascii")
+        for words in (["explore", "--method", "Q.f()I"], ["replay", "--tests", "a.tests"]):
+            ran = call(*words, "Q.class", cwd=path)
+            parts = ["file 0 is Q.class", "method 1 is g(LQ;I)V", "opcode cb is no opcode"]
+            same(ran.said, explained("refused 20 file F method M at N opcode HH", *parts), words)
         Maker("Q").method("twice", "()I", ICONST_0 + IRETURN).method("twice", "()I", ICONST_0 + IRETURN).write(path)
         ran = call("explore", "--method", "Q.f()I", "Q.class", cwd=path)
         parts = ["file 0 is Q.class", 'entry 6 is "twice"']
         same(ran.said, explained("refused 37 file F entry N", *parts), "a method that is there twice")
 
 
+def test_what_of_an_instruction_is_left_out():
+    made = Maker("Q", access=ABSTRACT, source="Q.java")
+    long_array = b"\xbc\x0b"
+    codes = [
+        ("constant", "()I", b"\x12" + bytes([made.named("Q")]) + ICONST_0 + IRETURN, "constant", "at 0 is ldc a class"),
+        ("operand", "()I", NEW + b"\0\x01" + ICONST_0 + IRETURN, "operand", "at 0 is new"),
+        ("array", "()I", ICONST_0 + long_array + ICONST_0 + IRETURN, "kind", "at 1 is newarray long"),
+        ("object", "()I", NEW + made.class_ref("Q") + ICONST_0 + IRETURN, "kind", "at 0 is new Q"),
+        ("taken", "(I[JDF)I", ICONST_0 + IRETURN, "kind", "has a parameter or result of type double"),
+        ("given", "()S", ICONST_0 + IRETURN, "kind", "has a parameter or result of type short"),
+    ]
+    for name, kind, code, _, _ in codes:
+        made.method(name, kind, code)
+    with folder() as path:
+        made.write(path)
+        for name, kind, _, what, part in codes:
+            ran = call("explore", "--method", f"Q.{name}{kind}", "Q.class", cwd=path)
+            same(ran.said, explained(f"refused 47 TARGET at N {what}", f"Q.{name}{kind} {part}"), name)
+
+
+def test_an_entry_that_is_no_text_is_not_shown():
+    """Entries of 13 to 15 are places in a damaged file; only of 37 to 39 it is a name or a descriptor that does not fit."""
+    with folder() as path:
+        made = Maker("Q").method("f", "()I", ICONST_0 + IRETURN)
+        data = bytearray(made.data())
+        at = data.index(struct.pack(">HHH", 0x21, made.named("Q"), made.named("java/lang/Object"))) + 2
+        data[at : at + 2] = struct.pack(">H", made.utf8("Q"))
+        (path / "Q.class").write_bytes(data)
+        ran = call("explore", "--method", "Q.f()I", "Q.class", cwd=path)
+        same(ran.out.decode(), f"refused 15 file 0 at {at} entry {made.utf8('Q')}\n", "a name in the place of a class")
+        same(ran.said, explained("refused 15 file F at N entry N", "file 0 is Q.class"), "a name in the place of a class")
+        made = Maker("Q").field("f", "Q;").method("f", "()I", ICONST_0 + IRETURN)
+        made.write(path)
+        ran = call("explore", "--method", "Q.f()I", "Q.class", cwd=path)
+        part = f'entry {made.utf8("Q;")} is "Q;"'
+        same(ran.said, explained("refused 39 file F entry N", "file 0 is Q.class", part), "no descriptor")
+
+
 def test_where_a_missing_class_lies():
     with folder() as path:
+        made = Maker("p/User", source="User.java")
+        code = ICONST_0 + NEW_ARRAY_OF + made.class_ref("[Lp/Gone;") + POP + ICONST_0 + IRETURN
+        made.method("f", "()I", code, lines=[(0, 7)]).write(path, "out/p/User.class")
+        ran = call("explore", "--method", "p/User.f()I", "out/p/User.class", cwd=path)
+        parts = ["p/User.f()I at 1 is anewarray [Lp/Gone;", "p/User.f()I at 1 is User.java:7"]
+        same(ran.said, explained("refused 41 class NAME", *parts), "an element of an array")
+        Maker("q/Gone").write(path, "out/p/Gone.class")
+        ran = call("explore", "--method", "p/User.f()I", "out/p/User.class", cwd=path)
+        same(ran.said, explained("refused 41 class NAME", *parts), "a class file of another name")
+        Maker("p/Gone").write(path, "out/p/Gone.class")
+        ran = call("explore", "--method", "p/User.f()I", "out/p/User.class", cwd=path)
+        same(ran.said, explained("refused 41 class NAME", "class p/Gone lies in out/p/Gone.class"), "a class file beside")
+        Maker("p/Of", interfaces=["q/Face"]).method("f", "()I", ICONST_0 + IRETURN).write(path, "out/p/Of.class")
+        ran = call("explore", "--method", "p/Of.f()I", "out/p/Of.class", cwd=path)
+        part = "class q/Face is a superclass or an interface of p/Of"
+        same(ran.said, explained("refused 41 class NAME", part), "an interface")
         Maker("p/Below", "p/Above").method("f", "()I", ICONST_0 + IRETURN).write(path, "out/p/Below.class")
         Maker("p/Above").write(path, "out/p/Above.class")
         ran = call("explore", "--method", "p/Below.f()I", "out/p/Below.class", cwd=path)
@@ -196,7 +299,9 @@ TEXTS = [
     (TEST + TEST[:-1], "refused 60 line N", 'line 12 is "end", without a line feed'),
     (TEST[: -len("end\n")], "refused 60 line N", "line 6 is behind the last one"),
     (TEST.replace("arg 2", "arg  2\t\xe9"), "refused 60 line N", 'line 4 is "arg  2%09%C3%A9"'),
-    ("x" * 300 + "\n", "refused 60 line N", f'line 1 is "{"x" * 200}" ..'),
+    ("x" * 201 + "\n", "refused 60 line N", f'line 1 is "{"x" * 200}" ..'),
+    ("x" * 200 + "\n", "refused 60 line N", f'line 1 is "{"x" * 200}"'),
+    ("~ \x7f\x1f\n", "refused 60 line N", 'line 1 is "~ %7F%1F"'),
     (TEST + TEST.replace("A.f", "A.g"), "refused 61 test N", "test 1 is A.g(II)I"),
     (TEST.replace("arg 2\n", ""), "refused 62 test N", "test 0 is A.f(II)I"),
 ]
@@ -230,8 +335,7 @@ def test_a_full_disk():
 
 
 def test_closed_output():
-    words = ["sh", "-c", '"$0" explore --method "A.f(II)I" A.class >&-', "./kiasan"]
-    words[3] = str(DATA.parent.parent.parent / "kiasan")
+    words = ["sh", "-c", '"$0" explore --method "A.f(II)I" A.class >&-', SCRIPT]
     ran = subprocess.run(words, cwd=DATA, env=environment(), stderr=subprocess.PIPE, check=False)
     said = [f"kiasan: {line}" for line in status_lines(7)]
     same((ran.returncode, ran.stderr.decode().splitlines()), (7, said), "a closed output")
@@ -239,14 +343,80 @@ def test_closed_output():
 
 def test_what_cannot_be_asked_again():
     """The second call would find nothing to read where a file is a pipe, so only the status is told."""
+    run = {"env": environment(), "cwd": DATA, "capture_output": True, "check": False}
+    for words, data, status, output in [
+        (["explore", "--method", "A.f(II)I", "/dev/stdin"], b"x", 3, b"refused 12 file 0 at 0\n"),
+        (["replay", "--tests", "/dev/stdin", "A.class"], b"x", 9, b"refused 60 line 1\n"),
+        (["assemble", "/dev/stdin"], b"x", 9, b"refused 30 line 1\n"),
+    ]:
+        ran = subprocess.run([SCRIPT, *words], input=data, **run)
+        said = [f"kiasan: {line}" for line in status_lines(status)]
+        same((ran.returncode, ran.stdout, ran.stderr.decode().splitlines()), (status, output, said), words)
+    ran = subprocess.run([SCRIPT, "explore", "--k", "17", "/dev/stdin"], input=b"x", **run)
+    said = [f"kiasan: {line}" for line in explained("refused 94 word W", "word 2 is --k 17, --k takes 0 to 16")]
+    same((ran.returncode, ran.stderr.decode().splitlines()), (2, said), "a fault of words, for which no file is read")
+
+
+def test_texts_that_are_pipes_are_read_by_the_program_alone():
+    ran = subprocess.run(
+        [SCRIPT, "replay", "--tests", "/dev/stdin", "."],
+        input=(DATA / "a.tests").read_bytes(),
+        cwd=DATA,
+        env=environment(),
+        capture_output=True,
+        check=False,
+    )
+    said = ["kiasan: cannot read .: is a folder, and no method says which of its class files are needed"]
+    same((ran.returncode, ran.stdout, ran.stderr.decode().splitlines()), (6, b"", said), "tests of a pipe, and a folder")
+
+
+# A program that answers otherwise when it is asked again.
+CHANGES = """if [ -e asked ]; then
+    echo "$AGAIN"
+    exit "$STATUS"
+fi
+touch asked
+echo "refused 96"
+exit 2
+"""
+
+
+def test_a_second_answer_that_differs():
+    """Only the status is explained where the second status is another one, or the line is none of the page."""
+    for again, status, wanted in [
+        ("refused 96", "2", explained("refused 96")),
+        ("refused 95", "2", explained("refused 95")),
+        ("refused 45 A.g()I", "4", status_lines(2)),
+        ("refused 96", "0", status_lines(2)),
+        ("refused 9600", "2", status_lines(2)),
+        ("", "2", status_lines(2)),
+    ]:
+        with folder() as path:
+            ran = call("explore", cwd=path, env=stand_in(path, CHANGES, AGAIN=again, STATUS=status))
+            same((ran.status, ran.out, ran.said), (2, b"refused 96\n", wanted), f"{again} with {status}")
+
+
+def test_statuses_that_are_not_refusals():
     with folder() as path:
-        os.mkfifo(path / "pipe")
-        words = ["sh", "-c", 'printf x >pipe & exec "$0" explore --method "A.f(II)I" pipe']
-        ran = subprocess.run(
-            [*words, str(DATA.parent.parent.parent / "kiasan")], cwd=path, env=environment(), capture_output=True, check=False
-        )
-        said = [f"kiasan: {line}" for line in status_lines(3)]
-        same((ran.returncode, ran.stdout, ran.stderr.decode().splitlines()), (3, b"refused 12 file 0 at 0\n", said), "a pipe")
+        for status in (7, 8, 10, 70, 71):
+            ran = call("explore", cwd=path, env=stand_in(path, f"exit {status}\n"))
+            same((ran.status, ran.said), (status, status_lines(status)), f"status {status}")
+        ran = call("explore", cwd=path, env=stand_in(path, "exit 42\n"))
+        same((ran.status, ran.said), (42, []), "a status that is none of the program's")
+
+
+def test_numbers_of_places_that_are_not_there():
+    """A line that speaks of more files, methods, tests or words than there are is explained as far as it goes."""
+    with folder() as path:
+        (path / "a.tests").write_text("", encoding="ascii")
+        words = ["replay", "--tests", "a.tests", str(DATA / "A.class")]
+        for form, line, status in [
+            ("refused 18 file F method M", "refused 18 file 0 method 7", 3),
+            ("refused 61 test N", "refused 61 test 7", 9),
+        ]:
+            ran = call(*words, cwd=path, env=stand_in(path, f"echo {line}\nexit {status}\n"))
+            parts = [f"file 0 is {DATA / 'A.class'}"] if "file" in line else []
+            same((ran.status, ran.said), (status, explained(form, *parts)), line)
 
 
 def test_numbers_are_big_endian():

@@ -1,7 +1,9 @@
-"""Options: their ranges and defaults, which the page of usage says, are those of the program."""
+"""Options: their ranges and defaults, which the page of usage says, are those of the program and of docs/USING.md."""
+
+import re
 
 from script import words
-from script.tests.tools import direct, explained, same, call
+from script.tests.tools import ROOT, call, direct, explained, same
 
 TARGET = ("--method", "A.f(II)I", "A.class")
 # Where one option is as high as it may be, the paths times the budget must still be at most 2,000,000.
@@ -47,3 +49,11 @@ def test_a_range_is_told():
         part = f"word 2 is {option.name} {past}, {option.name} takes {option.low} to {option.high:,}"
         same(ran.said, explained("refused 94 word W", part), option.name)
     same(call("sample", "65").said, explained("refused 94 word W", "word 1 is 65, sample takes 0 to 64"), "sample")
+
+
+def test_ranges_and_defaults_are_those_of_the_page():
+    page = (ROOT / "docs/USING.md").read_text(encoding="utf-8")
+    found = {}
+    for name, low, high, default in re.findall(r"^\| `(--\w+)` \| ([\d,]+) to ([\d,]+): .* \| ([\d,]+) \|$", page, flags=re.M):
+        found[name] = [int(number.replace(",", "")) for number in (low, high, default)]
+    same(found, {option.name: [option.low, option.high, option.default] for option in numbers()}, "docs/USING.md")

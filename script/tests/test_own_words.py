@@ -1,25 +1,43 @@
 """The script's own words."""
 
+import os
+import signal
 import subprocess
 
 from script.own import COMMANDS
 from script.tests.maker import ABSTRACT, ICONST_0, IRETURN, NEW, POP, Maker
-from script.tests.tools import DATA, ROOT, call, cells, environment, folder, same
+from script.tests.tools import DATA, LEAST, ROOT, call, cells, environment, folder, rows, same, stand_in
 
+EXPLAINS = "explain: give the number of a refusal, a whole line `refused N ..`, or `status N`"
+WITH_HELP = "the commands with a page of help are explore, tests, replay, assemble, explain, targets, build"
 FAULTS = [
     (["--help", "x"], 2, ["--help stands alone"]),
     (["-h", "--help"], 2, ["-h stands alone"]),
     (["build", "x"], 2, ["build stands alone"]),
-    (["explain"], 2, ["explain: give the number of a refusal, a whole line `refused N ..`, or `status N`"]),
-    (["explain", "x"], 2, ["explain: give the number of a refusal, a whole line `refused N ..`, or `status N`"]),
+    (["explain"], 2, [EXPLAINS]),
+    (["explain", "x"], 2, [EXPLAINS]),
     (["explain", "7"], 2, ["explain: no refusal has the number 7: docs/REFUSALS.md"]),
-    (["explain", "refused", "47"], 2, ["explain: give the number of a refusal, a whole line `refused N ..`, or `status N`"]),
+    (["explain", "refused", "47"], 2, [EXPLAINS]),
+    (["explain", "47", "50"], 2, [EXPLAINS]),
+    (["explain", "--help", "x"], 2, [EXPLAINS]),
+    (["targets", "--help", "x"], 2, ["targets: give class files, folders or jars, behind `--check` or alone"]),
+    (["explain", "status"], 2, [EXPLAINS]),
+    (["explain", *"refused 47 A.f(II)I at 2 opcode B2".split()], 2, [EXPLAINS]),
+    (["explain", *"refused 47 A.f(II)I at x opcode b2".split()], 2, [EXPLAINS]),
+    (["explain", *"refused 47 A.f(II)I at 2 opcode b2 x".split()], 2, [EXPLAINS]),
+    (["explain", "refused 41 class "], 2, [EXPLAINS]),
+    (["explain", "refused 19 file \u0662"], 2, [EXPLAINS]),
     (["explain", "status", "12"], 2, ['explain: no status is 12: docs/USING.md, "Statuses"']),
     (["targets"], 2, ["targets: give class files, folders or jars, behind `--check` or alone"]),
     (["targets", "--check"], 2, ["targets: give class files, folders or jars, behind `--check` or alone"]),
     (["targets", "--chek", "A.class"], 2, ["targets: give class files, folders or jars, behind `--check` or alone"]),
-    (["COMMAND", "--help"], 2, [f"COMMAND is no command; the commands with a page of help are {', '.join(COMMANDS)}"]),
+    (["none", "--help"], 2, [f"none is no command; {WITH_HELP}"]),
+    (["kiasan", "--help"], 2, [f"kiasan is no command; {WITH_HELP}"]),
+    (["diagrams", "--help"], 2, [f"diagrams is not built yet; {WITH_HELP}"]),
+    (["sample", "--help"], 2, [f"sample is not built yet; {WITH_HELP}"]),
+    (["build", "--help", "x"], 2, ["build stands alone"]),
     (["targets", "gone.class"], 6, ["cannot read gone.class: No such file or directory"]),
+    (["targets", b"\xff.class"], 6, ["cannot read %FF.class: No such file or directory"]),
     (["targets", "a.tests"], 2, ["a.tests is no class file"]),
 ]
 
@@ -78,9 +96,34 @@ def test_help_of_a_command():
     same("--budget" in call("replay", "--help").out.decode(), False, "options of replay")
 
 
-def test_help_of_what_is_no_command():
-    ran = call("none", "--help")
-    same((ran.status, ran.out), (2, b"refused 91 word 0\n"), "none --help")
+def test_statuses_of_the_commands():
+    """Those that stored rows end with, and those that no row can have: 7, 8, 70, 71, and 0 of an assembler text."""
+    found = {command: {7, 8, 70, 71} for command in ("explore", "tests", "replay", "assemble")}
+    found["assemble"].add(0)
+    for words, _, status in rows():
+        if words and words[0] in found:
+            found[words[0]].add(status)
+    found["explore"] |= found["tests"]
+    found["tests"] = found["explore"]
+    same({command: set(COMMANDS[command][0]) for command in found}, found, "statuses of commands")
+
+
+def test_help_asks_for_no_program():
+    """Pages of help are there without a program, and so is what is said of a word that has none."""
+    env = environment(KIASAN_PROGRAM="/nowhere/kiasan")
+    for word, status in [("explore", 0), ("build", 0), ("diagrams", 2), ("x", 2)]:
+        same(call(word, "--help", env=env).status, status, f"{word} --help")
+    ran = call("explore", "--help", "A.class")
+    same((ran.status, ran.out), (2, b"refused 91 word 1\n"), "three words, which are the program's")
+
+
+def test_help_where_nobody_can_be_told():
+    """Words without a fault are done; the status of a fault is the same."""
+    for end in ("2>&-", "2>/dev/full" if os.path.exists("/dev/full") else "2>&-"):
+        for words, status in [([], 2), (["--help", "x"], 2), (["none", "--help"], 2), (["--help"], 0), (["explain"], 2)]:
+            text = f'exec "$0" {" ".join(words)} {end}'
+            run = subprocess.run(["sh", "-c", text, ROOT / "kiasan"], env=environment(), stdout=subprocess.PIPE, check=False)
+            same(run.returncode, status, f"{words} {end}")
 
 
 def test_targets():
@@ -95,7 +138,10 @@ def test_targets():
         same((ran.status, ran.out.decode().splitlines(), ran.said), (0, wanted, []), "targets")
         (path / "x.class").write_bytes(made.data()[:-8])
         ran = call("targets", "x.class", cwd=path)
-        same((ran.status, ran.out.decode().splitlines()[0]), (2, wanted[0]), "targets of a damaged class file")
+        # the last method's code is cut, and so is not listed; what stands before it is
+        same((ran.status, ran.out.decode().splitlines()), (2, wanted[:1]), "targets of a damaged class file")
+        same(len(ran.said), 1, "what is said of a damaged class file")
+        same(ran.said[0].startswith("x.class is damaged: byte "), True, ran.said[0])
 
 
 def test_targets_are_what_the_program_wants():
@@ -114,6 +160,20 @@ def test_targets_checked():
         for word in ("M.class", "."):
             ran = call("targets", "--check", word, cwd=path)
             same((ran.status, ran.out.decode().splitlines()), (0, wanted), word)
+
+
+def test_how_targets_are_checked():
+    """One call for each, with all bounds at their least; what is no refusal is told by its status."""
+    with folder() as path:
+        made = Maker("M").method("f", "()I", ICONST_0 + IRETURN).method("g", "()I", ICONST_0 + IRETURN)
+        made.write(path)
+        env = stand_in(path, 'echo "refused $*"\necho more\nexit 5\n')
+        wanted = [f"M.{name}()I refused explore {LEAST} --method M.{name}()I M.class" for name in "fg"]
+        same(call("targets", "--check", "M.class", cwd=path, env=env).out.decode().splitlines(), wanted, "calls")
+        for status, told in [(0, "explored"), (1, "explored"), (6, "status 6")]:
+            env = stand_in(path, f"exit {status}\n")
+            ran = call("targets", "--check", "M.class", cwd=path, env=env)
+            same(ran.out.decode().splitlines(), [f"M.{name}()I {told}" for name in "fg"], f"status {status}")
 
 
 def test_words_as_they_are():
@@ -145,6 +205,21 @@ def test_standard_input_is_the_programs():
 
 
 def test_a_reader_that_has_seen_enough():
-    text = '{ sleep 0.3; exec "$0" targets A.class; } | true'
-    run = subprocess.run(["sh", "-c", text, ROOT / "kiasan"], cwd=DATA, env=environment(), stderr=subprocess.PIPE, check=False)
-    same(run.stderr, b"", "a closed pipe")
+    """The script's own words end by the signal of a broken pipe, as other programs do."""
+    for words in (["targets", "A.class"], ["explain", "47"], ["explore", "--help"], ["--help"]):
+        reading, writing = os.pipe()
+        os.close(reading)
+        ran = call(*words, stdout=writing)
+        os.close(writing)
+        same((ran.status, ran.err), (-signal.SIGPIPE, ""), f"{words} into a closed pipe")
+
+
+def test_output_that_cannot_be_written():
+    for words in (["targets", "A.class"], ["explain", "47"], ["explore", "--help"], ["--help"], ["-h"]):
+        for end in (">/dev/full", ">&-"):
+            if os.path.exists("/dev/full"):
+                text = f'exec "$0" "$@" {end}'
+                run = ["sh", "-c", text, ROOT / "kiasan", *words]
+                ran = subprocess.run(run, cwd=DATA, env=environment(), stderr=subprocess.PIPE, check=False)
+                wanted = (7, b"kiasan: the output could not be written\n")
+                same((ran.returncode, ran.stderr), wanted, f"{words} {end}")

@@ -1,6 +1,7 @@
 """Folders, archives, and the files beside a class file: what is taken of them, and what is said of it."""
 
 import os
+import shutil
 import zipfile
 
 from script.tests.maker import (
@@ -36,9 +37,10 @@ def write_list(path):
 
 
 def write_archive(path, name="lib.jar"):
-    """An archive of the class files in a folder."""
+    """An archive of the class files in a folder, with another class of the name of one, which is not looked into."""
     with zipfile.ZipFile(path.parent / name, "w", zipfile.ZIP_DEFLATED) as archive:
-        archive.writestr("META-INF/versions/9/p/List.class", b"not looked into")
+        for named in ("p/List", "M"):
+            archive.writestr(f"META-INF/versions/9/{named}.class", Maker(named).data())
         for file in sorted(path.rglob("*.class")):
             archive.write(file, file.relative_to(path))
     return path.parent / name
@@ -52,8 +54,10 @@ def paths_of(ran):
 def test_a_folder_and_an_archive():
     with folder() as path:
         write_list(path / "classes")
-        write_archive(path / "classes")
-        for place in ("classes", "lib.jar"):
+        for name in ("lib.jar", "lib.zip", "LIB.JAR"):
+            write_archive(path / "classes", name)
+        shutil.copytree(path / "classes", path / "folder.jar")
+        for place in ("classes", "lib.jar", "lib.zip", "LIB.JAR", "folder.jar"):
             ran = call("explore", "--method", SIZE, place, cwd=path)
             # no list; one without nodes; one with a node; each node is deeper than none
             same((ran.status, paths_of(ran)), (0, 3), place)
@@ -68,6 +72,25 @@ def test_files_beside_a_class_file():
         same(ran.said, ["of p/List$*.class (2 class files): p/List$Node"], "nested classes")
         ran = call("explore", "--method", SIZE, "p/List.class", "p/List$Node.class", cwd=path)
         same((ran.status, paths_of(ran), ran.said), (0, 3, []), "a nested class that is named")
+        for name in ("ListNode.class", "List.Node.class", "List$Node.txt", "MyList$Node.class"):
+            (path / "p/List$Node.class").replace(path / "p" / name)
+            ran = call("explore", "--method", SIZE, "p/List.class", cwd=path)
+            same(ran.said[0].startswith("warning: class p/List$Node is not given"), True, ran.said[0])
+            (path / "p" / name).replace(path / "p/List$Node.class")
+        said = call("explore", "--method", SIZE, "List.class", cwd=path / "p").said
+        same(said, ["of List$*.class (2 class files): p/List$Node"], "class files of this folder")
+
+
+def test_files_beside_stand_behind_their_class_file():
+    with folder() as path:
+        write_list(path)
+        (path / "Z.class").write_bytes((DATA / "magic.class").read_bytes())
+        ran = call("explore", "--method", SIZE, "p/List.class", "Z.class", cwd=path)
+        same(ran.out, b"refused 10 file 2\n", "a class file behind them")
+        same(ran.said[1:], explained("refused 10 file F", "file 2 is Z.class"), "a class file behind them")
+        (path / "p/List$Node.class").write_bytes(Maker("p/List$Node").data() + b"\0")
+        ran = call("explore", "--method", SIZE, "p/List.class", cwd=path)
+        same(ran.said[1:], explained("refused 17 file F at N", "file 1 is p/List$Node.class"), "a file beside")
 
 
 def test_one_class_twice():
@@ -87,10 +110,22 @@ def test_one_class_twice():
             ran = call("explore", "--method", SIZE, *words, cwd=path)
             form = "refused 45 TARGET" if words[0] == "two.jar" else None
             same(ran.said, said + (explained(form) if form else []), words)
-        write_list(path / "three/a")
-        write_list(path / "three/b")
-        ran = call("explore", "--method", SIZE, "three", cwd=path)
-        same((paths_of(ran), ran.said), (3, ["of three (8 class files): p/List, p/List$Node"]), "one class twice in a folder")
+
+
+def test_one_class_twice_in_a_place():
+    """The first by rising names of the files counts, whatever is written first."""
+    for first, second in (("a", "b"), ("b", "a")):
+        with folder() as path:
+            write_list(path / "all" / first)
+            Maker("p/List").write(path / "all" / second)
+            with zipfile.ZipFile(path / "lib.jar", "w") as archive:
+                for file in (*(path / "all/b").rglob("*.class"), *(path / "all/a").rglob("*.class")):
+                    archive.write(file, file.relative_to(path / "all"))
+            for place in ("all", "lib.jar"):
+                ran = call("explore", "--method", SIZE, place, cwd=path)
+                taken = "p/List, p/List$Node" if first == "a" else "p/List"
+                same(ran.said[0], f"of {place} (5 class files): {taken}", f"one class twice in {place}")
+                same(ran.status, 0 if first == "a" else 4, f"one class twice in {place}")
 
 
 def test_where_class_files_stand():
@@ -117,12 +152,116 @@ def test_a_class_file_of_an_archive_is_called_by_it():
         same(ran.said[1:], wanted, "a damaged class file of an archive")
 
 
+def test_one_class_twice_in_one_folder():
+    for first, second in (("A", "B"), ("B", "A")):
+        with folder() as path:
+            write_list(path / "all")
+            (path / "all/p/List.class").rename(path / f"all/p/{first}.class")
+            Maker("p/List").write(path / "all", f"p/{second}.class")
+            ran = call("explore", "--method", SIZE, "all", cwd=path)
+            same(ran.said[0].startswith("of all (5 class files): p/List"), True, ran.said[0])
+            same(ran.status, 0 if first == "A" else 4, f"the class of {first}.class")
+
+
+def test_a_class_file_whose_name_cannot_be_read():
+    """It goes by its path in the place, and is refused where it is needed."""
+    with folder() as path:
+        write_list(path / "classes")
+        (path / "classes/p/List$Node.class").write_bytes(Maker("p/List$Node").data()[:12])
+        (path / "classes/p/Other.class").write_bytes(Maker("p/Other").data()[:12])
+        write_archive(path / "classes")
+        for words, file in [
+            (["classes"], "classes/p/List$Node.class"),
+            (["lib.jar"], "lib.jar!/p/List$Node.class"),
+            (["--k", "2", "classes"], "classes/p/List$Node.class"),
+        ]:
+            ran = call("explore", "--method", SIZE, *words, cwd=path)
+            same(ran.said[0], f"of {words[-1]} (4 class files): p/List, p/List$Node", words)
+            same((ran.status, ran.out.decode().split()[:4]), (3, "refused 12 file 1".split()), words)
+            same(ran.said[1:], explained("refused 12 file F at N", f"file 1 is {file}"), words)
+        ran = call("explore", "--method", "p/List$Node.f()I", "classes/p", cwd=path)
+        same((ran.status, ran.said[0]), (6, "no class p/List$Node in classes/p"), "a path from elsewhere")
+
+
+def padded(made, length):
+    """A class file of that length, with an attribute that nobody reads (JVMS 8 section 4.7)."""
+    short = len(made.data()) + len(made.attribute("Padding", b""))
+    made.attributes.append(made.attribute("Padding", bytes(length - short - len(b"\1\0\7Padding"))))
+    same(len(made.data()), length, "the length of a padded class file")
+    return made
+
+
+def test_the_longest_class_files():
+    """One of 1,048,576 bytes is read, and one of a byte more refused, as docs/USING.md says."""
+    for length, status, output in [(1_048_576, 0, b"kiasan report 1"), (1_048_577, 3, b"refused 19 file 0")]:
+        with folder() as path:
+            padded(Maker("M").method("f", "()I", ICONST_0 + IRETURN), length).write(path / "all")
+            write_archive(path / "all")
+            for words in (["all"], ["lib.jar"], ["all/M.class"]):
+                ran = call("explore", "--method", "M.f()I", *words, cwd=path)
+                same((ran.status, ran.out.split(b"\n")[0]), (status, output), f"{length} bytes, {words}")
+
+
+def test_a_folder_whose_name_is_that_of_an_option():
+    """A class file of it that stands first is no option of the program."""
+    with folder() as path:
+        (path / "empty").mkdir()
+        Maker("Other").write(path / "empty")
+        write_list(path / "--k")
+        ran = call("explore", "--method", SIZE, "empty", "--k", cwd=path)
+        said = ["of empty (1 class file): nothing", "of --k (4 class files): p/List, p/List$Node"]
+        same((ran.status, paths_of(ran), ran.said), (0, 3, said), "a folder that is called --k")
+
+
+def test_archives_in_a_folder_are_not_looked_into():
+    with folder() as path:
+        write_list(path / "classes")
+        (path / "all").mkdir()
+        write_archive(path / "classes").rename(path / "all/lib.jar")
+        ran = call("explore", "--method", SIZE, "all", cwd=path)
+        same((ran.status, ran.said), (6, ["cannot read all: is a folder without class files"]), "an archive in a folder")
+        with zipfile.ZipFile(path / "none.jar", "w") as archive:
+            archive.writestr("p/List.txt", b"")
+            archive.writestr("META-INF/List.class", Maker("p/List").data())
+        ran = call("explore", "--method", SIZE, "none.jar", cwd=path)
+        same((ran.status, ran.said), (6, ["cannot read none.jar: is an archive without class files"]), "an archive without any")
+
+
+def test_words_of_diagrams():
+    """The command is not built, but its words are those of explore."""
+    with folder() as path:
+        write_list(path / "all")
+        ran = call("diagrams", "--method", SIZE, "all", cwd=path)
+        same((ran.status, ran.out), (5, b"refused 50\n"), "diagrams")
+        of_all = "of all (4 class files): p/List, p/List$Node"
+        same(ran.said, [of_all, *explained("refused 50", "word 0 is diagrams")], "diagrams")
+
+
+def test_a_file_of_a_folder_that_cannot_be_read():
+    """As root every file may be read, so the call is made as nobody; then only where nobody may run the script."""
+    other = {"user": 65534, "group": 65534} if os.geteuid() == 0 else {}
+    with folder() as path:
+        path.chmod(0o755)
+        write_list(path / "all")
+        (path / "all/p/Other.class").chmod(0)
+        (path / "all/secret").mkdir(mode=0)
+        try:
+            ran = call("explore", "--method", SIZE, "all", cwd=path, **other)
+        except PermissionError:
+            return
+        finally:
+            (path / "all/secret").chmod(0o755)
+        said = [f"warning: cannot read all/{name}: Permission denied" for name in ("secret", "p/Other.class")]
+        same((ran.status, ran.said), (0, [*said, "of all (3 class files): p/List, p/List$Node"]), "files without rights")
+
+
 def needed(classes, method, *words):
     """What is taken of a folder with these classes for a method."""
     with folder() as path:
         for made in classes:
             made.write(path / "all")
         ran = call("explore", "--method", method, *words, "all", cwd=path)
+        same(ran.status != 3, True, f"class files that have no fault: {ran.out}")
         line = next(line for line in ran.said if line.startswith("of all"))
         return line.partition(": ")[2].split(", ")
 
@@ -179,6 +318,52 @@ def test_65_class_files_are_needed():
         why = "65 class files are needed: 3 by the code, 62 since they are below Shape; name singly those that are to count"
         taken = "of all (65 class files): Last, M, S00, S01, S02, S03, S04, S05 and 57 more"
         same(ran.said, [taken, *explained("refused 49", why)], "65 class files")
+
+
+def test_why_so_many():
+    """Those named singly, those by the code, and those below a class, of which most stand first."""
+    with folder() as path:
+        made = Maker("M")
+        made.method("f", "(LFew;LMany;)I", NEW + made.class_ref("Made") + POP + ICONST_0 + IRETURN).write(path)
+        for name in ("Made", "Few", "Many"):
+            Maker(name).write(path / "all")
+        for number in range(20):
+            Maker(f"F{number:02}", "Few").write(path / "all")
+        for number in range(40):
+            Maker(f"G{number:02}", "Many").write(path / "all")
+        same(call("explore", "--method", "M.f(LFew;LMany;)I", "M.class", "all", cwd=path).status, 5, "64 class files")
+        Maker("H", "Few").write(path / "all")
+        ran = call("explore", "--method", "M.f(LFew;LMany;)I", "M.class", "all", cwd=path)
+        why = "65 class files are needed: 1 named singly, 3 by the code, 40 since they are below Many, "
+        why += "21 since they are below Few; name singly those that are to count"
+        same(ran.said[1:], explained("refused 49", why), "65 class files")
+
+
+def test_65_class_files_that_are_named_singly():
+    """Who names them has chosen, so nothing is said of what is needed."""
+    with folder() as path:
+        files = [Maker(f"S{number:02}").write(path) for number in range(65)]
+        same(call("explore", "--method", "S00.f()I", *files, cwd=path).said, explained("refused 49"), "65 class files")
+
+
+def test_near_names():
+    """At most eight, those first that have most in common with the wanted one."""
+    with folder() as path:
+        names = ["p/Lists", "q/List", *(f"p/List{number:02}" for number in range(10)), "Unlike"]
+        for name in names:
+            Maker(name).write(path / "all")
+        ran = call("explore", "--method", "p/List.f()I", "all", cwd=path)
+        near = ran.said[1].removeprefix("near names: ").split(", ")
+        same((ran.said[0], len(near), set(near) <= set(names[:-1])), ("no class p/List in all", 8, True), "near names")
+        same(sorted(near[:2]), ["p/Lists", "q/List"], "the nearest names")
+
+
+def test_a_class_that_is_not_beside():
+    """Where the one place is what lies beside a class file, the program says that the class is not there."""
+    with folder() as path:
+        write_list(path)
+        ran = call("explore", "--method", "p/Lst.f()I", "p/List.class", cwd=path)
+        same((ran.status, ran.out), (4, b"refused 45 p/Lst.f()I\n"), "a slip, and no place that was named")
 
 
 def test_the_targets_class_is_not_there():
@@ -259,7 +444,11 @@ def test_what_is_no_class_file_is_passed_over():
         write_list(path / "all")
         (path / "all/Text.class").write_text("none", encoding="ascii")
         (path / "all/p/Source.java").write_text("none", encoding="ascii")
+        (path / "all/p/Gone.class").symlink_to("nowhere")
+        (path / "all/p/List$Folder.class").mkdir()
         same(call("explore", "--method", SIZE, "all", cwd=path).said, ["of all (4 class files): p/List, p/List$Node"], "others")
+        ran = call("explore", "--method", SIZE, "all/p/List.class", cwd=path)
+        same(ran.said, ["of all/p/List$*.class (2 class files): p/List$Node"], "others beside a class file")
 
 
 def test_words_without_a_target_are_handed_on():

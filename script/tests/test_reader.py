@@ -66,11 +66,25 @@ def test_cut_class_files():
             judge(data[:length], f"{name} cut to {length} bytes")
 
 
-def test_changed_class_files():
-    for name, data in files().items():
+def judge_changed(names):
+    """Each byte of these files as others."""
+    for name in names:
+        data = files()[name]
         for at, byte in enumerate(data):
             for other in {0, 1, 0xFF, byte ^ 0x80, (byte + 1) % 256} - {byte}:
                 judge(data[:at] + bytes([other]) + data[at + 1 :], f"{name} with byte {at} as {other}")
+
+
+def test_a_changed_class_file_by_hand():
+    judge_changed(list(files())[:1])
+
+
+def test_changed_class_files():
+    judge_changed(list(files())[1::2])
+
+
+def test_other_changed_class_files():
+    judge_changed(list(files())[2::2])
 
 
 def test_a_class_file_is_read():
@@ -100,3 +114,44 @@ def test_where_it_stops():
         file = ClassFile(data[:length])
         file.read_whole()
         same(file.stopped, stopped, f"the first {length} bytes")
+
+
+def test_lines_of_offsets():
+    """An offset has the line of the last row that begins at it or before it; rows have no order (JVMS 8 section 4.7.12)."""
+    made = Maker("M").method("f", "()I", b"\0" * 9 + ICONST_0 + IRETURN, lines=[(8, 6), (2, 7), (4, 5)])
+    code = ClassFile(made.data()).methods[0].code
+    wanted = [None, None, 7, 7, 5, 5, 5, 5, 6, 6, 6]
+    same([code.line_at(at) for at in range(11)], wanted, "lines")
+    made = Maker("M").method("f", "()I", ICONST_0 + IRETURN)
+    same(ClassFile(made.data()).methods[0].code.line_at(0), None, "no lines")
+
+
+def test_names_of_arguments():
+    """Locals of longs and doubles take two numbers; a name from a later offset on is that of another local."""
+    names = [(0, "one"), (1, "two"), (3, "three"), (4, "four"), (6, "five", 1)]
+    for access, wanted in [(8, ["one", "two", "three", "four", None]), (1, ["one", "two", None, "four", None])]:
+        made = Maker("M").method("f", "(IJLM;DI)I", b"\0" + ICONST_0 + IRETURN, access=access, names=names)
+        method = ClassFile(made.data()).methods[0]
+        same([argument_name(method, place) for place in range(5)], wanted, f"names of a method with flags {access}")
+
+
+def test_entries_behind_those_of_two_numbers():
+    made = Maker("M")
+    numbers = made.long_entry(), made.named("Behind")
+    file = ClassFile(made.data())
+    same((numbers[1] - numbers[0], file.class_name(numbers[1])), (3, "Behind"), "an entry behind a long one")
+    same((file.tag(numbers[0]), file.tag(numbers[0] + 1), file.tag(60000)), (5, None, None), "tags")
+    same((file.name, file.stopped), ("M", None), "the class")
+
+
+def test_what_a_damaged_class_file_still_says():
+    """Members before the first byte that does not fit are there."""
+    made = Maker("M").field("x", "I").method("f", "()I", ICONST_0 + IRETURN).method("g", "()I", ICONST_0 + IRETURN)
+    data = made.data()
+    at = data.rindex(b"Code")
+    file = ClassFile(data[:-3])
+    file.read_whole()
+    same(([each.name for each in file.fields], at < file.stopped), (["x"], True), "fields")
+    same([each.name for each in file.methods if each.code], ["f"], "methods with code")
+    file = ClassFile(data.replace(b"\xca\xfe\xba\xbe", b"\xca\xfe\xba\xbf"))
+    same((file.is_class_file, file.stopped, file.methods), (False, 0, []), "what is no class file")

@@ -12,6 +12,8 @@ SCRIPT = ROOT / "kiasan"
 ROWS = ROOT / "crates" / "kiasan_rows"
 DATA = ROWS / "data"
 AT_ONCE, MOST_CHARACTERS = 3, 300
+# Words that set each bound to its least, by docs/USING.md.
+LEAST = "--k 0 --array 0 --alloc 0 --loops 0 --depth 1 --steps 1 --paths 1 --budget 1"
 # The program that the tests are run on; `run` sets it.
 PROGRAM = ""
 
@@ -72,6 +74,13 @@ def direct(*words, cwd=DATA, **more):
     """Runs the program itself on words."""
     ran = subprocess.run([PROGRAM, *words], cwd=cwd, stdin=subprocess.DEVNULL, stdout=subprocess.PIPE, check=False, **more)
     return Ran(ran.returncode, ran.stdout, "")
+
+
+def stand_in(path, text, **more):
+    """An environment whose program is a shell script in that folder."""
+    (path / "program").write_text(f"#!/bin/sh\n{text}", encoding="ascii")
+    (path / "program").chmod(0o755)
+    return environment(KIASAN_PROGRAM=str(path / "program"), **more)
 
 
 @contextmanager
