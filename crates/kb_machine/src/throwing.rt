@@ -8,6 +8,7 @@ ghost use Rattle.kb_heap.specs.declared.heap.Value.TheVariants.{Ref};
 ghost use Rattle.kb_heap.specs.Heap.{object_at, with_object};
 ghost use Rattle.kb_link.specs.Subtypes.{fits};
 ghost use Rattle.kb_semantics.specs.Instructions.{throw, with};
+ghost use Rattle.kb_semantics.specs.Values.{new_object};
 ghost use Rattle.kb_semantics.specs.Ways.{ill_typed, throws, throws_object};
 ghost use Rattle.kb_machine.specs.declared.turn.Step.TheVariants as steps;
 ghost use Rattle.kb_machine.specs.Turns.{setting_of, config_of, told};
@@ -51,8 +52,7 @@ impl State {
     pub(crate) fn throws(&mut self, turn: &Turn<'_>, class: &[u8]) -> Result<Step, NoMemory>
         ensures { IfOk result (λ step. told turn.now step self.new ≡ throws (setting_of turn.now) (config_of turn.now self.old) class.now) }
     {
-        let name = Name::from_slice(turn.alloc, class)?;
-        let object = new_object(turn.alloc, turn.world, name)?;
+        let object = object_of(turn, class)?;
         let place = self.ill_typed();
         match unwind(turn, &mut self.frame, &mut self.callers, &object.kind) {
             Landing::Caught => {
@@ -107,4 +107,12 @@ impl State {
             None => Ok(self.ill_typed()),
         }
     }
+}
+
+// A new object of a class by its name.
+fn object_of(turn: &Turn<'_>, class: &[u8]) -> Result<Object, NoMemory>
+    ensures { IfOk result (λ object. object ≡ new_object turn.now.world.now class.now) }
+{
+    let name = Name::from_slice(turn.alloc, class)?;
+    new_object(turn.alloc, turn.world, name)
 }
