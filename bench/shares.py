@@ -29,7 +29,7 @@ def part(functions, dropped):
 # those of kb_heap copy what a path or a test is given, and no state
 COPYING = part(
     r"kb_(?:drive|frames|picture|terms)::(?:\w+::)*cop(?:y|ied)\w*$",
-    r"kb_drive\+\+piece|kb_frames\+\+(?:state|frame|conditions)|kb_picture\+\+picture|kb_terms\+\+pool",
+    r"kb_drive\+\+(?:piece|valued)|kb_frames\+\+(?:state|frame|conditions)|kb_picture\+\+picture|kb_terms\+\+pool",
 )
 FORMULAS = part(r"kb_(?:blast|circuit)::", r"kb_(?:blast|circuit)\+\+\w+|kb_chain\+\+formula")
 SOLVING = part(r"kb_(?:sat|eliminate)::", r"kb_(?:sat|eliminate)\+\+\w+|kb_chain\+\+log")
