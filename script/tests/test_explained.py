@@ -205,6 +205,18 @@ def test_what_is_not_explored_yet():
             same(ran.said, explained("refused 50", *parts), target)
 
 
+def test_the_method_is_that_of_its_class():
+    """Another class that is given first has a method of the same name and descriptor."""
+    other = Maker("A").method("f", "()I", ICONST_0 + ICONST_0 + NEW + b"\0\1" + IRETURN)
+    made = Maker("B")
+    made.method("f", "()I", STATIC_CALL + made.method_ref("B", "f", "()I") + IRETURN)
+    with folder() as path:
+        files = [other.write(path), made.write(path)]
+        ran = call("explore", "--method", "B.f()I", *files, cwd=path)
+        part = "B.f()I at 0 is invokestatic B.f()I, which is not explored yet"
+        same(ran.said, explained("refused 50", part), "two methods of one name")
+
+
 def test_a_field_that_is_not_there():
     made = Maker("Q", source="Q.java")
     made.method("f", "(LQ;)I", ALOAD_0 + GETFIELD + made.field_ref("Q", "gone", "I") + IRETURN, lines=[(0, 5)])
@@ -218,12 +230,12 @@ def test_a_field_that_is_not_there():
 def test_places_in_a_class_file():
     """The method of a fault of code, and the text of an entry that is no name or stands twice."""
     with folder() as path:
-        made = Maker("Q").method("f", "()I", ICONST_0 + IRETURN).method("g", "(LQ;I)V", b"\xcb")
+        made = Maker("Q").method("f", "()I", ICONST_0 + IRETURN).method("g h", "(LQ;I)V", b"\xcb")
         made.write(path)
         (path / "a.tests").write_text("", encoding="ascii")
         for words in (["explore", "--method", "Q.f()I"], ["replay", "--tests", "a.tests"]):
             ran = call(*words, "Q.class", cwd=path)
-            parts = ["file 0 is Q.class", "method 1 is g(LQ;I)V", "opcode cb is no opcode"]
+            parts = ["file 0 is Q.class", "method 1 is g%20h(LQ;I)V", "opcode cb is no opcode"]
             same(ran.said, explained("refused 20 file F method M at N opcode HH", *parts), words)
         Maker("Q").method("twice", "()I", ICONST_0 + IRETURN).method("twice", "()I", ICONST_0 + IRETURN).write(path)
         ran = call("explore", "--method", "Q.f()I", "Q.class", cwd=path)
@@ -325,6 +337,10 @@ def test_an_assembler_text():
 def test_words_that_are_not_utf_8():
     ran = call("explore", "--method", "A.f(II)I", b"\xff.class")
     same((ran.status, ran.out, ran.said), (71, b"", status_lines(71)), "a word that is not UTF-8")
+    with folder() as path:
+        Maker("M").method("f", "()I", ICONST_0 + IRETURN).write(path / os.fsdecode(b"\xff"))
+        ran = call("explore", "--method", "M.f()I", b"\xff", cwd=path)
+        same((ran.status, ran.out, ran.said), (71, b"", status_lines(71)), "a folder whose name is not UTF-8")
 
 
 def test_a_full_disk():

@@ -194,6 +194,8 @@ def test_a_program_that_is_named():
         (path / "own").symlink_to(environment()["KIASAN_PROGRAM"])
         ran = call("explore", cwd=path, env=environment(KIASAN_PROGRAM="own"))
         same((ran.status, ran.out), (2, b"refused 95\n"), "a program in this folder")
+        ran = call("--", "explore", cwd=path, env=environment(KIASAN_PROGRAM="own"))
+        same((ran.status, ran.out), (2, b"refused 95\n"), "the same behind --")
 
 
 def test_standard_input_is_the_programs():

@@ -208,6 +208,11 @@ def int_bytes(number):
     return number.to_bytes(4, "big", signed=True)
 
 
+def test_a_target_that_is_an_initialiser_reaches_nothing():
+    """A method whose name begins with < is none that a target names (refused 45)."""
+    same(needed([with_method("M", "<init>", "Deep"), *plain("Deep")], "M.<init>()V"), ["M"], "an initialiser")
+
+
 def test_interfaces_of_interfaces():
     made = Maker("M", interfaces=["I"]).method("f", "()I", END)
     classes = [made, Maker("I", interfaces=["J"], access=INTERFACE), Maker("J", access=INTERFACE), Maker("K", access=INTERFACE)]

@@ -110,7 +110,8 @@ def test_all_that_is_read():
 
 def test_where_it_stops():
     data = (DATA / "B.class").read_bytes()
-    for length, stopped in [(3, 0), (9, 8), (len(data) - 1, len(data) - 2)]:
+    # the first entry of the pool, at 10, is a Methodref, which takes five bytes
+    for length, stopped in [(3, 0), (9, 8), (12, 10), (14, 10), (len(data) - 1, len(data) - 2)]:
         file = ClassFile(data[:length])
         file.read_whole()
         same(file.stopped, stopped, f"the first {length} bytes")

@@ -117,6 +117,8 @@ def test_replay_warns_of_nothing():
         (path / "a.tests").write_text(test, encoding="ascii")
         ran = call("replay", "--tests", "a.tests", "M.class", cwd=path)
         same((ran.status, ran.said), (0, []), "a replay")
+        ran = call("replay", "--tests", "a.tests", ".", cwd=path)
+        same((ran.status, ran.said), (0, ["of . (1 class file): M"]), "a replay with a place")
 
 
 def test_static_fields_are_no_slots():
