@@ -1,18 +1,18 @@
 //! Questions about conditions.
 ghost use Rattle.std.specs.Prelude.{◌<◌};
 
-use crate::numbers::{read_budget, words_of};
+use crate::numbers::read_budget;
 use crate::outcomes::{Outcome, judged_open, judged_refutation, judged_values};
 use crate::subjects::{Subject, Subjects, conditions_of};
 use crate::terms::{Query, op_named};
 use kb_blast::can_blast;
 use kb_chain::{Formula, Log};
 use kb_oracle::{Answer, Oracle, OracleStop, SolverOracle};
-use kb_table::{RowResult, RowStop, kept};
+use kb_table::{RowResult, RowStop, kept, read_words};
 use std::alloc::Global;
 
 /// What an oracle says of conditions.
-pub fn asked<O: Oracle>(
+fn asked<O: Oracle>(
     alloc: Global,
     oracle: &mut O,
     query: &Query,
@@ -31,19 +31,46 @@ pub fn solved(alloc: Global, query: &Query, budget: u32) -> RowResult<Answer>
     kept(asked(alloc, &mut oracle, query)?)
 }
 
-/// What the solver comes to, and how many undecided answers its oracle counts.
-pub fn ask_text(alloc: Global, subject: &Subject, budget: &str) -> RowResult<String> {
-    let query = subject.query()?;
+/// Appends what the solver comes to, and how many undecided answers its oracle counts.
+pub fn append_ask(
+    alloc: Global,
+    subject: &Subject,
+    budget: &str,
+    into: &mut String,
+) -> RowResult<()> {
     let mut oracle = SolverOracle::new(read_budget(budget)?);
-    let answer = kept(asked(alloc, &mut oracle, query)?)?;
-    let outcome = outcome_of(alloc, &subject.formula, query, &answer)?;
-    let text = outcome.text(alloc)?;
+    append_call(alloc, &mut oracle, subject, into)?;
     let unsure = oracle.unsure();
-    Ok(format!(in alloc; "{text}, {unsure} undecided")?)
+    Ok(write!(into, ", {unsure} undecided")?)
+}
+
+/// Appends what one call of an oracle comes to.
+pub fn append_call<O: Oracle>(
+    alloc: Global,
+    oracle: &mut O,
+    subject: &Subject,
+    into: &mut String,
+) -> RowResult<()> {
+    let query = subject.query()?;
+    match asked(alloc, oracle, query)? {
+        Ok(answer) => append_outcome(alloc, &subject.formula, query, &answer, into),
+        Err(OracleStop::Bad(number)) => Ok(write!(into, "bad {number}")?),
+        Err(OracleStop::NoMemory) => Ok(into.push_str("no memory")?),
+    }
+}
+
+fn append_outcome(
+    alloc: Global,
+    formula: &Formula,
+    query: &Query,
+    answer: &Answer,
+    into: &mut String,
+) -> RowResult<()> {
+    outcome_of(alloc, formula, query, answer)?.append_to(into)
 }
 
 /// What an answer comes to.
-pub fn outcome_of(
+fn outcome_of(
     alloc: Global,
     formula: &Formula,
     query: &Query,
@@ -56,25 +83,54 @@ pub fn outcome_of(
     }
 }
 
-/// The values of the model.
-pub fn values_text(alloc: Global, subject: &Subject, budget: &str) -> RowResult<String> {
-    let Answer::Model(values) = solved(alloc, subject.query()?, read_budget(budget)?)? else {
-        return Err(RowStop::Malformed);
-    };
-    let mut text = String::new(alloc);
-    for value in values.as_slice() {
-        text.push_str(format!(in alloc; "{value} ")?.as_str())?;
-    }
-    Ok(text)
+/// Appends the values of the model.
+pub fn append_values(
+    alloc: Global,
+    subject: &Subject,
+    budget: &str,
+    into: &mut String,
+) -> RowResult<()> {
+    let budget = read_budget(budget)?;
+    let answer = solved(alloc, subject.query()?, budget)?;
+    append_model(&answer, into)
 }
 
-/// Whether the conditions and those before them have one answer, to the last step of its log.
-pub fn alike_text(alloc: Global, subjects: &Subjects, budget: &str) -> RowResult<String> {
+fn append_model(answer: &Answer, into: &mut String) -> RowResult<()> {
+    let Answer::Model(values) = answer else {
+        return Err(RowStop::Malformed);
+    };
+    for value in values.as_slice() {
+        write!(into, "{value} ")?;
+    }
+    Ok(())
+}
+
+/// Appends whether the conditions and those before them have one answer, to the last step of its log.
+pub fn append_alike(
+    alloc: Global,
+    subjects: &Subjects,
+    budget: &str,
+    into: &mut String,
+) -> RowResult<()> {
     let budget = read_budget(budget)?;
-    let left = solved(alloc, subjects.former.get().query()?, budget)?;
-    let right = solved(alloc, subjects.current.get().query()?, budget)?;
-    let alike = are_alike(&left, &right);
-    Ok(format!(in alloc; "{alike}")?)
+    let former = subjects.former.get().query()?;
+    let current = subjects.current.get().query()?;
+    let alike = have_one_answer(alloc, former, current, budget)?;
+    Ok(write!(into, "{alike}")?)
+}
+
+fn have_one_answer(alloc: Global, left: &Query, right: &Query, budget: u32) -> RowResult<bool>
+    requires { 0 < budget }
+{
+    let left = solved(alloc, left, budget)?;
+    is_answer_to(alloc, &left, right, budget)
+}
+
+fn is_answer_to(alloc: Global, answer: &Answer, query: &Query, budget: u32) -> RowResult<bool>
+    requires { 0 < budget }
+{
+    let other = solved(alloc, query, budget)?;
+    Ok(are_alike(answer, &other))
 }
 
 fn are_alike(left: &Answer, right: &Answer) -> bool {
@@ -94,28 +150,33 @@ fn are_one_log(left: &Log, right: &Log) -> bool {
             && a.steps.as_slice() == b.steps.as_slice())
 }
 
-/// Whether an operation on two ints, of which one that takes one int leaves the second aside, has that value and no other: with
-/// the value there is a model, and with every other one a refutation.
-pub fn computes_text(alloc: Global, text: &str) -> RowResult<String> {
-    let words = words_of(alloc, text)?;
-    let [op, left, right, value] = words.as_slice() else {
+/// Appends whether an operation on two ints, of which one that takes one int leaves the second aside, has that value and no
+/// other: with the value there is a model, and with every other one a refutation.
+pub fn append_computes(alloc: Global, text: &str, into: &mut String) -> RowResult<()> {
+    let words = read_words(alloc, text, ' ')?;
+    let computes = outcome_where(alloc, words.as_slice(), "+")? == Outcome::Model
+        && outcome_where(alloc, words.as_slice(), "-")? == Outcome::Refuted;
+    Ok(write!(into, "{computes}")?)
+}
+
+/// What the solver comes to where an operation on two ints has that value, with the sign `-` where it has another one.
+fn outcome_where(alloc: Global, words: &[String], sign: &str) -> RowResult<Outcome> {
+    let [op, left, right, value] = words else {
         return Err(RowStop::Malformed);
     };
-    let operands = match op_named(op) {
+    let operands = match op_named(op.as_str()) {
         Some(op) if op.is_binary() => "v0 v1",
         _ => "v0",
     };
-    let inputs = format!(in alloc; "+eq v0 {left}, +eq v1 {right}, ")?;
-    let is = format!(in alloc; "{inputs}+eq {op} {operands} {value}")?;
-    let other = format!(in alloc; "{inputs}-eq {op} {operands} {value}")?;
-    let right = outcome_of_ints(alloc, is.as_str())? == Outcome::Model
-        && outcome_of_ints(alloc, other.as_str())? == Outcome::Refuted;
-    Ok(format!(in alloc; "{right}")?)
+    let text = format!(in alloc;
+        "+eq v0 {left}, +eq v1 {right}, {sign}eq {op} {operands} {value}"
+    )?;
+    outcome_of_ints(alloc, text.as_str())
 }
 
 /// What the solver comes to on conditions over two ints.
 fn outcome_of_ints(alloc: Global, text: &str) -> RowResult<Outcome> {
-    let (subject, _) = conditions_of(alloc, "ii", text)?;
+    let subject = conditions_of(alloc, "ii", text)?;
     outcome_on(alloc, subject.get(), 1000)
 }
 

@@ -1,6 +1,7 @@
 //! Questions about texts in the DIMACS format, and about what is written of them.
 
-use crate::formulas::{append_clause, read_log};
+use crate::formulas::{append_place, read_log};
+use crate::log_lines::{append_line, append_lines};
 use kb_chain::{Formula, Log, Verdict, check_fresh, check_refutation};
 use kb_dimacs_text::{Answer, answer_solved, read_dimacs, read_request, run};
 use kb_outside::{OutSink, ShelfStop, Sink};
@@ -43,51 +44,57 @@ fn command_words(alloc: Global, line: &str) -> RowResult<Vec<String>> {
     Ok(words)
 }
 
-/// The formula that a text spells.
-pub fn cnf_text(alloc: Global, text: &str) -> RowResult<String> {
+/// Appends the formula that a text spells.
+pub fn append_cnf(alloc: Global, text: &str, into: &mut String) -> RowResult<()> {
     let text = unescaped(alloc, text)?;
     match read_dimacs(alloc, text.as_bytes()) {
-        Ok(formula) => formula_text(alloc, &formula),
+        Ok(formula) => append_formula(&formula, into),
         Err(_) => Err(RowStop::NoMemory),
     }
 }
 
-fn formula_text(alloc: Global, formula: &Formula) -> RowResult<String> {
+fn append_formula(formula: &Formula, into: &mut String) -> RowResult<()> {
     let (variables, clauses) = (formula.vars(), formula.clauses().len());
-    let mut spelled = format!(in alloc; "{variables} variables, {clauses} clauses ")?;
+    write!(into, "{variables} variables, {clauses} clauses ")?;
     for clause in formula.clauses() {
-        append_clause(alloc, clause, &mut spelled)?;
-        spelled.push_str(" ")?;
+        append_place(Some(clause), into)?;
     }
-    Ok(spelled)
+    Ok(())
 }
 
-/// The budget that words ask for, and whether the log is to be checked.
-pub fn words_text(alloc: Global, line: &str) -> RowResult<String> {
+/// Appends the budget that words ask for, and whether the log is to be checked.
+pub fn append_words(alloc: Global, line: &str, into: &mut String) -> RowResult<()> {
     let words = command_words(alloc, line)?;
     match read_request(words.as_slice()) {
-        Some(request) => Ok(format!(in alloc; "{} {}", request.budget, request.check)?),
-        None => Ok(String::from_str(alloc, "none")?),
+        Some(request) => Ok(write!(into, "{} {}", request.budget, request.check)?),
+        None => Ok(into.push_str("none")?),
     }
 }
 
-/// The status with which the program ends, and the last lines that it writes, `/` for the end of each: how many lines, the words
-/// of the command line, and then the input, `unread` where it cannot be read.
-pub fn run_text(alloc: Global, text: &str) -> RowResult<String> {
+/// Appends the status with which the program ends, and the last lines that it writes, `/` for the end of each: how many lines,
+/// the words of the command line, and then the input, `unread` where it cannot be read.
+pub fn append_run(alloc: Global, text: &str, into: &mut String) -> RowResult<()> {
     let Some((lines, asked)) = text.split_once(' ') else {
         return Err(RowStop::Malformed);
     };
+    let lines = read_number(lines)? as usize;
     let mut out = Vec::new(alloc);
     let code = run_into(alloc, asked, &mut out)?;
-    let written = kept(String::from_utf8(out))?;
-    let lines = read_number(lines)? as usize;
-    let before = written.as_str().lines().count().saturating_sub(lines);
-    let mut text = format!(in alloc; "{code} ")?;
-    for line in written.as_str().lines().skip(before) {
-        text.push_str(line)?;
-        text.push_str("/")?;
+    write!(into, "{code} ")?;
+    append_written(out, lines, into)
+}
+
+fn append_written(written: Vec<u8>, lines: usize, into: &mut String) -> RowResult<()> {
+    let text = kept(String::from_utf8(written))?;
+    append_last_lines(text.as_str(), lines, into)
+}
+
+fn append_last_lines(text: &str, lines: usize, into: &mut String) -> RowResult<()> {
+    let before = text.lines().count().saturating_sub(lines);
+    for line in text.lines().skip(before) {
+        append_line(line, into)?;
     }
-    Ok(text)
+    Ok(())
 }
 
 /// Runs the program on words and an input, and appends what it writes.
@@ -102,26 +109,41 @@ fn run_on<K: Sink>(alloc: Global, asked: &str, out: &mut K) -> RowResult<u8> {
         return Err(RowStop::Malformed);
     };
     let words = command_words(alloc, line)?;
-    let input = match input {
-        "unread" => Err(ShelfStop::Failed),
-        _ => Ok(unescaped(alloc, input)?.into_bytes()),
-    };
+    let input = read_input(alloc, input)?;
     Ok(run(alloc, words.as_slice(), input, out).number())
 }
 
-/// The status with which the program ends where its output has room for so many bytes alone.
-pub fn full_text(alloc: Global, text: &str) -> RowResult<String> {
+fn read_input(alloc: Global, input: &str) -> RowResult<Result<Vec<u8>, ShelfStop>> {
+    if input == "unread" {
+        return Ok(Err(ShelfStop::Failed));
+    }
+    Ok(Ok(unescaped(alloc, input)?.into_bytes()))
+}
+
+/// Appends the status with which the program ends where its output has room for so many bytes alone.
+pub fn append_full(alloc: Global, text: &str, into: &mut String) -> RowResult<()> {
     let Some((room, asked)) = text.split_once(' ') else {
         return Err(RowStop::Malformed);
     };
-    let mut room = vec![in alloc; 0u8; read_number(room)? as usize]?;
-    let mut out = OutSink::new(room.as_mut_slice());
-    let code = run_on(alloc, asked, &mut out)?;
-    Ok(format!(in alloc; "{code}")?)
+    let room = read_number(room)? as usize;
+    let code = run_within(alloc, room, asked)?;
+    Ok(write!(into, "{code}")?)
 }
 
-/// What is said of a formula with a good log: `refuted` or `open`, then `check` where the log is checked or `plain`, and the log.
-pub fn said_text(alloc: Global, formula: &Formula, text: &str) -> RowResult<String> {
+fn run_within(alloc: Global, room: usize, asked: &str) -> RowResult<u8> {
+    let mut room = vec![in alloc; 0u8; room]?;
+    let mut out = OutSink::new(room.as_mut_slice());
+    run_on(alloc, asked, &mut out)
+}
+
+/// Appends what is said of a formula with a good log: `refuted` or `open`, then `check` where the log is checked or `plain`, and
+/// the log.
+pub fn append_said(
+    alloc: Global,
+    formula: &Formula,
+    text: &str,
+    into: &mut String,
+) -> RowResult<()> {
     let Some((outcome, others)) = text.split_once(' ') else {
         return Err(RowStop::Malformed);
     };
@@ -129,17 +151,28 @@ pub fn said_text(alloc: Global, formula: &Formula, text: &str) -> RowResult<Stri
         return Err(RowStop::Malformed);
     };
     let log = read_log(alloc, log)?;
-    let answer = match outcome {
-        "refuted" => refuted_answer(alloc, formula, log, check == "check")?,
-        "open" => open_answer(alloc, formula, log, check == "check")?,
-        _ => return Err(RowStop::Malformed),
-    };
-    let mut text = format!(in alloc; "{} ", answer.status.number())?;
-    for line in answer.text.as_str().lines() {
-        text.push_str(line)?;
-        text.push_str("/")?;
+    let answer = answer_to(alloc, formula, outcome, log, check == "check")?;
+    append_said_of(&answer, into)
+}
+
+fn append_said_of(answer: &Answer, into: &mut String) -> RowResult<()> {
+    let status = answer.status.number();
+    write!(into, "{status} ")?;
+    append_lines(answer.text.as_str(), into)
+}
+
+fn answer_to(
+    alloc: Global,
+    formula: &Formula,
+    outcome: &str,
+    log: Log,
+    check: bool,
+) -> RowResult<Answer> {
+    match outcome {
+        "refuted" => refuted_answer(alloc, formula, log, check),
+        "open" => open_answer(alloc, formula, log, check),
+        _ => Err(RowStop::Malformed),
     }
-    Ok(text)
 }
 
 fn refuted_answer(alloc: Global, formula: &Formula, log: Log, check: bool) -> RowResult<Answer> {

@@ -8,17 +8,32 @@ use std::alloc::Global;
 /// The formula over so many variables with the clauses of a text: the numbers of their literals, and 0 behind each clause.
 pub fn read_formula(alloc: Global, vars: u32, text: &str) -> RowResult<Formula> {
     let mut formula = Formula::new(alloc, vars);
+    add_clauses(alloc, &mut formula, text)?;
+    Ok(formula)
+}
+
+fn add_clauses(alloc: Global, formula: &mut Formula, text: &str) -> RowResult<()> {
     let mut literals = Vec::new(alloc);
     for word in text.split(' ') {
-        match Lit::from_number(read_int(word)?) {
-            Some(literal) => literals.push(literal)?,
-            None => {
-                add_clause(alloc, &mut formula, literals.as_slice())?;
-                literals.clear();
-            }
+        take_number(alloc, formula, &mut literals, read_int(word)?)?;
+    }
+    Ok(())
+}
+
+fn take_number(
+    alloc: Global,
+    formula: &mut Formula,
+    literals: &mut Vec<Lit>,
+    number: i32,
+) -> RowResult<()> {
+    match Lit::from_number(number) {
+        Some(literal) => Ok(literals.push(literal)?),
+        None => {
+            add_clause(alloc, formula, literals.as_slice())?;
+            literals.clear();
+            Ok(())
         }
     }
-    Ok(formula)
 }
 
 fn add_clause(alloc: Global, formula: &mut Formula, literals: &[Lit]) -> RowResult<()> {
@@ -34,11 +49,16 @@ fn add_clause(alloc: Global, formula: &mut Formula, literals: &[Lit]) -> RowResu
 pub fn read_log(alloc: Global, text: &str) -> RowResult<Log> {
     let mut entries = Row::new(alloc);
     if text != "-" {
-        for chain in text.split('/') {
-            entries.push(read_chain(alloc, chain)?)?;
-        }
+        add_chains(alloc, &mut entries, text)?;
     }
     Ok(Log { entries })
+}
+
+fn add_chains(alloc: Global, entries: &mut Row<Chain>, text: &str) -> RowResult<()> {
+    for chain in text.split('/') {
+        entries.push(read_chain(alloc, chain)?)?;
+    }
+    Ok(())
 }
 
 pub fn read_chain(alloc: Global, text: &str) -> RowResult<Chain> {
@@ -46,39 +66,48 @@ pub fn read_chain(alloc: Global, text: &str) -> RowResult<Chain> {
     let [start, others @ ..] = numbers.as_slice() else {
         return Err(RowStop::Malformed);
     };
-    let mut steps = Row::new(alloc);
-    for step in others.chunks_exact(2) {
-        if let [pivot, number] = step {
-            steps.push((*pivot, *number))?;
-        }
-    }
+    let steps = steps_of(alloc, others)?;
     Ok(Chain {
         start: *start,
         steps,
     })
 }
 
-/// Appends the numbers of the literals, and 0.
-pub fn append_clause(alloc: Global, clause: &Clause, text: &mut String) -> RowResult<()> {
-    for literal in clause.literals() {
-        let number = literal.number();
-        text.push_str(format!(in alloc; "{number} ")?.as_str())?;
+fn steps_of(alloc: Global, numbers: &[u32]) -> RowResult<Row<(u32, u32)>> {
+    let mut steps = Row::new(alloc);
+    for step in numbers.chunks_exact(2) {
+        if let [pivot, number] = step {
+            steps.push((*pivot, *number))?;
+        }
     }
-    Ok(text.push_str("0")?)
+    Ok(steps)
 }
 
-/// The clauses whose places are from the first number on and below the second one.
-pub fn clauses_text(alloc: Global, formula: &Formula, range: &str) -> RowResult<String> {
+/// Appends the numbers of the literals, and 0.
+pub fn append_clause(clause: &Clause, into: &mut String) -> RowResult<()> {
+    for literal in clause.literals() {
+        let number = literal.number();
+        write!(into, "{number} ")?;
+    }
+    Ok(into.push_str("0")?)
+}
+
+/// Appends the clause, or `none`, and a space.
+pub fn append_place(clause: Option<&Clause>, into: &mut String) -> RowResult<()> {
+    match clause {
+        Some(clause) => append_clause(clause, into)?,
+        None => into.push_str("none")?,
+    }
+    Ok(into.push_str(" ")?)
+}
+
+/// Appends the clauses whose places are from the first number on and below the second one.
+pub fn append_clauses(formula: &Formula, range: &str, into: &mut String) -> RowResult<()> {
     let Some((from, to)) = range.split_once(' ') else {
         return Err(RowStop::Malformed);
     };
-    let mut text = String::new(alloc);
     for place in read_number(from)?..read_number(to)? {
-        match formula.clauses().get(place as usize) {
-            Some(clause) => append_clause(alloc, clause, &mut text)?,
-            None => text.push_str("none")?,
-        }
-        text.push_str(" ")?;
+        append_place(formula.clauses().get(place as usize), into)?;
     }
-    Ok(text)
+    Ok(())
 }

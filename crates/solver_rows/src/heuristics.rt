@@ -11,75 +11,68 @@ use kb_sat::{ActivityOrder, Crowding, Ranks, levels_of};
 use kb_table::{RowResult, RowStop, kept, read_int, read_number};
 use std::alloc::Global;
 
-/// Which variables come out of an order: how many it has, and then what is done with it, as `bump2`, `put2`, `decay` and `pop`,
-/// with `, ` between two pieces; a piece may begin with a number of times.
-pub fn order_text(alloc: Global, text: &str) -> RowResult<String> {
+/// Appends which variables come out of an order: how many it has, and then what is done with it, as `bump2`, `put2`, `decay` and
+/// `pop`, with `, ` between two pieces; a piece may begin with a number of times.
+pub fn append_order(alloc: Global, text: &str, into: &mut String) -> RowResult<()> {
     let Some((variables, pieces)) = text.split_once(' ') else {
         return Err(RowStop::Malformed);
     };
-    let mut order = kept(ActivityOrder::new(alloc, read_number(variables)?, &[]))?;
-    let mut text = String::new(alloc);
-    for piece in pieces.split(", ") {
-        take_piece(alloc, &mut order, piece, &mut text)?;
-    }
-    Ok(text)
+    let variables = read_number(variables)?;
+    let mut order = kept(ActivityOrder::new(alloc, variables, &[]))?;
+    take_pieces(&mut order, pieces, into)
 }
 
-fn take_piece(
-    alloc: Global,
-    order: &mut ActivityOrder,
-    piece: &str,
-    text: &mut String,
-) -> RowResult<()> {
+fn take_pieces(order: &mut ActivityOrder, pieces: &str, into: &mut String) -> RowResult<()> {
+    for piece in pieces.split(", ") {
+        take_piece(order, piece, into)?;
+    }
+    Ok(())
+}
+
+fn take_piece(order: &mut ActivityOrder, piece: &str, into: &mut String) -> RowResult<()> {
     let Some((times, steps)) = piece.split_once(" times ") else {
-        return take_steps(alloc, order, piece, text);
+        return take_steps(order, piece, into);
     };
     for _ in 0..read_number(times)? {
-        take_steps(alloc, order, steps, text)?;
+        take_steps(order, steps, into)?;
     }
     Ok(())
 }
 
-fn take_steps(
-    alloc: Global,
-    order: &mut ActivityOrder,
-    steps: &str,
-    text: &mut String,
-) -> RowResult<()> {
+fn take_steps(order: &mut ActivityOrder, steps: &str, into: &mut String) -> RowResult<()> {
     for step in steps.split(' ') {
-        take_step(alloc, order, step, text)?;
+        take_step(order, step, into)?;
     }
     Ok(())
 }
 
-fn take_step(
-    alloc: Global,
-    order: &mut ActivityOrder,
-    step: &str,
-    text: &mut String,
-) -> RowResult<()> {
-    if step == "decay" {
-        order.decay();
-        return Ok(());
+fn take_step(order: &mut ActivityOrder, step: &str, into: &mut String) -> RowResult<()> {
+    match step {
+        "decay" => {
+            order.decay();
+            Ok(())
+        }
+        "pop" => append_popped(order, into),
+        _ => change(order, step),
     }
-    if step == "pop" {
-        return append_popped(alloc, order, text);
-    }
+}
+
+fn change(order: &mut ActivityOrder, step: &str) -> RowResult<()> {
     if let Some(variable) = step.strip_prefix("bump") {
         order.bump(variable_of(order, variable)?);
         return Ok(());
     }
-    if let Some(variable) = step.strip_prefix("put") {
-        let variable = variable_of(order, variable)?;
-        return kept(order.insert(variable));
-    }
-    Err(RowStop::Malformed)
+    let Some(variable) = step.strip_prefix("put") else {
+        return Err(RowStop::Malformed);
+    };
+    let variable = variable_of(order, variable)?;
+    kept(order.insert(variable))
 }
 
-fn append_popped(alloc: Global, order: &mut ActivityOrder, text: &mut String) -> RowResult<()> {
+fn append_popped(order: &mut ActivityOrder, into: &mut String) -> RowResult<()> {
     match order.pop() {
-        Some(variable) => Ok(text.push_str(format!(in alloc; "{variable} ")?.as_str())?),
-        None => Ok(text.push_str("none ")?),
+        Some(variable) => Ok(write!(into, "{variable} ")?),
+        None => Ok(into.push_str("none ")?),
     }
 }
 
@@ -98,15 +91,14 @@ fn variable_of(order: &ActivityOrder, word: &str) -> RowResult<u32>
 /// More learned clauses than there are up to a time at which some are let go.
 const MANY_CLAUSES: u32 = 100_000;
 
-/// After how many learned clauses some are let go, so many times.
-pub fn intervals_text(alloc: Global, times: &str) -> RowResult<String> {
+/// Appends after how many learned clauses some are let go, so many times.
+pub fn append_intervals(times: &str, into: &mut String) -> RowResult<()> {
     let mut crowding = Crowding::new();
-    let mut text = String::new(alloc);
     for _ in 0..read_number(times)? {
         let interval = next_interval(&mut crowding);
-        text.push_str(format!(in alloc; "{interval} ")?.as_str())?;
+        write!(into, "{interval} ")?;
     }
-    Ok(text)
+    Ok(())
 }
 
 fn next_interval(crowding: &mut Crowding) -> u32 {
@@ -118,68 +110,88 @@ fn next_interval(crowding: &mut Crowding) -> u32 {
     MANY_CLAUSES
 }
 
-/// On how many levels learned clauses stood, and whether they were used: the clauses and their levels, as `4:3`, none of which
-/// counts as used; then a chain; and then the clauses that are asked about.
-pub fn ranks_text(alloc: Global, text: &str) -> RowResult<String> {
+/// Appends on how many levels learned clauses stood, and whether they were used: the clauses and their levels, as `4:3`, none of
+/// which counts as used; then a chain; and then the clauses that are asked about.
+pub fn append_ranks(alloc: Global, text: &str, into: &mut String) -> RowResult<()> {
     let Some((learned, others)) = text.split_once(", ") else {
         return Err(RowStop::Malformed);
     };
     let Some((chain, asked)) = others.split_once(", ") else {
         return Err(RowStop::Malformed);
     };
-    let mut ranks = read_ranks(alloc, learned)?;
+    let chain = read_chain(alloc, chain)?;
+    let mut ranks = Ranks::new(alloc);
+    set_ranks(&mut ranks, learned)?;
     ranks.clear_uses();
-    ranks.note(&read_chain(alloc, chain)?);
-    let mut text = String::new(alloc);
-    for number in read_numbers(alloc, asked)?.as_slice() {
-        append_rank(alloc, &ranks, *number, &mut text)?;
-    }
-    Ok(text)
+    ranks.note(&chain);
+    append_ranks_of(alloc, &ranks, asked, into)
 }
 
-fn read_ranks(alloc: Global, text: &str) -> RowResult<Ranks> {
-    let mut ranks = Ranks::new(alloc);
+fn set_ranks(ranks: &mut Ranks, text: &str) -> RowResult<()> {
     for word in text.split(' ') {
         let Some((number, levels)) = word.split_once(':') else {
             return Err(RowStop::Malformed);
         };
         kept(ranks.set(read_number(number)?, read_number(levels)?))?;
     }
-    Ok(ranks)
+    Ok(())
 }
 
-fn append_rank(alloc: Global, ranks: &Ranks, number: u32, text: &mut String) -> RowResult<()> {
+fn append_ranks_of(alloc: Global, ranks: &Ranks, asked: &str, into: &mut String) -> RowResult<()> {
+    for number in read_numbers(alloc, asked)?.as_slice() {
+        append_rank(ranks, *number, into)?;
+    }
+    Ok(())
+}
+
+fn append_rank(ranks: &Ranks, number: u32, into: &mut String) -> RowResult<()> {
     let Some(rank) = ranks.ranks.get(number as usize) else {
-        return Ok(text.push_str("none ")?);
+        return Ok(into.push_str("none ")?);
     };
     let (levels, used) = (rank.levels, rank.used);
-    Ok(text.push_str(format!(in alloc; "{levels} {used} ")?.as_str())?)
+    Ok(write!(into, "{levels} {used} ")?)
 }
 
-/// On how many levels the literals of a clause stand: how many variables there are, and the literals that become true, those
-/// that begin a level with `d` in front; and then, behind `of`, the literals of the clause.
-pub fn levels_text(alloc: Global, text: &str) -> RowResult<String> {
+/// Appends on how many levels the literals of a clause stand: how many variables there are, and the literals that become true,
+/// those that begin a level with `d` in front; and then, behind `of`, the literals of the clause.
+pub fn append_levels(alloc: Global, text: &str, into: &mut String) -> RowResult<()> {
     let Some((trail, clause)) = text.split_once(" of ") else {
         return Err(RowStop::Malformed);
     };
-    let trail = read_trail(alloc, trail)?;
-    let mut literals = Vec::new(alloc);
-    for word in clause.split(' ') {
-        literals.push(read_literal(word)?)?;
-    }
-    let levels = levels_behind(&trail, literals.as_slice())?;
-    Ok(format!(in alloc; "{levels}")?)
-}
-
-fn read_trail(alloc: Global, text: &str) -> RowResult<Trail> {
-    let Some((variables, words)) = text.split_once(' ') else {
+    let Some((variables, words)) = trail.split_once(' ') else {
         return Err(RowStop::Malformed);
     };
-    let mut trail = kept(Trail::new(alloc, read_number(variables)?))?;
-    for word in words.split(' ') {
-        take_literal(&mut trail, word)?;
+    let variables = read_number(variables)?;
+    let mut trail = kept(Trail::new(alloc, variables))?;
+    append_levels_on(alloc, &mut trail, words, clause, into)
+}
+
+fn append_levels_on(
+    alloc: Global,
+    trail: &mut Trail,
+    words: &str,
+    clause: &str,
+    into: &mut String,
+) -> RowResult<()> {
+    take_literals(trail, words)?;
+    let literals = read_literals(alloc, clause)?;
+    let levels = levels_behind(trail, literals.as_slice())?;
+    Ok(write!(into, "{levels}")?)
+}
+
+fn read_literals(alloc: Global, text: &str) -> RowResult<Vec<Lit>> {
+    let mut literals = Vec::new(alloc);
+    for word in text.split(' ') {
+        literals.push(read_literal(word)?)?;
     }
-    Ok(trail)
+    Ok(literals)
+}
+
+fn take_literals(trail: &mut Trail, words: &str) -> RowResult<()> {
+    for word in words.split(' ') {
+        take_literal(trail, word)?;
+    }
+    Ok(())
 }
 
 fn take_literal(trail: &mut Trail, word: &str) -> RowResult<()> {

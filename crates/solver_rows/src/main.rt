@@ -21,7 +21,7 @@ mod terms;
 
 use kb_outside::{FileShelf, OutSink, Shelf, Sink};
 use kb_table::{RowResult, Rows, send, write_rows};
-use questions::answer;
+use questions::append_row;
 use std::alloc::Global;
 use std::io;
 use std::process::ExitCode;
@@ -35,11 +35,10 @@ impl Rows for Subjects {
         _shelf: &mut S,
         out: &mut W,
     ) -> RowResult<()> {
-        let text = match row.split_once(": ") {
-            Some((name, text)) => self.replace(alloc, name, text)?,
-            None => answer(alloc, self, row)?,
-        };
-        send(out, text.as_bytes())
+        let mut text = String::new(alloc);
+        append_row(alloc, self, row, &mut text)?;
+        send(out, text.as_str().trim_end().as_bytes())?;
+        send(out, b"\n")
     }
 }
 

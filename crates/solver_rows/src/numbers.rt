@@ -1,4 +1,4 @@
-//! Numbers and words of questions.
+//! Numbers of questions.
 ghost use Rattle.std.specs.Prelude.{◌<◌, IfOk};
 
 use kb_table::{RowResult, RowStop, read_number};
@@ -22,13 +22,4 @@ pub fn read_numbers(alloc: Global, text: &str) -> RowResult<Vec<u32>> {
         numbers.push(read_number(word)?)?;
     }
     Ok(numbers)
-}
-
-/// The words of a text, with a space between two.
-pub fn words_of(alloc: Global, text: &str) -> RowResult<Vec<&str>> {
-    let mut words = Vec::new(alloc);
-    for word in text.split(' ') {
-        words.push(word)?;
-    }
-    Ok(words)
 }

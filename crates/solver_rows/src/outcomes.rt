@@ -21,12 +21,13 @@ pub enum Outcome {
 }
 
 impl Outcome {
-    pub fn text(self, alloc: Global) -> RowResult<String> {
+    /// Appends the outcome in words.
+    pub fn append_to(self, into: &mut String) -> RowResult<()> {
         match self {
-            Outcome::Model => Ok(String::from_str(alloc, "model")?),
-            Outcome::Refuted => Ok(String::from_str(alloc, "refuted")?),
-            Outcome::Open(entries) => Ok(format!(in alloc; "open with {entries}")?),
-            Outcome::Wrong => Ok(String::from_str(alloc, "wrong")?),
+            Outcome::Model => Ok(into.push_str("model")?),
+            Outcome::Refuted => Ok(into.push_str("refuted")?),
+            Outcome::Open(entries) => Ok(write!(into, "open with {entries}")?),
+            Outcome::Wrong => Ok(into.push_str("wrong")?),
         }
     }
 }

@@ -1,29 +1,30 @@
 //! Questions about terms: their nodes, values and numbers.
+ghost use Rattle.kb_terms.specs.Terms.{AreTerms};
 
-use crate::numbers::{read_numbers, words_of};
-use crate::terms::{Query, known, op_named, read_query};
+use crate::numbers::read_numbers;
+use crate::terms::{Query, known, no_conditions, op_named, read_query};
 use kb_rows::Held;
-use kb_table::{RowResult, RowStop, kept, read_int, read_number};
+use kb_table::{RowResult, RowStop, kept, read_int, read_number, read_words};
 use kb_terms::{Node, Numbering, Op, Pool, TermId, VarKind};
 use std::alloc::Global;
 
-/// The nodes of terms, and how many nodes and variables their pool has, and whether its copy has the same.
-pub fn pool_text(alloc: Global, text: &str) -> RowResult<String> {
+/// Appends the nodes of terms, and how many nodes and variables their pool has, and whether its copy has the same.
+pub fn append_pool(alloc: Global, text: &str, into: &mut String) -> RowResult<()> {
     let query = query_of(alloc, text)?;
-    terms_text(alloc, query.get())
+    append_terms(query.get(), into)
 }
 
-fn terms_text(alloc: Global, query: &Query) -> RowResult<String> {
+fn append_terms(query: &Query, into: &mut String) -> RowResult<()> {
     let pool = &query.pool;
-    let mut text = String::new(alloc);
     for (term, _) in query.when.as_slice() {
-        append_node(alloc, pool, *term, &mut text)?;
+        append_node(pool, *term, into)?;
     }
     let (nodes, variables) = (pool.nodes().len(), pool.variables());
     let copied = is_copied(pool)?;
-    let counts = format!(in alloc; "{nodes} nodes, {variables} variables, copied {copied}")?;
-    text.push_str(counts.as_str())?;
-    Ok(text)
+    Ok(write!(
+        into,
+        "{nodes} nodes, {variables} variables, copied {copied}"
+    )?)
 }
 
 /// The terms of a text, behind the kinds of their variables.
@@ -34,26 +35,40 @@ fn query_of(alloc: Global, text: &str) -> RowResult<Held<Query>> {
     }
 }
 
-fn append_node(alloc: Global, pool: &Pool, term: TermId, text: &mut String) -> RowResult<()> {
+fn append_node(pool: &Pool, term: TermId, into: &mut String) -> RowResult<()> {
     let term = known(pool, term)?;
-    let node = match pool.is_const(term) {
-        Some(value) => format!(in alloc; "{value}")?,
-        None => node_text(alloc, pool.node(term))?,
-    };
-    let number = term.0;
-    Ok(text.push_str(format!(in alloc; "{number} is {node}, ")?.as_str())?)
+    append_word("", term.0, into)?;
+    into.push_str(" is ")?;
+    match pool.is_const(term) {
+        Some(value) => write!(into, "{value}")?,
+        None => append_made(pool.node(term), into)?,
+    }
+    Ok(into.push_str(", ")?)
 }
 
-fn node_text(alloc: Global, node: Node) -> RowResult<String> {
+fn append_made(node: Node, into: &mut String) -> RowResult<()> {
     match node {
-        Node::Const(value) => Ok(format!(in alloc; "constant {value}")?),
-        Node::Var(number, VarKind::Int) => Ok(format!(in alloc; "int v{number}")?),
-        Node::Var(number, VarKind::Bool) => Ok(format!(in alloc; "boolean v{number}")?),
-        Node::Op(op, left, None) => Ok(format!(in alloc; "{} {}", op.name(), left.0)?),
-        Node::Op(op, left, Some(right)) => {
-            Ok(format!(in alloc; "{} {} {}", op.name(), left.0, right.0)?)
+        Node::Const(value) => Ok(write!(into, "constant {value}")?),
+        Node::Var(number, VarKind::Int) => append_word("int v", number, into),
+        Node::Var(number, VarKind::Bool) => append_word("boolean v", number, into),
+        Node::Op(op, left, right) => {
+            into.push_str(op.name())?;
+            append_word(" ", left.0, into)?;
+            append_right(right, into)
         }
     }
+}
+
+/// Appends the second operand, where there is one.
+fn append_right(right: Option<TermId>, into: &mut String) -> RowResult<()> {
+    match right {
+        Some(right) => append_word(" ", right.0, into),
+        None => Ok(()),
+    }
+}
+
+fn append_word(front: &str, number: u32, into: &mut String) -> RowResult<()> {
+    Ok(write!(into, "{front}{number}")?)
 }
 
 /// Whether the copy of a pool has its nodes and variables.
@@ -62,29 +77,45 @@ fn is_copied(pool: &Pool) -> RowResult<bool> {
     Ok(copy.nodes() == pool.nodes() && copy.variables() == pool.variables())
 }
 
-/// The value of an operation on two ints, and how many operands it has.
-pub fn apply_text(alloc: Global, text: &str) -> RowResult<String> {
-    let words = words_of(alloc, text)?;
+/// Appends the value of an operation on two ints, and how many operands it has.
+pub fn append_applied(alloc: Global, text: &str, into: &mut String) -> RowResult<()> {
+    let words = read_words(alloc, text, ' ')?;
     let [name, left, right] = words.as_slice() else {
         return Err(RowStop::Malformed);
     };
+    let (left, right) = (read_int(left.as_str())?, read_int(right.as_str())?);
+    append_value(name.as_str(), left, right, into)
+}
+
+fn append_value(name: &str, left: i32, right: i32, into: &mut String) -> RowResult<()> {
     let Some(op) = op_named(name) else {
         return Err(RowStop::Malformed);
     };
-    let value = op.apply(read_int(left)?, read_int(right)?);
+    let value = op.apply(left, right);
     let operands = if op.is_binary() { 2 } else { 1 };
-    Ok(format!(in alloc; "{value}, operands {operands}")?)
+    Ok(write!(into, "{value}, operands {operands}")?)
 }
 
-/// The value and the number of a sum with so many plus signs, all of whose terms are one variable of that value.
-pub fn chain_text(alloc: Global, text: &str) -> RowResult<String> {
+/// Appends the value and the number of a sum with so many plus signs, all of whose terms are one variable of that value.
+pub fn append_chain(alloc: Global, text: &str, into: &mut String) -> RowResult<()> {
     let Some((count, value)) = text.split_once(' ') else {
         return Err(RowStop::Malformed);
     };
-    let mut pool = Pool::new(alloc);
+    let (count, value) = (read_number(count)?, read_int(value)?);
+    let mut query = no_conditions(alloc)?;
+    append_sum(alloc, &mut query.get_mut().pool, count, value, into)
+}
+
+fn append_sum(
+    alloc: Global,
+    pool: &mut Pool,
+    count: u32,
+    value: i32,
+    into: &mut String,
+) -> RowResult<()> {
     let variable = kept(pool.variable(VarKind::Int))?;
-    let sum = summed(&mut pool, variable, read_number(count)?)?;
-    sum_text(alloc, &pool, sum, read_int(value)?)
+    let sum = summed(pool, variable, count)?;
+    append_sum_of(alloc, pool, sum, value, into)
 }
 
 fn summed(pool: &mut Pool, variable: TermId, count: u32) -> RowResult<TermId> {
@@ -97,37 +128,69 @@ fn summed(pool: &mut Pool, variable: TermId, count: u32) -> RowResult<TermId> {
     Ok(sum)
 }
 
-fn sum_text(alloc: Global, pool: &Pool, sum: TermId, value: i32) -> RowResult<String> {
+fn append_sum_of(
+    alloc: Global,
+    pool: &Pool,
+    sum: TermId,
+    value: i32,
+    into: &mut String,
+) -> RowResult<()> {
     let sum = known(pool, sum)?;
     if pool.variables() != 1 {
         return Err(RowStop::Malformed);
     }
     let value = kept(pool.eval(alloc, sum, &[value]))?;
-    let numbering = kept(pool.numbering(alloc, &[sum]))?;
-    let number = number_text(alloc, &numbering, sum)?;
-    Ok(format!(in alloc; "{value}, number {number}")?)
+    write!(into, "{value}, number ")?;
+    let numbering = numbered(alloc, pool, &[sum])?;
+    append_number(numbering.get(), sum, into)
 }
 
-/// The terms with numbers at and below four terms, in the order of their numbers, and the numbers of the terms behind `of`.
-pub fn numbers_text(alloc: Global, text: &str) -> RowResult<String> {
+/// The numbers of the terms at and below some.
+fn numbered(alloc: Global, pool: &Pool, roots: &[TermId]) -> RowResult<Held<Numbering>>
+    requires { AreTerms pool.now roots.now }
+{
+    let numbering = kept(pool.numbering(alloc, roots))?;
+    Ok(Held::new(alloc, numbering)?)
+}
+
+/// Appends the terms with numbers at and below four terms, in the order of their numbers, and the numbers of the terms behind
+/// `of`.
+pub fn append_numbers(alloc: Global, text: &str, into: &mut String) -> RowResult<()> {
     let Some((terms, asked)) = text.split_once(" of ") else {
         return Err(RowStop::Malformed);
     };
-    let query = query_of(alloc, terms)?;
-    let numbering = numbering_of(alloc, query.get())?;
-    let mut text = String::new(alloc);
-    for term in numbering.terms() {
-        text.push_str(format!(in alloc; "{} ", term.0)?.as_str())?;
-    }
-    text.push_str("with numbers")?;
-    for term in read_numbers(alloc, asked)?.as_slice() {
-        let number = number_text(alloc, &numbering, TermId(*term))?;
-        text.push_str(format!(in alloc; ", {term} has {number}")?.as_str())?;
-    }
-    Ok(text)
+    let numbering = numbering_of(alloc, terms)?;
+    append_numbered(numbering.get(), into)?;
+    append_numbers_asked(alloc, numbering.get(), asked, into)
 }
 
-fn numbering_of(alloc: Global, query: &Query) -> RowResult<Numbering> {
+fn append_numbered(numbering: &Numbering, into: &mut String) -> RowResult<()> {
+    for term in numbering.terms() {
+        let term = term.0;
+        write!(into, "{term} ")?;
+    }
+    Ok(into.push_str("with numbers")?)
+}
+
+fn append_numbers_asked(
+    alloc: Global,
+    numbering: &Numbering,
+    asked: &str,
+    into: &mut String,
+) -> RowResult<()> {
+    for term in read_numbers(alloc, asked)?.as_slice() {
+        write!(into, ", {term} has ")?;
+        append_number(numbering, TermId(*term), into)?;
+    }
+    Ok(())
+}
+
+fn numbering_of(alloc: Global, terms: &str) -> RowResult<Held<Numbering>> {
+    let query = query_of(alloc, terms)?;
+    numbering_in(alloc, query.get())
+}
+
+fn numbering_in(alloc: Global, query: &Query) -> RowResult<Held<Numbering>> {
     let [first, second, third, fourth] = query.when.as_slice() else {
         return Err(RowStop::Malformed);
     };
@@ -136,12 +199,12 @@ fn numbering_of(alloc: Global, query: &Query) -> RowResult<Numbering> {
     let second = known(pool, second.0)?;
     let third = known(pool, third.0)?;
     let fourth = known(pool, fourth.0)?;
-    kept(pool.numbering(alloc, &[first, second, third, fourth]))
+    numbered(alloc, pool, &[first, second, third, fourth])
 }
 
-fn number_text(alloc: Global, numbering: &Numbering, term: TermId) -> RowResult<String> {
+fn append_number(numbering: &Numbering, term: TermId, into: &mut String) -> RowResult<()> {
     match numbering.number_of(term) {
-        Some(number) => Ok(format!(in alloc; "{number}")?),
-        None => Ok(String::from_str(alloc, "none")?),
+        Some(number) => Ok(write!(into, "{number}")?),
+        None => Ok(into.push_str("none")?),
     }
 }

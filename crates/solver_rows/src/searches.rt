@@ -2,28 +2,56 @@
 ghost use Rattle.std.specs.Prelude.{◌≡◌, ◌<◌, []};
 ghost use Rattle.kb_eliminate.specs.Base.{IsReady, Stands};
 
-use crate::formulas::{append_clause, read_log};
+use crate::formulas::{append_clause, append_place, read_log};
 use crate::numbers::{read_budget, read_numbers};
 use crate::outcomes::{Outcome, judged_bits, judged_open, judged_refutation};
 use kb_chain::{
-    Formula, Log, ResolveStop, Row, Verdict, check_fresh, check_refutation, derive_needed, resolve,
+    Chain, Clause, Formula, Log, ResolveStop, Row, Store, Verdict, check_fresh, check_refutation,
+    derive_needed, resolve,
 };
 use kb_eliminate::{Base, Eliminated, EliminationBounds, eliminate, restored};
 use kb_sat::{Counts, Solved, solve_counted};
 use kb_table::{RowResult, RowStop, kept, read_number};
 use std::alloc::Global;
 
-/// What the solver makes of a formula within a budget, and what it did.
-fn searched(alloc: Global, formula: &Formula, budget: &str) -> RowResult<(Solved, Counts)> {
-    kept(solve_counted(alloc, formula, read_budget(budget)?))
+/// Appends what is asked of what the solver makes of a formula: a budget, and behind it what the question needs besides.
+pub fn append_search(
+    alloc: Global,
+    formula: &Formula,
+    question: &str,
+    words: &str,
+    into: &mut String,
+) -> RowResult<()> {
+    let (budget, others) = match words.split_once(' ') {
+        Some(parts) => parts,
+        None => (words, ""),
+    };
+    let budget = read_budget(budget)?;
+    let (solved, counts) = kept(solve_counted(alloc, formula, budget))?;
+    append_of_search(alloc, formula, question, &solved, counts, others, into)
+}
+
+fn append_of_search(
+    alloc: Global,
+    formula: &Formula,
+    question: &str,
+    solved: &Solved,
+    counts: Counts,
+    words: &str,
+    into: &mut String,
+) -> RowResult<()> {
+    match question {
+        "solve" => outcome_of(alloc, formula, solved)?.append_to(into),
+        "counts" => append_counts(counts, into),
+        "restarts" => append_restarts(counts, into),
+        "exceeds" => append_exceeds(solved, counts, words, into),
+        "eliminates" => append_eliminates(solved, counts, into),
+        "front" => append_front(alloc, formula, solved, into),
+        _ => Err(RowStop::Malformed),
+    }
 }
 
 /// What the solver comes to.
-pub fn solve_text(alloc: Global, formula: &Formula, budget: &str) -> RowResult<String> {
-    let (solved, _) = searched(alloc, formula, budget)?;
-    outcome_of(alloc, formula, &solved)?.text(alloc)
-}
-
 fn outcome_of(alloc: Global, formula: &Formula, solved: &Solved) -> RowResult<Outcome> {
     match solved {
         Solved::Sat(bits) => Ok(judged_bits(formula, bits.as_slice())),
@@ -32,89 +60,117 @@ fn outcome_of(alloc: Global, formula: &Formula, solved: &Solved) -> RowResult<Ou
     }
 }
 
-/// How many literals were tried and set, and how many conflicts and restarts there were.
-pub fn counts_text(alloc: Global, formula: &Formula, budget: &str) -> RowResult<String> {
-    let (_, counts) = searched(alloc, formula, budget)?;
+/// Appends how many literals were tried and set, and how many conflicts and restarts there were.
+fn append_counts(counts: Counts, into: &mut String) -> RowResult<()> {
     let Counts {
         decisions,
         propagations,
         conflicts,
         restarts,
     } = counts;
-    Ok(format!(in alloc; "{decisions} {propagations} {conflicts} {restarts}")?)
+    Ok(write!(into, "{decisions} {propagations} {conflicts} {restarts}")?)
 }
 
-/// How many conflicts and restarts there were.
-pub fn restarts_text(alloc: Global, formula: &Formula, budget: &str) -> RowResult<String> {
-    let (_, counts) = searched(alloc, formula, budget)?;
-    let Counts {
-        conflicts,
-        restarts,
-        ..
-    } = counts;
-    Ok(format!(in alloc; "{conflicts} {restarts}")?)
+/// Appends how many conflicts and restarts there were.
+fn append_restarts(counts: Counts, into: &mut String) -> RowResult<()> {
+    let (conflicts, restarts) = (counts.conflicts, counts.restarts);
+    Ok(write!(into, "{conflicts} {restarts}")?)
 }
 
-/// What the solver says, unchecked, and whether there were more conflicts than the second number says.
-pub fn exceeds_text(alloc: Global, formula: &Formula, words: &str) -> RowResult<String> {
-    let Some((budget, least)) = words.split_once(' ') else {
-        return Err(RowStop::Malformed);
-    };
-    let (solved, counts) = searched(alloc, formula, budget)?;
+/// Appends what the solver says, unchecked, and whether there were more conflicts than the number says.
+fn append_exceeds(
+    solved: &Solved,
+    counts: Counts,
+    least: &str,
+    into: &mut String,
+) -> RowResult<()> {
     let said = match solved {
         Solved::Sat(_) => "model",
         Solved::Unsat(_) => "refuted",
         Solved::Undecided(_) => "open",
     };
     let more = counts.conflicts > u64::from(read_number(least)?);
-    Ok(format!(in alloc; "{said} {more}")?)
+    Ok(write!(into, "{said} {more}")?)
 }
 
-/// Whether the refutation has more entries than there were conflicts. Each conflict gives one entry; the others are resolvents
-/// by which the first search eliminated variables. Were it the second one that refutes, the conflicts of both would count.
-pub fn eliminates_text(alloc: Global, formula: &Formula, budget: &str) -> RowResult<String> {
-    let (solved, counts) = searched(alloc, formula, budget)?;
+/// Appends whether the refutation has more entries than there were conflicts. Each conflict gives one entry; the others are
+/// resolvents by which the first search eliminated variables. Were it the second one that refutes, the conflicts of both would
+/// count.
+fn append_eliminates(solved: &Solved, counts: Counts, into: &mut String) -> RowResult<()> {
     let more = match solved {
         Solved::Unsat(log) => log.entries.as_slice().len() as u64 > counts.conflicts,
         Solved::Sat(_) | Solved::Undecided(_) => false,
     };
-    Ok(format!(in alloc; "{more}")?)
+    Ok(write!(into, "{more}")?)
 }
 
-/// Whether the entries of the refutation before the last one are fresh.
-pub fn front_text(alloc: Global, formula: &Formula, budget: &str) -> RowResult<String> {
-    let (Solved::Unsat(log), _) = searched(alloc, formula, budget)? else {
+/// Appends whether the entries of the refutation before the last one are fresh.
+fn append_front(
+    alloc: Global,
+    formula: &Formula,
+    solved: &Solved,
+    into: &mut String,
+) -> RowResult<()> {
+    let Solved::Unsat(log) = solved else {
         return Err(RowStop::Malformed);
     };
-    let mut entries = log.entries.into_vec();
+    let front = front_of(log)?;
+    append_freshness(alloc, formula, &front, into)
+}
+
+fn front_of(log: &Log) -> RowResult<Log> {
+    let mut entries = log.entries.clone()?.into_vec();
     entries.pop();
-    let front = Log {
+    Ok(Log {
         entries: Row::from_vec(entries),
-    };
-    verdict_text(alloc, kept(check_fresh(alloc, formula, &front))?)
+    })
 }
 
-/// What is said of a log as a refutation.
-pub fn refutation_text(alloc: Global, formula: &Formula, text: &str) -> RowResult<String> {
+/// Appends what is said of a log as a refutation.
+pub fn append_refutation(
+    alloc: Global,
+    formula: &Formula,
+    text: &str,
+    into: &mut String,
+) -> RowResult<()> {
     let log = read_log(alloc, text)?;
-    verdict_text(alloc, kept(check_refutation(alloc, formula, &log))?)
+    append_verdict(kept(check_refutation(alloc, formula, &log))?, into)
 }
 
-/// What is said of a log as a fresh one.
-pub fn fresh_text(alloc: Global, formula: &Formula, text: &str) -> RowResult<String> {
+/// Appends what is said of a log as a fresh one.
+pub fn append_fresh(
+    alloc: Global,
+    formula: &Formula,
+    text: &str,
+    into: &mut String,
+) -> RowResult<()> {
     let log = read_log(alloc, text)?;
-    verdict_text(alloc, kept(check_fresh(alloc, formula, &log))?)
+    append_freshness(alloc, formula, &log, into)
 }
 
-fn verdict_text(alloc: Global, verdict: Verdict) -> RowResult<String> {
+fn append_freshness(
+    alloc: Global,
+    formula: &Formula,
+    log: &Log,
+    into: &mut String,
+) -> RowResult<()> {
+    append_verdict(kept(check_fresh(alloc, formula, log))?, into)
+}
+
+fn append_verdict(verdict: Verdict, into: &mut String) -> RowResult<()> {
     match verdict {
-        Verdict::Good => Ok(String::from_str(alloc, "good")?),
-        Verdict::Bad(entry) => Ok(format!(in alloc; "bad {entry}")?),
+        Verdict::Good => Ok(into.push_str("good")?),
+        Verdict::Bad(entry) => Ok(write!(into, "bad {entry}")?),
     }
 }
 
-/// The resolvent of the clauses at the first two numbers, with the third one as the pivot.
-pub fn resolvent_text(alloc: Global, formula: &Formula, text: &str) -> RowResult<String> {
+/// Appends the resolvent of the clauses at the first two numbers, with the third one as the pivot.
+pub fn append_resolvent(
+    alloc: Global,
+    formula: &Formula,
+    text: &str,
+    into: &mut String,
+) -> RowResult<()> {
     let numbers = read_numbers(alloc, text)?;
     let [left, right, pivot] = numbers.as_slice() else {
         return Err(RowStop::Malformed);
@@ -124,39 +180,63 @@ pub fn resolvent_text(alloc: Global, formula: &Formula, text: &str) -> RowResult
     else {
         return Err(RowStop::Malformed);
     };
-    let mut text = String::new(alloc);
-    match resolve(alloc, left, right, *pivot) {
-        Ok(clause) => append_clause(alloc, &clause, &mut text)?,
-        Err(ResolveStop::NoPivot) => text.push_str("no pivot")?,
-        Err(ResolveStop::NoMemory) => text.push_str("no memory")?,
-    }
-    Ok(text)
+    append_resolved(resolve(alloc, left, right, *pivot), into)
 }
 
-/// The clauses of a log that those of the numbers need, at all places behind the formula's own clauses.
-pub fn needed_text(alloc: Global, formula: &Formula, text: &str) -> RowResult<String> {
+fn append_resolved(resolved: Result<Clause, ResolveStop>, into: &mut String) -> RowResult<()> {
+    match &resolved {
+        Ok(clause) => append_clause(clause, into),
+        Err(ResolveStop::NoPivot) => Ok(into.push_str("no pivot")?),
+        Err(ResolveStop::NoMemory) => Ok(into.push_str("no memory")?),
+    }
+}
+
+/// Appends the clauses of a log that those of the numbers need, at all places behind the formula's own clauses.
+pub fn append_needed(
+    alloc: Global,
+    formula: &Formula,
+    text: &str,
+    into: &mut String,
+) -> RowResult<()> {
     let Some((numbers, log)) = text.split_once(" of ") else {
         return Err(RowStop::Malformed);
     };
     let numbers = read_numbers(alloc, numbers)?;
     let log = read_log(alloc, log)?;
-    let entries = log.entries.as_slice();
-    let needed = kept(derive_needed(alloc, formula, entries, numbers.as_slice()))?;
-    let mut text = String::new(alloc);
-    let Some(store) = needed else {
-        text.push_str("not derived")?;
-        return Ok(text);
-    };
-    let first = formula.clauses().len();
-    for entry in 0..entries.len() {
-        let number = kept(u32::try_from(first.saturating_add(entry)))?;
-        match store.get(number) {
-            Some(clause) => append_clause(alloc, clause, &mut text)?,
-            None => text.push_str("none")?,
-        }
-        text.push_str(" ")?;
+    append_derived(
+        alloc,
+        formula,
+        log.entries.as_slice(),
+        numbers.as_slice(),
+        into,
+    )
+}
+
+fn append_derived(
+    alloc: Global,
+    formula: &Formula,
+    entries: &[Chain],
+    numbers: &[u32],
+    into: &mut String,
+) -> RowResult<()> {
+    match kept(derive_needed(alloc, formula, entries, numbers))? {
+        Some(store) => append_stored(&store, formula.clauses().len(), entries.len(), into),
+        None => Ok(into.push_str("not derived")?),
     }
-    Ok(text)
+}
+
+/// Appends the clauses at so many places of a store, from the first one on.
+fn append_stored(
+    store: &Store<'_>,
+    first: usize,
+    count: usize,
+    into: &mut String,
+) -> RowResult<()> {
+    for entry in 0..count {
+        let number = kept(u32::try_from(first.saturating_add(entry)))?;
+        append_place(store.get(number), into)?;
+    }
+    Ok(())
 }
 
 const BOUNDS: EliminationBounds = EliminationBounds {
@@ -166,39 +246,49 @@ const BOUNDS: EliminationBounds = EliminationBounds {
     length: 10,
 };
 
-/// How many clauses are let go as variables are eliminated, and the model that is restored where the others are false.
-pub fn eliminate_text(alloc: Global, formula: &Formula) -> RowResult<String> {
+/// Appends how many clauses are let go as variables are eliminated, and the model that is restored where the others are false.
+pub fn append_eliminate(alloc: Global, formula: &Formula, into: &mut String) -> RowResult<()> {
     match Base::new(alloc, formula) {
         Ok((base, None)) => {
             let mut base = base;
-            text_behind(alloc, &mut base)
+            append_behind(alloc, &mut base, into)
         }
-        Ok((_, Some(_))) => Ok(String::from_str(alloc, "false at once")?),
+        Ok((_, Some(_))) => Ok(into.push_str("false at once")?),
         Err(_) => Err(RowStop::NoMemory),
     }
 }
 
 /// The same of clauses of which none is false from the start.
-fn text_behind(alloc: Global, base: &mut Base<'_>) -> RowResult<String>
+fn append_behind(alloc: Global, base: &mut Base<'_>, into: &mut String) -> RowResult<()>
     requires stands { Stands base.old }
     requires ready { IsReady base.old }
     requires level { base.old.trail.starts ≡ [] }
 {
     match eliminate(alloc, base, BOUNDS) {
-        Ok(done) => restored_text(alloc, base, &done),
+        Ok(done) => append_restored(alloc, base, &done, into),
         Err(_) => Err(RowStop::NoMemory),
     }
 }
 
-fn restored_text(alloc: Global, base: &Base<'_>, done: &Eliminated) -> RowResult<String>
+fn append_restored(
+    alloc: Global,
+    base: &Base<'_>,
+    done: &Eliminated,
+    into: &mut String,
+) -> RowResult<()>
     requires { Stands base.now }
 {
     let gone = done.clauses.len();
-    let mut text = format!(in alloc; "{gone}")?;
-    if let Some(bits) = kept(restored(alloc, base, done))? {
-        for bit in bits.as_slice() {
-            text.push_str(if *bit { " 1" } else { " 0" })?;
-        }
+    write!(into, "{gone}")?;
+    match kept(restored(alloc, base, done))? {
+        Some(bits) => append_bits(bits.as_slice(), into),
+        None => Ok(()),
     }
-    Ok(text)
+}
+
+fn append_bits(bits: &[bool], into: &mut String) -> RowResult<()> {
+    for bit in bits {
+        into.push_str(if *bit { " 1" } else { " 0" })?;
+    }
+    Ok(())
 }

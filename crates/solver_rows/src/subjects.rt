@@ -43,23 +43,35 @@ impl Subjects {
 
     /// Reads what is asked about from now on, and tells it: `formula`, a name and how many variables there are, and then the
     /// clauses; or `conditions` and the kinds of the variables, and then the conditions.
-    pub fn replace(&mut self, alloc: Global, name: &str, text: &str) -> RowResult<String> {
+    pub fn replace(
+        &mut self,
+        alloc: Global,
+        name: &str,
+        text: &str,
+        into: &mut String,
+    ) -> RowResult<()> {
+        into.push_str(name)?;
         match name.strip_prefix("conditions ") {
             Some(kinds) => {
-                let (subject, told) = conditions_of(alloc, kinds, text)?;
-                self.enter(subject);
-                Ok(format!(in alloc; "{name}: {text}{told}\n")?)
+                self.enter(conditions_of(alloc, kinds, text)?);
+                self.append_conditions(text, into)
             }
             None => {
-                let subject = formula_of(alloc, name, text)?;
-                self.enter(subject);
-                Ok(format!(in alloc; "{name}\n")?)
+                self.enter(formula_of(alloc, name, text)?);
+                Ok(())
             }
         }
     }
 
     fn enter(&mut self, subject: Held<Subject>) {
         self.former = mem::replace(&mut self.current, subject);
+    }
+
+    fn append_conditions(&self, text: &str, into: &mut String) -> RowResult<()> {
+        match &self.current.get().query {
+            Some(_) => Ok(write!(into, ": {text}")?),
+            None => Ok(write!(into, ": {text} (no comparisons)")?),
+        }
     }
 }
 
@@ -79,16 +91,12 @@ fn formula_of(alloc: Global, name: &str, text: &str) -> RowResult<Held<Subject>>
     held(alloc, formula, None)
 }
 
-/// The conditions with their formula, and what is to be told where they have none.
-pub fn conditions_of(
-    alloc: Global,
-    kinds: &str,
-    text: &str,
-) -> RowResult<(Held<Subject>, &'static str)> {
+/// The conditions with their formula, or neither where some are no comparisons.
+pub fn conditions_of(alloc: Global, kinds: &str, text: &str) -> RowResult<Held<Subject>> {
     let query = read_query(alloc, kinds, text)?;
     match formula_of_conditions(alloc, query.get())? {
-        Some(formula) => Ok((held(alloc, formula, Some(query))?, "")),
-        None => Ok((without_clauses(alloc)?, " (no comparisons)")),
+        Some(formula) => held(alloc, formula, Some(query)),
+        None => without_clauses(alloc),
     }
 }
 

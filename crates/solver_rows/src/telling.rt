@@ -1,35 +1,54 @@
 //! Oracles that are told what to do.
 ghost use Rattle.std.specs.Prelude.{◌<◌};
 
-use crate::asking::{asked, outcome_of, solved};
+use crate::asking::{append_call, solved};
 use crate::numbers::read_budget;
 use crate::subjects::{Subject, Subjects};
-use kb_oracle::{Answer, OracleStop, Told, ToldOracle};
-use kb_table::{RowResult, RowStop, read_number};
+use kb_oracle::{Answer, Told, ToldOracle};
+use kb_table::{RowResult, RowStop, read_number, read_words};
 use std::alloc::Global;
 
-/// What an oracle of the budget does at its first calls, and what it counts: a budget, how many calls there are, and what it is
-/// told for which call, as `3:open`, whose log is that of the conditions before these.
-pub fn told_text(alloc: Global, subjects: &Subjects, text: &str) -> RowResult<String> {
-    let mut words = text.split(' ');
-    let (Some(budget), Some(calls)) = (words.next(), words.next()) else {
+/// Appends what an oracle of the budget does at its first calls, and what it counts: a budget, how many calls there are, and
+/// what it is told for which call, as `3:open`, whose log is that of the conditions before these.
+pub fn append_told(
+    alloc: Global,
+    subjects: &Subjects,
+    text: &str,
+    into: &mut String,
+) -> RowResult<()> {
+    let words = read_words(alloc, text, ' ')?;
+    let [budget, calls, told @ ..] = words.as_slice() else {
         return Err(RowStop::Malformed);
     };
+    let calls = read_number(calls.as_str())?;
+    let mut oracle = told_oracle(alloc, subjects.former.get(), budget.as_str(), told)?;
+    append_calls(alloc, &mut oracle, subjects.current.get(), calls, into)
+}
+
+fn told_oracle(
+    alloc: Global,
+    former: &Subject,
+    budget: &str,
+    words: &[String],
+) -> RowResult<ToldOracle> {
     let budget = read_budget(budget)?;
+    let told = read_all_told(alloc, former, budget, words)?;
+    Ok(ToldOracle::new(alloc, budget, told))
+}
+
+fn read_all_told(
+    alloc: Global,
+    former: &Subject,
+    budget: u32,
+    words: &[String],
+) -> RowResult<Vec<(u64, Told)>>
+    requires { 0 < budget }
+{
     let mut told = Vec::new(alloc);
     for word in words {
-        told.push(read_told(alloc, subjects.former.get(), budget, word)?)?;
+        told.push(read_told(alloc, former, budget, word.as_str())?)?;
     }
-    let mut oracle = ToldOracle::new(alloc, budget, told);
-    let mut text = String::new(alloc);
-    for _ in 0..read_number(calls)? {
-        append_call(alloc, &mut oracle, subjects.current.get(), &mut text)?;
-    }
-    let (calls, bad, unsure) = (oracle.calls(), oracle.bad(), oracle.unsure());
-    let given = oracle.given().len();
-    let counts = format!(in alloc; "{calls} calls, {bad} bad, {unsure} undecided, {given} given")?;
-    text.push_str(counts.as_str())?;
-    Ok(text)
+    Ok(told)
 }
 
 /// What is told for which call.
@@ -40,33 +59,47 @@ fn read_told(alloc: Global, former: &Subject, budget: u32, word: &str) -> RowRes
         return Err(RowStop::Malformed);
     };
     let call = u64::from(read_number(call)?);
+    Ok((call, what_is_told(alloc, former, budget, what)?))
+}
+
+fn what_is_told(alloc: Global, former: &Subject, budget: u32, what: &str) -> RowResult<Told>
+    requires { 0 < budget }
+{
     if let Some(number) = what.strip_prefix("bad") {
-        return Ok((call, Told::Bad(read_number(number)?)));
+        return Ok(Told::Bad(read_number(number)?));
     }
     if what == "memory" {
-        return Ok((call, Told::NoMemory));
+        return Ok(Told::NoMemory);
     }
-    match solved(alloc, former.query()?, budget)? {
-        Answer::Undecided(log) => Ok((call, Told::Undecided(log))),
+    undecided(solved(alloc, former.query()?, budget)?)
+}
+
+fn undecided(answer: Answer) -> RowResult<Told> {
+    match answer {
+        Answer::Undecided(log) => Ok(Told::Undecided(log)),
         Answer::Model(_) | Answer::Refuted(_) => Err(RowStop::Malformed),
     }
 }
 
-/// Appends what one call comes to.
-fn append_call(
+fn append_calls(
     alloc: Global,
     oracle: &mut ToldOracle,
     subject: &Subject,
-    text: &mut String,
+    calls: u32,
+    into: &mut String,
 ) -> RowResult<()> {
-    let query = subject.query()?;
-    match asked(alloc, oracle, query)? {
-        Ok(answer) => {
-            let outcome = outcome_of(alloc, &subject.formula, query, &answer)?;
-            text.push_str(outcome.text(alloc)?.as_str())?;
-        }
-        Err(OracleStop::Bad(number)) => text.push_str(format!(in alloc; "bad {number}")?.as_str())?,
-        Err(OracleStop::NoMemory) => text.push_str("no memory")?,
+    for _ in 0..calls {
+        append_call(alloc, oracle, subject, into)?;
+        into.push_str(", ")?;
     }
-    Ok(text.push_str(", ")?)
+    append_counts(oracle, into)
+}
+
+fn append_counts(oracle: &ToldOracle, into: &mut String) -> RowResult<()> {
+    let (calls, bad, unsure) = (oracle.calls(), oracle.bad(), oracle.unsure());
+    let given = oracle.given().len();
+    Ok(write!(
+        into,
+        "{calls} calls, {bad} bad, {unsure} undecided, {given} given"
+    )?)
 }

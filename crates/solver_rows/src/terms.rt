@@ -48,7 +48,7 @@ pub fn read_query(alloc: Global, kinds: &str, text: &str) -> RowResult<Held<Quer
     Ok(query)
 }
 
-fn no_conditions(alloc: Global) -> RowResult<Held<Query>> {
+pub fn no_conditions(alloc: Global) -> RowResult<Held<Query>> {
     let query = Query {
         pool: Pool::new(alloc),
         when: Vec::new(alloc),
@@ -78,19 +78,24 @@ fn variables_of(alloc: Global, pool: &mut Pool, kinds: &str) -> RowResult<Vec<Te
 }
 
 fn add_piece(alloc: Global, query: &mut Query, variables: &[TermId], piece: &str) -> RowResult<()> {
-    if let Some(text) = piece.strip_prefix("+") {
-        let term = read_term(alloc, &mut query.pool, variables, text)?;
-        return Ok(query.when.push((term, true))?);
-    }
-    if let Some(text) = piece.strip_prefix("-") {
-        let term = read_term(alloc, &mut query.pool, variables, text)?;
-        return Ok(query.when.push((term, false))?);
-    }
     if let Some(text) = piece.strip_prefix(".") {
         read_term(alloc, &mut query.pool, variables, text)?;
         return Ok(());
     }
-    Err(RowStop::Malformed)
+    let (text, holds) = signed(piece)?;
+    let term = read_term(alloc, &mut query.pool, variables, text)?;
+    Ok(query.when.push((term, holds))?)
+}
+
+/// The text of a condition, and whether it holds.
+fn signed(piece: &str) -> RowResult<(&str, bool)> {
+    if let Some(text) = piece.strip_prefix("+") {
+        return Ok((text, true));
+    }
+    match piece.strip_prefix("-") {
+        Some(text) => Ok((text, false)),
+        None => Err(RowStop::Malformed),
+    }
 }
 
 /// The term of a text in prefix form, which is read from its end: each operation finds its operands on the stack.
