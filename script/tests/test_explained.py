@@ -295,6 +295,9 @@ def test_where_a_missing_class_lies():
         Maker("p/Gone").write(path, "out/p/Gone.class")
         ran = call("explore", "--method", "p/User.f()I", "out/p/User.class", cwd=path)
         same(ran.said, explained("refused 41 class NAME", "class p/Gone lies in out/p/Gone.class"), "a class file beside")
+        Maker("p/First").write(path, "in/p/First.class")
+        ran = call("explore", "--method", "p/User.f()I", "in/p/First.class", "out/p/User.class", cwd=path)
+        same(ran.said, explained("refused 41 class NAME", "class p/Gone lies in out/p/Gone.class"), "one beside the second file")
         Maker("p/Of", interfaces=["q/Face"]).method("f", "()I", ICONST_0 + IRETURN).write(path, "out/p/Of.class")
         ran = call("explore", "--method", "p/Of.f()I", "out/p/Of.class", cwd=path)
         part = "class q/Face is a superclass or an interface of p/Of"

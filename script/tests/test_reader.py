@@ -108,6 +108,13 @@ def test_all_that_is_read():
     same(words, [*wanted, "wide", "invokeinterface p/Face.f()V", "iconst_0", "ireturn"], "instructions")
 
 
+def test_names_of_arguments_behind_a_long():
+    """A long and a double have two locals each."""
+    made = Maker("p/Wide").method("f", "(JLp/Wide;D[I)I", ICONST_0 + IRETURN, names=[(0, "wide"), (2, "object"), (5, "items")])
+    method = ClassFile(made.data()).methods[0]
+    same([argument_name(method, place) for place in range(4)], ["wide", "object", None, "items"], "names of arguments")
+
+
 def test_where_it_stops():
     data = (DATA / "B.class").read_bytes()
     # the first entry of the pool, at 10, is a Methodref, which takes five bytes
