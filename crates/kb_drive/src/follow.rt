@@ -55,7 +55,7 @@ pub(crate) fn follow(
     ensures { IfOk result (λ next. next ≡ follows world.now bounds.now taken known) }
 {
     match known {
-        Known::Open => lists(alloc, taken.piece.get(), Leaf::Open),
+        Known::Open => list_taken(alloc, taken, Leaf::Open),
         Known::Met => follow_met(alloc, world, bounds, taken),
         Known::Answered(answer) => follow_answer(alloc, world, bounds, taken, answer),
     }
@@ -74,8 +74,16 @@ fn follow_answer(
     match answer {
         Answer::Model(values) => follow_met(alloc, world, bounds, taken.with_values(values)),
         Answer::Refuted(_) => Ok(Next::Leaves),
-        Answer::Undecided(log) => lists(alloc, taken.piece.get(), Leaf::Undecided(log)),
+        Answer::Undecided(log) => list_taken(alloc, taken, Leaf::Undecided(log)),
     }
+}
+
+// The path of an alternative that was taken is listed, with that leaf. What was taken is dropped.
+fn list_taken(alloc: Global, taken: Taken, leaf: Leaf) -> Result<Next, NoMemory>
+    requires { AreTerms taken.piece.state.nodes (path_roots taken.piece.state leaf) }
+    ensures { IfOk result (λ next. next ≡ nexts.Lists (path_of_piece taken.piece leaf)) }
+{
+    lists(alloc, taken.piece.get(), leaf)
 }
 
 // The path of a piece with that leaf is listed.
