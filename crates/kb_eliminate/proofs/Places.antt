@@ -1,6 +1,5 @@
 -- Elements of lists by their places.
-use Rattle.std.proofs.lemmas.List.{take_all}
-use Rattle.std.proofs.Common.{◌≡◌, ℕ, ◌+◌, ◌-◌, ◌*◌, drop, ◌<◌, ◌≤◌, List, [], ◌∷◌, ◌++◌, Bool, true, false, arith, refl, ap, sym, ◌∙◌, inl, inr, ◌⊎◌, length, get_or, set, take, zero, suc, Some, slice_get}
+use Rattle.std.proofs.Common.{◌≡◌, ℕ, ◌+◌, ◌*◌, drop, ◌<◌, ◌≤◌, List, [], ◌∷◌, ◌++◌, Bool, true, false, arith, refl, ap, sym, ◌∙◌, inl, inr, ◌⊎◌, length, get_or, set, take, zero, suc, Some, slice_get}
 use Rattle.std.proofs.lemmas.Bool.{false≢true, or_cases, or_left, or_right}
 use Rattle.kb_chain.specs.Literal.{Literal, literal, same, has, place_of}
 use Rattle.kb_chain.proofs.LiteralLaws.{same-true, same_refl}
@@ -90,13 +89,6 @@ pub at_has : (xs : List Literal) (i : ℕ) (l : Literal) → slice_get xs i ≡ 
 at_has [] i l e = cc
 at_has (x ∷ xs) zero l e = let s : x ≡ l = cc in or_left _ _ (ap (same l) s ∙ same_refl l)
 at_has (x ∷ xs) (suc i) l e = or_right _ _ (at_has xs i l e)
-
--- a list that begins with x, as its slices give it
-pub rest_parts : {X : Type 0} (xs : List X) (x : X) → 1 ≤ length xs → x ≡ get_or xs 0 x → xs ≡ x ∷ take (length xs - 1) (drop 1 xs)
-rest_parts [] x h e = absurd (omega arith)
-rest_parts (y ∷ ys) x h e =
-    let n : length (y ∷ ys) - 1 ≡ length ys = omega arith in
-    ap (λ z. z ∷ ys) (sym e) ∙ ap (λ z. x ∷ z) (sym (ap (λ k. take k ys) n ∙ take_all (length ys) ys (omega arith)))
 
 pub dropped_part : (i : ℕ) (xs : List Literal) (l : Literal) → has (drop i xs) l ≡ true → has xs l ≡ true
 dropped_part zero xs l e = e

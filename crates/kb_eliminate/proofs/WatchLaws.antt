@@ -1,8 +1,8 @@
 -- Watched literals as watches are taken up.
-use Rattle.std.proofs.Common.{◌≡◌, ℕ, ◌+◌, ◌*◌, ◌<◌, ◌≤◌, List, [], ◌∷◌, ◌++◌, Bool, true, false, arith, refl, ap, sym, ◌∙◌, inl, inr, ◌⊎◌, subst, length, get_or, set, take, zero, suc, Option, Some, None, slice_get, length-set, ◌==◌, get_or-set_same, get_or-set_other}
+use Rattle.std.proofs.Common.{◌≡◌, ℕ, ◌+◌, ◌*◌, ◌<◌, ◌≤◌, List, [], ◌∷◌, ◌++◌, Bool, true, false, arith, refl, ap, sym, ◌∙◌, inl, inr, ◌⊎◌, subst, length, get_or, set, take, drop, zero, suc, Option, Some, None, slice_get, length-set, ◌==◌, get_or-set_same, get_or-set_other}
 use Rattle.std.specs.List.{list_all}
 use Rattle.std.proofs.lemmas.Bool.{false≢true, or_cases, or_left, or_right, and_parts, and_from, cases_eq, cases_lt, eq-eqb, eqb-true}
-use Rattle.std.proofs.lemmas.List.{set_past, get_or_read, length_push}
+use Rattle.std.proofs.lemmas.List.{set_past, get_or_read, length_push, set-set, set_comm, take_more_set, drop_more, drop-set-lt}
 use Rattle.std.proofs.lemmas.List.Folds.{list_any-append, list_all-append}
 use Rattle.kb_chain.specs.Literal.{Literal, has, same, negated, place_of}
 use Rattle.kb_chain.proofs.LiteralLaws.{same-true, same_refl, has_head, negated-negated, place_of-injective}
@@ -11,7 +11,10 @@ use Rattle.kb_chain.proofs.OrderLaws.{has_take-suc, has_get_or}
 use Rattle.kb_chain.proofs.PropagationLaws.{IsPart, place_of-negated}
 use Rattle.kb_eliminate.specs.declared.watch.Pair.{Pair}
 use Rattle.kb_eliminate.specs.declared.watch.Watch.{Watch}
-use Rattle.kb_eliminate.specs.Watches.{is_met, IsQuiet, Quiet, AllAwake, watches_clause, at_literal, IsWatchListed, is_blocked, all_blocked, AreOwn, IsWatching, IsSettledOrWaiting, IsPending, Walks, AllListed, StaysQuiet, IsOther, put, paired, put_pair}
+use Rattle.kb_eliminate.specs.Watches.{is_met, IsQuiet, Quiet, AllAwake, watches_clause, at_literal, with_list, IsWatchListed, is_blocked, all_blocked, AreOwn, IsWatching, IsSettledOrWaiting, IsPending, Walks, AllListed, StaysQuiet, IsOther, put, paired, put_pair}
+use Rattle.kb_eliminate.specs.Walking.{IfKept, IfConflict}
+use Rattle.kb_eliminate.specs.declared.propagation.Outcome.{Outcome}
+use Rattle.kb_eliminate.specs.declared.propagation.Outcome.TheVariants.{Kept, Removed, Conflict}
 use Rattle.kb_eliminate.proofs.Places.{at_pushed, at_last, at_inside, at_set, at_get_or, at_same}
 
 pub listed_more : (lists : List (List Watch)) (l : Literal) (w : Watch) (m : Literal) (k : ℕ) → watches_clause (at_literal lists m) k ≡ true
@@ -290,45 +293,137 @@ pub other_own : (rows : List (List Literal)) (pairs : List Pair) (k : ℕ) (row 
 other_own rows pairs k row pair f other h r e (inl o) = ap (has row) o.1 ∙ (h k row pair r e).1
 other_own rows pairs k row pair f other h r e (inr o) = ap (has row) o.1 ∙ (h k row pair r e).0
 
--- the table with more watches at a literal
-abbrev pub put_all : List (List Watch) → Literal → List Watch → List (List Watch)
-put_all lists l ws = set lists (place_of l) (at_literal lists l ++ ws)
+-- the list at a literal is taken out of its place, and what is kept of it and what is still to come are two parts of it
 
-listed_more_all : (lists : List (List Watch)) (l : Literal) (ws : List Watch) (m : Literal) (k : ℕ) → place_of l < length lists
-    → watches_clause (at_literal lists m) k ≡ true → watches_clause (at_literal (put_all lists l ws) m) k ≡ true
-listed_more_all lists l ws m k lt e = elim (cases_eq (place_of m) (place_of l)) [
-  | inl s ↦ ap (λ p. watches_clause (get_or (put_all lists l ws) p []) k) s
-      ∙ (ap (λ z. watches_clause z k) (get_or-set_same lists (place_of l) (at_literal lists l ++ ws) [] lt)
-      ∙ (list_any-append (λ (w : Watch). w.clause == k) (at_literal lists l) ws
-      ∙ or_left _ _ (ap (λ p. watches_clause (get_or lists p []) k) (sym s) ∙ e)))
-  | inr n ↦ ap (λ z. watches_clause z k) (get_or-set_other lists (place_of l) (place_of m) (at_literal lists l ++ ws) [] n) ∙ e
+-- a watch that is kept stands behind the others
+put_kept : (lists : List (List Watch)) (f : Literal) (kept : List Watch) (w : Watch) → place_of f < length lists
+    → put (with_list lists f kept) f w ≡ with_list lists f (kept ++ w ∷ [])
+put_kept lists f kept w lt =
+    ap (λ z. set (set lists (place_of f) kept) (place_of f) (z ++ w ∷ [])) (get_or-set_same lists (place_of f) kept [] lt)
+    ∙ set-set lists (place_of f) kept (kept ++ w ∷ [])
+
+-- a watch at another literal goes to the table
+put_beside : (lists : List (List Watch)) (f m : Literal) (kept : List Watch) (w : Watch) → (place_of m ≡ place_of f → ⊥)
+    → put (with_list lists f kept) m w ≡ with_list (put lists m w) f kept
+put_beside lists f m kept w apart =
+    ap (λ z. set (set lists (place_of f) kept) (place_of m) (z ++ w ∷ [])) (get_or-set_other lists (place_of f) (place_of m) kept [] apart)
+    ∙ set_comm lists (place_of f) (place_of m) kept (at_literal lists m ++ w ∷ []) (λ s. apart (sym s))
+
+pub Walks-stay : (early late later : Literal → Bool) (rows : List (List Literal)) (pairs : List Pair) (lists : List (List Watch)) (kept : List Watch) (w w' : Watch) (rest : List Watch)
+    (f : Literal)
+    → Walks early late rows pairs (with_list lists f kept) (w ∷ rest) f → IsPart late later → place_of f < length lists → w'.clause ≡ w.clause
+    → ((row : List Literal) → slice_get rows w.clause ≡ Some row → is_met later row ≡ true)
+    → Walks early later rows pairs (with_list lists f (kept ++ w' ∷ [])) rest f
+Walks-stay early late later rows pairs lists kept w w' rest f h grown lt same_clause met =
+    subst (λ z. Walks early later rows pairs z rest f) (put_kept lists f kept w' lt)
+    (Walks-keep early late later rows pairs (with_list lists f kept) w w' rest f h grown (subst (λ n. place_of f < n) (sym (length-set lists (place_of f) kept)) lt) same_clause met)
+
+pub Walks-away : (early late : Literal → Bool) (rows : List (List Literal)) (pairs : List Pair) (lists : List (List Watch)) (kept : List Watch) (w w' : Watch) (rest : List Watch) (f : Literal)
+    (pair : Pair) (other next : Literal)
+    → Walks early late rows pairs (with_list lists f kept) (w ∷ rest) f → IsPart early late → place_of next < length lists → w'.clause ≡ w.clause
+    → slice_get pairs w.clause ≡ Some pair → pair.awake ≡ true → IsOther pair f other → late f ≡ false → late (negated f) ≡ true → late (negated next) ≡ false → same next other ≡ false
+    → (row : List Literal) → slice_get rows w.clause ≡ Some row
+    → Walks early late rows (set pairs w.clause (paired other next)) (with_list (put lists next w') f kept) rest f
+Walks-away early late rows pairs lists kept w w' rest f pair other next h part lt same_clause was awake is_other lacks falsified free apart row is_row =
+    subst (λ z. Walks early late rows (set pairs w.clause (paired other next)) z rest f) (put_beside lists f next kept w' beside)
+    (Walks-move early late rows pairs (with_list lists f kept) w w' rest f pair other next h part (subst (λ n. place_of next < n) (sym (length-set lists (place_of f) kept)) lt) same_clause
+    was awake is_other lacks free apart row is_row)
+  where
+    beside : place_of next ≡ place_of f → ⊥
+    beside s = false≢true (sym free ∙ (ap (λ z. late (negated z)) (place_of-injective next f s) ∙ falsified))
+
+-- the list of watches, as the code walks through it
+pub Walks-next : (early late : Literal → Bool) (rows : List (List Literal)) (pairs : List Pair) (lists : List (List Watch)) (list : List Watch) (next : ℕ) (w : Watch) (f : Literal)
+    → slice_get list next ≡ Some w → Walks early late rows pairs lists (drop next list) f → Walks early late rows pairs lists (w ∷ drop (next + 1) list) f
+Walks-next early late rows pairs lists list next w f e h =
+    subst (λ z. Walks early late rows pairs lists z f)
+    (drop_more list next w (at_inside list next w e) ∙ ap (λ z. z ∷ drop (next + 1) list) (at_get_or list next w w e)) h
+
+pub Walks-written : (early late : Literal → Bool) (rows : List (List Literal)) (pairs : List Pair) (lists : List (List Watch)) (list : List Watch) (kept next : ℕ) (w : Watch) (f : Literal)
+    → kept ≤ next → next < length list → Walks early late rows pairs (with_list lists f (take kept list ++ w ∷ [])) (drop (next + 1) list) f
+    → Walks early late rows pairs (with_list lists f (take (kept + 1) (set list kept w))) (drop (next + 1) (set list kept w)) f
+Walks-written early late rows pairs lists list kept next w f le lt h =
+    let inside : kept < length list = omega (arith, le, lt) in
+    let before : kept < next + 1 = omega (arith, le) in
+    subst (λ z. Walks early late rows pairs (with_list lists f (take (kept + 1) (set list kept w))) z f) (sym (drop-set-lt (next + 1) list kept w before))
+    (subst (λ z. Walks early late rows pairs (with_list lists f z) (drop (next + 1) list) f) (sym (take_more_set list kept w inside)) h)
+
+listed_longer : (lists : List (List Watch)) (f : Literal) (kept rest : List Watch) (m : Literal) (k : ℕ) → place_of f < length lists
+    → watches_clause (at_literal (with_list lists f kept) m) k ≡ true → watches_clause (at_literal (with_list lists f (kept ++ rest)) m) k ≡ true
+listed_longer lists f kept rest m k lt e = elim (cases_eq (place_of m) (place_of f)) [
+  | inl s ↦ ap (λ p. watches_clause (get_or (with_list lists f (kept ++ rest)) p []) k) s
+      ∙ (ap (λ z. watches_clause z k) (get_or-set_same lists (place_of f) (kept ++ rest) [] lt)
+      ∙ (list_any-append (λ (w : Watch). w.clause == k) kept rest
+      ∙ or_left _ _ (sym (ap (λ z. watches_clause z k) (get_or-set_same lists (place_of f) kept [] lt))
+      ∙ (sym (ap (λ p. watches_clause (get_or (with_list lists f kept) p []) k) s) ∙ e))))
+  | inr n ↦ ap (λ z. watches_clause z k) (get_or-set_other lists (place_of f) (place_of m) (kept ++ rest) [] n)
+      ∙ (sym (ap (λ z. watches_clause z k) (get_or-set_other lists (place_of f) (place_of m) kept [] n)) ∙ e)
 ]
 
-listed_among : (lists : List (List Watch)) (l : Literal) (ws : List Watch) (k : ℕ) → place_of l < length lists → watches_clause ws k ≡ true
-    → watches_clause (at_literal (put_all lists l ws) l) k ≡ true
-listed_among lists l ws k lt e =
-    ap (λ z. watches_clause z k) (get_or-set_same lists (place_of l) (at_literal lists l ++ ws) [] lt)
-    ∙ (list_any-append (λ (w : Watch). w.clause == k) (at_literal lists l) ws ∙ or_right _ _ e)
+listed_among : (lists : List (List Watch)) (f : Literal) (kept rest : List Watch) (k : ℕ) → place_of f < length lists → watches_clause rest k ≡ true
+    → watches_clause (at_literal (with_list lists f (kept ++ rest)) f) k ≡ true
+listed_among lists f kept rest k lt e =
+    ap (λ z. watches_clause z k) (get_or-set_same lists (place_of f) (kept ++ rest) [] lt)
+    ∙ (list_any-append (λ (w : Watch). w.clause == k) kept rest ∙ or_right _ _ e)
 
--- what is still to be taken up goes back into the list
-pub AllListed-back : (early late : Literal → Bool) (rows : List (List Literal)) (pairs : List Pair) (lists : List (List Watch)) (rest : List Watch) (f : Literal)
-    → Walks early late rows pairs lists rest f → place_of f < length lists → AllListed (put_all lists f rest) pairs
-AllListed-back early late rows pairs lists rest f h lt k pair e aw = (stands pair.first (h.listed.first k pair e aw), stands pair.second (h.listed.second k pair e aw))
+-- both parts make the list
+pub AllListed-back : (early late : Literal → Bool) (rows : List (List Literal)) (pairs : List Pair) (lists : List (List Watch)) (kept rest : List Watch) (f : Literal)
+    → Walks early late rows pairs (with_list lists f kept) rest f → place_of f < length lists → AllListed (with_list lists f (kept ++ rest)) pairs
+AllListed-back early late rows pairs lists kept rest f h lt k pair e aw = (stands pair.first (h.listed.first k pair e aw), stands pair.second (h.listed.second k pair e aw))
   where
-    stands : (m : Literal) → IsWatchListed lists rest f k m → watches_clause (at_literal (put_all lists f rest) m) k ≡ true
-    stands m (inl e) = listed_more_all lists f rest m k lt e
-    stands m (inr e) = subst (λ z. watches_clause (at_literal (put_all lists f rest) z) k ≡ true) (sym e.0) (listed_among lists f rest k lt e.1)
+    stands : (m : Literal) → IsWatchListed (with_list lists f kept) rest f k m → watches_clause (at_literal (with_list lists f (kept ++ rest)) m) k ≡ true
+    stands m (inl e) = listed_longer lists f kept rest m k lt e
+    stands m (inr e) = subst (λ z. watches_clause (at_literal (with_list lists f (kept ++ rest)) z) k ≡ true) (sym e.0) (listed_among lists f kept rest k lt e.1)
 
-pub IsWatching-back : (rows : List (List Literal)) (pairs : List Pair) (lists : List (List Watch)) (vars : ℕ) (l : Literal) (ws : List Watch) → IsWatching rows pairs lists vars
-    → all_blocked rows ws ≡ true → IsWatching rows pairs (put_all lists l ws) vars
-IsWatching-back rows pairs lists vars l ws h e = record {
+pub IsWatching-list : (rows : List (List Literal)) (pairs : List Pair) (lists : List (List Watch)) (vars : ℕ) (l : Literal) (ws : List Watch) → IsWatching rows pairs lists vars
+    → all_blocked rows ws ≡ true → IsWatching rows pairs (with_list lists l ws) vars
+IsWatching-list rows pairs lists vars l ws h e = record {
   count = h.count;
-  places = length-set lists (place_of l) (at_literal lists l ++ ws) ∙ h.places;
+  places = length-set lists (place_of l) ws ∙ h.places;
   own = h.own;
-  blocked = all_set (all_blocked rows) lists (place_of l) (at_literal lists l ++ ws) h.blocked
-      (list_all-append (is_blocked rows) (at_literal lists l) ws ∙ and_from _ _ (all_get_or (all_blocked rows) lists (place_of l) [] h.blocked refl) e);
+  blocked = all_set (all_blocked rows) lists (place_of l) ws h.blocked e;
   within = h.within;
 }
+
+all_taken : {X : Type 0} (p : X → Bool) (n : ℕ) (xs : List X) → list_all p xs ≡ true → list_all p (take n xs) ≡ true
+all_taken p zero xs h = refl
+all_taken p (suc n) [] h = refl
+all_taken p (suc n) (x ∷ xs) h = let q = and_parts _ _ h in and_from _ _ q.0 (all_taken p n xs q.1)
+
+all_dropped : {X : Type 0} (p : X → Bool) (n : ℕ) (xs : List X) → list_all p xs ≡ true → list_all p (drop n xs) ≡ true
+all_dropped p zero xs h = h
+all_dropped p (suc n) [] h = refl
+all_dropped p (suc n) (x ∷ xs) h = all_dropped p n xs (and_parts _ _ h).1
+
+all_at : {X : Type 0} (p : X → Bool) (xs : List X) (k : ℕ) (x : X) → list_all p xs ≡ true → slice_get xs k ≡ Some x → p x ≡ true
+all_at p [] k x h e = cc
+all_at p (y ∷ ys) zero x h e = let s : y ≡ x = cc in ap p (sym s) ∙ (and_parts _ _ h).0
+all_at p (y ∷ ys) (suc k) x h e = all_at p ys k x (and_parts _ _ h).1 e
+
+pub blocked_front : (rows : List (List Literal)) (list : List Watch) (kept : ℕ) → all_blocked rows list ≡ true → all_blocked rows (take kept list) ≡ true
+blocked_front rows list kept h = all_taken (is_blocked rows) kept list h
+
+pub blocked_cut : (rows : List (List Literal)) (list : List Watch) (kept next : ℕ) → all_blocked rows list ≡ true → all_blocked rows (take kept list ++ drop next list) ≡ true
+blocked_cut rows list kept next h =
+    list_all-append (is_blocked rows) (take kept list) (drop next list)
+    ∙ and_from _ _ (all_taken (is_blocked rows) kept list h) (all_dropped (is_blocked rows) next list h)
+
+pub blocked_at : (rows : List (List Literal)) (list : List Watch) (k : ℕ) (w : Watch) → all_blocked rows list ≡ true → slice_get list k ≡ Some w → is_blocked rows w ≡ true
+blocked_at rows list k w h e = all_at (is_blocked rows) list k w h e
+
+pub blocked_set : (rows : List (List Literal)) (list : List Watch) (k : ℕ) (w : Watch) → all_blocked rows list ≡ true → is_blocked rows w ≡ true → all_blocked rows (set list k w) ≡ true
+blocked_set rows list k w h e = all_set (is_blocked rows) list k w h e
+
+-- what is said of each outcome
+pub kept_at : (o : Outcome) (w : Watch) (P : Watch → Type 0) → o ≡ Kept w → IfKept P o → P w
+kept_at (Kept v) w P e h = let s : v ≡ w = cc in subst P s h
+kept_at Removed w P e h = cc
+kept_at Conflict w P e h = cc
+
+pub at_conflict : (o : Outcome) (P : Type 0) → o ≡ Conflict → IfConflict P o → P
+at_conflict (Kept v) P e h = cc
+at_conflict Removed P e h = cc
+at_conflict Conflict P e h = h
 
 -- the watches at a literal are taken out of its list
 pub Walks-start : (late : Literal → Bool) (before now : Literal → Bool) (rows : List (List Literal)) (pairs : List Pair) (lists : List (List Watch)) (f : Literal)
@@ -395,19 +490,20 @@ pub Walks-taken : (rows : List (List Literal)) (pairs : List Pair) (lists : List
     (left waiting out : List Watch)
     → position < length trail → x ≡ get_or trail position x → IsWatching rows pairs lists vars → ((l : Literal) → has trail l ≡ true → place_of l < 2 * vars + 2)
     → AllListed lists pairs → Quiet rows pairs (has (take position trail)) (has trail)
-    → f ≡ negated x → place ≡ place_of f → left ≡ [] → waiting ≡ out → out ≡ get_or lists place out
-    → Walks (has (take (position + 1) trail)) (has trail) rows pairs (set lists place left) waiting f
-Walks-taken rows pairs lists vars trail position x f place left waiting out lt is h within listed quiet ef ep el ew eo =
+    → f ≡ negated x → place ≡ place_of f → waiting ≡ out → out ≡ get_or lists place out
+    → Walks (has (take (position + 1) trail)) (has trail) rows pairs (with_list (set lists place left) f []) waiting f
+Walks-taken rows pairs lists vars trail position x f place left waiting out lt is h within listed quiet ef ep ew eo =
     let has_x : has trail x ≡ true = ap (has trail) is ∙ has_get_or trail position x lt in
     let low : place_of (negated x) < 2 * vars + 2 = place_of-negated x vars (within x has_x) in
     let at : place ≡ place_of (negated x) = ep ∙ ap place_of ef in
     let size : length lists ≡ 2 * vars + 2 = h.places in
     let inside : place < length lists = omega (arith, low, at, size) in
     let read : waiting ≡ at_literal lists (negated x) = ew ∙ (get_or_read lists place out inside eo [] ∙ ap (λ k. get_or lists k []) at) in
-    let rest : set lists place left ≡ set lists (place_of (negated x)) [] = ap (λ k. set lists k left) at ∙ ap (λ z. set lists (place_of (negated x)) z) el in
-    subst (λ z. Walks (has (take (position + 1) trail)) (has trail) rows pairs (set lists place left) waiting z) (sym ef)
-    (subst (λ z. Walks (has (take (position + 1) trail)) (has trail) rows pairs (set lists place left) z (negated x)) (sym read)
-    (subst (λ z. Walks (has (take (position + 1) trail)) (has trail) rows pairs z (at_literal lists (negated x)) (negated x)) (sym rest)
+    let rest : with_list (set lists place left) f [] ≡ set lists (place_of (negated x)) [] =
+    ap (λ k. set (set lists k left) (place_of f) []) ep ∙ (set-set lists (place_of f) left [] ∙ ap (λ z. set lists (place_of z) []) ef) in
+    subst (λ z. Walks (has (take (position + 1) trail)) (has trail) rows pairs z waiting f) (sym rest)
+    (subst (λ z. Walks (has (take (position + 1) trail)) (has trail) rows pairs (set lists (place_of (negated x)) []) z f) (sym read)
+    (subst (λ z. Walks (has (take (position + 1) trail)) (has trail) rows pairs (set lists (place_of (negated x)) []) (at_literal lists (negated x)) z) (sym ef)
     (Walks-visit rows pairs lists trail position x lt is listed quiet)))
 
 pub if_none : {X : Type 0} (o : Option X) (P Q : Type 0) → (P → Q) → IfNone o P → IfNone o Q

@@ -3,6 +3,7 @@ pub mod Tables
 pub mod Store
 pub mod Rows
 pub mod Watches
+pub mod Walking
 pub mod Base
 pub mod Forgetting
 pub mod Resolvents

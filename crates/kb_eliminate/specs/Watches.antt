@@ -37,6 +37,10 @@ watches_clause list k = list_any (λ (w : Watch). w.clause == k) list
 abbrev pub at_literal : List (List Watch) → Literal → List Watch
 at_literal lists l = slice_index_or lists (place_of l) []
 
+-- the table with this list at a literal
+abbrev pub with_list : List (List Watch) → Literal → List Watch → List (List Watch)
+with_list lists l ws = slice_set lists (place_of l) ws
+
 -- the watch of clause k at this literal is in its list, or among those that are being taken up from the list of the false literal
 abbrev pub IsWatchListed : List (List Watch) → List Watch → Literal → ℕ → Literal → Type 0
 IsWatchListed lists rest falsified k l =

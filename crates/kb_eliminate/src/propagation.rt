@@ -6,14 +6,15 @@ ghost use Rattle.kb_chain.specs.Literal.{Literal, has, negated, same, place_of};
 ghost use Rattle.kb_eliminate.specs.Trail.{TrailGrows};
 ghost use Rattle.kb_eliminate.specs.Store.{IsJustified};
 ghost use Rattle.kb_eliminate.specs.Base.{IsConflict};
-ghost use Rattle.kb_eliminate.specs.Watches.{Quiet, IsWatching, IsAwake, Walks, AllListed, StaysQuiet, is_blocked, all_blocked, IsOther};
+ghost use Rattle.kb_eliminate.specs.Watches.{Quiet, IsWatching, IsAwake, Walks, AllListed, StaysQuiet, is_blocked, all_blocked, with_list, IsOther};
+ghost use Rattle.kb_eliminate.specs.Walking.{IfKept, IfConflict, IfGoesOn, kept_with};
 ghost use Rattle.kb_eliminate.specs.declared.watch.Watch.{Watch};
 
 use crate::NoMemory;
 use crate::clauses::Clauses;
 use crate::trail::Trail;
 use crate::watch::{Pair, Watch};
-use crate::watches::{WatchList, Watches, put_back, put_watch};
+use crate::watches::{WatchList, Watches, put_watch};
 use kb_chain::Lit;
 use std::mem;
 
@@ -69,56 +70,81 @@ fn visit(
     ensures justified { OnOk result ((all : List (List Literal)) → IsJustified all clauses.now trail.old → IsJustified all clauses.now trail.new) }
 {
     let falsified = trail.literals()[position].negated();
+    let place = falsified.place();
     watches.waiting.clear();
-    mem::swap(&mut watches.lists[falsified.place()], &mut watches.waiting);
+    mem::swap(&mut watches.lists[place], &mut watches.waiting);
     let conflict = walk(
         clauses,
         &mut watches.pairs,
         &mut watches.lists,
         trail,
         falsified,
-        watches.waiting.as_slice(),
+        &mut watches.waiting,
     )?;
+    mem::swap(&mut watches.lists[place], &mut watches.waiting);
     Ok(conflict)
 }
 
-/// Takes up these watches, which were taken out of the list of a literal that is false, and puts them back or elsewhere.
+/// Takes up the watches of a list that was taken out of its place, that of a literal which is false: what stays moves to the
+/// front of the list.
 fn walk(
     clauses: &Clauses,
     pairs: &mut Vec<Pair>,
     lists: &mut Vec<WatchList>,
     trail: &mut Trail,
     falsified: Lit,
-    waiting: &[Watch],
+    list: &mut WatchList,
 ) -> Result<Option<u32>, NoMemory>
     requires place { place_of falsified < 2 * trail.old.vars + 2 }
     requires falsified { has trail.old.literals (negated falsified) ≡ true }
     requires watching { IsWatching clauses.now pairs.old.items lists.old.items trail.old.vars }
-    requires waiting { all_blocked clauses.now waiting.now ≡ true }
+    requires blocked { all_blocked clauses.now list.old ≡ true }
     ensures watching { OnOk result (IsWatching clauses.now pairs.new.items lists.new.items trail.new.vars) }
+    ensures blocked { OnOk result (all_blocked clauses.now list.new ≡ true) }
     ensures walked { OnOk result ((early : Literal → Bool) → ((l : Literal) → early l ≡ true → has trail.old.literals l ≡ true)
-        → Walks early (has trail.old.literals) clauses.now pairs.old.items lists.old.items waiting.now falsified
-        → (AllListed lists.new.items pairs.new.items)) }
+        → Walks early (has trail.old.literals) clauses.now pairs.old.items (with_list lists.old.items falsified []) list.old falsified
+        → AllListed (with_list lists.new.items falsified list.new) pairs.new.items) }
     ensures quiet { IfOk result (λ conflict. IfNone conflict ((early : Literal → Bool) → ((l : Literal) → early l ≡ true → has trail.old.literals l ≡ true)
-        → Walks early (has trail.old.literals) clauses.now pairs.old.items lists.old.items waiting.now falsified
+        → Walks early (has trail.old.literals) clauses.now pairs.old.items (with_list lists.old.items falsified []) list.old falsified
         → Quiet clauses.now pairs.new.items early (has trail.new.literals))) }
     ensures conflict { IfOk result (λ conflict. IfSome conflict (λ number. IsConflict clauses.now trail.new number × IsAwake pairs.new.items number)) }
     ensures stays { OnOk result (StaysQuiet clauses.now pairs.old.items pairs.new.items (has trail.old.literals)) }
     ensures grows { OnOk result (TrailGrows trail.old trail.new) }
     ensures justified { OnOk result ((all : List (List Literal)) → IsJustified all clauses.now trail.old → IsJustified all clauses.now trail.new) }
 {
-    let mut rest = waiting;
-    while let [watch, others @ ..] = rest {
-        if !examine(clauses, pairs, lists, trail, falsified, *watch)? {
-            put_back(lists, falsified, rest)?;
-            return Ok(Some(watch.clause));
+    let mut kept = 0;
+    for next in 0..list.len() {
+        let watch = list.at(next);
+        let number = watch.clause;
+        let outcome = examine(clauses, pairs, lists, trail, falsified, watch)?;
+        match outcome {
+            Outcome::Kept(later) => {
+                list.put(kept, later);
+                kept += 1;
+            }
+            Outcome::Removed => {}
+            Outcome::Conflict => {
+                list.cut(kept, next);
+                return Ok(Some(number));
+            }
         }
-        rest = others;
     }
+    list.truncate(kept);
     Ok(None)
 }
 
-/// Takes up one watch: false where all literals of its clause are false, and then nothing has changed.
+/// What becomes of a watch that is taken up.
+#[derive(Clone, Copy, Drop)]
+enum Outcome {
+    /// It stays in its list, as this one.
+    Kept(Watch),
+    /// It is at another literal now, or its clause is watched no longer.
+    Removed,
+    /// All literals of its clause are false; nothing has changed.
+    Conflict,
+}
+
+/// Takes up one watch.
 fn examine(
     clauses: &Clauses,
     pairs: &mut Vec<Pair>,
@@ -126,57 +152,56 @@ fn examine(
     trail: &mut Trail,
     falsified: Lit,
     watch: Watch,
-) -> Result<bool, NoMemory>
+) -> Result<Outcome, NoMemory>
     requires place { place_of falsified < 2 * trail.old.vars + 2 }
     requires falsified { has trail.old.literals (negated falsified) ≡ true }
     requires watching { IsWatching clauses.now pairs.old.items lists.old.items trail.old.vars }
     requires watch { is_blocked clauses.now watch ≡ true }
     ensures watching { OnOk result (IsWatching clauses.now pairs.new.items lists.new.items trail.new.vars) }
-    ensures walked { IfOk result (λ goes. OnTrue goes ((early : Literal → Bool) (others : List Watch)
+    ensures blocked { IfOk result (IfKept (λ later. is_blocked clauses.now later ≡ true)) }
+    ensures walked { IfOk result (λ outcome. IfGoesOn ((early : Literal → Bool) (kept others : List Watch)
         → ((l : Literal) → early l ≡ true → has trail.old.literals l ≡ true)
-        → Walks early (has trail.old.literals) clauses.now pairs.old.items lists.old.items (watch ∷ others) falsified
-        → Walks early (has trail.new.literals) clauses.now pairs.new.items lists.new.items others falsified)) }
-    ensures conflict { IfOk result (λ goes. OnFalse goes (IsConflict clauses.now trail.new watch.clause × IsAwake pairs.new.items watch.clause)) }
-    ensures unchanged { IfOk result (λ goes. OnFalse goes ((pairs.new.items ≡ pairs.old.items) × (lists.new.items ≡ lists.old.items) × (trail.new ≡ trail.old))) }
+        → Walks early (has trail.old.literals) clauses.now pairs.old.items (with_list lists.old.items falsified kept) (watch ∷ others) falsified
+        → Walks early (has trail.new.literals) clauses.now pairs.new.items (with_list lists.new.items falsified (kept_with kept outcome)) others falsified)
+        outcome) }
+    ensures conflict { IfOk result (IfConflict (IsConflict clauses.now trail.new watch.clause × IsAwake pairs.new.items watch.clause)) }
+    ensures unchanged { IfOk result (IfConflict ((pairs.new.items ≡ pairs.old.items) × (lists.new.items ≡ lists.old.items) × (trail.new ≡ trail.old))) }
     ensures stays { OnOk result (StaysQuiet clauses.now pairs.old.items pairs.new.items (has trail.old.literals)) }
     ensures grows { OnOk result (TrailGrows trail.old trail.new) }
     ensures justified { OnOk result ((all : List (List Literal)) → IsJustified all clauses.now trail.old → IsJustified all clauses.now trail.new) }
 {
     trail.tell_trail();
     if trail.is_true(watch.blocker) {
-        put_watch(lists, falsified, watch)?;
-        return Ok(true);
+        return Ok(Outcome::Kept(watch));
     }
     let pair = pairs[watch.clause as usize];
     if !pair.awake {
-        return Ok(true);
+        return Ok(Outcome::Removed);
     }
     let Some(other) = other_watched(pair, falsified) else {
-        return Ok(true);
+        return Ok(Outcome::Removed);
     };
-    let kept = Watch {
+    let later = Watch {
         clause: watch.clause,
         blocker: other,
     };
     if trail.is_true(other) {
-        put_watch(lists, falsified, kept)?;
-        return Ok(true);
+        return Ok(Outcome::Kept(later));
     }
     if let Some(next) = open_literal(clauses.literals(watch.clause), other, trail) {
-        put_watch(lists, next, kept)?;
+        put_watch(lists, next, later)?;
         pairs[watch.clause as usize] = Pair {
             first: other,
             second: next,
             awake: true,
         };
-        return Ok(true);
+        return Ok(Outcome::Removed);
     }
     if trail.is_false(other) {
-        return Ok(false);
+        return Ok(Outcome::Conflict);
     }
-    put_watch(lists, falsified, kept)?;
     trail.assign(other, watch.clause);
-    Ok(true)
+    Ok(Outcome::Kept(later))
 }
 
 /// The other one of two watched literals; none where this is neither.

@@ -1,5 +1,6 @@
 //! The lists of watches. Under proof: each clause that wasn't let go is in the lists of its two watched literals.
-ghost use Rattle.std.specs.Prelude.{◌≡◌, ℕ, ◌+◌, ◌*◌, ◌<◌, true, [], ◌∷◌, ◌++◌, length, map, filter, slice_set, OnOk, IfOk};
+ghost use Rattle.std.specs.Prelude.{◌≡◌, ℕ, ◌+◌, ◌*◌, ◌<◌, ◌≤◌, true, [], ◌∷◌, ◌++◌, length, take, map, filter, slice_get, slice_set, vec_len, Some, OnOk, IfOk};
+ghost use Rattle.std.specs.List.{remove_range};
 ghost use Rattle.kb_chain.specs.Literal.{place_of};
 ghost use Rattle.kb_eliminate.specs.Watches.{at_literal, AreEmpty};
 ghost use Rattle.kb_eliminate.specs.Forgetting.{has_awake_clause, only_awake, asleep};
@@ -34,10 +35,26 @@ impl WatchList {
         }
     }
 
-    pub fn as_slice(&self) -> &[Watch]
-        ensures { result.now ≡ self.now }
+    pub fn len(&self) -> usize
+        ensures { result ≡ length self.now }
     {
-        self.inner.as_slice()
+        self.inner.len()
+    }
+
+    /// The watch at a place.
+    pub fn at(&self, place: usize) -> Watch
+        requires { place < length self.now }
+        ensures { slice_get self.now place ≡ Some result }
+    {
+        self.inner[place]
+    }
+
+    /// Puts a watch in the place of another.
+    pub fn put(&mut self, place: usize, watch: Watch)
+        requires { place < length self.old }
+        ensures { self.new ≡ slice_set self.old place watch }
+    {
+        self.inner[place] = watch;
     }
 
     pub fn push(&mut self, watch: Watch) -> Result<(), NoMemory>
@@ -47,17 +64,26 @@ impl WatchList {
         Ok(())
     }
 
-    pub fn extend(&mut self, watches: &[Watch]) -> Result<(), NoMemory>
-        ensures { OnOk result (self.new ≡ self.old ++ watches.now) }
-    {
-        self.inner.extend_from_slice(watches)?;
-        Ok(())
-    }
-
     pub fn clear(&mut self)
         ensures { self.new ≡ [] }
     {
         self.inner.clear();
+    }
+
+    /// Keeps only the first watches.
+    pub fn truncate(&mut self, kept: usize)
+        ensures { self.new ≡ take kept self.old }
+    {
+        self.inner.truncate(kept);
+    }
+
+    /// Takes the watches between two places out: from `start` up to `end`, which stays.
+    pub fn cut(&mut self, start: usize, end: usize)
+        requires order { start ≤ end }
+        requires inside { end ≤ length self.old }
+        ensures { self.new ≡ remove_range self.old start end }
+    {
+        cut(&mut self.inner, start, end);
     }
 
     /// Keeps only the watches of clauses that are awake.
@@ -66,6 +92,17 @@ impl WatchList {
     {
         self.inner.retain(|watch| has_awake_clause(pairs, watch));
     }
+}
+
+/// Takes the watches from `start` up to `end` out.
+fn cut(watches: &mut Vec<Watch>, start: usize, end: usize)
+    requires order { start ≤ end }
+    requires inside { end ≤ vec_len watches.old }
+    ensures { watches.new.items ≡ remove_range watches.old.items start end }
+{
+    let left = watches.len() - (end - start);
+    watches.copy_within(end.., start);
+    watches.truncate(left);
 }
 
 /// Whether a watch is of a clause that is awake.
@@ -83,7 +120,7 @@ fn has_awake_clause(pairs: &[Pair], watch: &Watch) -> bool
 pub struct Watches {
     pub pairs: Vec<Pair>,
     pub lists: Vec<WatchList>,
-    /// Room for the watches that are being taken up.
+    /// Where a list is as long as its watches are taken up; empty otherwise.
     pub waiting: WatchList,
 }
 
@@ -134,15 +171,5 @@ pub fn put_watch(lists: &mut Vec<WatchList>, literal: Lit, watch: Watch) -> Resu
 {
     let list = &mut lists[literal.place()];
     list.push(watch)?;
-    Ok(())
-}
-
-/// Puts watches into the list of a literal.
-pub fn put_back(lists: &mut Vec<WatchList>, literal: Lit, watches: &[Watch]) -> Result<(), NoMemory>
-    requires { place_of literal < length lists.old.items }
-    ensures ok { OnOk result (lists.new.items ≡ slice_set lists.old.items (place_of literal) (at_literal lists.old.items literal ++ watches.now)) }
-{
-    let list = &mut lists[literal.place()];
-    list.extend(watches)?;
     Ok(())
 }

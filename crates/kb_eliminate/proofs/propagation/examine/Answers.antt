@@ -5,14 +5,14 @@ use Rattle.kb_chain.specs.Literal.{Literal, has, same, negated, place_of}
 use Rattle.kb_chain.proofs.LiteralLaws.{same-true, same_refl, negated-negated}
 use Rattle.kb_chain.proofs.PropagationLaws.{all_negated-from}
 use Rattle.kb_eliminate.specs.Trail.{Assigned}
-use Rattle.kb_eliminate.specs.Watches.{IsWatching, IsOther, is_met, is_blocked, put}
+use Rattle.kb_eliminate.specs.Watches.{IsWatching, IsOther, is_met, is_blocked, put, with_list}
 use Rattle.kb_eliminate.specs.Base.{IsConflict}
 use Rattle.kb_eliminate.specs.declared.watch.Watch.{Watch}
 use Rattle.kb_eliminate.specs.declared.watch.Pair.{Pair}
 use Rattle.kb_eliminate.proofs.Places.{at_inside, at_same}
 use Rattle.kb_eliminate.proofs.TrailLaws.{has_pushed}
 use Rattle.kb_eliminate.proofs.JustifyLaws.{IsJustified-push, push_part}
-use Rattle.kb_eliminate.proofs.WatchLaws.{Walks-keep, Walks-drop, Walks-move, StaysQuiet-move, IsWatching-put, IsWatching-move, blocked_row, is_blocked-from, is_met-from, other_own}
+use Rattle.kb_eliminate.proofs.WatchLaws.{Walks-stay, Walks-drop, Walks-away, StaysQuiet-move, IsWatching-put, IsWatching-move, blocked_row, is_blocked-from, is_met-from, other_own}
 use Rattle.kb_eliminate.proofs.propagation.examine.Goals as goal
 
 -- the places of the table
@@ -24,23 +24,13 @@ met : (rows : List (List Literal)) (w : Watch) (set : Literal → Bool) (l : Lit
     → (r : List Literal) → slice_get rows w.clause ≡ Some r → is_met set r ≡ true
 met rows w set l row e i t r g = is_met-from set r l (ap (λ z. has z l) (at_same rows w.clause r row g e) ∙ i) t
 
-pub put_watch-requires : goal.put_watch-requires
-put_watch-requires c =
-    inside_table c.args.clauses.now c.args.pairs.now.items c.args.lists.now.items c.args.trail.now.vars c.args.falsified c.requires.watching c.requires.place
-
-pub returns-then-is_true-clause-watching : goal.returns-then-is_true-clause-watching
-returns-then-is_true-clause-watching c =
-    rw c.in_ok-put_watch.ensures.ok
-    (IsWatching-put c.args.clauses.now c.args.pairs.now.items c.args.lists.now.items c.args.trail.now.vars c.args.falsified c.args.watch c.requires.watching c.requires.watch)
-
 pub returns-then-is_true-clause-walked : goal.returns-then-is_true-clause-walked
-returns-then-is_true-clause-walked c early others part h =
+returns-then-is_true-clause-walked c early kept others part h =
     let row = blocked_row c.args.clauses.now c.args.watch c.requires.watch in
-    rw c.in_ok-put_watch.ensures.ok
-    (Walks-keep early (has c.args.trail.now.literals) (has c.args.trail.now.literals) c.args.clauses.now c.args.pairs.now.items c.args.lists.now.items c.args.watch c.args.watch
+    Walks-stay early (has c.args.trail.now.literals) (has c.args.trail.now.literals) c.args.clauses.now c.args.pairs.now.items c.args.lists.now.items kept c.args.watch c.args.watch
     others c.args.falsified h (λ l e. e)
     (inside_table c.args.clauses.now c.args.pairs.now.items c.args.lists.now.items c.args.trail.now.vars c.args.falsified c.requires.watching c.requires.place) refl
-    (met c.args.clauses.now c.args.watch (has c.args.trail.now.literals) c.args.watch.blocker row.0 row.1 row.2 (sym c.is_true.ensures ∙ c.if-is_true.true)))
+    (met c.args.clauses.now c.args.watch (has c.args.trail.now.literals) c.args.watch.blocker row.0 row.1 row.2 (sym c.is_true.ensures ∙ c.if-is_true.true))
 
 -- the watched literals of a clause that is there
 pair_there : (rows : List (List Literal)) (pairs : List Pair) (lists : List (List Watch)) (vars : ℕ) (w : Watch) (p : Pair) → IsWatching rows pairs lists vars
@@ -53,24 +43,20 @@ pair_there rows pairs lists vars w p h e is =
 
 -- a clause that was let go is watched no longer
 pub returns-then-not-pair-clause-walked : goal.returns-then-not-pair-clause-walked
-returns-then-not-pair-clause-walked c early others part h =
-    Walks-drop early (has c.args.trail.now.literals) c.args.clauses.now c.args.pairs.now.items c.args.lists.now.items c.args.watch others c.args.falsified h
+returns-then-not-pair-clause-walked c early kept others part h =
+    Walks-drop early (has c.args.trail.now.literals) c.args.clauses.now c.args.pairs.now.items (with_list c.args.lists.now.items c.args.falsified kept) c.args.watch others c.args.falsified h
     (λ pair e aw. (let was : slice_get c.args.pairs.now.items c.args.watch.clause ≡ Some c.index-pair.result.now =
     pair_there c.args.clauses.now c.args.pairs.now.items c.args.lists.now.items c.args.trail.now.vars c.args.watch c.index-pair.result.now c.requires.watching c.requires.watch c.index-pair.ensures in
     let s : pair ≡ c.index-pair.result.now = at_same c.args.pairs.now.items c.args.watch.clause pair c.index-pair.result.now e was in
     absurd (false≢true (sym (not-true c.index-pair.result.now.awake c.if-not-pair.true) ∙ (ap (λ (z : Pair). z.awake) (sym s) ∙ aw)))))
 
 pub returns-in_default-clause-walked : goal.returns-in_default-clause-walked
-returns-in_default-clause-walked c early others part h =
-    Walks-drop early (has c.args.trail.now.literals) c.args.clauses.now c.args.pairs.now.items c.args.lists.now.items c.args.watch others c.args.falsified h
+returns-in_default-clause-walked c early kept others part h =
+    Walks-drop early (has c.args.trail.now.literals) c.args.clauses.now c.args.pairs.now.items (with_list c.args.lists.now.items c.args.falsified kept) c.args.watch others c.args.falsified h
     (λ pair e aw. (let was : slice_get c.args.pairs.now.items c.args.watch.clause ≡ Some c.index-pair.result.now =
     pair_there c.args.clauses.now c.args.pairs.now.items c.args.lists.now.items c.args.trail.now.vars c.args.watch c.index-pair.result.now c.requires.watching c.requires.watch c.index-pair.ensures in
     let s : pair ≡ c.index-pair.result.now = at_same c.args.pairs.now.items c.args.watch.clause pair c.index-pair.result.now e was in
     (ap (λ (z : Pair). same z.first c.args.falsified) s ∙ c.in_default.ensures.none.0, ap (λ (z : Pair). same z.second c.args.falsified) s ∙ c.in_default.ensures.none.1)))
-
-pub put_watch-requires-then-is_true-2 : goal.put_watch-requires-then-is_true-2
-put_watch-requires-then-is_true-2 c =
-    inside_table c.args.clauses.now c.args.pairs.now.items c.args.lists.now.items c.args.trail.now.vars c.args.falsified c.requires.watching c.requires.place
 
 -- the other watched literal, as the blocker of a watch
 other_blocks : (rows : List (List Literal)) (pairs : List Pair) (lists : List (List Watch)) (vars : ℕ) (w : Watch) (p : Pair) (f other : Literal) → IsWatching rows pairs lists vars
@@ -81,23 +67,19 @@ other_blocks rows pairs lists vars w p f other h e is o =
     let own = other_own rows pairs w.clause row.0 p f other h.own row.1 (pair_there rows pairs lists vars w p h e is) o in
     (row.0, row.1, own, is_blocked-from rows (record { clause = w.clause; blocker = other }) row.0 row.1 own)
 
-pub returns-then-is_true-2-clause-watching : goal.returns-then-is_true-2-clause-watching
-returns-then-is_true-2-clause-watching c =
-    let o = other_blocks c.args.clauses.now c.args.pairs.now.items c.args.lists.now.items c.args.trail.now.vars c.args.watch c.index-pair.result.now c.args.falsified c.in-Some.other
-    c.requires.watching c.requires.watch c.index-pair.ensures c.in-Some.ensures.some in
-    rw c.in_ok-put_watch-2.ensures.ok
-    (IsWatching-put c.args.clauses.now c.args.pairs.now.items c.args.lists.now.items c.args.trail.now.vars c.args.falsified
-    (record { clause = c.args.watch.clause; blocker = c.in-Some.other }) c.requires.watching o.3)
+pub returns-then-is_true-2-clause-blocked : goal.returns-then-is_true-2-clause-blocked
+returns-then-is_true-2-clause-blocked c =
+    (other_blocks c.args.clauses.now c.args.pairs.now.items c.args.lists.now.items c.args.trail.now.vars c.args.watch c.index-pair.result.now c.args.falsified c.in-Some.other
+    c.requires.watching c.requires.watch c.index-pair.ensures c.in-Some.ensures.some).3
 
 pub returns-then-is_true-2-clause-walked : goal.returns-then-is_true-2-clause-walked
-returns-then-is_true-2-clause-walked c early others part h =
+returns-then-is_true-2-clause-walked c early kept others part h =
     let o = other_blocks c.args.clauses.now c.args.pairs.now.items c.args.lists.now.items c.args.trail.now.vars c.args.watch c.index-pair.result.now c.args.falsified c.in-Some.other
     c.requires.watching c.requires.watch c.index-pair.ensures c.in-Some.ensures.some in
-    rw c.in_ok-put_watch-2.ensures.ok
-    (Walks-keep early (has c.args.trail.now.literals) (has c.args.trail.now.literals) c.args.clauses.now c.args.pairs.now.items c.args.lists.now.items c.args.watch
+    Walks-stay early (has c.args.trail.now.literals) (has c.args.trail.now.literals) c.args.clauses.now c.args.pairs.now.items c.args.lists.now.items kept c.args.watch
     (record { clause = c.args.watch.clause; blocker = c.in-Some.other }) others c.args.falsified h (λ l e. e)
     (inside_table c.args.clauses.now c.args.pairs.now.items c.args.lists.now.items c.args.trail.now.vars c.args.falsified c.requires.watching c.requires.place) refl
-    (met c.args.clauses.now c.args.watch (has c.args.trail.now.literals) c.in-Some.other o.0 o.1 o.2 (sym c.is_true-2.ensures ∙ c.if-is_true-2.true)))
+    (met c.args.clauses.now c.args.watch (has c.args.trail.now.literals) c.in-Some.other o.0 o.1 o.2 (sym c.is_true-2.ensures ∙ c.if-is_true-2.true))
 
 pub returns-in-Some-open_literal-clause-watching : goal.returns-in-Some-open_literal-clause-watching
 returns-in-Some-open_literal-clause-watching c =
@@ -105,14 +87,14 @@ returns-in-Some-open_literal-clause-watching c =
     c.requires.watching c.requires.watch c.index-pair.ensures c.in-Some.ensures.some in
     let next = c.in-Some-open_literal.next in
     let inside : has o.0 next ≡ true = ap (λ z. has z next) (at_same c.args.clauses.now c.args.watch.clause o.0 c.literals.result.now o.1 c.literals.ensures) ∙ c.in-Some-open_literal.ensures.some.0 in
-    rw c.in_ok-put_watch-3.ensures.ok
+    rw c.in_ok-put_watch.ensures.ok
     (IsWatching-move c.args.clauses.now c.args.pairs.now.items (put c.args.lists.now.items next (record { clause = c.args.watch.clause; blocker = c.in-Some.other })) c.args.trail.now.vars
     c.args.watch.clause o.0 c.in-Some.other next
     (IsWatching-put c.args.clauses.now c.args.pairs.now.items c.args.lists.now.items c.args.trail.now.vars next
     (record { clause = c.args.watch.clause; blocker = c.in-Some.other }) c.requires.watching o.3) o.1 o.2 inside)
 
 pub returns-in-Some-open_literal-clause-walked : goal.returns-in-Some-open_literal-clause-walked
-returns-in-Some-open_literal-clause-walked c early others part h =
+returns-in-Some-open_literal-clause-walked c early kept others part h =
     let o = other_blocks c.args.clauses.now c.args.pairs.now.items c.args.lists.now.items c.args.trail.now.vars c.args.watch c.index-pair.result.now c.args.falsified c.in-Some.other
     c.requires.watching c.requires.watch c.index-pair.ensures c.in-Some.ensures.some in
     let next = c.in-Some-open_literal.next in
@@ -120,13 +102,13 @@ returns-in-Some-open_literal-clause-walked c early others part h =
     let place : place_of next < length c.args.lists.now.items =
     inside_table c.args.clauses.now c.args.pairs.now.items c.args.lists.now.items c.args.trail.now.vars next c.requires.watching
     (c.requires.watching.within c.args.watch.clause o.0 o.1 next inside) in
-    rw c.in_ok-put_watch-3.ensures.ok
-    (Walks-move early (has c.args.trail.now.literals) c.args.clauses.now c.args.pairs.now.items c.args.lists.now.items c.args.watch
+    rw c.in_ok-put_watch.ensures.ok
+    (Walks-away early (has c.args.trail.now.literals) c.args.clauses.now c.args.pairs.now.items c.args.lists.now.items kept c.args.watch
     (record { clause = c.args.watch.clause; blocker = c.in-Some.other }) others c.args.falsified c.index-pair.result.now c.in-Some.other next h part place refl
     (pair_there c.args.clauses.now c.args.pairs.now.items c.args.lists.now.items c.args.trail.now.vars c.args.watch c.index-pair.result.now c.requires.watching c.requires.watch c.index-pair.ensures)
     (not-false c.index-pair.result.now.awake c.if-not-pair.false) c.in-Some.ensures.some
     (sym (ap (has c.args.trail.now.literals) (negated-negated c.args.falsified)) ∙ c.tell_trail.ensures.consistent (negated c.args.falsified) c.requires.falsified)
-    c.in-Some-open_literal.ensures.some.1 c.in-Some-open_literal.ensures.some.2 o.0 o.1)
+    c.requires.falsified c.in-Some-open_literal.ensures.some.1 c.in-Some-open_literal.ensures.some.2 o.0 o.1)
 
 pub returns-in-Some-open_literal-clause-stays : goal.returns-in-Some-open_literal-clause-stays
 returns-in-Some-open_literal-clause-stays c =
@@ -161,26 +143,22 @@ assign-requires-clause-place c =
     c.requires.watching c.requires.watch c.index-pair.ensures c.in-Some.ensures.some in
     c.requires.watching.within c.args.watch.clause o.0 o.1 c.in-Some.other o.2
 
-pub put_watch-requires-2 : goal.put_watch-requires-2
-put_watch-requires-2 c =
-    inside_table c.args.clauses.now c.args.pairs.now.items c.args.lists.now.items c.args.trail.now.vars c.args.falsified c.requires.watching c.requires.place
-
 pub returns-clause-watching : goal.returns-clause-watching
-returns-clause-watching c =
-    let o = other_blocks c.args.clauses.now c.args.pairs.now.items c.args.lists.now.items c.args.trail.now.vars c.args.watch c.index-pair.result.now c.args.falsified c.in-Some.other
-    c.requires.watching c.requires.watch c.index-pair.ensures c.in-Some.ensures.some in
-    rw (c.in_ok-put_watch-4.ensures.ok, ap (λ (z : Assigned). z.vars) c.assign.ensures)
-    (IsWatching-put c.args.clauses.now c.args.pairs.now.items c.args.lists.now.items c.args.trail.now.vars c.args.falsified
-    (record { clause = c.args.watch.clause; blocker = c.in-Some.other }) c.requires.watching o.3)
+returns-clause-watching c = rw (ap (λ (z : Assigned). z.vars) c.assign.ensures) c.requires.watching
+
+pub returns-clause-blocked : goal.returns-clause-blocked
+returns-clause-blocked c =
+    (other_blocks c.args.clauses.now c.args.pairs.now.items c.args.lists.now.items c.args.trail.now.vars c.args.watch c.index-pair.result.now c.args.falsified c.in-Some.other
+    c.requires.watching c.requires.watch c.index-pair.ensures c.in-Some.ensures.some).3
 
 pub returns-clause-walked : goal.returns-clause-walked
-returns-clause-walked c early others part h =
+returns-clause-walked c early kept others part h =
     let o = other_blocks c.args.clauses.now c.args.pairs.now.items c.args.lists.now.items c.args.trail.now.vars c.args.watch c.index-pair.result.now c.args.falsified c.in-Some.other
     c.requires.watching c.requires.watch c.index-pair.ensures c.in-Some.ensures.some in
     let xs = c.args.trail.now.literals in
     let l = c.in-Some.other in
-    rw (c.in_ok-put_watch-4.ensures.ok, ap (λ (z : Assigned). z.literals) c.assign.ensures)
-    (Walks-keep early (has xs) (has (xs ++ l ∷ [])) c.args.clauses.now c.args.pairs.now.items c.args.lists.now.items c.args.watch
+    rw (ap (λ (z : Assigned). z.literals) c.assign.ensures)
+    (Walks-stay early (has xs) (has (xs ++ l ∷ [])) c.args.clauses.now c.args.pairs.now.items c.args.lists.now.items kept c.args.watch
     (record { clause = c.args.watch.clause; blocker = l }) others c.args.falsified h (push_part xs l)
     (inside_table c.args.clauses.now c.args.pairs.now.items c.args.lists.now.items c.args.trail.now.vars c.args.falsified c.requires.watching c.requires.place) refl
     (met c.args.clauses.now c.args.watch (has (xs ++ l ∷ [])) l o.0 o.1 o.2 (has_pushed xs l l ∙ or_right _ _ (same_refl l))))
