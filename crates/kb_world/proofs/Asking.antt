@@ -1,4 +1,4 @@
--- Entries that are asked for are told apart by their classes, their numbers and the kinds of calls.
+-- Entries that are asked for are told apart by their classes, their numbers and what they are used for.
 use Rattle.std.proofs.Common.{◌≡◌, ◌↔◌, ℕ, zero, suc, ◌⊎◌, inl, inr, Bool, true, false, true≢false, ◌&&◌, eqb, if◌then◌else◌, List, [], ◌∷◌, ◌++◌, Some, slice_get, refl, sym, ap, subst, ◌∙◌}
 use Rattle.std.specs.List.{list_any}
 use Rattle.std.proofs.lemmas.Bool.Decides.{Decides-eqb}
@@ -7,8 +7,11 @@ use Rattle.kb_class.proofs.Lists.{has_left, has_right, has_either, has_cases, ha
 use Rattle.kb_universe.proofs.Lists.{any_some, any_true}
 use Rattle.kb_world.specs.declared.calls.Call.{Call}
 use Rattle.kb_world.specs.declared.calls.Call.TheVariants as calls
+use Rattle.kb_world.specs.declared.looked.Use.{Use}
+use Rattle.kb_world.specs.declared.looked.Use.TheVariants as uses
 use Rattle.kb_world.specs.declared.looked.Asked.{Asked}
 use Rattle.kb_world.specs.contracts.calls.CallPartialEq.TheImpl.{eq-value as call-eq-value}
+use Rattle.kb_world.specs.contracts.looked.UsePartialEq.TheImpl.{eq-value as use-eq-value}
 use Rattle.kb_world.specs.contracts.looked.AskedPartialEq.TheImpl.{eq-value}
 
 both : (a b : Bool) → (a && b) ≡ true → (a ≡ true) × (b ≡ true)
@@ -28,14 +31,27 @@ call_self calls.Interface = refl
 call_self calls.Special = refl
 call_self calls.Static = refl
 
+same_use : (one other : Use) → (use-eq-value.it) one other ≡ true → one ≡ other
+same_use (uses.Call one) (uses.Call other) e = ap uses.Call (same_call one other e)
+same_use uses.Object uses.Object e = refl
+same_use uses.Array uses.Array e = refl
+same_use uses.Cast uses.Cast e = refl
+same_use one other e = absurd cc
+
+use_self : (what : Use) → (use-eq-value.it) what what ≡ true
+use_self (uses.Call call) = call_self call
+use_self uses.Object = refl
+use_self uses.Array = refl
+use_self uses.Cast = refl
+
 same_asked : (one other : Asked) → (eq-value.it) one other ≡ true → one ≡ other
 same_asked one other e =
-    let first = both (eqb one.class other.class) (eqb one.entry other.entry && (call-eq-value.it) one.call other.call) e in
-    let rest = both (eqb one.entry other.entry) ((call-eq-value.it) one.call other.call) first.1 in
+    let first = both (eqb one.class other.class) (eqb one.entry other.entry && (use-eq-value.it) one.what other.what) e in
+    let rest = both (eqb one.entry other.entry) ((use-eq-value.it) one.what other.what) first.1 in
     let class : one.class ≡ other.class = (Decides-eqb one.class other.class).0 first.0 in
     let entry : one.entry ≡ other.entry = (Decides-eqb one.entry other.entry).0 rest.0 in
-    let call : one.call ≡ other.call = same_call one.call other.call rest.1 in
-    λ i. record { class = class i; entry = entry i; call = call i }
+    let what : one.what ≡ other.what = same_use one.what other.what rest.1 in
+    λ i. record { class = class i; entry = entry i; what = what i }
 
 and_true : (a b : Bool) → a ≡ true → b ≡ true → (a && b) ≡ true
 and_true true b e f = f
@@ -43,8 +59,8 @@ and_true false b e f = absurd (true≢false (sym e))
 
 asked_self : (asked : Asked) → (eq-value.it) asked asked ≡ true
 asked_self asked =
-    and_true (eqb asked.class asked.class) (eqb asked.entry asked.entry && (call-eq-value.it) asked.call asked.call) ((Decides-eqb asked.class asked.class).1 refl)
-    (and_true (eqb asked.entry asked.entry) ((call-eq-value.it) asked.call asked.call) ((Decides-eqb asked.entry asked.entry).1 refl) (call_self asked.call))
+    and_true (eqb asked.class asked.class) (eqb asked.entry asked.entry && (use-eq-value.it) asked.what asked.what) ((Decides-eqb asked.class asked.class).1 refl)
+    (and_true (eqb asked.entry asked.entry) ((use-eq-value.it) asked.what asked.what) ((Decides-eqb asked.entry asked.entry).1 refl) (use_self asked.what))
 
 -- whether an entry is among others
 pub asked_there : (keys : List Asked) (asked : Asked) (told : Bool) → told ≡ list_any ((eq-value.it) asked) keys → (told ≡ true) ↔ Has keys asked

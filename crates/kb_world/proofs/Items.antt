@@ -8,27 +8,31 @@ use Rattle.kb_code.specs.declared.instruction.Instr.TheVariants as instrs
 use Rattle.kb_link.specs.declared.linking.LinkRefusal.{LinkRefusal}
 use Rattle.kb_link.specs.World.{World}
 use Rattle.kb_link.proofs.Walks.{next_rest}
-use Rattle.kb_world.specs.declared.calls.Call.{Call}
-use Rattle.kb_world.specs.Calls.{call_of, call_fault, call_mentions, fault_of, mentions}
+use Rattle.kb_world.specs.declared.looked.Use.{Use}
+use Rattle.kb_world.specs.Calls.{use_of, use_fault, use_mentions, fault_of, mentions}
 use Rattle.kb_world.specs.Faults.{Fault}
 use Rattle.kb_world.specs.Found.{FoundMethods}
 use Rattle.kb_world.specs.Lookup.{or_else}
 use Rattle.kb_world.specs.Reach.{with_new, fault_in, mentions_in}
-use Rattle.kb_world.specs.Walks.{with_all, StopsAt, IsFaultIn, IsFaultAt, IsFaultOfCall}
+use Rattle.kb_world.specs.Walks.{with_all, StopsAt, IsFaultIn, IsFaultAt, IsFaultOfUse}
 use Rattle.kb_world.proofs.Settling.{stops_as}
 
--- what is wrong with a call, and what it mentions
-pub call_is : (world : World) (class : ℕ) (instr : Instr) (told : Call × ℕ) → Some told ≡ call_of instr
-    → (fault_of world class instr ≡ call_fault world class told.0 told.1) × (mentions world class instr ≡ call_mentions world class told.0 told.1)
+-- what is wrong with a use of an entry, and what it mentions
+pub use_is : (world : World) (class : ℕ) (instr : Instr) (told : Use × ℕ) → Some told ≡ use_of instr
+    → (fault_of world class instr ≡ use_fault world class told.0 told.1) × (mentions world class instr ≡ use_mentions world class told.0 told.1)
 unfolding fault_of mentions
-call_is world class (instrs.Virtual entry) told e = (let same = same_Some _ _ e in (ap (λ (t : Call × ℕ). call_fault world class t.0 t.1) (sym same), ap (λ (t : Call × ℕ). call_mentions world class t.0 t.1) (sym same)))
-call_is world class (instrs.Special entry) told e = (let same = same_Some _ _ e in (ap (λ (t : Call × ℕ). call_fault world class t.0 t.1) (sym same), ap (λ (t : Call × ℕ). call_mentions world class t.0 t.1) (sym same)))
-call_is world class (instrs.Static entry) told e = (let same = same_Some _ _ e in (ap (λ (t : Call × ℕ). call_fault world class t.0 t.1) (sym same), ap (λ (t : Call × ℕ). call_mentions world class t.0 t.1) (sym same)))
-call_is world class (instrs.Interface entry) told e = (let same = same_Some _ _ e in (ap (λ (t : Call × ℕ). call_fault world class t.0 t.1) (sym same), ap (λ (t : Call × ℕ). call_mentions world class t.0 t.1) (sym same)))
-call_is world class instr told e = absurd cc
+use_is world class (instrs.Virtual entry) told e = (let same = same_Some _ _ e in (ap (λ (t : Use × ℕ). use_fault world class t.0 t.1) (sym same), ap (λ (t : Use × ℕ). use_mentions world class t.0 t.1) (sym same)))
+use_is world class (instrs.Special entry) told e = (let same = same_Some _ _ e in (ap (λ (t : Use × ℕ). use_fault world class t.0 t.1) (sym same), ap (λ (t : Use × ℕ). use_mentions world class t.0 t.1) (sym same)))
+use_is world class (instrs.Static entry) told e = (let same = same_Some _ _ e in (ap (λ (t : Use × ℕ). use_fault world class t.0 t.1) (sym same), ap (λ (t : Use × ℕ). use_mentions world class t.0 t.1) (sym same)))
+use_is world class (instrs.Interface entry) told e = (let same = same_Some _ _ e in (ap (λ (t : Use × ℕ). use_fault world class t.0 t.1) (sym same), ap (λ (t : Use × ℕ). use_mentions world class t.0 t.1) (sym same)))
+use_is world class (instrs.New entry) told e = (let same = same_Some _ _ e in (ap (λ (t : Use × ℕ). use_fault world class t.0 t.1) (sym same), ap (λ (t : Use × ℕ). use_mentions world class t.0 t.1) (sym same)))
+use_is world class (instrs.NewRefs entry) told e = (let same = same_Some _ _ e in (ap (λ (t : Use × ℕ). use_fault world class t.0 t.1) (sym same), ap (λ (t : Use × ℕ). use_mentions world class t.0 t.1) (sym same)))
+use_is world class (instrs.Cast entry) told e = (let same = same_Some _ _ e in (ap (λ (t : Use × ℕ). use_fault world class t.0 t.1) (sym same), ap (λ (t : Use × ℕ). use_mentions world class t.0 t.1) (sym same)))
+use_is world class (instrs.InstanceOf entry) told e = (let same = same_Some _ _ e in (ap (λ (t : Use × ℕ). use_fault world class t.0 t.1) (sym same), ap (λ (t : Use × ℕ). use_mentions world class t.0 t.1) (sym same)))
+use_is world class instr told e = absurd cc
 
 -- no other instruction mentions a method
-pub none_mentioned : (world : World) (class : ℕ) (instr : Instr) → None ≡ call_of instr → mentions world class instr ≡ []
+pub none_mentioned : (world : World) (class : ℕ) (instr : Instr) → None ≡ use_of instr → mentions world class instr ≡ []
 unfolding mentions
 none_mentioned world class (instrs.Virtual entry) e = absurd cc
 none_mentioned world class (instrs.Special entry) e = absurd cc
@@ -64,15 +68,15 @@ module _ (world : World) (class : ℕ) (rest : List (ℕ × Instr)) (item : ℕ 
       stops_as world (IsFaultAt world number class item) (IsFaultIn world number class items) refusal
       (λ method place fault is. (is.0, sym goes ∙ fault_here fault is.2 ∙ ap (λ (p : ℕ). Some (p, fault)) (sym is.1)))
 
--- ---- calls
+-- ---- uses of entries
 
 pub if_err : {A E : Type 0} (result : Result A E) (P Q : E → Type 0) → ((error : E) → P error → Q error) → IfErr result P → IfErr result Q
 if_err (Ok value) P Q f p = p
 if_err (Err error) P Q f p = f error p
 
--- the fault of a call is that of the instruction
-pub call_stops : (world : World) (number class : ℕ) (item : ℕ × Instr) (told : Call × ℕ) (refusal : LinkRefusal) → Some told ≡ call_of item.1
-    → StopsAt world (IsFaultOfCall world number item.0 (record { class = class; entry = told.1; call = told.0 })) refusal → StopsAt world (IsFaultAt world number class item) refusal
-call_stops world number class item told refusal is =
-    stops_as world (IsFaultOfCall world number item.0 (record { class = class; entry = told.1; call = told.0 })) (IsFaultAt world number class item) refusal
-    (λ method place fault stops. (stops.0, stops.1, (call_is world class item.1 told is).0 ∙ stops.2))
+-- the fault of a use of its entry is that of the instruction
+pub use_stops : (world : World) (number class : ℕ) (item : ℕ × Instr) (told : Use × ℕ) (refusal : LinkRefusal) → Some told ≡ use_of item.1
+    → StopsAt world (IsFaultOfUse world number item.0 (record { class = class; entry = told.1; what = told.0 })) refusal → StopsAt world (IsFaultAt world number class item) refusal
+use_stops world number class item told refusal is =
+    stops_as world (IsFaultOfUse world number item.0 (record { class = class; entry = told.1; what = told.0 })) (IsFaultAt world number class item) refusal
+    (λ method place fault stops. (stops.0, stops.1, (use_is world class item.1 told is).0 ∙ stops.2))

@@ -18,6 +18,8 @@ use Rattle.kb_link.specs.Subtypes.{fits, type_of_exact}
 use Rattle.kb_link.specs.Universe.{is_given}
 use Rattle.kb_world.specs.declared.calls.Call.{Call}
 use Rattle.kb_world.specs.declared.calls.Call.TheVariants as calls
+use Rattle.kb_world.specs.declared.looked.Use.{Use}
+use Rattle.kb_world.specs.declared.looked.Use.TheVariants as uses
 use Rattle.kb_world.specs.Lookup.{or_else, only_where, class_of, sought_at, is_open, resolved_method, selected, selected_special}
 use Rattle.kb_world.specs.Faults.{Fault, Outside, has_left_out, entry_at, constant_fault, field_fault, new_fault, primitive_fault, array_fault, cast_fault, fault_of_initialiser}
 
@@ -124,13 +126,24 @@ fault_of world class (instrs.Cast entry) = cast_fault world class entry
 fault_of world class (instrs.InstanceOf entry) = cast_fault world class entry
 fault_of world class _ = None
 
--- the kind of call that an instruction is, and the entry that it names
-abbrev pub call_of : Instr → Option (Call × ℕ)
-call_of (instrs.Virtual entry) = Some (calls.Virtual, entry)
-call_of (instrs.Special entry) = Some (calls.Special, entry)
-call_of (instrs.Static entry) = Some (calls.Static, entry)
-call_of (instrs.Interface entry) = Some (calls.Interface, entry)
-call_of _ = None
+-- what an instruction does with the entry that it names, where that is more than to read it
+abbrev pub use_of : Instr → Option (Use × ℕ)
+use_of (instrs.Virtual entry) = Some (uses.Call calls.Virtual, entry)
+use_of (instrs.Special entry) = Some (uses.Call calls.Special, entry)
+use_of (instrs.Static entry) = Some (uses.Call calls.Static, entry)
+use_of (instrs.Interface entry) = Some (uses.Call calls.Interface, entry)
+use_of (instrs.New entry) = Some (uses.Object, entry)
+use_of (instrs.NewRefs entry) = Some (uses.Array, entry)
+use_of (instrs.Cast entry) = Some (uses.Cast, entry)
+use_of (instrs.InstanceOf entry) = Some (uses.Cast, entry)
+use_of _ = None
+
+-- what is wrong with such a use of the entry, in code of the class
+abbrev pub use_fault : World → ℕ → Use → ℕ → Option Fault
+use_fault world class (uses.Call call) entry = call_fault world class call entry
+use_fault world class uses.Object entry = new_fault world class entry
+use_fault world class uses.Array entry = array_fault world class entry
+use_fault world class uses.Cast entry = cast_fault world class entry
 
 -- ---- mentions
 
@@ -153,6 +166,11 @@ called_sought world class call entry (Some sought) =
 -- the methods with code that a call of an entry may call, in order
 abbrev pub call_mentions : World → ℕ → Call → ℕ → List ℕ
 call_mentions world class call entry = filter_map (if_code world) (called_sought world class call entry (sought_at world class entry))
+
+-- the methods with code that such a use of the entry may call, in order
+abbrev pub use_mentions : World → ℕ → Use → ℕ → List ℕ
+use_mentions world class (uses.Call call) entry = call_mentions world class call entry
+use_mentions world class _ entry = []
 
 -- The methods with code that an instruction in code of a class may call, in order.
 unfoldable pub mentions : World → ℕ → Instr → List ℕ

@@ -8,7 +8,7 @@ use Rattle.kb_link.specs.declared.linking.LinkRefusal.{LinkRefusal}
 use Rattle.kb_link.specs.declared.linking.LinkRefusal.TheVariants as refusals
 use Rattle.kb_link.specs.World.{World}
 use Rattle.kb_link.specs.Targets.{Declares}
-use Rattle.kb_world.specs.Calls.{fault_of, call_fault, call_mentions}
+use Rattle.kb_world.specs.Calls.{fault_of, use_fault, use_mentions}
 use Rattle.kb_world.specs.Faults.{Fault, NoField, Missing, Outside, Initialiser}
 use Rattle.kb_world.specs.Found.{FoundMethods}
 use Rattle.kb_world.specs.declared.looked.Asked.{Asked}
@@ -51,18 +51,18 @@ IsFaultAt world number class item method at fault = (method ≡ number) × (at �
 
 -- ---- entries that are looked at
 
--- the fault of this call at that offset
-abbrev pub IsFaultOfCall : World → ℕ → ℕ → Asked → ℕ → ℕ → Fault → Type 0
-IsFaultOfCall world number place asked method at fault = (method ≡ number) × (at ≡ place) × (call_fault world asked.class asked.call asked.entry ≡ Some fault)
+-- the fault of this use of an entry at that offset
+abbrev pub IsFaultOfUse : World → ℕ → ℕ → Asked → ℕ → ℕ → Fault → Type 0
+IsFaultOfUse world number place asked method at fault = (method ≡ number) × (at ≡ place) × (use_fault world asked.class asked.what asked.entry ≡ Some fault)
 
 -- these numbers are all found
 abbrev pub AreFound : List ℕ → List ℕ → Type 0
 AreFound found numbers = AllByRecursion (λ number. list_any (λ other. other == number) found ≡ true) numbers
 
--- Nothing is wrong with such a call of the entry, and what it mentions is found.
+-- Nothing is wrong with such a use of the entry, and what it mentions is found.
 pub record IsSettled (world : World) (found : List ℕ) (asked : Asked) : Type 0 where
-  pub faultless : call_fault world asked.class asked.call asked.entry ≡ None
-  pub mentioned : AreFound found (call_mentions world asked.class asked.call asked.entry)
+  pub faultless : use_fault world asked.class asked.what asked.entry ≡ None
+  pub mentioned : AreFound found (use_mentions world asked.class asked.what asked.entry)
 
 abbrev pub AreSettled : World → List ℕ → List Asked → Type 0
 AreSettled world found looked = (asked : Asked) → Has looked asked → IsSettled world found asked

@@ -1,4 +1,4 @@
-//! Entries that have been looked at, each once for each kind of call.
+//! Entries that have been looked at, each once for each use of it.
 ghost use Rattle.std.specs.Prelude.{◌≡◌, ◌↔◌, ◌⊎◌, [], IsTrue, OnOk};
 ghost use Rattle.kb_class.specs.Naming.{Has};
 ghost use Rattle.kb_world.specs.declared.looked.Asked.{Asked as PlainAsked};
@@ -9,15 +9,25 @@ use kb_names::NoMemory;
 use std::alloc::Global;
 use std::marker::Model;
 
-/// A kind of call of an entry of a class.
+/// What an instruction does with the entry that it names: it calls the method, makes an object of the class or an array of the
+/// type, or compares with the type (checkcast, instanceof).
+#[derive(Clone, Copy, PartialEq, Eq, Hash)]
+pub(crate) enum Use {
+    Call(Call),
+    Object,
+    Array,
+    Cast,
+}
+
+/// A use of an entry of a class.
 #[derive(Clone, Copy, PartialEq, Eq, Hash)]
 pub(crate) struct Asked {
     pub(crate) class: u32,
     pub(crate) entry: u16,
-    pub(crate) call: Call,
+    pub(crate) what: Use,
 }
 
-/// Entries with the kinds of calls for which they have been looked at. Contracts see the list of them.
+/// Entries with the uses for which they have been looked at. Contracts see the list of them.
 #[derive(Drop)]
 pub(crate) struct Looked {
     set: IndexSet<Asked>,
@@ -42,14 +52,14 @@ impl Looked {
         }
     }
 
-    /// Whether the entry has been looked at for that kind of call.
+    /// Whether the entry has been looked at for that use.
     pub(crate) fn has(&self, asked: Asked) -> bool
         ensures { IsTrue result ↔ Has self.now asked }
     {
         self.set.contains(&asked)
     }
 
-    /// Adds an entry for a kind of call.
+    /// Adds an entry for a use.
     pub(crate) fn add(&mut self, asked: Asked) -> Result<(), NoMemory>
         ensures { OnOk result ((other : PlainAsked) → Has self.new other ↔ (Has self.old other ⊎ (other ≡ asked))) }
     {

@@ -1,14 +1,17 @@
 //! The walk over the code of a method that is reached: the first fault, and what is mentioned. An entry is looked at once for each
-//! kind of call.
+//! use of it.
 ghost use Rattle.std.specs.Prelude.{◌≡◌, ◌<◌, length, None, OnOk, IfErr};
 ghost use Rattle.kb_link.specs.World.{methods_in};
-ghost use Rattle.kb_world.specs.Calls.{call_of, call_fault, call_mentions, fault_of, mentions};
+ghost use Rattle.std.specs.Option.{option_map};
+ghost use Rattle.kb_world.specs.Calls.{use_of, use_fault, use_mentions, fault_of, mentions};
+ghost use Rattle.kb_world.specs.Faults.{told};
 ghost use Rattle.kb_world.specs.Reach.{HasNoFault, fault_in, mentions_in, method_mentions};
-ghost use Rattle.kb_world.specs.Walks.{with_all, StopsAt, IsFaultOfMethod, IsFaultIn, IsFaultAt, IsFaultOfCall, AreSettled};
+ghost use Rattle.kb_world.specs.Walks.{with_all, StopsAt, IsFaultOfMethod, IsFaultIn, IsFaultAt, IsFaultOfUse, AreSettled};
 
 use crate::calls::Call;
+use crate::faults::Fault;
 use crate::found::Found;
-use crate::looked::{Asked, Looked};
+use crate::looked::{Asked, Looked, Use};
 use crate::world::World;
 use kb_class::{ClassId, MethodId};
 use kb_code::Instr;
@@ -90,20 +93,20 @@ impl World {
         ensures settled { OnOk result (AreSettled self.now found.new.numbers looked.new) }
         ensures refused { IfErr result (StopsAt self.now (IsFaultAt self.now method.0 class.0 item.now)) }
     {
-        match call_of(&item.1) {
-            Some((call, entry)) => {
+        match use_of(&item.1) {
+            Some((what, entry)) => {
                 let asked = Asked {
                     class: class.0,
                     entry,
-                    call,
+                    what,
                 };
-                self.check_call(alloc, method, item.0, asked, found, looked)
+                self.check_use(alloc, method, item.0, asked, found, looked)
             }
             None => self.check_other(alloc, method, class, item),
         }
     }
 
-    // Refuses the fault of an instruction that is no call.
+    // Refuses the fault of an instruction that uses no entry.
     fn check_other(
         &self,
         alloc: Global,
@@ -122,9 +125,9 @@ impl World {
         }
     }
 
-    // Refuses the fault of a call at that offset of a method, or adds the methods that it mentions: at the first call of the kind
-    // that names the entry.
-    fn check_call(
+    // Refuses the fault of a use of an entry at that offset of a method, or adds the methods that it mentions: at the first such use
+    // of the entry.
+    fn check_use(
         &self,
         alloc: Global,
         method: MethodId,
@@ -137,10 +140,10 @@ impl World {
         requires class { asked.class < length self.now.classes }
         requires all { found.old.all ≡ length (methods_in self.now.classes) }
         requires settled { AreSettled self.now found.old.numbers looked.old }
-        ensures none { OnOk result (call_fault self.now asked.class asked.call asked.entry ≡ None) }
-        ensures added { OnOk result (found.new ≡ with_all found.old (call_mentions self.now asked.class asked.call asked.entry)) }
+        ensures none { OnOk result (use_fault self.now asked.class asked.what asked.entry ≡ None) }
+        ensures added { OnOk result (found.new ≡ with_all found.old (use_mentions self.now asked.class asked.what asked.entry)) }
         ensures settled { OnOk result (AreSettled self.now found.new.numbers looked.new) }
-        ensures refused { IfErr result (StopsAt self.now (IsFaultOfCall self.now method.0 at asked)) }
+        ensures refused { IfErr result (StopsAt self.now (IsFaultOfUse self.now method.0 at asked)) }
     {
         if looked.has(asked) {
             return Ok(());
@@ -155,7 +158,7 @@ impl World {
         }
     }
 
-    // Refuses the fault of a call at that offset of a method, or adds the methods that it mentions.
+    // Refuses the fault of a use of an entry at that offset of a method, or adds the methods that it mentions.
     fn look_at(
         &self,
         alloc: Global,
@@ -167,29 +170,48 @@ impl World {
         requires there { method.0 < length (methods_in self.now.classes) }
         requires class { asked.class < length self.now.classes }
         requires all { found.old.all ≡ length (methods_in self.now.classes) }
-        ensures none { OnOk result (call_fault self.now asked.class asked.call asked.entry ≡ None) }
-        ensures added { OnOk result (found.new ≡ with_all found.old (call_mentions self.now asked.class asked.call asked.entry)) }
-        ensures refused { IfErr result (StopsAt self.now (IsFaultOfCall self.now method.0 at asked)) }
+        ensures none { OnOk result (use_fault self.now asked.class asked.what asked.entry ≡ None) }
+        ensures added { OnOk result (found.new ≡ with_all found.old (use_mentions self.now asked.class asked.what asked.entry)) }
+        ensures refused { IfErr result (StopsAt self.now (IsFaultOfUse self.now method.0 at asked)) }
     {
-        if let Some(fault) = self.call_fault(ClassId(asked.class), asked.call, asked.entry) {
+        if let Some(fault) = self.use_fault(ClassId(asked.class), asked.what, asked.entry) {
             return Err(self.refusal(alloc, method, at, fault));
         }
-        match self.add_called(ClassId(asked.class), asked.call, asked.entry, found) {
+        let Use::Call(call) = asked.what else {
+            return Ok(());
+        };
+        match self.add_called(ClassId(asked.class), call, asked.entry, found) {
             Ok(()) => Ok(()),
             Err(_) => Err(LinkRefusal::NoMemory),
         }
     }
+
+    // What is wrong with a use of the entry, in code of the class.
+    fn use_fault(&self, class: ClassId, what: Use, entry: u16) -> Option<Fault<'_>>
+        requires { class.0 < length self.now.classes }
+        ensures { option_map told result ≡ use_fault self.now class.0 what entry }
+    {
+        match what {
+            Use::Call(call) => self.call_fault(class, call, entry),
+            Use::Object => self.new_fault(class, entry),
+            Use::Array => self.array_fault(class, entry),
+            Use::Cast => self.cast_fault(class, entry),
+        }
+    }
 }
 
-// The kind of call that an instruction is, and the entry that it names.
-fn call_of(instr: &Instr) -> Option<(Call, u16)>
-    ensures { result ≡ call_of instr.now }
+// What an instruction does with the entry that it names, where that is more than to read it.
+fn use_of(instr: &Instr) -> Option<(Use, u16)>
+    ensures { result ≡ use_of instr.now }
 {
     match instr {
-        Instr::Virtual(entry) => Some((Call::Virtual, *entry)),
-        Instr::Special(entry) => Some((Call::Special, *entry)),
-        Instr::Static(entry) => Some((Call::Static, *entry)),
-        Instr::Interface(entry) => Some((Call::Interface, *entry)),
+        Instr::Virtual(entry) => Some((Use::Call(Call::Virtual), *entry)),
+        Instr::Special(entry) => Some((Use::Call(Call::Special), *entry)),
+        Instr::Static(entry) => Some((Use::Call(Call::Static), *entry)),
+        Instr::Interface(entry) => Some((Use::Call(Call::Interface), *entry)),
+        Instr::New(entry) => Some((Use::Object, *entry)),
+        Instr::NewRefs(entry) => Some((Use::Array, *entry)),
+        Instr::Cast(entry) | Instr::InstanceOf(entry) => Some((Use::Cast, *entry)),
         _ => None,
     }
 }

@@ -1,28 +1,28 @@
 use Rattle.std.proofs.Common.{◌≡◌, ℕ, sym, ap, ◌∙◌, None, Some}
 use Rattle.kb_link.proofs.LiteralLaws.{on_ok}
-use Rattle.kb_world.specs.Calls.{call_fault, call_mentions, fault_of, mentions}
+use Rattle.kb_world.specs.Calls.{use_fault, use_mentions, fault_of, mentions}
 use Rattle.kb_world.specs.Faults.{Fault}
-use Rattle.kb_world.specs.Walks.{with_all, StopsAt, IsFaultOfCall, IsFaultAt}
-use Rattle.kb_world.proofs.Items.{call_is, none_mentioned, call_stops, if_err}
+use Rattle.kb_world.specs.Walks.{with_all, StopsAt, IsFaultOfUse, IsFaultAt}
+use Rattle.kb_world.proofs.Items.{use_is, none_mentioned, use_stops, if_err}
 use Rattle.kb_world.proofs.world.World.check_item.Goals as goal
 
 pub returns-in-Some-clause-none : goal.returns-in-Some-clause-none
 returns-in-Some-clause-none c =
-    let is = call_is c.args.self.now c.args.class.0 c.args.item.now.1 (c.in-Some.call, c.in-Some.entry) c.in-Some.ensures in
-    on_ok c.check_call.result (call_fault c.args.self.now c.args.class.0 c.in-Some.call c.in-Some.entry ≡ None) (fault_of c.args.self.now c.args.class.0 c.args.item.now.1 ≡ None) (λ none. is.0 ∙ none)
-    c.check_call.ensures.none
+    let is = use_is c.args.self.now c.args.class.0 c.args.item.now.1 (c.in-Some.what, c.in-Some.entry) c.in-Some.ensures in
+    on_ok c.check_use.result (use_fault c.args.self.now c.args.class.0 c.in-Some.what c.in-Some.entry ≡ None) (fault_of c.args.self.now c.args.class.0 c.args.item.now.1 ≡ None) (λ none. is.0 ∙ none)
+    c.check_use.ensures.none
 
 pub returns-in-Some-clause-added : goal.returns-in-Some-clause-added
 returns-in-Some-clause-added c =
-    let is = call_is c.args.self.now c.args.class.0 c.args.item.now.1 (c.in-Some.call, c.in-Some.entry) c.in-Some.ensures in
-    on_ok c.check_call.result (c.check_call.new.found ≡ with_all c.args.found.now (call_mentions c.args.self.now c.args.class.0 c.in-Some.call c.in-Some.entry))
-    (c.check_call.new.found ≡ with_all c.args.found.now (mentions c.args.self.now c.args.class.0 c.args.item.now.1)) (λ added. added ∙ ap (with_all c.args.found.now) (sym is.1)) c.check_call.ensures.added
+    let is = use_is c.args.self.now c.args.class.0 c.args.item.now.1 (c.in-Some.what, c.in-Some.entry) c.in-Some.ensures in
+    on_ok c.check_use.result (c.check_use.new.found ≡ with_all c.args.found.now (use_mentions c.args.self.now c.args.class.0 c.in-Some.what c.in-Some.entry))
+    (c.check_use.new.found ≡ with_all c.args.found.now (mentions c.args.self.now c.args.class.0 c.args.item.now.1)) (λ added. added ∙ ap (with_all c.args.found.now) (sym is.1)) c.check_use.ensures.added
 
 pub returns-in-Some-clause-refused : goal.returns-in-Some-clause-refused
 returns-in-Some-clause-refused c =
-    if_err c.check_call.result _ _
-    (λ refusal stops. call_stops c.args.self.now c.args.method.0 c.args.class.0 c.args.item.now (c.in-Some.call, c.in-Some.entry) refusal c.in-Some.ensures stops)
-    c.check_call.ensures.refused
+    if_err c.check_use.result _ _
+    (λ refusal stops. use_stops c.args.self.now c.args.method.0 c.args.class.0 c.args.item.now (c.in-Some.what, c.in-Some.entry) refusal c.in-Some.ensures stops)
+    c.check_use.ensures.refused
 
 pub returns-in-None-clause-added : goal.returns-in-None-clause-added
 returns-in-None-clause-added c =

@@ -1,5 +1,5 @@
 use Rattle.kb_world.proofs.Settling.{settled_found, settled_more}
-use Rattle.kb_world.proofs.world.World.check_call.Goals as goal
+use Rattle.kb_world.proofs.world.World.check_use.Goals as goal
 
 pub returns-then-has-clause-none : goal.returns-then-has-clause-none
 returns-then-has-clause-none c = (c.requires.settled c.args.asked (c.has.ensures.0 c.if-has.true)).faultless
