@@ -259,11 +259,17 @@ def packages_chain(share, is_twin):
 def add_calls(file, count, call, leads_to=None):
     """Adds static methods m0, m1 and so on that make so many times what the three bytes do, each leading on to the next one, and
     the last one to the method of that entry."""
-    parts = [CALLS_IN_METHOD] * (count // CALLS_IN_METHOD) + [count % CALLS_IN_METHOD]
-    for number, part in enumerate(parts):
-        leads = leads_to if number + 1 == len(parts) else file.add_reference(file.this, f"m{number + 1}", "()V")
+    add_call_list(file, [call] * count, leads_to)
+
+
+def add_call_list(file, calls, leads_to=None):
+    """The same for what these do, three bytes each."""
+    count = len(calls) // CALLS_IN_METHOD + 1
+    for number in range(count):
+        leads = leads_to if number + 1 == count else file.add_reference(file.this, f"m{number + 1}", "()V")
         on = struct.pack(">BH", INVOKESTATIC, leads) if leads else b""
-        file.add_method(STATIC, f"m{number}", "()V", call * part + on + bytes([RETURN]))
+        part = calls[CALLS_IN_METHOD * number : CALLS_IN_METHOD * (number + 1)]
+        file.add_method(STATIC, f"m{number}", "()V", b"".join(part) + on + bytes([RETURN]))
 
 
 def calls(share, is_twin):
@@ -309,6 +315,22 @@ def virtual_calls(share, is_twin):
         add_calls(file, part, struct.pack(">BH", INVOKEVIRTUAL, called), leads)
     files, texts, _ = with_arrays(share, is_twin, [low, high])
     return Case(files, "V.m0()V", wanted=b"refused 50", arrays=1 if is_twin else sum(map(len, texts)), entries=2, texts=texts)
+
+
+def receivers(share, is_twin):
+    """Virtual calls of 65,000 Methodrefs, each with 63 classes in a chain as receivers, whose names have 65,535 bytes."""
+    names = [short_name(number) if is_twin else "n" * (LONGEST - 3) + short_name(number) for number in range(63)]
+    caller = ClassFile("C")
+    owner, count = caller.named(names[0]), int(65_000 * share)
+    code = [struct.pack(">BH", INVOKEVIRTUAL, caller.add_reference(owner, "v", "()V")) for _ in range(count - 10)]
+    add_call_list(caller, code)
+    files, parents = [caller], ["java/lang/Object"] + names
+    for number, name in enumerate(names):
+        file = ClassFile(name, parents[number])
+        file.add_method(OPEN, "v", "()V", bytes([RETURN]), 1)
+        files.append(file)
+    texts = [[names[0]], *([name, above] for name, above in zip(names, parents))]
+    return Case([file.bytes() for file in files], "C.m0()V", wanted=b"refused 50", entries=len(names), texts=texts)
 
 
 def arrays(share, is_twin):
@@ -375,6 +397,7 @@ FAMILIES = [
     packages_chain,
     calls,
     virtual_calls,
+    receivers,
     arrays,
     tests,
     creations,
