@@ -20,7 +20,6 @@ use Rattle.kb_link.proofs.MemberNames.{place_there}
 use Rattle.kb_link.proofs.MethodNumbers.{stands_in}
 use Rattle.kb_link.proofs.Named.{number_inside}
 use Rattle.kb_world.specs.Lookup.{or_else, only_where, first_along, class_of, sought_at, declares, is_open_at, if_open, declares_open, first_sought, superinterfaces, resolved_in, method_sought, method_of_sought, resolved_method, selected_for, selected, special_start, special_for, special_sought, special_of_sought, selected_special}
-use Rattle.kb_world.specs.Calls.{selected_on}
 use Rattle.kb_world.specs.Receivers.{selected_on_array}
 
 -- ---- what holds of each number that is told holds of the first
@@ -125,9 +124,8 @@ module _ (world : World) where
   pub special_told : (class entry : ℕ) (told : Option MethodId) → option_map (λ (id : MethodId). id.0) told ≡ selected_special world class entry → IfSome told (λ id. IsInside id.0)
   special_told class entry told e = of_told IsInside told (selected_special world class entry) e (special_inside class entry)
 
-  pub selected_told : (method : ℕ) (receiver : ExactType) (told : Option MethodId) → option_map (λ (id : MethodId). id.0) told ≡ selected_on world method receiver → IfSome told (λ id. IsInside id.0)
-  selected_told method receiver told e =
-      of_told IsInside told (selected_on world method receiver) e (then_such IsInside (λ class. selected world class method) (λ class. selected_inside class method) (class_of world receiver))
+  pub selected_told : (class method : ℕ) (told : Option MethodId) → option_map (λ (id : MethodId). id.0) told ≡ selected world class method → IfSome told (λ id. IsInside id.0)
+  selected_told class method told e = of_told IsInside told (selected world class method) e (selected_inside class method)
 
   pub array_told : (method : ℕ) (told : Option MethodId) → option_map (λ (id : MethodId). id.0) told ≡ selected_on_array world method → IfSome told (λ id. IsInside id.0)
   array_told method told e =

@@ -1,9 +1,9 @@
 -- What is found once is found again.
-use Rattle.std.proofs.Common.{◌≡◌, ℕ, Bool, true, false, true≢false, ◌==◌, cond, if◌then◌else◌, List, Option, Some, refl, sym, ap, subst, ◌∙◌}
+use Rattle.std.proofs.Common.{◌≡◌, ℕ, Bool, true, false, true≢false, ◌==◌, cond, if◌then◌else◌, List, Option, Some, None, refl, sym, ap, subst, ◌∙◌}
 use Rattle.std.specs.HashMap.{HashMap}
-use Rattle.std.specs.Option.{option_map_or}
+use Rattle.std.specs.Option.{option_and_then, option_map_or}
 use Rattle.std.proofs.lemmas.Bool.Decides.{Decides-eqb}
-use Rattle.std.proofs.lemmas.Option.{same_Some}
+use Rattle.std.proofs.lemmas.Option.{same_Some, none-some}
 use Rattle.kb_names.specs.declared.types.ExactType.{ExactType}
 use Rattle.kb_names.specs.declared.types.ExactType.TheVariants as exact
 use Rattle.kb_names.specs.declared.types.MethodType.{MethodType}
@@ -24,8 +24,8 @@ use Rattle.kb_link.specs.World.{World}
 use Rattle.kb_link.specs.declared.linking.What.TheVariants as whats
 use Rattle.kb_world.specs.Calls.{fault_of_kind, fault_of_number, takes}
 use Rattle.kb_world.specs.Faults.{Outside, has_left_out, kind_left_out}
-use Rattle.kb_world.specs.Lookup.{class_of, only_where, or_else, resolved_method}
-use Rattle.kb_world.specs.Tables.{KnowsClasses, KnowsLeftOut, KnowsMembers, StandsFor, found_in, is_named, is_proper, method_kind, nothing, told_in}
+use Rattle.kb_world.specs.Lookup.{class_number, class_of, method_of_sought, method_sought, only_where, or_else, resolved_method, sought_at}
+use Rattle.kb_world.specs.Tables.{KnowsClasses, KnowsLeftOut, KnowsMembers, StandsFor, found_in, is_named, is_proper, kind_owner, method_kind, nothing, owner_of, told_in}
 use Rattle.kb_world.specs.declared.calls.Call.{Call}
 use Rattle.kb_world.specs.declared.calls.Call.TheVariants as calls
 use Rattle.kb_world.specs.declared.resolved.Resolved.{Resolved}
@@ -85,11 +85,11 @@ module _ (world : World) (current : ℕ) where
   pub nothing_stands : (what : ReferenceKind) (class : ExactType) (name : List ℕ) (kind : MemberKind) → is_proper what kind ≡ false
       → StandsFor world current (record { what = what; class = class; member = record { name = name; kind = kind } }) nothing
   nothing_stands references.Field class name (kinds.Field type) e = absurd (true≢false e)
-  nothing_stands references.Field (exact.Class class) name (kinds.Method kind) e = record { is_declaring = refl; is_slot = refl; is_method = refl; is_special = refl; is_left_out = refl }
-  nothing_stands references.Field (exact.Array component) name (kinds.Method kind) e = record { is_declaring = refl; is_slot = refl; is_method = refl; is_special = refl; is_left_out = refl }
-  nothing_stands references.Method class name (kinds.Field type) e = record { is_declaring = refl; is_slot = refl; is_method = refl; is_special = refl; is_left_out = refl }
+  nothing_stands references.Field (exact.Class class) name (kinds.Method kind) e = record { is_declaring = refl; is_slot = refl; is_method = refl; is_special = refl; is_left_out = refl; is_owner = refl }
+  nothing_stands references.Field (exact.Array component) name (kinds.Method kind) e = record { is_declaring = refl; is_slot = refl; is_method = refl; is_special = refl; is_left_out = refl; is_owner = refl }
+  nothing_stands references.Method class name (kinds.Field type) e = record { is_declaring = refl; is_slot = refl; is_method = refl; is_special = refl; is_left_out = refl; is_owner = refl }
   nothing_stands references.Method class name (kinds.Method kind) e = absurd (true≢false e)
-  nothing_stands references.InterfaceMethod class name (kinds.Field type) e = record { is_declaring = refl; is_slot = refl; is_method = refl; is_special = refl; is_left_out = refl }
+  nothing_stands references.InterfaceMethod class name (kinds.Field type) e = record { is_declaring = refl; is_slot = refl; is_method = refl; is_special = refl; is_left_out = refl; is_owner = refl }
   nothing_stands references.InterfaceMethod class name (kinds.Method kind) e = absurd (true≢false e)
 
   -- a Methodref and an InterfaceMethodref stand for the same
@@ -106,12 +106,12 @@ module _ (world : World) (current : ℕ) where
   other_stands references.Method references.Method class name kind told e f is = is
   other_stands references.Method references.InterfaceMethod class name (kinds.Field type) told e f is = absurd (true≢false (sym e))
   other_stands references.Method references.InterfaceMethod class name (kinds.Method kind) told e f is =
-      record { is_declaring = is.is_declaring; is_slot = is.is_slot; is_method = is.is_method; is_special = is.is_special; is_left_out = is.is_left_out }
+      record { is_declaring = is.is_declaring; is_slot = is.is_slot; is_method = is.is_method; is_special = is.is_special; is_left_out = is.is_left_out; is_owner = is.is_owner }
   other_stands references.InterfaceMethod references.Field class name (kinds.Field type) told e f is = absurd (true≢false (sym e))
   other_stands references.InterfaceMethod references.Field class name (kinds.Method kind) told e f is = absurd (true≢false (sym f))
   other_stands references.InterfaceMethod references.Method class name (kinds.Field type) told e f is = absurd (true≢false (sym e))
   other_stands references.InterfaceMethod references.Method class name (kinds.Method kind) told e f is =
-      record { is_declaring = is.is_declaring; is_slot = is.is_slot; is_method = is.is_method; is_special = is.is_special; is_left_out = is.is_left_out }
+      record { is_declaring = is.is_declaring; is_slot = is.is_slot; is_method = is.is_method; is_special = is.is_special; is_left_out = is.is_left_out; is_owner = is.is_owner }
   other_stands references.InterfaceMethod references.InterfaceMethod class name kind told e f is = is
 
   -- what entries of the same numbers name stands for the same
@@ -150,6 +150,33 @@ taken_left_out call references.Method (kinds.Field type) e = refl
 taken_left_out call references.Method (kinds.Method kind) e = refl
 taken_left_out call references.InterfaceMethod (kinds.Field type) e = refl
 taken_left_out call references.InterfaceMethod (kinds.Method kind) e = refl
+
+-- the class in which a method is sought, by the kind of the member
+pub taken_owner : (world : World) (call : Call) (what : ReferenceKind) (type : ExactType) (kind : MemberKind) → takes call what ≡ true
+    → option_and_then (λ (of : MethodType). class_number world type) (method_kind what kind) ≡ kind_owner world type kind
+taken_owner world calls.Virtual references.Field type kind e = absurd (true≢false (sym e))
+taken_owner world calls.Interface references.Field type kind e = absurd (true≢false (sym e))
+taken_owner world calls.Special references.Field type kind e = absurd (true≢false (sym e))
+taken_owner world calls.Static references.Field type kind e = absurd (true≢false (sym e))
+taken_owner world call references.Method type (kinds.Field of) e = refl
+taken_owner world call references.Method type (kinds.Method of) e = refl
+taken_owner world call references.InterfaceMethod type (kinds.Field of) e = refl
+taken_owner world call references.InterfaceMethod type (kinds.Method of) e = refl
+
+-- a method that is found is sought in the type
+pub found_owner : (world : World) (class entry number : ℕ) (sought : Sought) → sought_at world class entry ≡ Some sought → Some number ≡ resolved_method world class entry
+    → option_and_then (owner_of world) (sought_at world class entry) ≡ class_number world sought.class
+found_owner world class entry number sought at found =
+    ap (λ (o : Option Sought). option_and_then (owner_of world) o) at
+    ∙ go sought.what sought.member.kind (found ∙ ap (λ (o : Option Sought). option_and_then (method_of_sought world) o) at)
+  where
+    go : (what : ReferenceKind) (kind : MemberKind) → Some number ≡ method_sought world what sought.class sought.member.name kind
+        → option_and_then (λ (of : MethodType). class_number world sought.class) (method_kind what kind) ≡ class_number world sought.class
+    go references.Field kind e = absurd (none-some number (sym e))
+    go references.Method (kinds.Field of) e = absurd (none-some number (sym e))
+    go references.Method (kinds.Method of) e = refl
+    go references.InterfaceMethod (kinds.Field of) e = absurd (none-some number (sym e))
+    go references.InterfaceMethod (kinds.Method of) e = refl
 
 -- what is wrong with a call of a method, where it is known whether a part of its type is left out
 pub method_told : (world : World) (class : ℕ) (call : Call) (entry : ℕ) (of : ExactType) (kind : MemberKind) (type : MethodType) (left_out : Bool) → kind ≡ kinds.Method type

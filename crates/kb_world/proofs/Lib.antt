@@ -13,6 +13,7 @@ mod Reaching
 mod ChainPlaces
 mod Settling
 mod ReceiverLaws
+mod ReceiverNumbers
 mod Asking
 mod Items
 pub mod ReachLaws

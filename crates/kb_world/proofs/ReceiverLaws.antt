@@ -21,7 +21,7 @@ or_assoc true b c = refl
 or_assoc false b c = refl
 
 module _ (world : World) (type : ExactType) (method : ℕ) where
-  among_is : (receiver : ExactType) (types : List ExactType) (b : Bool) → receives world type receiver ≡ b
+  pub among_is : (receiver : ExactType) (types : List ExactType) (b : Bool) → receives world type receiver ≡ b
       → called_among world type method (receiver ∷ types) ≡ cond b (selected_on world method receiver ∷ called_among world type method types) (called_among world type method types)
   among_is receiver types true e = ap (λ (c : Bool). map (selected_on world method) (cond c (receiver ∷ filter (receives world type) types) (filter (receives world type) types))) e
   among_is receiver types false e = ap (λ (c : Bool). map (selected_on world method) (cond c (receiver ∷ filter (receives world type) types) (filter (receives world type) types))) e

@@ -7,7 +7,7 @@ use Rattle.kb_class.specs.Class.{Class, Sought, reference_of_entry}
 use Rattle.kb_link.specs.World.{World}
 use Rattle.kb_link.proofs.Places.{get_pushed}
 use Rattle.kb_world.specs.Lookup.{sought_at, class_of_sought, slot_of_sought, method_of_sought, special_of_sought}
-use Rattle.kb_world.specs.Tables.{StandsFor, IsResolved, IsRow, left_out_of, nothing}
+use Rattle.kb_world.specs.Tables.{StandsFor, IsResolved, IsRow, left_out_of, nothing, owner_of}
 use Rattle.kb_world.specs.declared.resolved.Resolved.{Resolved}
 
 -- ---- what an entry stands for
@@ -25,6 +25,7 @@ module _ (world : World) (class entry : ℕ) where
     is_method = is.is_method ∙ sym (ap (λ (o : Option Sought). option_and_then (method_of_sought world) o) at);
     is_special = is.is_special ∙ sym (ap (λ (o : Option Sought). option_and_then (special_of_sought world class) o) at);
     is_left_out = is.is_left_out ∙ sym (ap (λ (o : Option Sought). option_map_or left_out_of o false) at);
+    is_owner = is.is_owner ∙ sym (ap (λ (o : Option Sought). option_and_then (owner_of world) o) at);
   }
 
   pub stands_for_nothing : sought_at world class entry ≡ None → IsResolved world class entry nothing
@@ -34,6 +35,7 @@ module _ (world : World) (class entry : ℕ) where
     is_method = sym (ap (λ (o : Option Sought). option_and_then (method_of_sought world) o) at);
     is_special = sym (ap (λ (o : Option Sought). option_and_then (special_of_sought world class) o) at);
     is_left_out = sym (ap (λ (o : Option Sought). option_map_or left_out_of o false) at);
+    is_owner = sym (ap (λ (o : Option Sought). option_and_then (owner_of world) o) at);
   }
 
   -- the class has no entry of that number

@@ -22,7 +22,7 @@ use Rattle.kb_link.specs.Links.{IsLinked}
 use Rattle.kb_link.specs.Slots.{slots_of}
 use Rattle.kb_link.specs.World.{World}
 use Rattle.kb_world.specs.Faults.{has_left_out}
-use Rattle.kb_world.specs.Lookup.{class_of, class_of_field, field_class, resolved_in, slot_in_class, sought_at, special_for}
+use Rattle.kb_world.specs.Lookup.{class_of, class_of_field, field_class, if_class, resolved_in, slot_in_class, sought_at, special_for}
 use Rattle.kb_world.specs.Tables.{HaveSlotTables, StandsFor, is_proper, slot_place}
 use Rattle.kb_world.specs.declared.resolved.Resolved.{Resolved}
 use Rattle.kb_world.proofs.FieldLaws.{slot_there}
@@ -85,7 +85,7 @@ module _ (world : World) (current : ℕ) (what : ReferenceKind) (class : ExactTy
 
     field_told : {S : Type 0} (are : AreNumbered world.classes numbers) (linked : IsLinked world) (tables : List (HashMap Pair ℕ S)) → HaveSlotTables world numbers.classes.items tables
         → told.declaring ≡ class_of_field world references.Field class name (kinds.Field type) → told.slot ≡ option_and_then (λ (c : ℕ). slot_place tables c pair) told.declaring
-        → (told.method ≡ None) × (told.special ≡ None) × (told.left_out ≡ false)
+        → (told.method ≡ None) × (told.special ≡ None) × (told.left_out ≡ false) × (told.owner ≡ None)
         → StandsFor world current (record { what = references.Field; class = class; member = record { name = name; kind = kinds.Field type } }) told
     field_told are linked tables have declaring slot others = record {
       is_declaring = declaring;
@@ -93,13 +93,14 @@ module _ (world : World) (current : ℕ) (what : ReferenceKind) (class : ExactTy
       is_method = others.0;
       is_special = others.1;
       is_left_out = others.2;
+      is_owner = others.3;
     }
 
     -- what a field stands for
     pub field_stands : {S : Type 0} (are : AreNumbered world.classes numbers) (linked : IsLinked world) (tables : List (HashMap Pair ℕ S)) → HaveSlotTables world numbers.classes.items tables
         → kind ≡ kinds.Field type → is_proper what kind ≡ true
         → told.declaring ≡ class_of_field world references.Field class name (kinds.Field type) → told.slot ≡ option_and_then (λ (c : ℕ). slot_place tables c pair) told.declaring
-        → (told.method ≡ None) × (told.special ≡ None) × (told.left_out ≡ false) → StandsFor world current sought told
+        → (told.method ≡ None) × (told.special ≡ None) × (told.left_out ≡ false) × (told.owner ≡ None) → StandsFor world current sought told
     field_stands are linked tables have is proper declaring slot others =
         subst (λ (k : MemberKind). StandsFor world current (record { what = what; class = class; member = record { name = name; kind = k } }) told) (sym is)
         (go what (sym (ap (is_proper what) is) ∙ proper))
@@ -111,7 +112,7 @@ module _ (world : World) (current : ℕ) (what : ReferenceKind) (class : ExactTy
 
   -- ---- methods
 
-  module _ (type : MethodType) (number : Option ℕ) (left_out : Bool) (of : number ≡ class_of world class) (out : left_out ≡ has_left_out type) where
+  module _ (type : MethodType) (number owner : Option ℕ) (left_out : Bool) (of : number ≡ class_of world class) (by : owner ≡ if_class class number) (out : left_out ≡ has_left_out type) where
     abbrev found : Resolved
     found = record {
       declaring = None;
@@ -119,6 +120,7 @@ module _ (world : World) (current : ℕ) (what : ReferenceKind) (class : ExactTy
       method = option_and_then (resolved_in world name type) number;
       special = option_and_then (special_for world current name type) number;
       left_out = left_out;
+      owner = owner;
     }
 
     method_told : (w : ReferenceKind) → is_proper w (kinds.Method type) ≡ true → StandsFor world current (record { what = w; class = class; member = record { name = name; kind = kinds.Method type } }) found
@@ -129,6 +131,7 @@ module _ (world : World) (current : ℕ) (what : ReferenceKind) (class : ExactTy
       is_method = ap (λ (o : Option ℕ). option_and_then (resolved_in world name type) o) of;
       is_special = ap (λ (o : Option ℕ). option_and_then (special_for world current name type) o) of;
       is_left_out = out;
+      is_owner = by ∙ ap (if_class class) of;
     }
     method_told references.InterfaceMethod e = record {
       is_declaring = refl;
@@ -136,6 +139,7 @@ module _ (world : World) (current : ℕ) (what : ReferenceKind) (class : ExactTy
       is_method = ap (λ (o : Option ℕ). option_and_then (resolved_in world name type) o) of;
       is_special = ap (λ (o : Option ℕ). option_and_then (special_for world current name type) o) of;
       is_left_out = out;
+      is_owner = by ∙ ap (if_class class) of;
     }
 
     -- what a method stands for

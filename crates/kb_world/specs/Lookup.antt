@@ -42,6 +42,15 @@ abbrev pub class_of : World → ExactType → Option ℕ
 class_of world (exact.Class name) = number_in world.classes name
 class_of world (exact.Array component) = number_in world.classes object_name
 
+-- the number, where the type is a class
+abbrev pub if_class : ExactType → Option ℕ → Option ℕ
+if_class (exact.Class name) number = number
+if_class (exact.Array component) number = None
+
+-- the number of the class that a type is: none of an array
+abbrev pub class_number : World → ExactType → Option ℕ
+class_number world type = if_class type (class_of world type)
+
 -- what a Fieldref, Methodref or InterfaceMethodref entry of a class names
 abbrev pub sought_at : World → ℕ → ℕ → Option Sought
 sought_at world class entry = option_and_then (λ (c : Class). reference_of_entry (slice_get c.entries entry)) (slice_get world.classes class)

@@ -28,7 +28,7 @@ use Rattle.kb_link.specs.Slots.{has_slot, slots_of}
 use Rattle.kb_link.specs.Subtypes.{is_super}
 use Rattle.kb_link.specs.World.{World, chain_of, method_at, methods_in}
 use Rattle.kb_world.specs.Faults.{has_left_out}
-use Rattle.kb_world.specs.Lookup.{is_open, class_of, class_of_sought, slot_of_sought, method_of_sought, special_of_sought, sought_at, resolved_field, resolved_field_class, resolved_method, selected, selected_for, selected_special, declares_open, only_where, or_else}
+use Rattle.kb_world.specs.Lookup.{is_open, class_number, class_of, class_of_sought, slot_of_sought, method_of_sought, special_of_sought, sought_at, resolved_field, resolved_field_class, resolved_method, selected, selected_for, selected_special, declares_open, only_where, or_else}
 use Rattle.kb_world.specs.declared.known.Known.{Known}
 use Rattle.kb_world.specs.declared.methods.Wanted.{Wanted}
 use Rattle.kb_world.specs.declared.resolved.Resolved.{Resolved}
@@ -116,6 +116,15 @@ slot_told world told = slot_in world told.declaring told.slot
 abbrev pub left_out_of : Sought → Bool
 left_out_of sought = option_map_or has_left_out (method_kind sought.what sought.member.kind) false
 
+-- the class in which a method is sought: none of an array, and none where a field is sought
+abbrev pub owner_of : World → Sought → Option ℕ
+owner_of world sought = option_and_then (λ (kind : MethodType). class_number world sought.class) (method_kind sought.what sought.member.kind)
+
+-- the same by the kind of the member that is sought in the type
+abbrev pub kind_owner : World → ExactType → MemberKind → Option ℕ
+kind_owner world type (kinds.Field of) = None
+kind_owner world type (kinds.Method kind) = class_number world type
+
 -- what is sought stands for what is told, in code of that class
 pub record StandsFor (world : World) (class : ℕ) (sought : Sought) (told : Resolved) : Type 0 where
   pub is_declaring : told.declaring ≡ class_of_sought world sought
@@ -123,6 +132,7 @@ pub record StandsFor (world : World) (class : ℕ) (sought : Sought) (told : Res
   pub is_method : told.method ≡ method_of_sought world sought
   pub is_special : told.special ≡ special_of_sought world class sought
   pub is_left_out : told.left_out ≡ left_out_of sought
+  pub is_owner : told.owner ≡ owner_of world sought
 
 -- the entry of the class stands for what is told
 pub record IsResolved (world : World) (class entry : ℕ) (told : Resolved) : Type 0 where
@@ -131,10 +141,11 @@ pub record IsResolved (world : World) (class entry : ℕ) (told : Resolved) : Ty
   pub is_method : told.method ≡ resolved_method world class entry
   pub is_special : told.special ≡ selected_special world class entry
   pub is_left_out : told.left_out ≡ option_map_or left_out_of (sought_at world class entry) false
+  pub is_owner : told.owner ≡ option_and_then (owner_of world) (sought_at world class entry)
 
 -- nothing is told of an entry that names no member
 abbrev pub nothing : Resolved
-nothing = record { declaring = None; slot = None; method = None; special = None; left_out = false }
+nothing = record { declaring = None; slot = None; method = None; special = None; left_out = false; owner = None }
 
 -- ---- what is found once
 

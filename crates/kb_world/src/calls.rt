@@ -3,16 +3,18 @@ ghost use Rattle.std.specs.Prelude.{◌≡◌, ◌<◌, length, not, option_map,
 ghost use Rattle.std.specs.List.{list_any};
 ghost use Rattle.kb_class.specs.Platform.{object_name};
 ghost use Rattle.kb_link.specs.World.{methods_in, number_in};
+ghost use Rattle.kb_link.specs.Links.{IsLinked};
 ghost use Rattle.kb_link.specs.Slots.{is_static};
-ghost use Rattle.kb_universe.specs.Marks.{class_types};
-ghost use Rattle.kb_world.specs.Lookup.{class_of, resolved_method};
+ghost use Rattle.kb_world.specs.Lookup.{class_number, class_of, resolved_method};
 ghost use Rattle.kb_world.specs.declared.calls.Call.TheVariants as calls;
 ghost use Rattle.kb_world.specs.Faults.{kind_left_out, told};
-ghost use Rattle.kb_world.specs.Receivers.{called_among, selected_on_array};
+ghost use Rattle.kb_world.specs.Tables.{kind_owner};
+ghost use Rattle.kb_world.specs.Receivers.{called_below, receivers_in, receives_at, selected_on_array};
 ghost use Rattle.kb_world.specs.Calls.{takes, selected_on, called_on, called, is_callable_method, is_callable, is_for, fault_of_kind, fault_of_number, call_fault};
 
 use crate::faults::Fault;
 use crate::methods::{OBJECT, is_open};
+use crate::resolved::Resolved;
 use crate::world::World;
 use kb_class::{ClassId, MemberKind, MethodId, MethodInfo, ReferenceKind};
 use kb_classfile::STATIC;
@@ -28,6 +30,14 @@ pub(crate) enum Call {
     Static,
 }
 
+/// A call of an entry of a class.
+#[derive(Clone, Copy)]
+pub(crate) struct CallOf {
+    pub(crate) class: u32,
+    pub(crate) entry: u16,
+    pub(crate) call: Call,
+}
+
 impl World {
     /// What is wrong with a call of the entry, in code of the class.
     pub(crate) fn call_fault(&self, class: ClassId, call: Call, entry: u16) -> Option<Fault<'_>>
@@ -40,12 +50,12 @@ impl World {
         if !takes(call, sought.what) {
             return Some(Fault::Outside(What::Operand));
         }
-        let left_out = self.entry_at(class, entry).left_out;
-        self.kind_fault(class, call, entry, sought.class, sought.kind, left_out)
+        let told = self.entry_at(class, entry);
+        self.kind_fault(class, call, entry, sought.class, sought.kind, told)
     }
 
-    // What is wrong with a call of the entry, which names a member of that kind; whether a part of a method's type is left out
-    // was found before.
+    // What is wrong with a call of the entry, which names a member of that kind; whether a part of a method's type is left out,
+    // and in which class it is sought, was found before.
     fn kind_fault(
         &self,
         class: ClassId,
@@ -53,19 +63,20 @@ impl World {
         entry: u16,
         of: &ExactType,
         kind: &MemberKind,
-        left_out: bool,
+        known: Resolved,
     ) -> Option<Fault<'_>>
         requires class { class.0 < length self.now.classes }
-        requires told { left_out ≡ kind_left_out kind.now }
+        requires left_out { known.left_out ≡ kind_left_out kind.now }
+        requires owner { known.owner ≡ kind_owner self.now of.now kind.now }
         ensures { option_map told result ≡ fault_of_kind self.now class.0 call entry of.now kind.now }
     {
         let MemberKind::Method(_) = kind else {
             return Some(Fault::Outside(What::Method));
         };
-        if left_out {
+        if known.left_out {
             return Some(Fault::Outside(What::Kind));
         }
-        self.resolved_fault(class, call, entry, of)
+        self.resolved_fault(class, call, entry, of, known.owner)
     }
 
     // What is wrong with a call of the method that the entry names.
@@ -75,12 +86,14 @@ impl World {
         call: Call,
         entry: u16,
         of: &ExactType,
+        owner: Option<u32>,
     ) -> Option<Fault<'_>>
-        requires { class.0 < length self.now.classes }
+        requires class { class.0 < length self.now.classes }
+        requires owner { owner ≡ class_number self.now of.now }
         ensures { option_map told result ≡ fault_of_number self.now class.0 call entry of.now (resolved_method self.now class.0 entry) }
     {
         match self.resolve_method(class, entry) {
-            Some(method) => self.method_fault(class, call, entry, of, method),
+            Some(method) => self.method_fault(class, call, entry, of, owner, method),
             None => Some(Fault::Outside(What::Method)),
         }
     }
@@ -92,9 +105,11 @@ impl World {
         call: Call,
         entry: u16,
         of: &ExactType,
+        owner: Option<u32>,
         method: MethodId,
     ) -> Option<Fault<'_>>
         requires class { class.0 < length self.now.classes }
+        requires owner { owner ≡ class_number self.now of.now }
         requires method { method.0 < length (methods_in self.now.classes) }
         ensures { option_map told result ≡ fault_of_number self.now class.0 call entry of.now (Some method.0) }
     {
@@ -102,7 +117,7 @@ impl World {
         if !self.is_for(class, call, entry, info) {
             return Some(Fault::Outside(What::Method));
         }
-        if self.is_any_uncallable(class, call, entry, of, method) {
+        if self.is_any_uncallable(class, call, entry, of, owner, method) {
             return Some(Fault::Outside(What::Method));
         }
         match call {
@@ -144,25 +159,33 @@ impl World {
         call: Call,
         entry: u16,
         of: &ExactType,
+        owner: Option<u32>,
         method: MethodId,
     ) -> bool
         requires class { class.0 < length self.now.classes }
+        requires owner { owner ≡ class_number self.now of.now }
         requires method { method.0 < length (methods_in self.now.classes) }
         ensures { result ≡ list_any (λ found. not (is_callable self.now found)) (called self.now class.0 call entry of.now method.0) }
     {
         match call {
-            Call::Virtual | Call::Interface => self.is_any_receiver_uncallable(of, method),
+            Call::Virtual | Call::Interface => self.is_any_receiver_uncallable(of, owner, method),
             Call::Special => !self.is_callable(self.select_special(class, entry)),
             Call::Static => !self.is_callable(Some(method)),
         }
     }
 
     // Whether for some receiver what is called in place of the method is no callable method.
-    fn is_any_receiver_uncallable(&self, of: &ExactType, method: MethodId) -> bool
-        requires { method.0 < length (methods_in self.now.classes) }
+    fn is_any_receiver_uncallable(
+        &self,
+        of: &ExactType,
+        owner: Option<u32>,
+        method: MethodId,
+    ) -> bool
+        requires owner { owner ≡ class_number self.now of.now }
+        requires method { method.0 < length (methods_in self.now.classes) }
         ensures { result ≡ list_any (λ found. not (is_callable self.now found)) (called_on self.now of.now method.0) }
     {
-        if self.is_any_class_uncallable(of, method) {
+        if self.is_any_class_uncallable(owner, method) {
             return true;
         }
         if !self.has_array_receiver(of) {
@@ -172,20 +195,32 @@ impl World {
     }
 
     // Whether for some receiver that is a class what is called in place of the method is no callable method.
-    fn is_any_class_uncallable(&self, of: &ExactType, method: MethodId) -> bool
+    fn is_any_class_uncallable(&self, owner: Option<u32>, method: MethodId) -> bool
         requires { method.0 < length (methods_in self.now.classes) }
-        ensures { result ≡ list_any (λ found. not (is_callable self.now found)) (called_among self.now of.now method.0 (class_types self.now.universe)) }
+        ensures told { result ≡ list_any (λ found. not (is_callable self.now found)) (called_below self.now owner method.0 (receivers_in self.now)) }
+        ensures linked { IsLinked self.now }
     {
-        let mut rest = self.class_receivers();
+        let mut rest = self.receivers();
         while let [receiver, others @ ..] = rest {
-            if self.linked().exact_subtype(receiver, of) {
-                if !self.is_callable(self.select_on(method, receiver)) {
+            if self.receives_at(owner, *receiver) {
+                if !self.is_callable(self.select(ClassId(*receiver), method)) {
                     return true;
                 }
             }
             rest = others;
         }
         false
+    }
+
+    /// Whether an object of the class of that number may be the receiver of a method that is sought in the other class: a look
+    /// into a table, by numbers alone.
+    pub(crate) fn receives_at(&self, owner: Option<u32>, low: u32) -> bool
+        ensures { result ≡ receives_at self.now owner low }
+    {
+        match owner {
+            Some(high) => self.linked().is_above(ClassId(low), ClassId(high)),
+            None => false,
+        }
     }
 
     /// The method that is called in place of another one where the receiver is an array: an array selects as java/lang/Object

@@ -19,6 +19,7 @@ mod lookup;
 mod mentions;
 mod methods;
 mod reach;
+mod receivers;
 mod resolved;
 mod resolving;
 mod running;

@@ -1,12 +1,12 @@
 //! The methods that calls mention.
 ghost use Rattle.std.specs.Prelude.{◌≡◌, ◌<◌, ◌∷◌, [], length, filter_map, option_map, OnOk, IfSome};
 ghost use Rattle.kb_link.specs.World.{methods_in};
-ghost use Rattle.kb_universe.specs.Marks.{class_types};
 ghost use Rattle.kb_world.specs.Calls.{called, called_on, if_code, call_mentions};
-ghost use Rattle.kb_world.specs.Receivers.{called_among};
+ghost use Rattle.kb_world.specs.Lookup.{class_number};
+ghost use Rattle.kb_world.specs.Receivers.{called_below, receivers_in};
 ghost use Rattle.kb_world.specs.Walks.{with_all};
 
-use crate::calls::{Call, takes};
+use crate::calls::{Call, CallOf, takes};
 use crate::found::Found;
 use crate::world::World;
 use kb_class::{ClassId, MethodId};
@@ -14,25 +14,21 @@ use kb_names::{ExactType, NoMemory};
 
 impl World {
     /// Adds the methods that a call of the entry may call, in code of the class.
-    pub(crate) fn add_called(
-        &self,
-        class: ClassId,
-        call: Call,
-        entry: u16,
-        found: &mut Found,
-    ) -> Result<(), NoMemory>
-        requires class { class.0 < length self.now.classes }
+    pub(crate) fn add_called(&self, asked: CallOf, found: &mut Found) -> Result<(), NoMemory>
+        requires class { asked.class < length self.now.classes }
         requires all { found.old.all ≡ length (methods_in self.now.classes) }
-        ensures { OnOk result (found.new ≡ with_all found.old (call_mentions self.now class.0 call entry)) }
+        ensures { OnOk result (found.new ≡ with_all found.old (call_mentions self.now asked.class asked.call asked.entry)) }
     {
-        let Some(sought) = self.linked().class_of(class).reference_entry(entry) else {
+        let class = ClassId(asked.class);
+        let Some(sought) = self.linked().class_of(class).reference_entry(asked.entry) else {
             return Ok(());
         };
-        if !takes(call, sought.what) {
+        if !takes(asked.call, sought.what) {
             return Ok(());
         }
-        match self.resolve_method(class, entry) {
-            Some(method) => self.add_for(class, call, entry, sought.class, method, found),
+        let owner = self.entry_at(class, asked.entry).owner;
+        match self.resolve_method(class, asked.entry) {
+            Some(method) => self.add_for(asked, sought.class, owner, method, found),
             None => Ok(()),
         }
     }
@@ -40,21 +36,24 @@ impl World {
     // Adds what a call of the method, which is sought in the type, may call.
     fn add_for(
         &self,
-        class: ClassId,
-        call: Call,
-        entry: u16,
+        asked: CallOf,
         of: &ExactType,
+        owner: Option<u32>,
         method: MethodId,
         found: &mut Found,
     ) -> Result<(), NoMemory>
-        requires class { class.0 < length self.now.classes }
+        requires class { asked.class < length self.now.classes }
+        requires owner { owner ≡ class_number self.now of.now }
         requires method { method.0 < length (methods_in self.now.classes) }
         requires all { found.old.all ≡ length (methods_in self.now.classes) }
-        ensures { OnOk result (found.new ≡ with_all found.old (filter_map (if_code self.now) (called self.now class.0 call entry of.now method.0))) }
+        ensures { OnOk result (found.new ≡ with_all found.old (filter_map (if_code self.now) (called self.now asked.class asked.call asked.entry of.now method.0))) }
     {
-        match call {
-            Call::Virtual | Call::Interface => self.add_selected(of, method, found),
-            Call::Special => self.add_method(self.select_special(class, entry), found),
+        match asked.call {
+            Call::Virtual | Call::Interface => self.add_selected(of, owner, method, found),
+            Call::Special => {
+                let class = ClassId(asked.class);
+                self.add_method(self.select_special(class, asked.entry), found)
+            }
             Call::Static => self.add_method(Some(method), found),
         }
     }
@@ -63,14 +62,16 @@ impl World {
     fn add_selected(
         &self,
         of: &ExactType,
+        owner: Option<u32>,
         method: MethodId,
         found: &mut Found,
     ) -> Result<(), NoMemory>
+        requires owner { owner ≡ class_number self.now of.now }
         requires method { method.0 < length (methods_in self.now.classes) }
         requires all { found.old.all ≡ length (methods_in self.now.classes) }
         ensures { OnOk result (found.new ≡ with_all found.old (filter_map (if_code self.now) (called_on self.now of.now method.0))) }
     {
-        self.add_for_classes(of, method, found)?;
+        self.add_for_classes(owner, method, found)?;
         if !self.has_array_receiver(of) {
             return Ok(());
         }
@@ -80,18 +81,18 @@ impl World {
     // Adds for each receiver that is a class what is called in place of the method.
     fn add_for_classes(
         &self,
-        of: &ExactType,
+        owner: Option<u32>,
         method: MethodId,
         found: &mut Found,
     ) -> Result<(), NoMemory>
         requires method { method.0 < length (methods_in self.now.classes) }
         requires all { found.old.all ≡ length (methods_in self.now.classes) }
-        ensures { OnOk result (found.new ≡ with_all found.old (filter_map (if_code self.now) (called_among self.now of.now method.0 (class_types self.now.universe)))) }
+        ensures { OnOk result (found.new ≡ with_all found.old (filter_map (if_code self.now) (called_below self.now owner method.0 (receivers_in self.now)))) }
     {
-        let mut rest = self.class_receivers();
+        let mut rest = self.receivers();
         while let [receiver, others @ ..] = rest {
-            if self.linked().exact_subtype(receiver, of) {
-                self.add_method(self.select_on(method, receiver), found)?;
+            if self.receives_at(owner, *receiver) {
+                self.add_method(self.select(ClassId(*receiver), method), found)?;
             }
             rest = others;
         }

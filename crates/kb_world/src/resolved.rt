@@ -5,8 +5,8 @@ ghost use Rattle.kb_world.specs.Tables.{nothing};
 use kb_names::Row;
 
 /// What an entry stands for, all by numbers: the class that declares the field which it names, the place of the field's slot
-/// among those of that class, the method that it names, and the method that invokespecial of it calls; and whether a part of
-/// the type of the method that is sought is left out.
+/// among those of that class, the method that it names, and the method that invokespecial of it calls; whether a part of the
+/// type of the method that is sought is left out; and the class in which that method is sought, where that is no array.
 #[derive(Clone, Copy)]
 pub(crate) struct Resolved {
     pub(crate) declaring: Option<u32>,
@@ -14,6 +14,7 @@ pub(crate) struct Resolved {
     pub(crate) method: Option<u32>,
     pub(crate) special: Option<u32>,
     pub(crate) left_out: bool,
+    pub(crate) owner: Option<u32>,
 }
 
 /// Nothing is told of an entry that names no member.
@@ -26,6 +27,7 @@ pub(crate) fn nothing() -> Resolved
         method: None,
         special: None,
         left_out: false,
+        owner: None,
     }
 }
 

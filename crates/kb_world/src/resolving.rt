@@ -13,7 +13,7 @@ use crate::fields::{WantedField, class_of_field, slot_sought};
 use crate::known::{Known, class_sought, is_left_out, keep_member, member_known};
 use crate::methods::Wanted;
 use crate::resolved::{Resolved, nothing};
-use crate::special::{method_sought, special_sought};
+use crate::special::{if_class, method_sought, special_sought};
 use crate::tables::slot_tables;
 use kb_class::{ClassId, MemberKind, Reference, ReferenceKind};
 use kb_link::Linked;
@@ -188,7 +188,8 @@ fn found(
             let pair = named.member;
             let name = reference.name;
             let wanted = Wanted { name, kind, pair };
-            Ok(method_found(linked, numbers, class, number, wanted, left_out))
+            let owner = if_class(reference.class, number);
+            Ok(method_found(linked, numbers, class, number, wanted, left_out, owner))
         }
     }
 }
@@ -205,7 +206,7 @@ fn field_found(
     requires { IsLinked linked.now × AreNumbered linked.now.classes numbers.now × PairStandsFor numbers.now.texts wanted.pair wanted.name.now (kinds.Field wanted.kind.now) × (number ≡ class_of linked.now of.now) }
     ensures declaring { result.declaring ≡ class_of_field linked.now references.Field of.now wanted.entry.name.now (kinds.Field wanted.entry.kind.now) }
     ensures slot { result.slot ≡ option_and_then (λ class. slot_place slots.now class wanted.entry.pair) result.declaring }
-    ensures others { (result.method ≡ None) × (result.special ≡ None) × (result.left_out ≡ false) }
+    ensures others { (result.method ≡ None) × (result.special ≡ None) × (result.left_out ≡ false) × (result.owner ≡ None) }
 {
     let declaring = class_of_field(linked, numbers, of, number, wanted);
     Resolved {
@@ -214,6 +215,7 @@ fn field_found(
         method: None,
         special: None,
         left_out: false,
+        owner: None,
     }
 }
 
@@ -225,9 +227,10 @@ fn method_found(
     number: Option<u32>,
     wanted: Wanted<'_>,
     left_out: bool,
+    owner: Option<u32>,
 ) -> Resolved
     requires { IsSearched linked.now numbers.now wanted × IfSome number (λ class. class < length linked.now.classes) }
-    ensures { result ≡ record { declaring = None; slot = None; method = option_and_then (resolved_in linked.now wanted.entry.name.now wanted.entry.kind.now) number; special = option_and_then (special_for linked.now current wanted.entry.name.now wanted.entry.kind.now) number; left_out = left_out } }
+    ensures { result ≡ record { declaring = None; slot = None; method = option_and_then (resolved_in linked.now wanted.entry.name.now wanted.entry.kind.now) number; special = option_and_then (special_for linked.now current wanted.entry.name.now wanted.entry.kind.now) number; left_out = left_out; owner = owner } }
 {
     Resolved {
         declaring: None,
@@ -235,5 +238,6 @@ fn method_found(
         method: method_sought(linked, numbers, number, wanted),
         special: special_sought(linked, numbers, current, number, wanted),
         left_out,
+        owner,
     }
 }

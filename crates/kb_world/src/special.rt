@@ -4,7 +4,7 @@ ghost use Rattle.std.specs.Prelude.{◌≡◌, ◌==◌, ◌<◌, drop, length, 
 ghost use Rattle.std.specs.List.{list_any};
 ghost use Rattle.std.specs.Option.{option_and_then};
 ghost use Rattle.kb_link.specs.Links.{IsLinked};
-ghost use Rattle.kb_world.specs.Lookup.{class_of, resolved_in, special_for, special_start};
+ghost use Rattle.kb_world.specs.Lookup.{class_number, class_of, if_class, resolved_in, special_for, special_start};
 ghost use Rattle.kb_world.specs.Tables.{IsSearched};
 
 use crate::chains::{chain_at, number_named};
@@ -53,6 +53,26 @@ pub(crate) fn class_of(linked: &Linked, class: &ExactType) -> Option<u32>
     match class {
         ExactType::Class(name) => number_named(linked, name.as_slice()),
         ExactType::Array(_) => number_named(linked, OBJECT),
+    }
+}
+
+/// The number of the class that the type is: none of an array.
+pub(crate) fn class_number(linked: &Linked, of: &ExactType) -> Option<u32>
+    ensures { result ≡ class_number linked.now of.now }
+{
+    match of {
+        ExactType::Class(name) => number_named(linked, name.as_slice()),
+        ExactType::Array(_) => None,
+    }
+}
+
+/// The number of the class in which the members of the type are sought, where the type is that class.
+pub(crate) fn if_class(of: &ExactType, number: Option<u32>) -> Option<u32>
+    ensures { result ≡ if_class of.now number }
+{
+    match of {
+        ExactType::Class(_) => number,
+        ExactType::Array(_) => None,
     }
 }
 

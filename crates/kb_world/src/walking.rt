@@ -8,7 +8,7 @@ ghost use Rattle.kb_world.specs.Faults.{told};
 ghost use Rattle.kb_world.specs.Reach.{HasNoFault, fault_in, mentions_in, method_mentions};
 ghost use Rattle.kb_world.specs.Walks.{with_all, StopsAt, IsFaultOfMethod, IsFaultIn, IsFaultAt, IsFaultOfUse, AreSettled};
 
-use crate::calls::Call;
+use crate::calls::{Call, CallOf};
 use crate::faults::Fault;
 use crate::found::Found;
 use crate::looked::{Asked, Looked, Use};
@@ -180,7 +180,12 @@ impl World {
         let Use::Call(call) = asked.what else {
             return Ok(());
         };
-        match self.add_called(ClassId(asked.class), call, asked.entry, found) {
+        let called = CallOf {
+            class: asked.class,
+            entry: asked.entry,
+            call,
+        };
+        match self.add_called(called, found) {
             Ok(()) => Ok(()),
             Err(_) => Err(LinkRefusal::NoMemory),
         }

@@ -10,11 +10,13 @@ ghost use Rattle.kb_link.specs.Placing.{place_in};
 ghost use Rattle.kb_link.specs.Slots.{slots_of};
 ghost use Rattle.kb_link.specs.Subtypes.{fits};
 ghost use Rattle.kb_link.specs.Targets.{IsTargetOf};
-ghost use Rattle.kb_universe.specs.Marks.{class_types, is_array_below, HaveMarks};
+ghost use Rattle.kb_universe.specs.Marks.{is_array_below, HaveMarks};
 ghost use Rattle.kb_world.specs.Lookup.{selected};
+ghost use Rattle.kb_world.specs.Receivers.{receivers_in};
 ghost use Rattle.kb_world.specs.Tables.{AreRows, AreSelected, IsResolved};
 
 use crate::chains::{chain_at, slots_at};
+use crate::receivers::receivers_of;
 use crate::resolved::{Resolved, resolved_at};
 use crate::resolving::rows_of;
 use crate::selection::{Selection, selected_by, selection_of};
@@ -36,6 +38,8 @@ pub struct World {
     selection: Selection,
     // Which types are of the universe.
     marks: Marks,
+    // The numbers of those of its types that are classes, in its order.
+    receivers: Row<u32>,
 }
 
 // What is known of linked classes.
@@ -44,6 +48,7 @@ struct Tables {
     rows: Vec<Row<Resolved>>,
     selection: Selection,
     marks: Marks,
+    receivers: Row<u32>,
 }
 
 // What is known of these classes.
@@ -52,14 +57,17 @@ fn tables_of(alloc: Global, linked: &Linked) -> Result<Tables, NoMemory>
     ensures rows { IfOk result (λ tables. AreRows linked.now tables.rows.items) }
     ensures selection { IfOk result (λ tables. AreSelected linked.now tables.selection) }
     ensures marks { IfOk result (λ tables. HaveMarks linked.now tables.marks) }
+    ensures receivers { IfOk result (λ tables. tables.receivers ≡ receivers_in linked.now) }
 {
+    let marks = Marks::of(alloc, linked)?;
+    let receivers = receivers_of(alloc, linked, marks.class_types(linked))?;
     let rows = rows_of(alloc, linked)?;
     let selection = selection_of(alloc, linked)?;
-    let marks = Marks::of(alloc, linked)?;
     Ok(Tables {
         rows,
         selection,
         marks,
+        receivers,
     })
 }
 
@@ -72,9 +80,11 @@ impl Model for World {
     ghost view = { λ w. w.linked };
 
     ghost use Rattle.kb_universe.specs.Marks.{HaveMarks};
+    ghost use Rattle.kb_world.specs.Receivers.{receivers_in};
     ghost use Rattle.kb_world.specs.Tables.{AreRows, AreSelected};
+    ghost use Rattle.std.specs.Prelude.{◌≡◌};
 
-    ghost invariant = { λ w. IsLinked w.linked × AreRows w.linked w.rows.items × AreSelected w.linked w.selection × HaveMarks w.linked w.marks };
+    ghost invariant = { λ w. IsLinked w.linked × AreRows w.linked w.rows.items × AreSelected w.linked w.selection × HaveMarks w.linked w.marks × (w.receivers ≡ receivers_in w.linked) };
 }
 
 impl World {
@@ -88,12 +98,14 @@ impl World {
             rows,
             selection,
             marks,
+            receivers,
         } = tables;
         Ok(World {
             linked,
             rows,
             selection,
             marks,
+            receivers,
         })
     }
 
@@ -122,11 +134,12 @@ impl World {
         &self.linked
     }
 
-    /// Those types of the universe that are classes, in its order.
-    pub(crate) fn class_receivers(&self) -> &[ExactType]
-        ensures { result.now ≡ class_types self.now.universe }
+    /// The numbers of the classes of the universe, in its order.
+    pub(crate) fn receivers(&self) -> &[u32]
+        ensures receivers { result.now ≡ receivers_in self.now }
+        ensures linked { IsLinked self.now }
     {
-        self.marks.class_types(&self.linked)
+        self.receivers.as_slice()
     }
 
     /// Whether an array of the universe is a subtype of the type.

@@ -48,8 +48,8 @@ returns-in_ok-left_out-in-Method-clause-told c =
     let names = c.requires.4 in
     let typed : HasTextAt texts c.args.named.member.kind (SpellsKind (kinds.Method c.in-Method.kind)) =
     subst (λ (k : MemberKind). HasTextAt texts c.args.named.member.kind (SpellsKind k)) c.in-Method.is names.member.typed in
-    method_stands c.args.linked.now c.args.class of.what of.class.now of.name.now of.kind.now c.in-Method.kind c.in_ok-number.number c.in_ok-left_out-in-Method.left_out
-    (c.in_ok-number.ensures.told texts names.class c.requires.3.of_classes) (c.in_ok-left_out-in-Method.ensures.told texts typed c.requires.3.of_types) c.method_found.result c.method_found.ensures
+    method_stands c.args.linked.now c.args.class of.what of.class.now of.name.now of.kind.now c.in-Method.kind c.in_ok-number.number c.if_class-owner.result c.in_ok-left_out-in-Method.left_out
+    (c.in_ok-number.ensures.told texts names.class c.requires.3.of_classes) c.if_class-owner.ensures (c.in_ok-left_out-in-Method.ensures.told texts typed c.requires.3.of_types) c.method_found.result c.method_found.ensures
     c.in-Method.is c.requires.5
 
 pub returns-in_ok-left_out-in-Method-clause-known : goal.returns-in_ok-left_out-in-Method-clause-known

@@ -8,4 +8,5 @@ returns c = λ i. record {
   method = c.method_sought.ensures i;
   special = c.special_sought.ensures i;
   left_out = c.args.left_out;
+  owner = c.args.owner;
 }
