@@ -5,7 +5,9 @@ import sys
 from pathlib import Path
 
 ROOT = Path(__file__).resolve().parent.parent.parent
-sys.path += [str(ROOT / "examples"), str(ROOT / "bench")]
+# bench/ has a logs.py too, which is a script
+sys.path.insert(0, str(ROOT / "examples"))
+sys.path.append(str(ROOT / "bench"))
 from formulas import FALSE, WIDTH, Formula, constant  # noqa: E402
 from logs import is_fresh  # noqa: E402
 
