@@ -8,8 +8,8 @@ prints
 
 - the processor time of the built program, the least of some runs, less that of its start;
 - how many times that of half the size it is (goal: at most 2.4);
-- how many times that of the twin it is, without what reading takes (goal: at most 2). Reading is the time of files of the same
-  lengths whose long texts are entries that nothing names, and of tests that of a text whose last line is no line;
+- how many times that of the twin it is, without what reading takes (goal: at most 2), and both. Reading is the time of files of
+  the same lengths whose long texts are entries that nothing names, and of tests that of a text whose last line is no line;
 - the most memory that the program had (goal: 100 times the bytes of the files, 64 bytes for each class and slot and for each class
   and method that can be selected in it, and 10 KB for each array type of the universe).
 
@@ -30,7 +30,7 @@ from dataclasses import dataclass, field
 from pathlib import Path
 
 from class_files import attribute, method_entry, name_and_type
-from link import PUBLIC, Pool
+from link import PUBLIC, Pool, field_entry
 from straight import ROOT, class_entry, string_entry, utf8
 
 SHARES = [0.25, 0.5, 1.0]
@@ -41,6 +41,7 @@ TEXT_BYTES = 1 << 26
 # access flags of classes and methods (JVMS 8 tables 4.1-A and 4.6-A)
 ABSTRACT_CLASS, OPEN, STATIC, ABSTRACT, PACKAGE = 0x0421, 0x0001, 0x0009, 0x0401, 0x0400
 INVOKEVIRTUAL, INVOKESTATIC, NEW, POP, RETURN = 0xB6, 0xB8, 0xBB, 0x57, 0xB1
+ALOAD_0, GETFIELD, CHECKCAST = 0x2A, 0xB4, 0xC0
 # the most calls of three bytes in one method, beside the one that leads on and the return
 CALLS_IN_METHOD = 21_840
 PLATFORM = (
@@ -69,7 +70,7 @@ class ClassFile:
     """A class that grows. Each entry of its pool stands there once, but for references and strings that are added again."""
 
     def __init__(self, name, parent="java/lang/Object", access=PUBLIC):
-        self.name, self.pool, self.numbers, self.access, self.methods = name, Pool(), {}, access, []
+        self.name, self.pool, self.numbers, self.access, self.fields, self.methods = name, Pool(), {}, access, [], []
         self.this, self.above = self.named(name), self.named(parent)
 
     def once(self, said, make):
@@ -84,9 +85,12 @@ class ClassFile:
     def named(self, name):
         return self.once((self.text(name),), lambda said: class_entry(*said))
 
-    def add_reference(self, owner, name, kind):
+    def add_reference(self, owner, name, kind, entry=method_entry):
         member = self.once((self.text(name), self.text(kind)), lambda said: name_and_type(*said))
-        return self.pool.add(method_entry(owner, member))
+        return self.pool.add(entry(owner, member))
+
+    def add_field(self, name, kind):
+        self.fields.append(struct.pack(">HHHH", OPEN, self.text(name), self.text(kind), 0))
 
     def add_string(self, text):
         return self.pool.add(string_entry(self.text(text)))
@@ -104,7 +108,9 @@ class ClassFile:
         whole = (
             struct.pack(">IHHH", 0xCAFEBABE, 0, 52, len(self.pool.entries) + 1)
             + b"".join(self.pool.entries)
-            + struct.pack(">HHHHHH", self.access, self.this, self.above, 0, 0, len(self.methods))
+            + struct.pack(">HHHHH", self.access, self.this, self.above, 0, len(self.fields))
+            + b"".join(self.fields)
+            + struct.pack(">H", len(self.methods))
             + b"".join(self.methods)
             + struct.pack(">H", len(attributes))
             + b"".join(attributes)
@@ -346,12 +352,20 @@ def arrays(share, is_twin):
     return Case(contents, "A0.none()I", arrays=len(kinds), texts=[*texts, [name]])
 
 
+def test_lines(target, *lines):
+    return "\n".join([f"test {target}", "bounds alloc 16 loops 10 depth 16 steps 50000", *lines, "end", ""]).encode()
+
+
+def passing(count):
+    """The answer to so many tests that pass."""
+    lines = "".join(f"test {number} passes\n" for number in range(count))
+    return (lines + f"tests {count} passed {count} differed 0\n").encode()
+
+
 def test_of(kinds):
     """A test of a method that does nothing, with an empty array of each of these types in its input."""
-    lines = ["test T.f()V", "bounds alloc 16 loops 10 depth 16 steps 2000"]
-    lines += [f"in i{number} {kind}" for number, kind in enumerate(kinds)]
-    lines += ["returns"] + [f"out i{number}" for number in range(len(kinds))]
-    return "\n".join(lines + ["end", ""]).encode()
+    inputs = [f"in i{number} {kind}" for number, kind in enumerate(kinds)]
+    return test_lines("T.f()V", *inputs, "returns", *(f"out i{number}" for number in range(len(kinds))))
 
 
 def tests(share, is_twin):
@@ -361,9 +375,8 @@ def tests(share, is_twin):
     files, texts, last = with_arrays(share, is_twin, [file])
     test = test_of([last] * 100)
     count = int(TEXT_BYTES * share) // len(test)
-    verdicts = "".join(f"test {number} passes\n" for number in range(count)) + f"tests {count} passed {count} differed 0\n"
     arrays = 1 if is_twin else sum(map(len, texts))
-    return Case(files, tests=test * count, wanted=verdicts.encode(), arrays=arrays)
+    return Case(files, tests=test * count, wanted=passing(count), arrays=arrays)
 
 
 def creations(share, is_twin):
@@ -374,16 +387,42 @@ def creations(share, is_twin):
     return Case([file.bytes(), made.bytes()], "H.m0()V", wanted=b"refused 50", texts=[[name], [name]])
 
 
-def made_objects(share, is_twin):
-    """400 tests of a method that makes 1,024 objects, the most of a run, of a class whose name has 65,535 bytes."""
-    name = long_name(is_twin)
+def making(name, count):
+    """Class H, whose method m makes so many objects of the class of that name, and that class."""
     made, file = ClassFile(name), ClassFile("H")
     create = struct.pack(">BHB", NEW, file.named(name), POP)
-    file.add_method(STATIC, "m", "()V", create * 1_025 + bytes([RETURN]))
-    count = int(400 * share)
-    verdicts = "".join(f"test {number} passes\n" for number in range(count)) + f"tests {count} passed {count} differed 0\n"
-    test = b"test H.m()V\nbounds alloc 1024 loops 10 depth 16 steps 5000\npast alloc\nend\n"
-    return Case([file.bytes(), made.bytes()], tests=test * count, wanted=verdicts.encode())
+    file.add_method(STATIC, "m", "()V", create * count + bytes([RETURN]))
+    return [file.bytes(), made.bytes()]
+
+
+def made_objects(share, is_twin):
+    """100 tests of a method that makes 10 objects of a class whose name has 65,535 bytes: a test lists all that it makes."""
+    name, count = long_name(is_twin), int(100 * share)
+    test = test_lines("H.m()V", "returns", *(f"new n{number} {name}" for number in range(10)))
+    return Case(making(name, 10), tests=test * count, wanted=passing(count))
+
+
+def answers(share, is_twin):
+    """8 tests that differ, of a method that makes 1,025 objects of such a class: the answer lists all of them, 67 MB a test."""
+    name, count = long_name(is_twin), int(8 * share)
+    front = f"test 0 differs\nreturns\nnew n0 {name}\n".encode()
+    return Case(making(name, 1_025), tests=test_lines("H.m()V", "past steps") * count, wanted=front)
+
+
+def uses(share, is_twin):
+    """8 tests of a method that reads a field of an object of such a class, casts it and calls it, 4,000 times each."""
+    name, count = long_name(is_twin), int(8 * share)
+    used, file = ClassFile(name), ClassFile("H")
+    used.add_field("f", "I")
+    used.add_method(OPEN, "v", "()V", bytes([RETURN]), 1)
+    owner = file.named(name)
+    read, called = file.add_reference(owner, "f", "I", field_entry), file.add_reference(owner, "v", "()V")
+    each = struct.pack(">BBHB", ALOAD_0, GETFIELD, read, POP)
+    each += struct.pack(">BBHB", ALOAD_0, CHECKCAST, file.named("java/lang/Object"), POP)
+    each += struct.pack(">BBH", ALOAD_0, INVOKEVIRTUAL, called)
+    file.add_method(STATIC, "m", "(Ljava/lang/Object;)V", each * 4_000 + bytes([RETURN]), 1)
+    test = test_lines("H.m(Ljava/lang/Object;)V", "arg i0", f"in i0 {name} 0", "returns", "out i0 0")
+    return Case([file.bytes(), used.bytes()], tests=test * count, wanted=passing(count))
 
 
 FAMILIES = [
@@ -402,6 +441,8 @@ FAMILIES = [
     tests,
     creations,
     made_objects,
+    answers,
+    uses,
 ]
 
 
@@ -497,17 +538,18 @@ class Table:
         beside = "over" if twin_run.is_over else self.beside_twin(case, took, twin, twin_took)
         half = ratio(took, before) if before is not None else "-"
         print(
-            f"{label} {took * 1e3:>10.1f} ms, to half {half:>5} (goal {HALF_GOAL}), to its twin {beside:>6} (goal {TWIN_GOAL}),"
+            f"{label} {took * 1e3:>10.1f} ms, to half {half:>5} (goal {HALF_GOAL}), to its twin {beside} (goal {TWIN_GOAL}),"
             f" {run.memory / 1e6:>7.1f} MB (goal {case.memory_goal / 1e6:.0f})",
             flush=True,
         )
         return took
 
     def beside_twin(self, case, took, twin, twin_took):
-        """How many times its twin a case takes, without what reading takes."""
+        """How many times its twin a case takes, without what reading takes, and what both take so."""
         _, reading = self.own(case.read_alone())
         _, twin_reading = self.own(twin.read_alone())
-        return ratio(max(took - reading, 0.0), twin_took - twin_reading)
+        both = [max(took - reading, 0.0), max(twin_took - twin_reading, 0.0)]
+        return f"{ratio(*both)} ({both[0] * 1e3:.1f} to {both[1] * 1e3:.1f} ms)"
 
 
 def read_options():
