@@ -33,6 +33,8 @@ from class_files import attribute, method_entry, name_and_type
 from link import PUBLIC, Pool, field_entry
 from straight import ROOT, class_entry, string_entry, utf8
 
+# what starts the program and tells its memory: that of a child counts what its parent had when it was forked, and this has little
+TIME = "/usr/bin/time"
 SHARES = [0.25, 0.5, 1.0]
 HALF_GOAL, TWIN_GOAL = 2.4, 2.0
 LONGEST = 65_535
@@ -470,15 +472,16 @@ def limited(options):
 
 def run_once(options, words, wanted, folder):
     """One run. Its output begins with what is wanted, unless it went past a limit."""
+    told = folder / "memory"
+    timed = [TIME, "--quiet", "--format", "%M", "--output", str(told), str(options.program), *words]
     with open(folder / "stdout", "w+b") as out:
-        child = subprocess.Popen(
-            [str(options.program), *words], stdin=subprocess.DEVNULL, stdout=out, stderr=subprocess.DEVNULL, preexec_fn=limited(options)
-        )
+        child = subprocess.Popen(timed, stdin=subprocess.DEVNULL, stdout=out, stderr=subprocess.DEVNULL, preexec_fn=limited(options))
         _, status, used = os.wait4(child.pid, 0)
         child.returncode = os.waitstatus_to_exitcode(status)
         out.seek(0)
         text = out.read(len(wanted))
-    run = Run(used.ru_utime + used.ru_stime, used.ru_maxrss << 10, child.returncode < 0 or child.returncode == 8)
+    memory = int(told.read_text().splitlines()[-1]) << 10
+    run = Run(used.ru_utime + used.ru_stime, memory, child.returncode > 128 or child.returncode == 8)
     if not run.is_over and text != wanted:
         sys.exit(f"{' '.join(words)[:200]}: status {child.returncode}, and not what is wanted: {text[:80]!r}")
     return run
@@ -566,6 +569,8 @@ def read_options():
         words.error(f"no family: {' '.join(sorted(unknown))}")
     if not options.program.is_file():
         sys.exit(f"{options.program} is not there: run ./kiasan once")
+    if not Path(TIME).is_file():
+        sys.exit(f"{TIME} is not there (Debian's package `time`)")
     options.program = options.program.resolve()
     return options
 
