@@ -7,15 +7,18 @@ of reach.py nothing is: what looking takes there is less than what reading the f
 the processor are counted instead, by valgrind, one run each: what else the machine does changes nothing there, but an
 instruction that takes longer than another counts as one.
 
-Usage: bench/beside.py [--runs N] [--count] [--program FILE] BEFORE [link] [reach] [heaps] [unknown_heaps]
+Usage: bench/beside.py [--runs N] [--only TEXT] [--count] [--program FILE] BEFORE [link] [reach] [heaps] [unknown_heaps]
 BEFORE is the first program. Build the second one first, by running ./kiasan once.
 """
 
 import argparse
 import math
+import re
+import subprocess
 import sys
 import tempfile
 from dataclasses import dataclass
+from functools import partial
 from pathlib import Path
 
 import heaps
@@ -23,7 +26,6 @@ import link
 import reach
 import unknown_heaps
 from replay import processor_seconds
-from shares import shares_of
 from straight import ROOT
 
 # how often each test of a path is replayed
@@ -47,56 +49,12 @@ class Command:
 class Row:
     """What is measured: the commands, and those whose time is taken off."""
 
-    label: str
     whole: list
     start: list
 
 
 def explore(target, files, status, begins):
     return Command(("explore", "--method", target, *map(str, files)), status, begins=begins)
-
-
-def link_rows(_, folder):
-    start = [explore(link.TARGET, written(folder, "none", link.beside(0, 0)), 4, b"refused 45 ")]
-    for name, shape in link.SHAPES.items():
-        for classes, count in link.SIZES:
-            files = written(folder, f"{name} {classes} {count}", *(shape(number, count) for number in range(classes)))
-            yield Row(f"{classes} classes of {count} {name}", [explore(link.TARGET, files, 4, b"refused 45 ")], start)
-
-
-def reach_rows(_, folder):
-    loads = [(f"{methods} methods of {calls} static calls", reach.static_calls(methods, calls)) for methods, calls in reach.CALLS]
-    loads += [(f"{calls} virtual calls, {classes} classes", reach.virtual_calls(classes, calls)) for classes, calls in reach.CLASSES]
-    for label, contents in loads:
-        files = written(folder, label, *contents)
-        yield Row(label, [explore("C.m0(I)I", files, 5, b"refused 50")], [])
-
-
-def heaps_rows(_, folder):
-    words = written(folder, "words", heaps.literals_class(heaps.LITERALS))
-    for label, classes, counts in [("", [], heaps.COUNTS), (", literals", words, heaps.COUNTS_WITH_LITERALS)]:
-        files = [heaps.NODES, *classes]
-        start = [replay(written_tests(folder, f"none{label}", ""), files)]
-        for count in counts:
-            tests = written_tests(folder, f"{count}{label}", "".join(heaps.test_text(number) for number in range(count)))
-            yield Row(f"{count} tests{label}", [replay(tests, files)], start)
-
-
-def unknown_heaps_rows(program, folder):
-    for family in unknown_heaps.FAMILIES:
-        for k in unknown_heaps.DEPTHS:
-            loads = unknown_heaps.loads_of(family, k)
-            whole = [Command(tuple(load.words("explore")), 0, ends=f"{load.end}\n".encode()) for load in loads]
-            start = [Command(tuple(load.none()), 4, begins=b"refused 45 ") for load in loads]
-            yield Row(f"{family}, k {k}", whole, start)
-            texts = [unknown_heaps.tests_of(program, load) * TIMES for load in loads]
-            names = [f"{family} {k} {number}" for number in range(len(loads))]
-            runs = [replay(written_tests(folder, name, text), load.files) for name, text, load in zip(names, texts, loads)]
-            none = written_tests(folder, "no tests", "")
-            yield Row(f"{family}, k {k}: replay", runs, [replay(none, load.files) for load in loads])
-
-
-ROWS = {"link": link_rows, "reach": reach_rows, "heaps": heaps_rows, "unknown_heaps": unknown_heaps_rows}
 
 
 def written(folder, name, *contents):
@@ -119,6 +77,72 @@ def replay(tests, files):
     return Command(("replay", "--tests", str(tests), *map(str, files)), 0, ends=b" differed 0\n")
 
 
+# Each of the following yields the labels of rows, and what makes the row.
+
+
+def link_rows(_, folder):
+    start = [explore(link.TARGET, written(folder, "none", link.beside(0, 0)), 4, b"refused 45 ")]
+
+    def row(label, shape, classes, count):
+        files = written(folder, label, *(shape(number, count) for number in range(classes)))
+        return Row([explore(link.TARGET, files, 4, b"refused 45 ")], start)
+
+    for name, shape in link.SHAPES.items():
+        for classes, count in link.SIZES:
+            label = f"{classes} classes of {count} {name}"
+            yield label, partial(row, label, shape, classes, count)
+
+
+def reach_rows(_, folder):
+    def row(label, make, count, calls):
+        return Row([explore("C.m0(I)I", written(folder, label, *make(count, calls)), 5, b"refused 50")], [])
+
+    for methods, calls in reach.CALLS:
+        label = f"{methods} methods of {calls} static calls"
+        yield label, partial(row, label, reach.static_calls, methods, calls)
+    for classes, calls in reach.CLASSES:
+        label = f"{calls} virtual calls, {classes} classes"
+        yield label, partial(row, label, reach.virtual_calls, classes, calls)
+
+
+def heaps_rows(_, folder):
+    words = written(folder, "words", heaps.literals_class(heaps.LITERALS))
+
+    def row(label, files, count):
+        return Row([tests(label, files, count)], [tests("none", files, 0)])
+
+    def tests(name, files, count):
+        return replay(written_tests(folder, name, "".join(heaps.test_text(number) for number in range(count))), files)
+
+    for suffix, classes, counts in [("", [], heaps.COUNTS), (", literals", words, heaps.COUNTS_WITH_LITERALS)]:
+        for count in counts:
+            label = f"{count} tests{suffix}"
+            yield label, partial(row, label, [heaps.NODES, *classes], count)
+
+
+def unknown_heaps_rows(program, folder):
+    def explored(family, k):
+        loads = unknown_heaps.loads_of(family, k)
+        whole = [Command(tuple(load.words("explore")), 0, ends=f"{load.end}\n".encode()) for load in loads]
+        return Row(whole, [Command(tuple(load.none()), 4, begins=b"refused 45 ") for load in loads])
+
+    def replayed(family, k):
+        loads = unknown_heaps.loads_of(family, k)
+        texts = [unknown_heaps.tests_of(program, load) * TIMES for load in loads]
+        names = [f"{family} {k} {number}" for number in range(len(loads))]
+        runs = [replay(written_tests(folder, name, text), load.files) for name, text, load in zip(names, texts, loads)]
+        none = written_tests(folder, "no tests", "")
+        return Row(runs, [replay(none, load.files) for load in loads])
+
+    for family in unknown_heaps.FAMILIES:
+        for k in unknown_heaps.DEPTHS:
+            yield f"{family}, k {k}", partial(explored, family, k)
+            yield f"{family}, k {k}: replay", partial(replayed, family, k)
+
+
+ROWS = {"link": link_rows, "reach": reach_rows, "heaps": heaps_rows, "unknown_heaps": unknown_heaps_rows}
+
+
 def seconds_of(program, command):
     took, status, text = processor_seconds([str(program), *command.words])
     if not command.is_answered(status, text):
@@ -135,13 +159,26 @@ def least_of(programs, command, runs):
     return least
 
 
-def counted(programs, command):
-    return [shares_of([str(program), *command.words], {})[0] for program in programs]
+def instructions_of(program, command):
+    """The instructions of the processor that a run carries out."""
+    words = ["valgrind", "--tool=cachegrind", "--cache-sim=no", "--cachegrind-out-file=/dev/null", str(program), *command.words]
+    run = subprocess.run(words, stdin=subprocess.DEVNULL, capture_output=True)
+    counted = re.search(rb"I +refs: +([0-9,]+)", run.stderr)
+    if not counted or not command.is_answered(run.returncode, run.stdout):
+        sys.exit(f"{' '.join(words)[:200]}: status {run.returncode}, {run.stdout[:80]!r}")
+    return int(counted[1].replace(b",", b""))
 
 
-def own(measure, row):
+def taken(options, programs, command):
+    """What each program takes for a command."""
+    if options.count:
+        return [instructions_of(program, command) for program in programs]
+    return least_of(programs, command, options.runs)
+
+
+def own(options, programs, row):
     """What each program takes for a row, without its start."""
-    whole, start = ([measure(command) for command in commands] or [(0, 0)] for commands in (row.whole, row.start))
+    whole, start = ([taken(options, programs, command) for command in commands] or [(0, 0)] for commands in (row.whole, row.start))
     return [sum(times) - sum(starts) for times, starts in zip(zip(*whole), zip(*start))]
 
 
@@ -150,11 +187,12 @@ def print_rows(options, name, folder):
     scale = 1e-6 if options.count else 1e3
     print(f"{name}: {'millions of instructions' if options.count else 'ms'}")
     sums = [0.0, 0.0]
-    for row in ROWS[name](options.program, folder):
-        measure = counted if options.count else lambda ps, command: least_of(ps, command, options.runs)
-        both = own(lambda command: measure(programs, command), row)
+    for label, row in ROWS[name](options.program, folder):
+        if options.only not in label:
+            continue
+        both = own(options, programs, row())
         sums = [all + one for all, one in zip(sums, both)]
-        print_line(row.label, both, scale)
+        print_line(label, both, scale)
     print_line("all", sums, scale)
 
 
@@ -169,6 +207,7 @@ def read_options():
     words.add_argument("before", type=Path, metavar="BEFORE", help="the first program")
     words.add_argument("loads", nargs="*", metavar="LOADS", help="of " + ", ".join(ROWS))
     words.add_argument("--runs", type=int, default=9, help="runs of each command and program (9)")
+    words.add_argument("--only", default="", metavar="TEXT", help="the rows whose label has this text")
     words.add_argument("--count", action="store_true", help="count instructions, by valgrind")
     words.add_argument("--program", type=Path, default=ROOT / "build" / "kiasan", help="the second program")
     options = words.parse_args()

@@ -15,8 +15,8 @@ prints
 
 A run that takes more than its time or memory is ended and told as `over`, and so are the larger sizes of its family.
 
-Usage: bench/hostile_files.py [--runs N] [--program FILE] [--seconds N] [--memory MIB] [--most SHARE] [FAMILY ..]
-Build the program first, by running ./kiasan once. `--most 0.25` runs the quarter sizes alone.
+Usage: bench/hostile_files.py [--runs N] [--program FILE] [--seconds N] [--memory MIB] [--least SHARE] [--most SHARE] [FAMILY ..]
+Build the program first, by running ./kiasan once. `--most 0.25` runs the quarter sizes alone, `--least 1` the full ones.
 """
 
 import argparse
@@ -524,7 +524,7 @@ class Table:
     def print_family(self, family):
         print(f"{family.__name__}: {family.__doc__.splitlines()[0]}", flush=True)
         before = None
-        for share in [share for share in SHARES if share <= self.options.most]:
+        for share in [share for share in SHARES if self.options.least <= share <= self.options.most]:
             before = self.print_size(family, share, before)
             if before is None:
                 return
@@ -562,6 +562,7 @@ def read_options():
     words.add_argument("--program", type=Path, default=ROOT / "build" / "kiasan", help="the built program")
     words.add_argument("--seconds", type=int, default=60, help="the most processor seconds of a run (60)")
     words.add_argument("--memory", type=int, default=8192, help="the most memory of a run, in MiB (8192)")
+    words.add_argument("--least", type=float, default=0.0, help="the least share of the full size (0)")
     words.add_argument("--most", type=float, default=1.0, help="the greatest share of the full size (1.0)")
     options = words.parse_args()
     unknown = set(options.families) - {family.__name__ for family in FAMILIES}
