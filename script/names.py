@@ -124,24 +124,24 @@ def guessed(text):
     return owner.replace(".", "/"), name
 
 
-def is_near(name, wanted):
-    """Whether the one name may be a slip for the other."""
+def alike(name, wanted):
+    """How much two names have in common, from 0 to 1; small and capital letters count as the same."""
     from difflib import SequenceMatcher
 
-    return SequenceMatcher(None, name, wanted).ratio() >= 0.7
+    return SequenceMatcher(None, name.lower(), wanted.lower()).ratio()
+
+
+def is_near(name, wanted):
+    """Whether the one name may be a slip for the other."""
+    return alike(name, wanted) >= 0.7
 
 
 def nearest(texts, wanted):
     """The texts that may be meant, those first that have most in common with the wanted one: at most 8."""
-    from difflib import SequenceMatcher
-
     last = wanted.rpartition("/")[2]
 
     def distance(text):
-        return -max(
-            SequenceMatcher(None, text, wanted).ratio(),
-            SequenceMatcher(None, text.rpartition("/")[2], last).ratio(),
-        )
+        return -max(alike(text, wanted), alike(text.rpartition("/")[2], last))
 
     near = sorted((distance(text), text) for text in texts)
     return [text for far, text in near if far <= -0.6][:8]

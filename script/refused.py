@@ -135,10 +135,12 @@ class Parts:
         name = read_name(text)
         if self.row.number != 41 or name is None:
             return []
+        return self._lies(name) or self._named_by(text, name)
+
+    def _lies(self, name):
+        """Where a class file of that name lies beside the given ones, or nothing."""
         found = next(filter(None, (beside(source, name) for source in self.handed.given)), None)
-        if found:
-            return [f"class {text} lies in {found}"]
-        return self._named_by(text, name)
+        return [f"class {spelled(name)} lies in {found}"] if found else []
 
     def _named_by(self, text, name):
         """What names a class that is missing: a class below it, or the first instruction that is reached."""
@@ -169,7 +171,18 @@ class Parts:
         left_out = left_out_type(found[1])
         if left_out:
             return [f"{text} has a parameter or result of type {left_out}"]
-        return place_lines(text, found[0], found[1].code, int(self.texts["N"]), "HH" not in self.texts)
+        at = int(self.texts["N"])
+        said = place_lines(text, found[0], found[1].code, at, "HH" not in self.texts)
+        return said + (self._class_of_field(found[0], found[1].code.bytes, at) if self.row.number == 46 else [])
+
+    def _class_of_field(self, file, code, at):
+        """Where the class file of a field's class lies, where it is not given."""
+        try:
+            name = class_of_entry(file.member(entry_of(code, at))[0])
+        except (Unfit, IndexError):
+            return []
+        is_given = name is None or any(source.name == name for source in self.handed.given)
+        return [] if is_given else self._lies(name)
 
     def _so_many(self):
         return self.handed.why_so_many()
@@ -181,7 +194,7 @@ class Parts:
         sources, ranked = self._all_sources(), []
         for source in sources:
             for target in targets_of(source.file):
-                other = source.name.rpartition("/")[2] != owner.rpartition("/")[2]
+                other = source.name.rpartition("/")[2].lower() != owner.rpartition("/")[2].lower()
                 rank = (target[1] != name, source.name != owner, other, not is_near(target[1], name))
                 ranked.append((*rank, len(ranked), target))
         there = [spelled_target(*each[-1]) for each in sorted(ranked) if not all(each[:3])]

@@ -108,6 +108,22 @@ def test_which_methods_are_told_first():
         same(ran.said, explained("refused 45 TARGET", *there), "methods that may be meant")
 
 
+def test_slips_of_small_and_capital_letters():
+    made = Maker("p/MyList")
+    for name in ("add", "size", "removeLast"):
+        made.method(name, "()I", ICONST_0 + IRETURN)
+    with folder() as path:
+        made.write(path)
+        for method in ("removelast", "REMOVELAST"):
+            ran = call("explore", "--method", f"p/MyList.{method}()I", "p/MyList.class", cwd=path)
+            there = [f"there is p/MyList.{name}()I" for name in ("removeLast", "add", "size")]
+            same(ran.said, explained("refused 45 TARGET", *there), f"a method {method}")
+            for owner in ("p/mylist", "P/MYLIST", "Mylist"):
+                ran = call("explore", "--method", f"{owner}.{method}()I", "p/MyList.class", cwd=path)
+                wanted = explained("refused 45 TARGET", f"class {owner} is not given", *there)
+                same(ran.said, wanted, f"a method {method} of a class {owner}")
+
+
 def test_eight_methods_are_told_without_more():
     made = Maker("Q")
     for name in "abcdefgh":
@@ -225,6 +241,22 @@ def test_a_field_that_is_not_there():
         parts = ["Q.f(LQ;)I at 1 is getfield Q.gone I", "Q.f(LQ;)I at 1 is Q.java:5"]
         ran = call("explore", "--method", "Q.f(LQ;)I", "Q.class", cwd=path)
         same(ran.said, explained("refused 46 TARGET at N", *parts), "a field that is not there")
+
+
+def test_a_field_of_a_class_that_is_not_given():
+    """Its class file is told, where it lies beside the given one; not that of a class that is given."""
+    with folder() as path:
+        made = Maker("p/Q")
+        code = ALOAD_0 + GETFIELD + made.field_ref("q/Node", "x", "I") + IRETURN
+        made.method("f", "(Lq/Node;)I", code).write(path, "out/p/Q.class")
+        words = ["explore", "--method", "p/Q.f(Lq/Node;)I", "out/p/Q.class"]
+        parts = ["p/Q.f(Lq/Node;)I at 1 is getfield q/Node.x I"]
+        same(call(*words, cwd=path).said, explained("refused 46 TARGET at N", *parts), "no class file")
+        Maker("q/Node").write(path / "out")
+        found = "class q/Node lies in out/q/Node.class"
+        same(call(*words, cwd=path).said, explained("refused 46 TARGET at N", *parts, found), "a class file beside")
+        ran = call(*words, "out/q/Node.class", cwd=path)
+        same(ran.said, explained("refused 46 TARGET at N", *parts), "a class that is given without the field")
 
 
 def test_places_in_a_class_file():

@@ -358,6 +358,16 @@ def test_near_names():
         same(sorted(near[:2]), ["p/Lists", "q/List"], "the nearest names")
 
 
+def test_near_names_of_other_letters():
+    """Small and capital letters count as the same."""
+    with folder() as path:
+        for name in ("coll/MyList", "Unlike"):
+            Maker(name).write(path / "all")
+        for word in ("coll/mylist", "coll/MYLIST", "COLL/MYLIST", "mylist"):
+            ran = call("explore", "--method", f"{word}.f()I", "all", cwd=path)
+            same((ran.status, ran.said), (6, [f"no class {word} in all", "near names: coll/MyList"]), word)
+
+
 def test_a_class_that_is_not_beside():
     """Where the one place is what lies beside a class file, the program says that the class is not there."""
     with folder() as path:

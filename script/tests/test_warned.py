@@ -197,6 +197,21 @@ def test_where_the_class_file_of_a_missing_class_is_sought():
         same((ran.status, ran.said), (0, [f"{wanted}; it lies in out/p/Node.class"]), "a file that is not called by its class")
 
 
+def test_the_folder_of_the_classes():
+    """It is the path without the class's name, where that begins behind a `/` or with the path."""
+    wanted = "warning: class q/Node is not given, so M.slot can only be null"
+    with folder() as path:
+        made = reading("M", "Lq/Node;")
+        made.write(path, "out/XM.class")
+        Maker("q/Node").write(path, "out/Xq/Node.class")
+        ran = call("explore", "--method", "M.f()I", "out/XM.class", cwd=path)
+        same((ran.status, ran.said), (0, [wanted]), "a file whose name only ends with that of its class")
+        made.write(path / "out")
+        Maker("q/Node").write(path / "out")
+        ran = call("explore", "--method", "M.f()I", "M.class", cwd=path / "out")
+        same((ran.status, ran.said), (0, [f"{wanted}; it lies in q/Node.class"]), "a file of the current folder")
+
+
 def test_eight_lines_are_told_without_more():
     classes = [f"G{number}" for number in range(8)]
     kinds = "".join(f"L{name};" for name in classes)
