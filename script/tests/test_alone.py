@@ -3,11 +3,12 @@
 import hashlib
 import os
 import shutil
+import signal
 import subprocess
 from contextlib import contextmanager
 from pathlib import Path
 
-from script.tests.tools import ROOT, call, environment, folder, same
+from script.tests.tools import ROOT, call, environment, folder, same, stand_in
 
 COREUTILS = """
 basename cat chmod cp cut dirname echo env false head ln ls mkdir mktemp mv printf pwd readlink rm rmdir sha256sum sleep sort
@@ -24,10 +25,13 @@ NOT_MADE_OF = ("specs", "proofs", "must-fail", "data", "bench")
 
 @contextmanager
 def copy(whole=False):
-    """A copy of the tracked files, or of those alone that a program is made of and that the script reads."""
+    """A copy of the tracked files, or of those alone that a program is made of and that the script reads.
+
+    Its path has a space in it, and so have the paths of all that is built there.
+    """
     left_out = NOT_TRACKED if whole else NOT_TRACKED + NOT_MADE_OF
     with folder() as path:
-        top = path / "top"
+        top = path / "the top"
         shutil.copytree(ROOT, top, ignore=lambda _, names: set(left_out).intersection(names), symlinks=True)
         (path / "bin").mkdir()
         yield top
@@ -37,7 +41,7 @@ def bare(top, *programs):
     """A path that holds the shell, coreutils, gzip, and these programs."""
     for name in ("sh", "gzip", *COREUTILS, *programs):
         found = shutil.which(name)
-        if found:
+        if found and not (top.parent / "bin" / name).exists():
             (top.parent / "bin" / name).symlink_to(Path(found).resolve() if name == "python3" else found)
     return str(top.parent / "bin")
 
@@ -121,6 +125,22 @@ def test_with_a_kept_program():
         same(call("--help", script=top / "kiasan", env=without_program(PATH=path)).status, 0, "--help without python3")
         ran = call(script=top / "kiasan", env=without_program(PATH=path))
         same((ran.status, ran.out), (2, b"refused 90\n"), "no words without python3")
+
+
+def test_words_reach_the_program_as_they_are():
+    """Behind `--`, without python3, and with it; a signal that ends the program ends the script."""
+    words = ["explore", "a b", "", "*", "$HOME", "--", "--help", "line\nfeed", "\\t"]
+    with copy() as top:
+        for programs, front in [((), ["--"]), ((), []), (("python3",), ["--"]), (("python3",), [])]:
+            path = bare(top, *programs)
+            env = stand_in(top, 'for word in "$@"; do printf "[%s]\\n" "$word"; done\nexit 5\n', PATH=path)
+            ran = call(*front, *words, script=top / "kiasan", env=env)
+            said = "" if front or not programs else ran.err
+            wanted = "".join(f"[{word}]\n" for word in words)
+            same((ran.status, ran.out.decode(), ran.err), (5, wanted, said), f"{front} with {programs}")
+            env = stand_in(top, "kill -s SEGV $$\n", PATH=path)
+            ran = call(*front, "explore", script=top / "kiasan", env=env)
+            same((ran.status, ran.out, ran.err), (-signal.SIGSEGV, b"", ""), f"{front} with {programs}")
 
 
 def test_with_python3():

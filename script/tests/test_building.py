@@ -18,7 +18,7 @@ HEAD = '#!/bin/sh\necho "$PWD" >>"$TOLD"\n'
 PROVES = 'echo "logic=proved functions=1"\necho "rt: one proved"\n'
 WAITS = 'read -r line <"$GO"\n'
 MAKES = 'mkdir -p crates/kiasan_main/out && cp "$MADE" crates/kiasan_main/out/kiasan_main\n'
-FAILS = 'for line in 1 2 3 4 5 6 7 8 9 10 11; do echo "line $line"; done\nexit 1\n'
+FAILS = 'for line in 1 2 3 4 5 6 7 8 9 10 11; do printf "  line %s: %s\\n" "$line" "a\\tb"; done\nexit 1\n'
 
 
 class StandIn:
@@ -33,7 +33,8 @@ class StandIn:
         folder.mkdir()
         (folder / "rt").write_text(HEAD + body, encoding="ascii")
         (folder / "rt").chmod(0o755)
-        (top.parent / "tmp").mkdir()
+        self.tmp = top.parent / "a tmp"
+        self.tmp.mkdir()
         os.mkfifo(top.parent / "go")
         self._go = os.open(top.parent / "go", os.O_RDWR)
         self._late = threading.Timer(MOST_SECONDS, os.write, (self._go, b"late\n" * 10))
@@ -44,7 +45,7 @@ class StandIn:
             TOLD=str(self._told),
             GO=str(top.parent / "go"),
             MADE=tools.PROGRAM,
-            TMPDIR=str(top.parent / "tmp"),
+            TMPDIR=str(self.tmp),
         )
 
     def go_on(self):
@@ -55,9 +56,9 @@ class StandIn:
         return len(self._told.read_text(encoding="ascii").split()) if self._told.exists() else 0
 
     def left(self):
-        """The files in the folders of builds."""
-        places = (self.top / "build", self.top.parent / "tmp")
-        return sorted(path.name for place in places for path in place.rglob("*") if path.is_file())
+        """The files in the folders of builds, but for those that python3 keeps."""
+        files = [*(self.top / "build").glob("*"), *self.tmp.rglob("*")]
+        return sorted(path.name for path in files if path.is_file())
 
     def close(self):
         self._late.cancel()
@@ -114,7 +115,7 @@ def test_a_build_tells_how_far_it_is():
         wanted = [f"kiasan: proved {number} of {len(CRATES)} crates\n".encode() for number in (1, 2, 3)]
         same((said[1:], rest), (wanted, b""), "lines of progress")
         same((script.returncode, out.split(b"\n")[1]), (0, b"target A.f(II)I"), "a build")
-        same(list((top.parent / "tmp").iterdir()), [], "the folder of the build")
+        same(list(stand_in.tmp.iterdir()), [], "the folder of the build")
         ran = first(stand_in)
         same((ran.status, ran.err, stand_in.builds()), (0, "", 1), "a program that is built")
 
@@ -132,7 +133,7 @@ def test_a_build_goes_on_where_nobody_listens():
         stand_in.go_on()
         out = script.stdout.read()
         same((script.wait(), out.split(b"\n")[1:2]), (0, [b"target A.f(II)I"]), "a build that nobody listens to")
-        same(list((top.parent / "tmp").iterdir()), [], "the folder of the build")
+        same(list(stand_in.tmp.iterdir()), [], "the folder of the build")
 
 
 def test_no_more_crates_than_there_are_are_told():
@@ -179,9 +180,9 @@ def test_a_build_that_fails():
     with building(FAILS) as stand_in:
         ran = build(stand_in)
         wanted = [f"the program could not be built; the last lines of {stand_in.top}/build/kiasan.log:"]
-        wanted += [f"line {number}" for number in range(2, 12)]
+        wanted += [f"  line {number}: a\\tb" for number in range(2, 12)]
         same((ran.status, begins_with_building(ran.said)), (70, wanted), "a build that fails")
-        same(list((stand_in.top.parent / "tmp").iterdir()), [], "the folder of the build")
+        same(list(stand_in.tmp.iterdir()), [], "the folder of the build")
 
 
 def test_a_failed_test_is_told():
@@ -192,26 +193,52 @@ def test_a_failed_test_is_told():
         same(ran.said[-1], wanted, "a failed test")
 
 
+def interrupt(stand_in, number, *words):
+    """Sends a signal to a call that builds, which ends by it, with all that it has started."""
+    reading, writing = os.pipe()
+    script = subprocess.Popen(
+        [stand_in.top / "kiasan", *words],
+        cwd=stand_in.top,
+        env={**stand_in.env, "TOLD": f"/dev/fd/{writing}"},
+        pass_fds=[writing],
+        stdout=subprocess.PIPE,
+        stderr=subprocess.DEVNULL,
+    )
+    os.close(writing)
+    with os.fdopen(reading, encoding="ascii") as told:
+        room = told.readline().strip()
+        script.send_signal(number)
+        same((script.communicate()[0], script.returncode), (b"", -number), f"signal {number}")
+        same(told.read(), "", "the end of all that the build started")
+    same((room != "", os.path.exists(room)), (True, False), "the folder of the build")
+
+
 def test_an_interrupt_leaves_nothing_behind():
     for number in (signal.SIGINT, signal.SIGTERM, signal.SIGHUP):
         with building("exec sleep 60\n") as stand_in:
-            reading, writing = os.pipe()
-            script = subprocess.Popen(
-                [stand_in.top / "kiasan", *FIRST],
-                cwd=stand_in.top,
-                env={**stand_in.env, "TOLD": f"/dev/fd/{writing}"},
-                pass_fds=[writing],
-                stdout=subprocess.PIPE,
-                stderr=subprocess.DEVNULL,
-            )
-            os.close(writing)
-            with os.fdopen(reading, encoding="ascii") as told:
-                room = told.readline().strip()
-                script.send_signal(number)
-                same((script.communicate()[0], script.returncode), (b"", -number), f"signal {number}")
-                same(told.read(), "", "the end of all that the build started")
-            same((room != "", os.path.exists(room)), (True, False), "the folder of the build")
+            interrupt(stand_in, number, *FIRST)
             same(stand_in.left(), [], f"files behind signal {number}")
+
+
+def test_an_interrupt_leaves_the_program_that_was_there():
+    with building("exec sleep 60\n", changed=False) as stand_in:
+        keep(stand_in.top)
+        same((first(stand_in).status, stand_in.left()), (0, ["kiasan"]), "the kept program")
+        interrupt(stand_in, signal.SIGTERM, "build")
+        same((first(stand_in).status, stand_in.left()), (0, ["kiasan"]), "the program behind the signal")
+
+
+def test_a_failed_build_leaves_no_older_program_in_its_place():
+    """The status is 70, and the program that was there is not run for the sources that were changed since."""
+    with building(FAILS, changed=False) as stand_in:
+        keep(stand_in.top)
+        same(first(stand_in).status, 0, "the kept program")
+        change_a_source(stand_in.top)
+        now = time.time() + 2
+        os.utime(stand_in.top / "crates.txt", (now, now))
+        for words in (FIRST, ("build",), ("--", *FIRST)):
+            ran = call(*words, script=stand_in.top / "kiasan", cwd=stand_in.top, env=stand_in.env)
+            same((ran.status, ran.out), (70, b""), f"{words} behind a build that fails")
 
 
 def test_what_is_built():

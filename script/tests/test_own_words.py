@@ -181,13 +181,24 @@ def test_words_as_they_are():
     same((ran.status, ran.out, ran.err), (4, b"refused 45 A.g()I\n", ""), "-- WORDS")
     ran = call("--")
     same((ran.status, ran.out, ran.err), (2, b"refused 90\n", ""), "--")
+    ran = call("--", "--", "explore")
+    same((ran.status, ran.out, ran.err), (2, b"refused 91 word 0\n", ""), "-- --")
+    ran = call("--", "--help")
+    same((ran.status, ran.out, ran.err), (2, b"refused 91 word 0\n", ""), "-- --help")
+    ran = call("--", "explore", "--method", "A.f(II)I", "A.class")
+    same((ran.status, ran.out.count(b"kiasan report 1\n"), ran.err), (0, 1, ""), "-- and a report")
     ran = call("--", "explain", "47")
     same((ran.status, ran.out, ran.err), (2, b"refused 91 word 0\n", ""), "-- explain")
 
 
 def test_a_program_that_is_named():
-    ran = call("explore", env=environment(KIASAN_PROGRAM="/nowhere/kiasan"))
-    same((ran.status, ran.said), (70, ["KIASAN_PROGRAM is /nowhere/kiasan, and no program can be run there"]), "no program")
+    with folder() as path:
+        (path / "text").write_text("#!/bin/sh\n", encoding="ascii")
+        for name in ("/nowhere/kiasan", r"no\where\t", str(path), str(path / "text")):
+            for words in (["explore"], ["--", "explore"], ["targets", "--check", "A.class"]):
+                ran = call(*words, env=environment(KIASAN_PROGRAM=name))
+                said = [f"KIASAN_PROGRAM is {name}, and no program can be run there"]
+                same((ran.status, ran.out, ran.said), (70, b"", said), f"{words} with {name} as the program")
     ran = call(env=environment(KIASAN_PROGRAM="/nowhere/kiasan"))
     same((ran.status, ran.out), (2, b""), "no words and no program")
     with folder() as path:

@@ -73,11 +73,12 @@ class Begun:
 def test_signals_reach_the_program():
     ends = [(signal.SIGINT, 13), (signal.SIGTERM, 14), (signal.SIGHUP, 15), (signal.SIGQUIT, 16)]
     for number, status in ends:
-        with folder() as path:
-            begun = Begun(path, TELLS, SCRIPT, "explore")
-            begun.wait_for("runs")
-            begun.script.send_signal(number)
-            same(begun.end(), ([signal.Signals(number).name[3:]], b"", b"", status), f"signal {number}")
+        for words in (["explore"], ["--", "explore"]):
+            with folder() as path:
+                begun = Begun(path, TELLS, SCRIPT, *words)
+                begun.wait_for("runs")
+                begun.script.send_signal(number)
+                same(begun.end(), ([signal.Signals(number).name[3:]], b"", b"", status), f"signal {number} of {words}")
 
 
 def test_a_signal_ends_program_and_script():
