@@ -128,9 +128,14 @@ def test_with_a_kept_program():
 
 
 def test_words_reach_the_program_as_they_are():
-    """Behind `--`, without python3, and with it; a signal that ends the program ends the script."""
+    """Behind `--`, without python3, and with it; a signal that ends the program ends the script.
+
+    The program is the one that is named, also where another one is built.
+    """
     words = ["explore", "a b", "", "*", "$HOME", "--", "--help", "line\nfeed", "\\t"]
     with copy() as top:
+        keep(top)
+        same(is_used(top, without_program(PATH=bare(top))), True, "the kept program")
         for programs, front in [((), ["--"]), ((), []), (("python3",), ["--"]), (("python3",), [])]:
             path = bare(top, *programs)
             env = stand_in(top, 'for word in "$@"; do printf "[%s]\\n" "$word"; done\nexit 5\n', PATH=path)
@@ -150,6 +155,11 @@ def test_with_python3():
         ran = call("explore", script=top / "kiasan", cwd=top, env=without_program(PATH=path))
         same((ran.status, ran.out, ran.said[-1].split(":")[0]), (2, b"refused 95\n", "to do"), "a refusal with python3")
         same(list((top / "script").rglob("*.pyc")), [], "what python3 keeps beside the sources")
+        (top.parent / "difflib.py").write_text("raise SystemExit('of the user')", encoding="ascii")
+        more = {"PYTHONPATH": str(top.parent), "PYTHONSTARTUP": str(top.parent / "difflib.py"), "PYTHONOPTIMIZE": "2"}
+        words = ("explore", "--method", "A.g(II)I", "examples/A.class")
+        ran = call(*words, script=top / "kiasan", cwd=top, env=without_program(PATH=path, **more))
+        same((ran.status, ran.said[1:-1]), (4, ["there is A.f(II)I"]), "what the user has set for python3")
 
 
 OLD = """#!/bin/sh
@@ -191,7 +201,7 @@ def test_what_starts_a_build():
         stand_in.chmod(0o755)
         env = without_program(PATH=path)
         none = ["", "--help", "-h", "explore --help", "targets --help", "explain 47", "explain status 6", "explain"]
-        none += ["diagrams --help", "none --help"]
+        none += ["diagrams --help", "none --help", "view", "view none.report", "view --help", "junit none.report none.class"]
         for words in [*none, "targets examples/A.class", "targets none.class", "build x", "--help x"]:
             ran = call(*words.split(), script=top / "kiasan", cwd=top, env=env)
             same((told.exists(), ran.status in (0, 2, 6)), (False, True), f"a build by {words!r}")

@@ -17,8 +17,10 @@ MOST_SECONDS = 100
 HEAD = '#!/bin/sh\necho "$PWD" >>"$TOLD"\n'
 PROVES = 'echo "logic=proved functions=1"\necho "rt: one proved"\n'
 WAITS = 'read -r line <"$GO"\n'
+# It starts another program, and both end by a signal; else it is told that one of them went on.
+SLEEPS = '(sleep 20; echo late >>"$TOLD") &\nwait\n'
 MAKES = 'mkdir -p crates/kiasan_main/out && cp "$MADE" crates/kiasan_main/out/kiasan_main\n'
-FAILS = 'for line in 1 2 3 4 5 6 7 8 9 10 11; do printf "  line %s: %s\\n" "$line" "a\\tb"; done\nexit 1\n'
+FAILS = 'for line in 1 2 3 4 5 6 7 8 9 10 11; do printf "  line %s: %s\\n" "$line" "a\\tb"; done >&2\nexit 1\n'
 
 
 class StandIn:
@@ -152,19 +154,20 @@ def test_no_more_crates_than_there_are_are_told():
 
 
 def test_on_a_terminal_one_line_is_written_anew():
-    with building((PROVES + WAITS) * 2 + MAKES) as stand_in:
-        ours, theirs = pty.openpty()
-        script = subprocess.Popen([stand_in.top / "kiasan", "build"], cwd=stand_in.top, env=stand_in.env, stderr=theirs)
-        os.close(theirs)
-        said = b""
-        while piece := read_piece(ours):
-            said += piece
-            if said.endswith(b" crates"):
-                stand_in.go_on()
-        os.close(ours)
-        same(script.wait(), 0, "a build")
-        wanted = "".join(f"\rkiasan: proved {number} of {len(CRATES)} crates" for number in (1, 2))
-        same(said.decode().split("\r\n")[1:], [wanted, ""], "the one line of progress")
+    wanted = "".join(f"\rkiasan: proved {number} of {len(CRATES)} crates" for number in (1, 2))
+    for body, lines in (((PROVES + WAITS) * 2 + MAKES, [wanted, ""]), (MAKES, [""])):
+        with building(body) as stand_in:
+            ours, theirs = pty.openpty()
+            script = subprocess.Popen([stand_in.top / "kiasan", "build"], cwd=stand_in.top, env=stand_in.env, stderr=theirs)
+            os.close(theirs)
+            said = b""
+            while piece := read_piece(ours):
+                said += piece
+                if said.endswith(b" crates"):
+                    stand_in.go_on()
+            os.close(ours)
+            same(script.wait(), 0, "a build")
+            same(said.decode().split("\r\n")[1:], lines, "the one line of progress, or none")
 
 
 def test_build_builds_whatever_is_there():
@@ -215,13 +218,13 @@ def interrupt(stand_in, number, *words):
 
 def test_an_interrupt_leaves_nothing_behind():
     for number in (signal.SIGINT, signal.SIGTERM, signal.SIGHUP):
-        with building("exec sleep 60\n") as stand_in:
+        with building(SLEEPS) as stand_in:
             interrupt(stand_in, number, *FIRST)
             same(stand_in.left(), [], f"files behind signal {number}")
 
 
 def test_an_interrupt_leaves_the_program_that_was_there():
-    with building("exec sleep 60\n", changed=False) as stand_in:
+    with building(SLEEPS, changed=False) as stand_in:
         keep(stand_in.top)
         same((first(stand_in).status, stand_in.left()), (0, ["kiasan"]), "the kept program")
         interrupt(stand_in, signal.SIGTERM, "build")
