@@ -61,7 +61,7 @@ def command_help(command):
         raise Fault(2, f"{command} is {what}; the commands with a page of help are {', '.join(COMMANDS)}")
     forms, options = read_page()
     numbers, example = COMMANDS[command]
-    lines = [line for form, says in forms[command] for line in (form, f"    {says}")]
+    lines = [line for form, says in forms[command] for line in (form, *(f"    {each}" for each in says))]
     taken = options_of(command, options).values()
     if taken:
         lines += ["", "Options:", ""]

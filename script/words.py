@@ -1,5 +1,6 @@
 """The words of the program: commands and options, which stand in one table, the page of usage (`page.txt`)."""
 
+from itertools import takewhile
 from os.path import dirname, join
 
 from .names import read_target
@@ -8,6 +9,8 @@ HERE = dirname(__file__)
 # The commands that explore a method, those that come later among them.
 EXPLORING = ("explore", "tests", "diagrams")
 MOST_CONFLICTS = 2_000_000
+# What stands in front of the lines on a command, behind its words.
+INSIDE = " " * 6
 
 
 class Option:
@@ -32,15 +35,17 @@ def page():
 
 
 def read_page():
-    """The commands, each with its words and what it writes, and the options, by their names."""
+    """The commands, each with its words and the lines on it, and the program's options, by their names."""
     commands, options = {}, {}
     lines = page().split("\n")
-    for line, behind in zip(lines, [*lines[1:], ""]):
+    for at, line in enumerate(lines):
         if line.startswith("  --"):
             option = Option(line)
             options[option.name] = option
         elif line.startswith("  kiasan "):
-            commands.setdefault(line.split()[1], []).append((line.strip(), behind.strip()))
+            behind = takewhile(lambda each: each.startswith(INSIDE), lines[at + 1 :])
+            says = [each[len(INSIDE) :] for each in behind]
+            commands.setdefault(line.split()[1], []).append((line.strip(), says))
     return commands, options
 
 

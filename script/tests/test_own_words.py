@@ -1,12 +1,15 @@
 """The script's own words."""
 
 import os
+import re
 import signal
 import subprocess
 
 from script.own import COMMANDS
 from script.tests.maker import ABSTRACT, ICONST_0, IRETURN, NEW, POP, Maker
 from script.tests.tools import DATA, LEAST, ROOT, call, cells, environment, folder, rows, same, stand_in
+from view.commands import WAYS_TO_CALL
+from view.wants import ENDINGS
 
 EXPLAINS = "explain: give the number of a refusal, a whole line `refused N ..`, or `status N`"
 WITH_HELP = "the commands with a page of help are explore, tests, replay, assemble, explain, targets, build, view, junit"
@@ -94,6 +97,13 @@ def test_help_of_a_command():
             same(cells("USING.md", number)[2] in text, True, f"status {number} in the help of {command}")
     same("--budget N       1 to 100,000, else 2,000" in call("tests", "--help").out.decode(), True, "options of tests")
     same("--budget" in call("replay", "--help").out.decode(), False, "options of replay")
+    for command, words in WAYS_TO_CALL.items():
+        for asked in ([command, "--help"], ["--help"]):
+            text = call(*asked).out.decode()
+            for option in re.findall(r"--[a-z-]+(?: [^]]+)?", words):
+                same(re.search(rf"^ +{re.escape(option)}  +\w", text, re.M) is not None, True, f"{option} in {asked}")
+    for what in (*ENDINGS, "returns=VALUE", "cut=BOUND"):
+        same(re.search(rf"WHAT is .*\b{what}\b", call("view", "--help").out.decode()) is not None, True, what)
 
 
 def test_statuses_of_the_commands():
