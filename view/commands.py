@@ -2,7 +2,7 @@
 
 import os
 
-from script.say import Fault, put, reason, say
+from script.say import Fault, counted, put, reason, say
 
 from .classes import Classes
 from .lines import Unreadable
@@ -139,10 +139,10 @@ def judge(model, wants):
     for line in found[:MOST_LINES]:
         say(line)
     if len(found) > MOST_LINES:
-        say(f"and {len(found) - MOST_LINES} more paths")
+        say(f"and {counted(len(found) - MOST_LINES, 'more path', 'more paths')}")
     unknown = unknown_words(model.report)
     if not found and unknown:
-        say(f"no path {' or '.join(want.says() for want in wants)}, but nothing is known of {unknown} paths")
+        say(f"no path {' or '.join(want.says() for want in wants)}, but nothing is known of {unknown}")
     return 10 if found else 0
 
 

@@ -3,6 +3,7 @@
 from functools import cached_property
 
 from script.names import spelled
+from script.say import counted
 
 from .classes import Classes
 from .fitting import check_fits
@@ -163,11 +164,8 @@ def detail_of(path):
     return path.value if path.ending == "cut" else None
 
 
-def counted(number, one, many):
-    return f"{number} {one if number == 1 else many}"
-
-
 def unknown_words(report):
     """How many paths of which nothing is known there are, by kind; nothing where there are none."""
-    parts = [f"{count} {kind}" for kind, count in zip(KINDS[1:], report.counts[2:]) if count]
-    return ", ".join(parts)
+    counts = report.counts[2:]
+    parts = [f"{count} {kind}" for kind, count in zip(KINDS[1:], counts) if count]
+    return f"{', '.join(parts)} {'path' if sum(counts) == 1 else 'paths'}" if parts else ""

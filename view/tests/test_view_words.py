@@ -143,6 +143,12 @@ def test_at_most_twenty_paths_are_told():
         same(len(said), 21, "lines")
         ended = ran.out.count(b"\nreturns ")
         same(said[-1], f"and {ended - 20} more paths", "the last line")
+        ran = call("explore", "--method", "List.reverse(LList;)LList;", "--k", "5", "List.class", cwd=EXAMPLES)
+        said = call("view", "--text", "--fail-on", "returns", written(place, ran.out), cwd=place).said
+        same((len(said), said[-1]), (21, "and 1 more path"), "one path more than are told")
+        ran = call("explore", "--method", "List.reverse(LList;)LList;", "--k", "1", "List.class", cwd=EXAMPLES)
+        said = call("view", "--text", "--fail-on", "throws", written(place, ran.out), cwd=place).said
+        same(said, ["no path throws, but nothing is known of 1 cut path"], "one path of which nothing is known")
 
 
 def test_faults_of_words():
