@@ -55,7 +55,7 @@ class StandIn:
 
     def builds(self):
         """How often it was called."""
-        return len(self._told.read_text(encoding="ascii").split()) if self._told.exists() else 0
+        return len(self._told.read_text(encoding="ascii").splitlines()) if self._told.exists() else 0
 
     def left(self):
         """The files in the folders of builds, but for those that python3 keeps."""

@@ -23,7 +23,7 @@ def checkout():
         (top / "release").mkdir(parents=True)
         for name in ("check", "renew", "sum"):
             shutil.copy(ROOT / "release" / name, top / "release" / name)
-        write(top, "crates.txt", "low:\nkiasan_main: low # a remark\nother: low\n")
+        write(top, "crates.txt", "low:\nkiasan_main: low # and not other\nother: low\n")
         for name in ("low/src/lib.rt", "kiasan_main/src/deep/main.rt", "kiasan_main/src/.hidden", "other/src/lib.rt"):
             write(top, f"crates/{name}", name)
         write(top, MADE, "a program")
@@ -63,7 +63,8 @@ def test_what_the_gate_built_otherwise_is_told():
     """Another program, or another source of it; the sources of other crates do not count."""
     with checkout() as top:
         run(top, "renew")
-        for name in (MADE, KEPT, "crates.txt", "crates/low/src/lib.rt", "crates/kiasan_main/src/.hidden"):
+        sources = [f"crates/{name}" for name in ("low/src/lib.rt", "kiasan_main/src/deep/main.rt", "kiasan_main/src/.hidden")]
+        for name in (MADE, KEPT, "crates.txt", *sources):
             text = (top / name).read_text(encoding="ascii")
             write(top, name, f"{text}#")
             same(run(top, "check"), (1, RENEW, ""), f"another {name}")
