@@ -25,7 +25,7 @@ def main(ignored, program, words):
     if program and words[0] != "targets":
         os.execv(program, [program] + words)
     asked = words[:2] if words[1:] == ["--help"] else words[:1]
-    sys.stderr.write("kiasan: %s needs python3 of version 3.9 or later\n" % " ".join(asked))
+    sys.stderr.write("kiasan: %s needs python3 of version 3.9 or later\n" % " ".join(asked).replace("\n", " "))
     return 70
 
 

@@ -118,9 +118,10 @@ def test_with_a_kept_program():
             same((ran.status, ran.out, ran.err), (0, wanted, ""), "without python3")
         ran = call("explore", script=top / "kiasan", cwd=top, env=without_program(PATH=path))
         same((ran.status, ran.out, ran.err), (2, b"refused 95\n", ""), "a refusal without python3")
-        for words in (["explain", "47"], ["targets", "examples/A.class"], ["explore", "--help"], ["targets", "--check", "x"]):
+        words_of_its_own = [["explain", "47"], ["targets", "examples/A.class"], ["explore", "--help"], ["targets", "--check", "x"]]
+        for words in [*words_of_its_own, ["a\nb", "--help"]]:
             ran = call(*words, script=top / "kiasan", cwd=top, env=without_program(PATH=path))
-            named = "explore --help" if words[1] == "--help" else words[0]
+            named = f"{words[0]} --help".replace("\n", " ") if words[1] == "--help" else words[0]
             same((ran.status, ran.out, ran.said), (70, b"", [f"{named} needs python3 of version 3.9 or later"]), words)
         same(call("--help", script=top / "kiasan", env=without_program(PATH=path)).status, 0, "--help without python3")
         ran = call(script=top / "kiasan", env=without_program(PATH=path))
@@ -184,9 +185,9 @@ def test_with_an_old_python3():
         old.chmod(0o755)
         ran = call("explore", script=top / "kiasan", cwd=top, env=without_program(PATH=path))
         same((ran.status, ran.out, ran.err), (2, b"refused 95\n", ""), "a refusal with an old python3")
-        for words in (["explain", "47"], ["targets", "--check", "examples/A.class"], ["explore", "--help"]):
+        for words in (["explain", "47"], ["targets", "--check", "examples/A.class"], ["explore", "--help"], ["a\nb", "--help"]):
             ran = call(*words, script=top / "kiasan", cwd=top, env=without_program(PATH=path))
-            named = "explore --help" if words[1] == "--help" else words[0]
+            named = f"{words[0]} --help".replace("\n", " ") if words[1] == "--help" else words[0]
             same((ran.status, ran.out, ran.said), (70, b"", [f"{named} needs python3 of version 3.9 or later"]), words)
 
 

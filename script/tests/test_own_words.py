@@ -204,10 +204,11 @@ def test_words_as_they_are():
 def test_a_program_that_is_named():
     with folder() as path:
         (path / "text").write_text("#!/bin/sh\n", encoding="ascii")
-        for name in ("/nowhere/kiasan", r"no\where\t", str(path), str(path / "text")):
+        for name in ("/nowhere/kiasan", r"no\where\t", "no\nwhere", str(path), str(path / "text")):
             for words in (["explore"], ["--", "explore"], ["targets", "--check", "A.class"]):
                 ran = call(*words, env=environment(KIASAN_PROGRAM=name))
-                said = [f"KIASAN_PROGRAM is {name}, and no program can be run there"]
+                named = name.replace("\n", " ")
+                said = [f"KIASAN_PROGRAM is {named}, and no program can be run there"]
                 same((ran.status, ran.out, ran.said), (70, b"", said), f"{words} with {name} as the program")
     ran = call(env=environment(KIASAN_PROGRAM="/nowhere/kiasan"))
     same((ran.status, ran.out), (2, b""), "no words and no program")
