@@ -6,7 +6,7 @@ judges nothing: what is wrong with a class file is for the program to say.
 
 from .names import split_method
 
-INTERFACE, ABSTRACT, STATIC, PRIVATE = 0x0200, 0x0400, 0x0008, 0x0002
+INTERFACE, ABSTRACT, STATIC, PRIVATE, SYNTHETIC = 0x0200, 0x0400, 0x0008, 0x0002, 0x1000
 UTF8, INTEGER, CLASS, STRING, FIELD, METHOD, INTERFACE_METHOD, NAME_AND_TYPE = 1, 3, 7, 8, 9, 10, 11, 12
 # The bytes of an entry of the constant pool, with its tag, by the tag: 0 where there is none (JVMS 8 table 4.4-A).
 SIZES = [0] * 256

@@ -1,5 +1,6 @@
 """A refusal in words: the cause and what to do, by the page, and between them what the parts of the line stand for."""
 
+from .accessors import cure
 from .class_file import UTF8, Unfit
 from .instructions import CLASS_USES, entry_of, first_unexplored, in_words, instructions, mnemonic
 from .names import (
@@ -239,7 +240,8 @@ class Parts:
         if at is None:
             return []
         place = place_lines(text, file, method.code, at, False)
-        return [f"{text} at {at} is {in_words(file, method.code.bytes, at)}, which is not explored yet", *place]
+        way = cure(self.handed.needs.world, text, file, method.code.bytes, at)
+        return [f"{text} at {at} is {in_words(file, method.code.bytes, at)}, which is not explored yet", *place, *way]
 
 
 def left_out_type(method):

@@ -3,6 +3,7 @@
 import struct
 
 STATIC, PUBLIC, ABSTRACT, INTERFACE = 0x0008, 0x0021, 0x0421, 0x0601
+PRIVATE, PROTECTED, SYNTHETIC = 0x0002, 0x0004, 0x1000
 ALOAD_0, ACONST_NULL, ICONST_0, IRETURN, ARETURN, RETURN = b"\x2a", b"\x01", b"\x03", b"\xac", b"\xb0", b"\xb1"
 GETFIELD, PUTFIELD, VIRTUAL, SPECIAL, STATIC_CALL, INTERFACE_CALL = b"\xb4", b"\xb5", b"\xb6", b"\xb7", b"\xb8", b"\xb9"
 NEW, NEW_ARRAY_OF, CAST, INSTANCE, POP = b"\xbb", b"\xbd", b"\xc0", b"\xc1", b"\x57"

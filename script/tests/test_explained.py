@@ -14,8 +14,12 @@ from script.tests.maker import (
     NEW,
     NEW_ARRAY_OF,
     POP,
+    PRIVATE,
+    PROTECTED,
+    SPECIAL,
     STATIC,
     STATIC_CALL,
+    SYNTHETIC,
     Maker,
 )
 from script.tests.tools import DATA, SCRIPT, call, environment, explained, folder, same, stand_in, status_lines
@@ -219,6 +223,46 @@ def test_what_is_not_explored_yet():
         ]:
             ran = call("explore", "--method", target, "Q.class", cwd=path)
             same(ran.said, explained("refused 50", *parts), target)
+
+
+def test_a_private_member_of_a_nested_class():
+    """For a private field or method that another class of the source uses javac writes a method access$NNN."""
+    front = "javac writes that method since the"
+    node = Maker("p/C$Node").field("elem", "I", PRIVATE).field("far", "I", PROTECTED)
+    one, taken = "(Lp/C$Node;)I", ALOAD_0 + GETFIELD
+    node.method("access$000", one, taken + node.field_ref("p/C$Node", "elem", "I") + IRETURN, STATIC | SYNTHETIC)
+    node.method("twice", "()I", ICONST_0 + IRETURN, PRIVATE)
+    called = ALOAD_0 + SPECIAL + node.method_ref("p/C$Node", "twice", "()I")
+    node.method("access$100", one, called + IRETURN, STATIC | SYNTHETIC)
+    node.method("access$200", one, taken + node.field_ref("p/C$Node", "far", "I") + IRETURN, STATIC | SYNTHETIC)
+    node.method("access$300", one, taken + node.field_ref("p/C$Node", "elem", "I") + IRETURN)
+    made = Maker("p/C")
+    for name, numbers in [("field", "00"), ("call", "10"), ("both", "01"), ("far", "2"), ("written", "3")]:
+        calls = [ALOAD_0 + STATIC_CALL + made.method_ref("p/C$Node", f"access${number}00", one) for number in numbers]
+        made.method(name, one, POP.join(calls) + IRETURN)
+    used = "is private and another class uses it"
+    is_field = f"{front} field p/C$Node.elem {used}: without `private` there"
+    wanted = [
+        ("field", "000", [f"{is_field}, and at other such members, TARGET is explored"]),
+        ("call", "100", [f"{front} method p/C$Node.twice {used}"]),
+        ("both", "000", [f"{is_field} the call goes, but other instructions stay that are not explored yet"]),
+        ("far", "200", []),
+        ("written", "300", []),
+    ]
+    with folder() as path:
+        made.write(path)
+        node.write(path)
+        for name, called, lines in wanted:
+            target = f"p/C.{name}{one}"
+            ran = call("explore", "--method", target, "p/C.class", cwd=path)
+            part = f"{target} at 1 is invokestatic p/C$Node.access${called}{one}, which is not explored yet"
+            lines = [line.replace("TARGET", target) for line in lines]
+            same(ran.said[1:], explained("refused 50", part, *lines), name)
+    with folder() as path:
+        free = Maker("p/C")
+        free.method("field", one, taken + free.field_ref("p/C$Node", "elem", "I") + IRETURN).write(path)
+        Maker("p/C$Node").field("elem", "I").write(path)
+        same(call("explore", "--method", f"p/C.field{one}", "p/C.class", cwd=path).status, 0, "without private")
 
 
 def test_the_method_is_that_of_its_class():
