@@ -1,10 +1,11 @@
 """What is said behind a call: what a status or a refusal means, with the parts that a person cannot know."""
 
-from . import refused
+from . import refused, slips
+from .kinds import EMPTY, TESTS, kind_of_file
 from .pages import refusal_of, status_of
 from .places import is_place, is_regular
 from .program import ask
-from .say import reason, say
+from .say import say
 
 REFUSED = (2, 3, 4, 5, 9)
 # Words are judged before any file is read.
@@ -39,9 +40,9 @@ def texts_and_files(call):
 
 def status_lines(call, status):
     if status == 6:
-        line = unread(call)
-        if line:
-            return [line]
+        lines = unread(call)
+        if lines:
+            return lines
     row = status_of(status)
     if row is None:
         return []
@@ -50,13 +51,22 @@ def status_lines(call, status):
 
 
 def unread(call):
-    """Which file could not be read: the first that cannot be opened now."""
+    """Which file could not be read, the first that cannot be opened now, and what its word may mean; else nothing."""
     for word in texts_and_files(call):
         try:
             with open(word, "rb") as file:
                 file.read(1)
         except OSError as error:
             if is_place(word) and word in call.handed.files:
-                return f"cannot read {word}: is a folder, and no method says which of its class files are needed"
-            return f"cannot read {word}: {reason(error)}"
-    return None
+                return [f"cannot read {word}: is a folder, and {no_target(call)}"]
+            return slips.unread_lines(word, error, slips.of_file(call.order, word))
+    return []
+
+
+def no_target(call):
+    """Why it is not known which class files of a folder are needed."""
+    text = call.order.text
+    kind = kind_of_file(text) if text is not None and is_regular(text) else TESTS
+    if kind in (TESTS, EMPTY):
+        return "no method says which of its class files are needed"
+    return f"{text}, which should say which of its class files are needed, is {kind or 'no file of tests'}"

@@ -83,12 +83,13 @@ def explain(words):
         if row is None:
             raise Fault(2, f"explain: no status is {words[1]}: docs/USING.md, \"Statuses\"")
         return text_of(f"status {row.number}", [("standard output", row.output), ("comes", row.comes), ("to do", row.to_do)])
-    if len(words) == 1 and words[0].isdigit():
-        rows = [row for row in refusals() if str(row.number) == words[0]]
-        if not rows:
-            raise Fault(2, f"explain: no refusal has the number {words[0]}: docs/REFUSALS.md")
-        return "".join(map(refusal_text, rows))
     line = " ".join(words)
+    number = line[len("refused ") :] if line.startswith("refused ") else line
+    if number.isascii() and number.isdigit():
+        rows = [row for row in refusals() if str(row.number) == number]
+        if not rows:
+            raise Fault(2, f"explain: no refusal has the number {number}: docs/REFUSALS.md")
+        return "".join(map(refusal_text, rows))
     row = refusal_of(line) if line.startswith("refused ") else None
     if row is None:
         raise Fault(2, "explain: give the number of a refusal, a whole line `refused N ..`, or `status N`")

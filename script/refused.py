@@ -1,8 +1,10 @@
 """A refusal in words: the cause and what to do, by the page, and between them what the parts of the line stand for."""
 
+from . import slips
 from .accessors import cure
 from .class_file import UTF8, Unfit
 from .instructions import CLASS_USES, entry_of, first_unexplored, in_words, instructions, mnemonic
+from .kinds import kind_of_file
 from .names import (
     class_of_entry,
     guessed,
@@ -29,7 +31,11 @@ def lines(call, row, line):
     parts = row.parts(line)
     explain = Parts(call, row, {part: text for _, part, text in parts})
     said = [text for word, part, text in parts for text in explain.part(word, part, text)]
-    return [f"refused {row.number}: {row.cause}", *said, *explain.besides(), f"to do: {row.to_do}"]
+    said += explain.besides()
+    if said and row.form.endswith(" kind"):
+        # of many causes the one that applies comes first
+        return [f"refused {row.number}: {said[0]}", *said[1:], f"cause: {row.cause}", f"to do: {row.to_do}"]
+    return [f"refused {row.number}: {row.cause}", *said, f"to do: {row.to_do}"]
 
 
 def quoted(data):
@@ -69,8 +75,22 @@ class Parts:
 
     def besides(self):
         """Lines that belong to a number and to no part of its line."""
-        about = {45: self._methods_there, 98: self._methods_there, 49: self._so_many, 50: self._in_the_way}.get(self.row.number)
+        about = {
+            30: self._other_text,
+            45: self._methods_there,
+            49: self._so_many,
+            50: self._in_the_way,
+            60: self._other_text,
+            89: lambda: slips.late(self.order, "--tests"),
+            95: lambda: slips.late(self.order, "--method"),
+            98: self._methods_there,
+        }.get(self.row.number)
         return about() if about else []
+
+    def _other_text(self):
+        """What the text is, where its first line is none of its format."""
+        kind = kind_of_file(self.order.text) if self.texts["N"] == "1" else None
+        return [f"{self.order.text} is {kind}"] if kind else []
 
     def _file(self, number):
         files = self.handed.files
@@ -106,7 +126,8 @@ class Parts:
         if self.row.number == 94:
             option = self.call.options.get(name)
             behind = f", {name} takes {option.range}" if option else ", sample takes 0 to 64"
-        return [f"word {number} is {f'{name} ' if name else ''}{word}{behind}"]
+        meant = slips.of_word(self.order, int(number)) if self.row.number == 91 else []
+        return [f"word {number} is {f'{name} ' if name else ''}{word}{behind}", *meant]
 
     def _text_lines(self):
         """The lines of the text of the call, without their ends, or none where it cannot be read."""

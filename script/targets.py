@@ -1,10 +1,13 @@
 """`targets FILE..` and `targets --check FILE..`: the methods of class files, each as --method wants it."""
 
+from os.path import exists
+
 from .names import spelled_target
 from .places import Finder, Source, is_place, is_regular, read_file
 from .program import ask
 from .refused import targets_of
-from .say import Fault, put, reason, say
+from .say import Fault, put, say
+from .slips import unread
 from .words import Order, least, read_page
 
 
@@ -12,7 +15,7 @@ def list_targets(signals, program, words):
     """Lists the methods of the files. The exit status."""
     checked = words[:1] == ["--check"]
     files = words[1:] if checked else words
-    if not files or files[0].startswith("--"):
+    if not files or files[0].startswith("--") or "--check" in files and not exists("--check"):
         raise Fault(2, "targets: give class files, folders or jars, behind `--check` or alone")
     status, finder = 0, Finder()
     for word in files:
@@ -43,7 +46,7 @@ def sources_of(finder, word):
             open(word, "rb").close()
         sources = [Source(word, read_file(word), word)]
     except OSError as error:
-        raise Fault(6, f"cannot read {word}: {reason(error)}") from error
+        raise unread(word, error) from error
     sources[0].file.read_whole()
     return sources
 

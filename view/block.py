@@ -163,7 +163,7 @@ class BlockReader:
     def _location(self, words):
         number = len(self.path.standings)
         if len(words) != 2 or words[0] != f"l{number}" or number >= self.locations:
-            self.lines.fail(f"the line of location l{number} stands here, or none")
+            self.lines.fail(f"the line of location l{number} is expected here, or none")
         standing = read_numbered(words[1], "o")
         if standing is None and words[1] not in ("open", "beyond"):
             self.lines.fail(f"{words[1]} is nothing that a location is")
@@ -173,7 +173,7 @@ class BlockReader:
 
     def _end_locations(self):
         if len(self.path.standings) != self.locations:
-            self.lines.fail(f"the line of location l{len(self.path.standings)} stands here")
+            self.lines.fail(f"the line of location l{len(self.path.standings)} is expected here")
 
     def _holders(self):
         """By each object the slots that hold it."""
@@ -204,7 +204,7 @@ class BlockReader:
         """Each object that was seen has its line, and each slot lies in its object."""
         count = len(self.path.objects)
         if len(self._holders()) > count:
-            self.lines.fail(f"the line of object o{count} stands here")
+            self.lines.fail(f"the line of object o{count} is expected here")
         for slot, _ in self.path.sees:
             if slot.holder is not None and not self.has_slot(slot):
                 self.lines.fail(f"{slot.text} is no slot of o{slot.holder}")
@@ -221,7 +221,7 @@ class BlockReader:
     def _term(self, words):
         number = len(self.path.terms)
         if len(words) < 3 or words[0] != f"t{number}" or OPERATIONS.get(words[1]) != len(words) - 2:
-            self.lines.fail(f"the line of term t{number} stands here, with an operation and its operands")
+            self.lines.fail(f"the line of term t{number} is expected here, with an operation and its operands")
         for operand in words[2:]:
             self.operand(operand)
         self.path.terms.append((words[1], tuple(words[2:])))

@@ -6,7 +6,8 @@ from script.class_file import STATIC
 from script.handing import method_of
 from script.names import spelled, spelled_type
 from script.places import Finder, Source, is_regular, read_file
-from script.say import Fault, reason
+from script.say import Fault
+from script.slips import unread
 from script.world import World
 
 from .forms import read_name
@@ -97,7 +98,7 @@ def read_singly(word):
             return Source(word, read_file(word), word)
         open(word, "rb").close()
     except OSError as error:
-        raise Fault(6, f"cannot read {word}: {reason(error)}") from error
+        raise unread(word, error) from error
     raise Fault(6, f"cannot read {word}")
 
 

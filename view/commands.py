@@ -2,7 +2,9 @@
 
 import os
 
-from script.say import Fault, counted, put, reason, say
+from script.kinds import kind_of
+from script.say import Fault, counted, put, say
+from script.slips import unread
 
 from .classes import Classes
 from .lines import Unreadable
@@ -36,6 +38,9 @@ class Words:
         if at == len(words):
             self.fault("no report is named")
         self.report, self.files = words[at], words[at + 1 :]
+        for word in self.files:
+            if (word in flags or word in options) and not os.path.lexists(word):
+                self.fault(f"{word} stands behind REPORT, and options stand before it")
 
     def fault(self, says):
         raise Fault(2, f"{self.command}: {says}: {WAYS_TO_CALL[self.command]}")
@@ -61,7 +66,7 @@ def read_all(path):
         with open(path, "rb") as file:
             return file.read()
     except OSError as error:
-        raise Fault(6, f"cannot read {path}: {reason(error)}") from error
+        raise unread(path, error) from error
 
 
 def take_report(path):
@@ -71,7 +76,8 @@ def take_report(path):
         return read_report(data)
     except Unreadable as stop:
         named = "standard input" if path == "-" else path
-        raise Fault(9, f"{named} is no report: {stop}") from stop
+        kind = kind_of(data) if stop.line == 1 else None
+        raise Fault(9, f"{named} is no report: {f'line 1: it is {kind}' if kind else stop}") from stop
 
 
 def view(words):

@@ -27,7 +27,7 @@ class LeafReader:
         }
         ending = self.lines.first()
         if ending not in endings:
-            self.lines.next("ending")
+            self.lines.fail("a line that says how the path ends is expected here")
         endings[ending](self.lines.next(ending))
         self.path.ending = ending
         if ending == "undecided":
@@ -40,7 +40,7 @@ class LeafReader:
     def _returns(self, words):
         kind = self.report.result
         if len(words) != (kind != "V"):
-            self.lines.fail("a value stands here exactly where the method has a result")
+            self.lines.fail("a value is expected here exactly where the method has a result")
         if words:
             self._out(words[0], is_number_kind(kind))
             self.path.value = words[0]
@@ -100,11 +100,11 @@ class LeafReader:
         while self.lines.first() == "new":
             self._made(self.lines.next("new"))
         if len(self.path.made) < self.most_made:
-            self.lines.fail(f"the line of object n{len(self.path.made)} stands here")
+            self.lines.fail(f"the line of object n{len(self.path.made)} is expected here")
 
     def _made(self, words):
         if len(words) < 2 or words[0] != f"n{len(self.path.made)}" or not is_exact_type(words[1]):
-            self.lines.fail(f"the line of object n{len(self.path.made)} stands here, with its TYPE")
+            self.lines.fail(f"the line of object n{len(self.path.made)} is expected here, with its TYPE")
         element = words[1][1:] if words[1].startswith("[") else None
         for out in words[2:]:
             self._out(out, None if element is None else is_number_kind(element))
@@ -152,7 +152,7 @@ class InputReader:
         while self.lines.first() == "in":
             self._object(self.lines.next("in"))
         if len(self.path.inputs) < self._count():
-            self.lines.fail(f"the line of object i{len(self.path.inputs)} stands here")
+            self.lines.fail(f"the line of object i{len(self.path.inputs)} is expected here")
 
     def _take(self):
         self.path.input_lines.append(" ".join(self.lines.words()))
@@ -180,7 +180,7 @@ class InputReader:
     def _object(self, words):
         number = len(self.path.inputs)
         if number >= self._count() or len(words) < 2 or words[0] != f"i{number}" or not is_exact_type(words[1]):
-            self.lines.fail(f"the line of object i{number} stands here, with its TYPE, or none")
+            self.lines.fail(f"the line of object i{number} is expected here, with its TYPE, or none")
         if number < len(self.path.objects):
             self._of_picture(number, self.path.objects[number], words[1], words[2:])
         for word in words[2:]:

@@ -41,7 +41,7 @@ class Lines:
         if not words:
             self.fail("the text ends here" if not self.rest else "the line has no line feed behind it")
         if words[0] != first:
-            self.fail(f"a line {first} stands here")
+            self.fail(f"a line that begins with {first} is expected here")
         if count is not None and len(words) != count + 1:
             self.fail(f"a line {first} has {count} words behind it")
         return words[1:]
@@ -50,10 +50,10 @@ class Lines:
         """The line that is next is that one, and is taken."""
         words = self.next(text.split(" ")[0])
         if " ".join(self.words()) != text or not words:
-            self.fail(f"the line is {text}")
+            self.fail(f"the line {text} is expected here")
         self.done()
 
     def end(self):
         """No line is left."""
         if self.at < len(self.lines) or self.rest:
-            self.fail("no line stands behind the last one")
+            self.fail("the report has ended, and no line is expected here")

@@ -22,7 +22,18 @@ from script.tests.maker import (
     SYNTHETIC,
     Maker,
 )
-from script.tests.tools import DATA, SCRIPT, call, environment, explained, folder, same, stand_in, status_lines
+from script.tests.tools import (
+    DATA,
+    SCRIPT,
+    call,
+    environment,
+    explained,
+    folder,
+    refusal,
+    same,
+    stand_in,
+    status_lines,
+)
 
 # Words in the folder of the stored rows' files, and what is said of them.
 TABLE = [
@@ -30,11 +41,59 @@ TABLE = [
     ("explore --k 01", explained("refused 93 word W", "word 2 is --k 01")),
     ("explore --k", explained("refused 92 word W", "word 1 is --k")),
     ("explore --k 3 --k 3 A.class", explained("refused 97 word W", "word 3 is --k")),
-    ("explore --targt A.f(II)I A.class", explained("refused 91 word W", "word 1 is --targt")),
-    ("help", explained("refused 91 word W", "word 0 is help")),
+    (
+        "explore --targt A.f(II)I A.class",
+        explained(
+            "refused 91 word W",
+            "word 1 is --targt",
+            "options of explore: --method, --init, --k, --array, --alloc, --loops, --depth, --steps, --paths, --budget",
+        ),
+    ),
+    ("explore --loop 3 A.class", explained("refused 91 word W", "word 1 is --loop", "near words: --loops")),
+    ("explore --k=2 A.class", explained("refused 91 word W", "word 1 is --k=2", "write --k 2")),
+    ("explore --init eager", explained("refused 91 word W", "word 2 is --init eager", "--init takes lazy or lazier")),
+    ("replay --test a.tests", explained("refused 91 word W", "word 1 is --test", "near words: --tests")),
+    ("help", explained("refused 91 word W", "word 0 is help", "near words: --help")),
+    ("explroe A.class", explained("refused 91 word W", "word 0 is explroe", "near words: explore")),
+    (
+        "--version",
+        explained(
+            "refused 91 word W",
+            "word 0 is --version",
+            "commands: explore, tests, replay, assemble, explain, targets, view, junit, build, --help",
+        ),
+    ),
     ("assemble Unfit.asm A.class", explained("refused 91 word W", "word 2 is A.class")),
     ("explore A.class", explained("refused 95")),
     ("replay A.class", explained("refused 89")),
+    (
+        "replay A.class --tests a.tests",
+        explained(
+            "refused 89",
+            "--tests stands behind A.class, which is taken for a class file: options stand before the class files",
+        ),
+    ),
+    (
+        "explore A.class --method A.f(II)I",
+        explained(
+            "refused 95",
+            "--method stands behind A.class, which is taken for a class file: options stand before the class files",
+        ),
+    ),
+    (
+        "explore --method A.f(II)I A.class --k 2",
+        [
+            "cannot read --k: No such file or directory",
+            "--k stands at a class file's place: options stand before the class files, as in explore --k N ..",
+        ],
+    ),
+    (
+        "explore --method A.f(II)I -k 2 A.class",
+        [
+            "cannot read -k: No such file or directory",
+            "-k stands at a class file's place: options stand before the class files, as in explore --k N ..",
+        ],
+    ),
     ("explore --method A.f(II)I", explained("refused 96")),
     ("explore --paths 2000 --method A.f(II)I A.class", explained("refused 99")),
     (
@@ -74,10 +133,22 @@ TABLE = [
     ("diagrams --method A.f(II)I A.class", explained("refused 50", "word 0 is diagrams")),
     ("sample 6", explained("refused 50", "word 0 is sample")),
     ("sample 65", explained("refused 94 word W", "word 1 is 65, sample takes 0 to 64")),
-    ("explore --method A.f(II)I Lst.class", ["cannot read Lst.class: No such file or directory"]),
-    ("explore --method A.f(II)I A.class one.class two.class", ["cannot read one.class: No such file or directory"]),
-    ("replay --tests gone.tests A.class", ["cannot read gone.tests: No such file or directory"]),
-    ("replay --tests gone.tests gone.class", ["cannot read gone.tests: No such file or directory"]),
+    (
+        "explore --method A.f(II)I Lst.class",
+        ["cannot read Lst.class: No such file or directory", "near names: List.class"],
+    ),
+    (
+        "explore --method A.f(II)I A.class one.class two.class",
+        ["cannot read one.class: No such file or directory", "near names: Gone.class"],
+    ),
+    (
+        "replay --tests gone.tests A.class",
+        ["cannot read gone.tests: No such file or directory", "near names: none.tests"],
+    ),
+    (
+        "replay --tests gone.tests gone.class",
+        ["cannot read gone.tests: No such file or directory", "near names: none.tests"],
+    ),
     ("replay --tests sums.tests A.class", status_lines(10)),
     ("explore --paths 1 --method Choice.flag(Z)I Choice.class", status_lines(1)),
 ]
@@ -336,7 +407,10 @@ def test_what_of_an_instruction_is_left_out():
         made.write(path)
         for name, kind, _, what, part in codes:
             ran = call("explore", "--method", f"Q.{name}{kind}", "Q.class", cwd=path)
-            same(ran.said, explained(f"refused 47 TARGET at N {what}", f"Q.{name}{kind} {part}"), name)
+            said = f"Q.{name}{kind} {part}"
+            cause, to_do = refusal(f"refused 47 TARGET at N {what}")
+            first = [f"refused 47: {said}", f"cause: {cause}"] if what == "kind" else [f"refused 47: {cause}", said]
+            same(ran.said, [*first, f"to do: {to_do}"], name)
 
 
 def test_an_entry_that_is_no_text_is_not_shown():
@@ -434,6 +508,49 @@ def test_closed_output():
     ran = subprocess.run(words, cwd=DATA, env=environment(), stderr=subprocess.PIPE, check=False)
     said = [f"kiasan: {line}" for line in status_lines(7)]
     same((ran.returncode, ran.stderr.decode().splitlines()), (7, said), "a closed output")
+
+
+def test_texts_of_another_kind():
+    """Where tests or an assembler text belong: another file that is known by its first bytes is told."""
+    report = call("explore", "--method", "A.f(II)I", "A.class").out
+    with folder() as path:
+        (path / "a.report").write_bytes(report)
+        (path / "a.refused").write_bytes(b"refused 45 A.g(II)I\n")
+        (path / "A.class").write_bytes((DATA / "A.class").read_bytes())
+        (path / "text").write_bytes(b"refused of all\n")
+        (path / "none.tests").write_bytes(b"")
+        (path / "all").mkdir()
+        (path / "all" / "A.class").write_bytes((DATA / "A.class").read_bytes())
+        for name, line, kind in [
+            ("a.report", "kiasan report 1", "a report, as `./kiasan explore` writes it"),
+            ("a.refused", "refused 45 A.g(II)I", "a refusal, refused 45 A.g(II)I: `./kiasan explain 45` says what it means"),
+            ("text", "refused of all", None),
+        ]:
+            parts = [f'line 1 is "{line}"', *([f"{name} is {kind}"] if kind else [])]
+            ran = call("replay", "--tests", name, "A.class", cwd=path)
+            same(ran.said, explained("refused 60 line N", *parts), name)
+            ran = call("assemble", name, cwd=path)
+            same(ran.said, explained("refused 30 line N", *parts), name)
+            wanted = f"{name}, which should say which of its class files are needed, is {kind or 'no file of tests'}"
+            ran = call("replay", "--tests", name, "all", cwd=path)
+            same((ran.status, ran.said), (6, [f"cannot read all: is a folder, and {wanted}"]), f"{name} and a folder")
+        ran = call("replay", "--tests", "none.tests", "all", cwd=path)
+        wanted = "cannot read all: is a folder, and no method says which of its class files are needed"
+        same((ran.status, ran.said), (6, [wanted]), "no tests, and a folder")
+
+
+def test_near_names_of_files():
+    """Those of the folder that a word names, which end alike."""
+    with folder() as path:
+        Maker("p/MyList").write(path)
+        Maker("p/Other").write(path)
+        (path / "p" / "MyLst.java").write_bytes(b"")
+        wanted = ["cannot read p/MyLst.class: No such file or directory", "near names: p/MyList.class"]
+        for words in (["explore", "--method", "p/MyList.f()I"], ["targets"], ["view"]):
+            ran = call(*words, "p/MyLst.class", cwd=path)
+            same((ran.status, ran.said), (6, wanted), words)
+        ran = call("explore", "--method", "p/MyList.f()I", "q/MyList.class", cwd=path)
+        same(ran.said, ["cannot read q/MyList.class: No such file or directory"], "a folder that is not there")
 
 
 def test_what_cannot_be_asked_again():

@@ -20,7 +20,8 @@ FAULTS = [
     (["explain"], 2, [EXPLAINS]),
     (["explain", "x"], 2, [EXPLAINS]),
     (["explain", "7"], 2, ["explain: no refusal has the number 7: docs/REFUSALS.md"]),
-    (["explain", "refused", "47"], 2, [EXPLAINS]),
+    (["explain", "refused", "7"], 2, ["explain: no refusal has the number 7: docs/REFUSALS.md"]),
+    (["explain", "refused"], 2, [EXPLAINS]),
     (["explain", "47", "50"], 2, [EXPLAINS]),
     (["explain", "--help", "x"], 2, [EXPLAINS]),
     (["targets", "--help", "x"], 2, ["targets: give class files, folders or jars, behind `--check` or alone"]),
@@ -32,6 +33,7 @@ FAULTS = [
     (["explain", "refused 19 file \u0662"], 2, [EXPLAINS]),
     (["explain", "status", "12"], 2, ['explain: no status is 12: docs/USING.md, "Statuses"']),
     (["targets"], 2, ["targets: give class files, folders or jars, behind `--check` or alone"]),
+    (["targets", "A.class", "--check"], 2, ["targets: give class files, folders or jars, behind `--check` or alone"]),
     (["targets", "--check"], 2, ["targets: give class files, folders or jars, behind `--check` or alone"]),
     (["targets", "--chek", "A.class"], 2, ["targets: give class files, folders or jars, behind `--check` or alone"]),
     (["none", "--help"], 2, [f"none is no command; {WITH_HELP}"]),
@@ -39,7 +41,7 @@ FAULTS = [
     (["diagrams", "--help"], 2, [f"diagrams is not built yet; {WITH_HELP}"]),
     (["sample", "--help"], 2, [f"sample is not built yet; {WITH_HELP}"]),
     (["build", "--help", "x"], 2, ["build stands alone"]),
-    (["targets", "gone.class"], 6, ["cannot read gone.class: No such file or directory"]),
+    (["targets", "gone.class"], 6, ["cannot read gone.class: No such file or directory", "near names: Gone.class"]),
     (["targets", b"\xff.class"], 6, ["cannot read %FF.class: No such file or directory"]),
     (["targets", "a.tests"], 2, ["a.tests is no class file"]),
 ]
@@ -68,6 +70,7 @@ def row_text(form, number, *more):
 def test_explain_a_number():
     forms = [f"refused 47 TARGET at N {kind}" for kind in ("opcode HH", "constant", "operand", "kind", "method")]
     same(call("explain", "47").out.decode(), "".join(row_text(form, 47) for form in forms), "explain 47")
+    same(call("explain", "refused", "47").out, call("explain", "47").out, "explain refused 47")
     same(call("explain", "96").out.decode(), row_text("refused 96", 96), "explain 96")
 
 

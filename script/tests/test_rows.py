@@ -44,7 +44,8 @@ def judge(row):
     elif status == 0:
         same(said, WARNED.get(text.partition(" --method ")[2], []), text)
     elif status == 6:
-        same((len(said), said[0].endswith(": No such file or directory")), (1, True), text)
+        near = [line for line in said[1:] if not line.startswith("near names: ")]
+        same((near, said[0].endswith(": No such file or directory")), ([], True), text)
     else:
         same(said, NOTED.get(text.partition(" --method ")[2], []) + status_lines(status), text)
 

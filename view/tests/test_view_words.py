@@ -44,6 +44,8 @@ FAULTS = (
     (["--text"], f"view: no report is named: {CALL}"),
     (["--page", "x"], f"view: --page is no option: {CALL}"),
     (["--only"], f"view: --only has no value: {CALL}"),
+    (["r", "--text"], f"view: --text stands behind REPORT, and options stand before it: {CALL}"),
+    (["r", "A.class", "--only", "throws"], f"view: --only stands behind REPORT, and options stand before it: {CALL}"),
     (["--only", "returns=x", "r"], f"returns=x {NAMES_NO_PATH}"),
     (["--only", "returns=01", "r"], f"returns=01 {NAMES_NO_PATH}"),
     (["--only", "returns=2147483648", "r"], f"returns=2147483648 {NAMES_NO_PATH}"),
@@ -165,9 +167,25 @@ def test_faults_of_reports():
             ran = call("view", "--text", written(place, data), cwd=place)
             front = f"r is no report: line {count + 1}: "
             same((ran.status, ran.out, ran.said[0][: len(front)]), (9, b"", front), f"cut behind line {count}")
-        ran = call("view", "-", stdin=open(DATA / "a.tests", "rb"))
-        same((ran.status, ran.out, len(ran.said)), (9, b"", 1), "a text of tests")
-        same(ran.said[0].startswith("standard input is no report: line 1: "), True, ran.said[0])
+        for data, says in [
+            (b"", "it is empty"),
+            (b"text\n", "a line that begins with kiasan is expected here"),
+            (b"kiasan report 2\n", "the line kiasan report 1 is expected here"),
+            (b"refused 50\n", "it is a refusal, refused 50: `./kiasan explain 50` says what it means"),
+            (b"refused 45 A.g()I\n", "it is a refusal, refused 45 A.g()I: `./kiasan explain 45` says what it means"),
+            (b"refused 50", "the line has no line feed behind it"),
+            (b"refused of all\n", "a line that begins with kiasan is expected here"),
+            (b"\xca\xfe\xba\xbe\0\0\0\x34", "it is a class file"),
+            ((DATA / "a.tests").read_bytes(), "it is a file of tests, as `./kiasan tests` writes it"),
+            (b"PK\x03\x04", "it is an archive"),
+            (b"<!DOCTYPE html>\n", "it is a page"),
+        ]:
+            written(place, data)
+            for word, named in [("r", "r"), ("-", "standard input")]:
+                with open(place / "r", "rb") as file:
+                    ran = call("view", word, cwd=place, stdin=file)
+                wanted = [f"{named} is no report: line 1: {says}"]
+                same((ran.status, ran.out, ran.said), (9, b"", wanted), f"{data[:20]}")
 
 
 def test_faults_of_files():
