@@ -86,6 +86,8 @@ def view(words):
     only, failing = (list(map(read_want, asked.values[name])) for name in ("--only", "--fail-on"))
     report = take_report(asked.report)
     classes = Classes(asked.files)
+    for want in [*only, *failing]:
+        want.check(report, classes)
     for fault in [*classes.faults, *filter(None, (want.fault(report, classes) for want in [*only, *failing]))]:
         say(fault)
     model = Model(report, classes)

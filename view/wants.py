@@ -2,15 +2,17 @@
 
 import re
 
-from script.names import spelled
+from script.names import nearest, spelled
 from script.say import Fault
 
 from .forms import BOUNDS, read_int, read_name
+from .names import classes_of, short_of
 from .sentences import thrown_kind
 
 ENDINGS = ("throws", "returns", "cut", "undecided", "open", "illtyped")
 CLASS = re.compile(r"[^\s./=;\[-][^\s=;\[]*")
 MET, MAY_BE = "is", "may be"
+THROWABLE, MOST_NEAR = "java/lang/Throwable", 3
 
 
 def read_want(word):
@@ -46,6 +48,9 @@ class Ending:
     def fault(self, _report, _classes):
         """Why no path can be one, or nothing."""
         return None
+
+    def check(self, _report, _classes):
+        """What is named is there, or the end."""
 
     def says(self):
         """What such a path does."""
@@ -117,11 +122,19 @@ class Thrown(Ending):
     def says(self):
         return f"throws {spelled(self.name)}"
 
-    def fault(self, report, classes):
-        thrown = [thrown_kind(path) for path in report.paths if path.ending == "throws"]
-        known = [*classes.world.classes, *(read_name(kind) for kind in thrown if kind and not kind.startswith("["))]
-        return (
-            None
-            if any(map(self.names, known))
-            else f"no class {spelled(self.name)} is among the given, thrown and platform's ones"
-        )
+    def check(self, report, classes):
+        """A class of that name is given, of the report or of the platform, or the end: else a slip would be met by no path."""
+        named = {*classes.world.classes, *classes_of(report)}
+        known = named.union(*map(classes.world.supertypes, named))
+        if any(map(self.names, known)):
+            return
+        says = f"{spelled(self.name)} names no path: no class of that name is given, of the report or of the platform"
+        words = [*ENDINGS, *sorted({short_of(name) for name in known if self.may_be_thrown(name, classes.world)})]
+        near = nearest(words, short_of(self.name))[:MOST_NEAR]
+        raise Fault(2, says, *([f"near names: {', '.join(map(spelled, near))}"] if near else []))
+
+    @staticmethod
+    def may_be_thrown(name, world):
+        """Whether it is not known that objects of that class are never thrown."""
+        above = world.supertypes(name)
+        return THROWABLE in above or not all(each in world.classes for each in above)

@@ -16,14 +16,8 @@ FORMS = (
     ("java.lang.NullPointerException", 10, ["0 throws"]),
     ("java/lang/RuntimeException", 10, ["0 throws"]),
     ("Exception", 10, ["0 throws"]),
-    (
-        "PointerException",
-        0,
-        [
-            "no class PointerException is among the given, thrown and platform's ones",
-            f"no path throws PointerException, {UNKNOWN}",
-        ],
-    ),
+    ("Box", 0, [f"no path throws Box, {UNKNOWN}"]),
+    ("p.Box", 0, [f"no path throws p/Box, {UNKNOWN}"]),
     ("ArithmeticException", 0, [f"no path throws ArithmeticException, {UNKNOWN}"]),
     ("returns", 10, ["1.0 returns"]),
     ("returns=null", 0, [f"no path returns null, {UNKNOWN}"]),
@@ -87,6 +81,30 @@ def test_only_leaves_out_other_paths_and_keeps_the_counts():
             same((ran.status, found), (0, paths), what)
             counts = "returns 1, throws NullPointerException 1, ill-typed 1, cut by array 1, cut by k 1, undecided 1, open 1"
             same(counts in text.split("\n"), True, what)
+
+
+def test_a_slip_is_no_what():
+    """A class that is neither given nor of the report nor of the platform stops what a build asks for."""
+    with folder() as place:
+        written(place, stored("forms"))
+        Maker("q/TooLong", parent="java/lang/Exception").write(place)
+        Maker("q/Deep", parent="q/Above").write(place)
+        for what, near in [
+            ("NullPointerExcption", "NullPointerException"),
+            ("throw", "throws"),
+            ("TooLon", "TooLong"),
+            ("illtype", "illtyped"),
+            ("q.Zzz", None),
+        ]:
+            for option in ("--fail-on", "--only"):
+                ran = call("view", "--text", option, "throws", option, what, "r", "q/TooLong.class", cwd=place)
+                says = f"{what.replace('.', '/')} names no path: no class of that name is given, of the report or of the platform"
+                same((ran.status, ran.out, ran.said[0]), (2, b"", says), what)
+                nearest = ran.said[1].partition(": ")[2].split(", ")[0] if ran.said[1:] else None
+                same(nearest, near, f"what is near to {what}")
+        for what in ("TooLong", "q.TooLong", "Error", "Above", "Box"):
+            ran = call("view", "--text", "--fail-on", what, "r", "q", cwd=place)
+            same(ran.status, 0, f"{what}, which is given or named, and never thrown: {ran.said}")
 
 
 def test_several_whats():
