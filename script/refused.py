@@ -18,6 +18,7 @@ from .names import (
 )
 from .remarks import beside
 from .say import MOST_NAMES
+from .world import PLATFORM
 
 MOST_BYTES = 200
 # The types of parameters and results that are left out, by their descriptors.
@@ -198,13 +199,13 @@ class Parts:
         return said + (self._class_of_field(found[0], found[1].code.bytes, at) if self.row.number == 46 else [])
 
     def _class_of_field(self, file, code, at):
-        """Where the class file of a field's class lies, where it is not given."""
+        """That a field's class is not given, or where its class file lies then."""
         try:
             name = class_of_entry(file.member(entry_of(code, at))[0])
         except (Unfit, IndexError):
             return []
-        is_given = name is None or any(source.name == name for source in self.handed.given)
-        return [] if is_given else self._lies(name)
+        is_given = name is None or name in PLATFORM or any(source.name == name for source in self.handed.given)
+        return [] if is_given else self._lies(name) or [f"class {spelled(name)} is not given"]
 
     def _so_many(self):
         return self.handed.why_so_many()

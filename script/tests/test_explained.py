@@ -366,12 +366,18 @@ def test_a_field_of_a_class_that_is_not_given():
         made.method("f", "(Lq/Node;)I", code).write(path, "out/p/Q.class")
         words = ["explore", "--method", "p/Q.f(Lq/Node;)I", "out/p/Q.class"]
         parts = ["p/Q.f(Lq/Node;)I at 1 is getfield q/Node.x I"]
-        same(call(*words, cwd=path).said, explained("refused 46 TARGET at N", *parts), "no class file")
+        wanted = explained("refused 46 TARGET at N", *parts, "class q/Node is not given")
+        same(call(*words, cwd=path).said, wanted, "no class file")
         Maker("q/Node").write(path / "out")
         found = "class q/Node lies in out/q/Node.class"
         same(call(*words, cwd=path).said, explained("refused 46 TARGET at N", *parts, found), "a class file beside")
         ran = call(*words, "out/q/Node.class", cwd=path)
         same(ran.said, explained("refused 46 TARGET at N", *parts), "a class that is given without the field")
+        code = ALOAD_0 + GETFIELD + made.field_ref("java/lang/String", "x", "I") + IRETURN
+        made.method("g", "(Ljava/lang/String;)I", code).write(path, "out/p/Q.class")
+        ran = call("explore", "--method", "p/Q.g(Ljava/lang/String;)I", "out/p/Q.class", cwd=path)
+        parts = ["p/Q.g(Ljava/lang/String;)I at 1 is getfield java/lang/String.x I"]
+        same(ran.said, explained("refused 46 TARGET at N", *parts), "a class of the platform")
 
 
 def test_places_in_a_class_file():
