@@ -1,5 +1,7 @@
 """The script's own words that need python3: `explain`, `targets`, and `COMMAND --help`."""
 
+import re
+
 from .pages import refusal_of, refusals, status_of
 from .say import Fault, put
 from .words import options_of, read_page
@@ -33,6 +35,8 @@ COMMANDS = {
         "./kiasan junit - examples/List.class > ListInsertTest.java",
     ),
 }
+# How the page begins what it says of some commands alone.
+OF_COMMANDS = re.compile("(of|for) `")
 # Commands that the program knows and that are not built.
 LATER = ("diagrams", "sample")
 
@@ -67,13 +71,15 @@ def command_help(command):
         lines += ["", "Options:", ""]
         lines += [f"  {f'{option.name} {option.value}':17}{option.says}" for option in taken]
     lines += ["", "Statuses:", ""]
-    lines += [f"  {number:<4}{comes(number)}" for number in numbers]
+    lines += [f"  {number:<4}{comes(number, command)}" for number in numbers]
     return "\n".join([*lines, "", "Example, from the top of the repository:", "", f"  {example}", ""])
 
 
-def comes(number):
+def comes(number, command):
+    """When a command ends with that status: what the page says of it, without what it says of other commands."""
     row = status_of(number)
-    return row.comes if row else ""
+    parts = row.comes.split("; ") if row else []
+    return "; ".join(part for part in parts if not OF_COMMANDS.match(part) or f"`{command}" in part)
 
 
 def explain(words):

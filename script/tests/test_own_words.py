@@ -97,9 +97,14 @@ def test_help_of_a_command():
         for part in [f"kiasan {command}", example, *(f"\n  {number:<4}" for number in statuses)]:
             same(part in text, True, f"{part!r} in the help of {command}")
         for number in statuses:
-            same(cells("USING.md", number)[2] in text, True, f"status {number} in the help of {command}")
+            comes = cells("USING.md", number)[2].split("; ")
+            own = [part for part in comes if part[:4] not in ("of `", "for ") or f"`{command}" in part]
+            same(f"  {number:<4}{'; '.join(own)}\n" in text, True, f"status {number} in the help of {command}")
     same("--budget N       1 to 100,000, else 2,000" in call("tests", "--help").out.decode(), True, "options of tests")
     same("--budget" in call("replay", "--help").out.decode(), False, "options of replay")
+    for command, wanted in [("view", "--fail-on"), ("replay", "each test passes"), ("junit", "was written\n"), ("explain", "n\n")]:
+        line = re.search("^  0 .*\n", call(command, "--help").out.decode(), re.M)[0]
+        same((wanted in line, "each test" in line), (True, command == "replay"), f"status 0 of {command}")
     for command, words in WAYS_TO_CALL.items():
         for asked in ([command, "--help"], ["--help"]):
             text = call(*asked).out.decode()
