@@ -22,7 +22,21 @@ def cell_words(story, cell, after):
     held = cell.after if after else cell.before
     text = "" if held is None else story.cell(held, cell.kind)
     mark = cell_mark(cell) if after else None
-    return f"{cell.label}={text}" + (LEGEND[mark][0] if mark in (CHANGED, OVERWRITTEN) else "")
+    if mark not in (CHANGED, OVERWRITTEN):
+        return f"{cell.label}={text}"
+    # a sign behind an operation would look as if it were one
+    text = f"({text})" if " " in text and not is_bracketed(text) else text
+    return f"{cell.label}={text}{LEGEND[mark][0]}"
+
+
+def is_bracketed(text):
+    """Whether one pair of brackets stands around all of a text."""
+    depth = 0
+    for at, char in enumerate(text):
+        depth += (char == "(") - (char == ")")
+        if depth == 0:
+            return text[0] == "(" and at == len(text) - 1
+    return False
 
 
 def first_marks(thing):

@@ -3,6 +3,8 @@
 from script.tests.maker import ACONST_NULL, ARETURN, Maker
 from script.tests.tools import folder, same
 from view.marks import cell_mark, thing_marks
+from view.text import heap_lines
+from view.words_of_heap import is_bracketed
 
 from .tools import Seen, box, stored
 
@@ -13,12 +15,16 @@ HEAD = (
 TAIL = "total 1 ended 1 cut 0 undecided 0 open 0\n"
 
 
-def marked(place, *lines):
-    """The marks of a path with those lines: of each slot by object and slot, and of objects."""
+def seen_with(place, *lines):
+    """What is made of a report on one path with those lines."""
     made = Maker("Node").field("elem", "I").field("next", "LNode;")
     made.method("f", "(LNode;)LNode;", ACONST_NULL + ARETURN).write(place)
-    seen = Seen("".join([HEAD, "path -\n", *(f"{line}\n" for line in lines), TAIL]).encode(), [place])
-    heap = seen.heap("-")
+    return Seen("".join([HEAD, "path -\n", *(f"{line}\n" for line in lines), TAIL]).encode(), [place])
+
+
+def marked(place, *lines):
+    """The marks of a path with those lines: of each slot by object and slot, and of objects."""
+    heap = seen_with(place, *lines).heap("-")
     slots = {f"{thing.key}.{cell.label}": cell_mark(cell) for thing in heap.things for cell in thing.cells}
     return {slot: mark for slot, mark in slots.items() if mark}, thing_marks(heap)
 
@@ -69,6 +75,22 @@ def test_a_made_object_leads_on():
         slots, things = marked(place, *lines, *more, "arg i0", "in i0 Node 0 i1", "in i1 Node 0 null")
         same(things, {"o0": ["aside"]}, "objects")
         same(slots, {"o0.elem": "unread", "o0.next": "changed", "o1.elem": "unread", "o1.next": "unread"}, "slots")
+
+
+def test_a_sign_is_no_operation():
+    """Behind a term of several words it stands behind brackets."""
+    with folder() as place:
+        front = ("see a0 o0", "see o0.Node.elem v0", "obj o0 Node a0")
+        for term, wanted in [
+            ("sub v0 1", "elem=(arg0.elem - 1)*"),
+            ("neg v0", "elem=-arg0.elem*"),
+            ("eq v0 1", "elem=(arg0.elem == 1 ? 1 : 0)*"),
+        ]:
+            lines = (*front, f"let t0 {term}", "returns o0", "set o0.Node.elem t0", "arg i0", "in i0 Node 0 null")
+            (story,) = seen_with(place, *lines).model.stories
+            same(heap_lines(story, story.heap(), True)[1], f"o0 Node {wanted} next=?", term)
+    for text, wanted in [("(a)", True), ("(a) + (b)", False), ("a", False), ("((a) + b)", True), ("", False)]:
+        same(is_bracketed(text), wanted, text)
 
 
 def test_nothing_returned_leads_to_all():
