@@ -131,10 +131,10 @@ def written(asked, model, stories):
     if "--text" in asked.flags:
         from .text import write_text
 
-        return write_text(model, stories)
+        return write_text(model, stories, asked.values["--only"])
     from .page import write_page
 
-    return write_page(model, stories)
+    return write_page(model, stories, asked.values["--only"])
 
 
 def met(want, story):

@@ -13,6 +13,13 @@ LEGEND = {
     OPEN: ("open", "an object of which nothing is known; it may also be one of the other objects"),
     BEYOND: ("beyond", "an object that lies deeper than --k follows"),
 }
+# Signs of a whole path, which stand beside its sentence; that of a ring is of its slots, the others are marks of its heap.
+RING = "ring"
+SIGNS = {
+    RING: ("ring", "slots that were read form a ring, on which the method may never end"),
+    OVERWRITTEN: LEGEND[OVERWRITTEN],
+    LOST: LEGEND[LOST],
+}
 
 
 def cell_mark(cell):

@@ -10,7 +10,7 @@ from .fitting import check_fits
 from .heaps import Heap
 from .inputs import Input
 from .java import Writer
-from .marks import thing_marks
+from .marks import LOST, OVERWRITTEN, RING, SIGNS, cell_mark, thing_marks
 from .names import Names, PathNames, shown_name
 from .replay_text import replay_lines
 from .report import KINDS
@@ -59,7 +59,23 @@ class Story:
         """That the path may never end, or nothing."""
         return ring_words(self.path, self.names)
 
+    @cached_property
+    def signs(self):
+        """What a reader should see of the path before it is opened: a ring, a slot written unread, an object that is lost."""
+        heap = self.heap()
+        things, cells = thing_marks(heap), [cell_mark(cell) for thing in heap.things for cell in thing.cells]
+        lost = any(LOST in things.get(thing.key, ()) for thing in heap.things if thing.sort != "made")
+        return [
+            *([RING] if self.ring else []),
+            *([OVERWRITTEN] if self.path.has_ended and OVERWRITTEN in cells else []),
+            *([LOST] if lost else []),
+        ]
+
     def heap(self):
+        return self._heap
+
+    @cached_property
+    def _heap(self):
         return Heap(self.path, self.names)
 
     def marks(self, heap):
@@ -116,6 +132,19 @@ class Model:
             counted[key] = counted.get(key, 0) + 1
         keys = sorted(counted, key=lambda key: (ENDINGS.index(key[0]), key[1] or ""))
         return [(*key, self.called(*key), counted[key]) for key in keys]
+
+    def signs(self):
+        """How many paths have each sign, those that some path has."""
+        counted = {sign: sum(sign in story.signs for story in self.stories) for sign in SIGNS}
+        return [(sign, count) for sign, count in counted.items() if count]
+
+    def shown(self, stories, only):
+        """What is said where paths are left out; nothing where `only` names none."""
+        if not only:
+            return []
+        words = " ".join(f"--only {word}" for word in only)
+        there = f"{len(stories)} of {counted(len(self.stories), 'path', 'paths')}"
+        return [f"Shown are those of {words}, {there}; what is counted and said above is of all."]
 
     def called(self, how, detail):
         """What paths with that ending are called."""

@@ -7,13 +7,15 @@ from os.path import dirname, join
 from urllib.parse import quote
 
 from .drawing import MOST_OBJECTS, draw, sources
-from .marks import LEGEND, cell_mark
+from .marks import LEGEND, LOST, OVERWRITTEN, RING, SIGNS, UNREAD, cell_mark
 from .text import NOTES
 from .words_of_heap import argument_words, cell_words, marks_of, thing_words
 
 HERE = dirname(__file__)
 # Above that many paths pictures are drawn when their path is opened.
 MOST_DRAWN = 200
+# What the filters of signs are called.
+SIGN_FILTERS = {RING: "ring", OVERWRITTEN: "written unread (!)", LOST: "lost"}
 
 
 def own_file(name):
@@ -28,8 +30,8 @@ def policy(style, script):
     return "; ".join([*parts, "base-uri 'none'", "form-action 'none'"])
 
 
-def write_page(model, stories):
-    """The page on those paths; the counts are those of the report."""
+def write_page(model, stories, only=()):
+    """The page on those paths, which `only` names; the counts are those of the report."""
     style, script = own_file("page.css"), own_file("page.js")
     title = escape(f"{model.names.types.of_class(model.report.owner)}.{model.names.write(model.report.method)}")
     parts = [
@@ -37,42 +39,58 @@ def write_page(model, stories):
         f'<meta http-equiv="Content-Security-Policy" content="{escape(policy(style, script))}">',
         '<meta name="viewport" content="width=device-width, initial-scale=1">',
         f"<title>{title}</title><style>{style}</style></head><body>",
-        *head(model),
+        *head(model, stories, only),
         *paths(stories),
         f"<script>{script}</script></body></html>\n",
     ]
     return "\n".join(parts)
 
 
-def head(model):
+def head(model, stories, only):
     """What is said of all paths."""
     place = model.place()
     lines = [f"<h1>{escape(model.names.signature())}</h1>", f"<p>{escape(place)}</p>" if place else ""]
-    lines += [f"<p>{escape(model.limits())}</p>", counts(model)]
+    lines += [f"<p>{escape(model.limits())}</p>", counts(model, stories)]
     lines += [f"<ul>{''.join(f'<li>{escape(each)}</li>' for each in model.uncovered())}</ul>"]
     lines += [f'<p class="warn">{escape(each)}</p>' for each in model.warnings]
     lines += [f"<p>{escape(each)}</p>" for each in NOTES]
-    return [*filter(None, lines), legend()]
+    lines += [legend(), *(f'<p class="warn">{escape(each)}</p>' for each in model.shown(stories, only))]
+    return [*filter(None, lines), f'<p class="none"{" hidden" if stories else ""}>No path is shown here.</p>']
 
 
-def counts(model):
-    """How many paths end in each way, each a filter."""
-    links = [link("", f"all {len(model.stories)}")]
+def counts(model, stories):
+    """How many paths end in each way and have each sign, each a filter where some of them are shown."""
+    there = [ending_filter(story.path.ending, story.detail) for story in stories]
+    there += [story.path.ending for story in stories] + [sign for story in stories for sign in story.signs]
+    more = f", {len(stories)} shown" if len(stories) < len(model.stories) else ""
+    links = [link("", f"all {len(model.stories)}{more}")]
     for how in ("throws", "cut"):
         details = [detail for ending, detail, _, _ in model.counts() if ending == how]
         if len(details) > 1:
-            links.append(link(how, f"{how} {sum(story.path.ending == how for story in model.stories)}"))
+            links.append(counted(how, f"{how} {sum(story.path.ending == how for story in model.stories)}", there))
     for ending, detail, called, count in model.counts():
-        links.append(link(f"{ending}={detail}" if detail else ending, f"{called} {count}"))
+        links.append(counted(ending_filter(ending, detail), f"{called} {count}", there))
+    for sign, count in model.signs():
+        links.append(counted(sign, f"{SIGN_FILTERS[sign]} {count}", there, SIGNS[sign][1]))
     return f'<p class="counts">{"".join(links)}</p>'
 
 
-def link(want, text):
-    return f'<a href="#{escape(quote(want))}">{escape(text)}</a>'
+def ending_filter(ending, detail):
+    return f"{ending}={detail}" if detail else ending
+
+
+def counted(want, text, there, title=None):
+    """How many paths are so: a filter, or a text alone where none of them is shown."""
+    return link(want, text, title) if want in there else f"<span>{escape(text)}, not shown</span>"
+
+
+def link(want, text, title=None):
+    more = f' title="{escape(title)}"' if title else ""
+    return f'<a href="#{escape(quote(want))}"{more}>{escape(text)}</a>'
 
 
 def legend():
-    rows = [f'<li><i class="{mark}">{escape(sign)}</i>{escape(says)}</li>' for mark, (sign, says) in LEGEND.items()]
+    rows = [f"<li>{sign(mark)}{escape(says)}</li>" for mark, (_, says) in LEGEND.items()]
     return f'<details class="legend"><summary>Signs of the drawings</summary><ul>{"".join(rows)}</ul></details>'
 
 
@@ -152,15 +170,35 @@ def path(pictured, waits):
     story = pictured.story
     figures = pictured.figures(waits)
     parts = [f'<details class="path" id="path-{story.decisions}"{data(story)}>']
-    parts.append(f"<summary><b>{story.decisions}</b>{escape(story.sentence)}</summary>")
+    parts.append(f"<summary><b>{story.decisions}</b>{escape(story.sentence)}{signs(story)}</summary>")
     parts += [f'<p class="warn">{escape(each)}</p>' for each in (story.cut, story.ring, story.warning) if each]
     parts += [f"<p>{escape(story.seen_at)}</p>"] if story.seen_at else []
     parts += section("Conditions", "".join(f"<li><code>{escape(each)}</code></li>" for each in story.conditions), "ul")
     named = [f"<li><code>{escape(name)} = {escape(text)}</code></li>" for name, text in story.definitions()]
-    parts += section("Terms", "".join(named), "ul") + [figures]
+    parts += section("Terms", "".join(named), "ul") + [figures, meanings(pictured)]
     parts += section("Input", escape("\n".join(story.path.input_lines)), "pre")
     parts += section("Test", escape("\n".join(story.test() or [])), "pre")
     return "".join([*parts, "</details>"])
+
+
+def signs(story):
+    """The signs of a path, behind its sentence."""
+    return "".join(f' <i class="{sign}" title="{escape(SIGNS[sign][1])}">{escape(SIGNS[sign][0])}</i>' for sign in story.signs)
+
+
+def meanings(pictured):
+    """What the signs of a path's heaps mean, those that stand there."""
+    heap, marks = pictured.heap, marks_of(pictured.story, pictured.heap, True)
+    used = {mark for each in marks.values() for mark in each}
+    used |= {cell_mark(cell) for thing in heap.things for cell in thing.cells}
+    cells = [*heap.arguments, *(cell for thing in heap.things for cell in thing.cells)]
+    used |= {UNREAD for cell in cells if cell.before == "?"}
+    items = [f"<span>{sign(mark)} {escape(says)}</span>" for mark, (_, says) in LEGEND.items() if mark in used]
+    return f'<p class="legend">{" ".join(items)}</p>' if items else ""
+
+
+def sign(mark):
+    return f'<i class="{mark}">{escape(LEGEND[mark][0])}</i>'
 
 
 def section(title, content, element):
@@ -170,5 +208,6 @@ def section(title, content, element):
 def data(story):
     """The ending of a path, and its exception or bound, as data."""
     parts = f' data-ending="{story.path.ending}"'
+    parts += f' data-signs="{" ".join(story.signs)}"' if story.signs else ""
     name = {"throws": "exception", "cut": "bound"}.get(story.path.ending)
     return parts + (f' data-{name}="{escape(story.detail)}"' if name and story.detail else "")

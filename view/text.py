@@ -4,9 +4,9 @@ from .marks import LEGEND
 from .words_of_heap import cell_words, marks_of, thing_words
 
 
-def write_text(model, stories):
-    """The text on those paths; the counts are those of the report."""
-    parts = [head(model), *(path_text(story) for story in stories), legend()]
+def write_text(model, stories, only=()):
+    """The text on those paths, which `only` names; the counts are those of the report."""
+    parts = [[*head(model), *model.shown(stories, only)], *(path_text(story) for story in stories), legend()]
     return "\n\n".join("\n".join(lines) for lines in parts) + "\n"
 
 
@@ -21,7 +21,8 @@ def head(model):
 
 
 NOTES = (
-    "Names speak of the heap as the run finds it. Objects with two numbers are two objects.",
+    "Names speak of the heap as the run finds it. Objects with two numbers are two objects: a reference that was read, and is "
+    "not said to be == null or == another one, holds an object that was not met before, unless that is open.",
     "Nothing that stands here is proved; the report is.",
 )
 

@@ -1,6 +1,7 @@
 """The page, by a parser of HTML."""
 
 import re
+import subprocess
 from html.parser import HTMLParser
 from shutil import which
 
@@ -14,8 +15,9 @@ from view.names import shown_name
 from view.page import MOST_DRAWN, write_page
 from view.report import read_report
 
+from .java import is_there
 from .many import many, node
-from .tools import HOSTILE, class_words, hostile, row_reports, stored
+from .tools import EXAMPLES, HOSTILE, class_words, hostile, row_reports, stored
 
 VOID = {"meta"}
 # All elements that a page may have; none of them fetches anything.
@@ -28,14 +30,15 @@ ELEMENTS = set(
 class Page(HTMLParser):
     """What a page holds: its paths with their data, and all text."""
 
-    def __init__(self, text):
+    def __init__(self, text, strict=True):
         super().__init__(convert_charrefs=True)
         self.opened, self.elements, self.ids, self.texts, self.links = [], [], [], [], []
-        self.paths, self.faults, self.metas = [], [], []
+        self.paths, self.faults, self.metas, self.nones = [], [], [], []
         self.wants_test = False
         self.feed(text)
         self.close()
-        same(self.opened, [], "elements that are not closed")
+        if strict:
+            same(self.opened, [], "elements that are not closed")
 
     def handle_starttag(self, tag, attributes):
         words = dict(attributes)
@@ -50,6 +53,8 @@ class Page(HTMLParser):
                 self.links.append(value)
         if tag == "meta":
             self.metas.append(words)
+        if words.get("class") == "none":
+            self.nones.append(words)
         if words.get("class") == "path":
             self.paths.append({**words, "heaps": [], "test": "", "summary": "", "texts": []})
         if words.get("class", "").startswith("heap "):
@@ -81,10 +86,11 @@ class Page(HTMLParser):
             self.paths[-1]["test"] += data
 
 
-def page_of(data, words=()):
-    """The page on a report, and what it holds; each of its rules is kept."""
+def page_of(data, words=(), only=None):
+    """The page on a report, and what it holds; each of its rules is kept. `only` are a WHAT and the paths that are shown."""
     model = Model(read_report(data), Classes([str(word) for word in words]))
-    text = write_page(model, model.stories)
+    stories = [story for story in model.stories if only is None or story.decisions in only[1]]
+    text = write_page(model, stories, [only[0]] if only else ())
     page = Page(text)
     same(page.faults, [], "faults")
     same(set(page.elements) <= ELEMENTS, True, f"elements {set(page.elements) - ELEMENTS}")
@@ -146,12 +152,12 @@ def test_the_page_of_every_form():
             "Only objects of the classes that were given when the report was made are among its inputs.",
             "No class file is given of Box: slots of theirs that were not read are missing, and so are tests.",
             "Names speak of the heap as the run finds it.",
-            "Objects with two numbers are two objects.",
+            "Objects with two numbers are two objects: a reference that was read,",
             "Nothing that stands here is proved",
         ):
             same(part in head, True, part)
         wanted = ["#", "#cut", "#returns", "#throws%3Djava/lang/NullPointerException", "#illtyped", "#cut%3Darray", "#cut%3Dk"]
-        same(page.links, [*wanted, "#undecided", "#open"], "filters")
+        same(page.links, [*wanted, "#undecided", "#open", "#overwritten"], "filters")
 
 
 def test_the_policy_forbids_all_but_the_page_s_own_style_and_script():
@@ -164,6 +170,75 @@ def test_the_policy_forbids_all_but_the_page_s_own_style_and_script():
 def test_a_report_without_paths():
     model, page = page_of(stored("none"))
     same((page.paths, "all 0" in page.texts), ([], True), "the page")
+    same([each.get("hidden", "no") for each in page.nones], ["no"], "that no path is shown is said")
+    same([each.get("hidden", "no") for each in page_of(stored("forms"))[1].nones], [None], "where paths are shown, it is not")
+
+
+def seen_in_a_browser(place, page, address):
+    """The paths that a browser shows of a page with that filter, those that are open, and whether it says that there is none."""
+    words = ["chromium", "--headless", "--no-sandbox", "--disable-gpu", "--virtual-time-budget=2000", "--dump-dom"]
+    ran = subprocess.run([*words, f"{(place / page).as_uri()}#{address}"], capture_output=True, check=False)
+    seen = Page(ran.stdout.decode("utf-8"), strict=False)
+    paths = [each for each in seen.paths if "hidden" not in each]
+    return [each["id"][5:] for each in paths], [each["id"][5:] for each in paths if "open" in each], "hidden" not in seen.nones[0]
+
+
+def test_filters_in_a_browser():
+    if not is_there("test_filters_in_a_browser", ["chromium"]):
+        return
+    with folder() as place:
+        report = direct("explore", "--method", "MyList.removeLast()V", "MyList.class", "MyList$Node.class", cwd=EXAMPLES).out
+        model = Model(read_report(report), Classes([str(EXAMPLES / "MyList.class")]))
+        (place / "all.html").write_text(write_page(model, model.stories), encoding="utf-8")
+        (place / "some.html").write_text(write_page(model, model.stories[:2], ["throws"]), encoding="utf-8")
+        for page, address, wanted in [
+            ("all.html", "ring", (["1.1", "1.2.1", "1.2.2"], [], False)),
+            ("all.html", "path-1.2.0", (["1.2.0"], ["1.2.0"], False)),
+            ("some.html", "cut", ([], [], True)),
+        ]:
+            same(seen_in_a_browser(place, page, address), wanted, f"{page}#{address}")
+
+
+def test_a_page_of_some_paths_says_so():
+    """Filters of paths that are not there are none."""
+    page = without_dot(lambda: page_of(stored("forms"), only=("cut", ["1.1.0", "1.1.1"])))[1]
+    same([each["id"] for each in page.paths], ["path-1.1.0", "path-1.1.1"], "paths")
+    said = "Shown are those of --only cut, 2 of 7 paths; what is counted and said above is of all."
+    same((said in page.texts, "all 7, 2 shown" in page.texts), (True, True), "what is said")
+    same(page.links, ["#", "#cut", "#cut%3Darray", "#cut%3Dk"], "filters")
+    gone = [text for text in page.texts if text.endswith(", not shown")]
+    wanted = ["returns 1", "throws NullPointerException 1", "ill-typed 1", "undecided 1", "open 1", "written unread (!) 2"]
+    same(gone, [f"{each}, not shown" for each in wanted], "counts without a filter")
+    page = without_dot(lambda: page_of(stored("forms"), only=("RuntimeException", [])))[1]
+    said = "Shown are those of --only RuntimeException, 0 of 7 paths; what is counted and said above is of all."
+    same((said in page.texts, page.links), (True, ["#"]), "no path")
+    same([each.get("hidden", "no") for each in page.nones], ["no"], "that no path is shown is said")
+
+
+def test_signs_of_paths():
+    """Beside the sentence, as data for the filters, and below the drawings in words."""
+    report = direct("explore", "--method", "MyList.removeLast()V", "MyList.class", "MyList$Node.class", cwd=ROOT / "examples").out
+    page = without_dot(lambda: page_of(report, [ROOT / "examples" / "MyList.class"]))[1]
+    found = {each["id"]: each.get("data-signs") for each in page.paths}
+    rings = dict.fromkeys(("path-1.1", "path-1.2.1", "path-1.2.2"), "ring")
+    without = dict.fromkeys(("path-0", "path-1.0", "path-1.2.3"))
+    same(found, {**rings, **without, "path-1.2.0": "lost"}, "removeLast")
+    same(page.links[-2:], ["#ring", "#lost"], "filters")
+    meant = [
+        "?",
+        " a slot that was not read",
+        "*",
+        " a slot whose value changed",
+        "lost",
+        " an object that nothing read or written leads to from arguments, receiver and result any more",
+    ]
+    texts = page.paths[3]["texts"]
+    at = texts.index(meant[1]) - 1
+    same([text for text in texts[at : at + 8] if text != " "], meant, "what the signs of the path mean")
+    report = direct("explore", "--k", "2", "--method", "List.insert(LList;LList;)LList;", "List.class", cwd=ROOT / "examples").out
+    page = without_dot(lambda: page_of(report, [ROOT / "examples" / "List.class"]))[1]
+    found = {each["id"]: each.get("data-signs") for each in page.paths}
+    same(found["path-0.1"], "overwritten", "a slot of insert that is written and never read")
 
 
 def test_names_are_text_alone():

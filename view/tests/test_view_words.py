@@ -81,6 +81,8 @@ def test_only_leaves_out_other_paths_and_keeps_the_counts():
             same((ran.status, found), (0, paths), what)
             counts = "returns 1, throws NullPointerException 1, ill-typed 1, cut by array 1, cut by k 1, undecided 1, open 1"
             same(counts in text.split("\n"), True, what)
+            there = f"Shown are those of --only {what}, {len(paths)} of 7 paths; what is counted and said above is of all."
+            same(there in text.split("\n"), True, f"what is said of --only {what}")
 
 
 def test_a_slip_is_no_what():
