@@ -6,6 +6,7 @@ class of examples/, or one of a list of blocks that are no example. So is each c
 
 import re
 import subprocess
+from fnmatch import fnmatch
 
 from script.own import COMMANDS
 from script.tests.tools import ROOT, environment, folder, same
@@ -30,6 +31,7 @@ OTHERS = (
     "kiasan: warning: class coll/MyList$Node",
     "class FLAGS NAME NAME ",
     ".ci/run\n",
+    "javac -d out ",
 )
 # Commands within sentences that are forms, or that are told of.
 FORMS = """
@@ -166,6 +168,15 @@ def test_examples_of_the_pages():
             judged.judge()
             judged.judge_sentences()
             same(judged.count >= least, True, f"examples of {page}: {judged.count}")
+
+
+def test_what_commands_write_is_ignored():
+    """Files that the commands of the pages write at the top of the repository are none of it (.gitignore)."""
+    patterns = [line[1:] for line in (ROOT / ".gitignore").read_text(encoding="utf-8").split("\n") if line.startswith("/")]
+    texts = [*map(read, PAGES), *(example for _, example in COMMANDS.values())]
+    names = {name for text in texts for name in re.findall(r"\./kiasan [^`\n]* > ([\w.]+)", text)}
+    same(len(names) > 8, True, f"files that commands write: {names}")
+    same([name for name in names if not any(fnmatch(name, pattern) for pattern in patterns)], [], "files that are not ignored")
 
 
 def test_the_path_of_pictures():

@@ -1,5 +1,6 @@
 """The sources of JUnit tests: word for word, with hostile names, and where a JDK and JUnit are there compiled and run."""
 
+import os
 import re
 import subprocess
 from concurrent.futures import ThreadPoolExecutor
@@ -330,3 +331,22 @@ def write_made(place, old, new):
     """The class, with a bug, as a class file."""
     (place / "Node.java").write_text(MADE.replace(old, new) if old else MADE)
     subprocess.run(["javac", "-J-XX:TieredStopAtLevel=1", "-d", place, place / "Node.java"], check=True)
+
+
+def test_the_lines_of_the_guide():
+    """docs/FINDING_BUGS.md compiles and runs the tests with the jars of Debian, of JUnit 5 first."""
+    page = (ROOT / "docs" / "FINDING_BUGS.md").read_text(encoding="utf-8")
+    blocks = re.findall(r"^```\n(javac -d out .*?)^```$", page, flags=re.M | re.S)
+    same(len(blocks), 2, "blocks of lines")
+    for style, block, says in zip("54", blocks, ("3 tests successful", "OK (3 tests)")):
+        jars = re.findall(r"/usr/share/java/[\w.-]+\.jar", block)
+        if not is_there("test_the_lines_of_the_guide", ["javac", "java", style]) or not all(map(os.path.exists, jars)):
+            continue
+        with folder() as place:
+            (place / "examples").symlink_to(EXAMPLES)
+            files = [EXAMPLES / "MyList.class", EXAMPLES / "MyList$Node.class"]
+            (place / "r").write_bytes(explored_report(["MyList.removeLast()V"], files))
+            source = call("junit", "--style", style, "r", "examples", cwd=place).out
+            (place / "MyListRemoveLastTest.java").write_bytes(source)
+            ran = subprocess.run(["sh", "-ec", block], cwd=place, capture_output=True, check=False)
+            same((ran.returncode, says in ran.stdout.decode()), (0, True), f"JUnit {style}: {ran.stderr.decode()}")
