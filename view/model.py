@@ -135,8 +135,8 @@ class Model:
 
     def signs(self):
         """How many paths have each sign, those that some path has."""
-        counted = {sign: sum(sign in story.signs for story in self.stories) for sign in SIGNS}
-        return [(sign, count) for sign, count in counted.items() if count]
+        counts = ((sign, sum(sign in story.signs for story in self.stories)) for sign in SIGNS)
+        return [(sign, count) for sign, count in counts if count]
 
     def shown(self, stories, only):
         """What is said where paths are left out; nothing where `only` names none."""

@@ -67,11 +67,11 @@ def counts(model, stories):
     for how in ("throws", "cut"):
         details = [detail for ending, detail, _, _ in model.counts() if ending == how]
         if len(details) > 1:
-            links.append(counted(how, f"{how} {sum(story.path.ending == how for story in model.stories)}", there))
+            links.append(count_of(how, f"{how} {sum(story.path.ending == how for story in model.stories)}", there))
     for ending, detail, called, count in model.counts():
-        links.append(counted(ending_filter(ending, detail), f"{called} {count}", there))
+        links.append(count_of(ending_filter(ending, detail), f"{called} {count}", there))
     for sign, count in model.signs():
-        links.append(counted(sign, f"{SIGN_FILTERS[sign]} {count}", there, SIGNS[sign][1]))
+        links.append(count_of(sign, f"{SIGN_FILTERS[sign]} {count}", there, SIGNS[sign][1]))
     return f'<p class="counts">{"".join(links)}</p>'
 
 
@@ -79,7 +79,7 @@ def ending_filter(ending, detail):
     return f"{ending}={detail}" if detail else ending
 
 
-def counted(want, text, there, title=None):
+def count_of(want, text, there, title=None):
     """How many paths are so: a filter, or a text alone where none of them is shown."""
     return link(want, text, title) if want in there else f"<span>{escape(text)}, not shown</span>"
 

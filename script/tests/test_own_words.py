@@ -102,7 +102,8 @@ def test_help_of_a_command():
             same(f"  {number:<4}{'; '.join(own)}\n" in text, True, f"status {number} in the help of {command}")
     same("--budget N       1 to 100,000, else 2,000" in call("tests", "--help").out.decode(), True, "options of tests")
     same("--budget" in call("replay", "--help").out.decode(), False, "options of replay")
-    for command, wanted in [("view", "--fail-on"), ("replay", "each test passes"), ("junit", "was written\n"), ("explain", "n\n")]:
+    firsts = {"view": "--fail-on", "replay": "each test passes", "junit": "was written\n", "explain": "was written\n"}
+    for command, wanted in firsts.items():
         line = re.search("^  0 .*\n", call(command, "--help").out.decode(), re.M)[0]
         same((wanted in line, "each test" in line), (True, command == "replay"), f"status 0 of {command}")
     for command, words in WAYS_TO_CALL.items():

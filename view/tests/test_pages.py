@@ -175,12 +175,14 @@ def test_a_report_without_paths():
 
 
 def seen_in_a_browser(place, page, address):
-    """The paths that a browser shows of a page with that filter, those that are open, and whether it says that there is none."""
+    """The paths that a browser shows of a page with that filter, those that are open, and whether it says that none is."""
     words = ["chromium", "--headless", "--no-sandbox", "--disable-gpu", "--virtual-time-budget=2000", "--dump-dom"]
     ran = subprocess.run([*words, f"{(place / page).as_uri()}#{address}"], capture_output=True, check=False)
     seen = Page(ran.stdout.decode("utf-8"), strict=False)
-    paths = [each for each in seen.paths if "hidden" not in each]
-    return [each["id"][5:] for each in paths], [each["id"][5:] for each in paths if "open" in each], "hidden" not in seen.nones[0]
+    shown = [each for each in seen.paths if "hidden" not in each]
+    paths = [each["id"][len("path-") :] for each in shown]
+    opened = [each["id"][len("path-") :] for each in shown if "open" in each]
+    return paths, opened, "hidden" not in seen.nones[0]
 
 
 def test_filters_in_a_browser():
@@ -217,8 +219,8 @@ def test_a_page_of_some_paths_says_so():
 
 def test_signs_of_paths():
     """Beside the sentence, as data for the filters, and below the drawings in words."""
-    report = direct("explore", "--method", "MyList.removeLast()V", "MyList.class", "MyList$Node.class", cwd=ROOT / "examples").out
-    page = without_dot(lambda: page_of(report, [ROOT / "examples" / "MyList.class"]))[1]
+    report = direct("explore", "--method", "MyList.removeLast()V", "MyList.class", "MyList$Node.class", cwd=EXAMPLES).out
+    page = without_dot(lambda: page_of(report, [EXAMPLES / "MyList.class"]))[1]
     found = {each["id"]: each.get("data-signs") for each in page.paths}
     rings = dict.fromkeys(("path-1.1", "path-1.2.1", "path-1.2.2"), "ring")
     without = dict.fromkeys(("path-0", "path-1.0", "path-1.2.3"))
@@ -235,8 +237,8 @@ def test_signs_of_paths():
     texts = page.paths[3]["texts"]
     at = texts.index(meant[1]) - 1
     same([text for text in texts[at : at + 8] if text != " "], meant, "what the signs of the path mean")
-    report = direct("explore", "--k", "2", "--method", "List.insert(LList;LList;)LList;", "List.class", cwd=ROOT / "examples").out
-    page = without_dot(lambda: page_of(report, [ROOT / "examples" / "List.class"]))[1]
+    report = direct("explore", "--k", "2", "--method", "List.insert(LList;LList;)LList;", "List.class", cwd=EXAMPLES).out
+    page = without_dot(lambda: page_of(report, [EXAMPLES / "List.class"]))[1]
     found = {each["id"]: each.get("data-signs") for each in page.paths}
     same(found["path-0.1"], "overwritten", "a slot of insert that is written and never read")
 

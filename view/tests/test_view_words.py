@@ -100,7 +100,8 @@ def test_a_slip_is_no_what():
         ]:
             for option in ("--fail-on", "--only"):
                 ran = call("view", "--text", option, "throws", option, what, "r", "q/TooLong.class", cwd=place)
-                says = f"{what.replace('.', '/')} names no path: no class of that name is given, of the report or of the platform"
+                named = what.replace(".", "/")
+                says = f"{named} names no path: no class of that name is given, of the report or of the platform"
                 same((ran.status, ran.out, ran.said[0]), (2, b"", says), what)
                 nearest = ran.said[1].partition(": ")[2].split(", ")[0] if ran.said[1:] else None
                 same(nearest, near, f"what is near to {what}")
