@@ -33,7 +33,7 @@ class Words:
                 at += 1
                 self.values[name].append(words[at])
             else:
-                self.fault(f"{name} has no value" if name in options else f"{name} is no option")
+                self.fault(f"{name} has no value" if name in options else no_option(name, options))
             at += 1
         if at == len(words):
             self.fault("no report is named")
@@ -50,6 +50,12 @@ class Words:
         if len(self.values[name]) > 1:
             self.fault(f"{name} is there twice")
         return self.values[name][0] if self.values[name] else default
+
+
+def no_option(word, options):
+    """That a word is no option, and how an option's value is written."""
+    name, equals, value = word.partition("=")
+    return f"{word} is no option" + (f", write {name} {value}" if equals and name in options else "")
 
 
 def answer(words):

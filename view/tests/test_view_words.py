@@ -38,6 +38,8 @@ FAULTS = (
     (["--text"], f"view: no report is named: {CALL}"),
     (["--page", "x"], f"view: --page is no option: {CALL}"),
     (["--only"], f"view: --only has no value: {CALL}"),
+    (["--only=throws", "r"], f"view: --only=throws is no option, write --only throws: {CALL}"),
+    (["--txt=1", "r"], f"view: --txt=1 is no option: {CALL}"),
     (["r", "--text"], f"view: --text stands behind REPORT, and options stand before it: {CALL}"),
     (["r", "A.class", "--only", "throws"], f"view: --only stands behind REPORT, and options stand before it: {CALL}"),
     (["--only", "returns=x", "r"], f"returns=x {NAMES_NO_PATH}"),
