@@ -44,8 +44,9 @@ def judge(row):
     elif status == 0:
         same(said, WARNED.get(text.partition(" --method ")[2], []), text)
     elif status == 6:
-        near = [line for line in said[1:] if not line.startswith("near names: ")]
-        same((near, said[0].endswith(": No such file or directory")), ([], True), text)
+        # what the word may mean is told behind it, of which test_explained.py has the lines
+        other = [line for line in said[1:] if not line.startswith("near names: ") and "options stand before" not in line]
+        same((other, said[0].endswith(": No such file or directory")), ([], True), text)
     else:
         same(said, NOTED.get(text.partition(" --method ")[2], []) + status_lines(status), text)
 
