@@ -82,7 +82,7 @@ interface_method_back (Some type) None = (refl, refl)
 interface_method_back (Some type) (Some member) = (refl, refl)
 
 module _ (pool : List PoolEntry) (types : List (Option ExactType)) (kinds : List (Option MemberKind)) where
-  text_of_told : (o : Option PoolEntry) → text_of_entry (option_map (entry_told pool types kinds) o) ≡ told_text pool o
+  pub text_of_told : (o : Option PoolEntry) → text_of_entry (option_map (entry_told pool types kinds) o) ≡ told_text pool o
   text_of_told None = refl
   text_of_told (Some (entries.Utf8 text)) = refl
   text_of_told (Some (entries.Integer value)) = refl

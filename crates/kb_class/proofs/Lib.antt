@@ -11,3 +11,4 @@ pub mod MemberLaws
 pub mod EntryLooks
 pub mod LoadLaws
 pub mod PlatformLaws
+pub mod LiteralLaws

@@ -1,5 +1,5 @@
 -- What a class keeps while it is loaded: tables over the constant pool, of the texts that are named in one role.
-use Rattle.std.specs.Prelude.{◌≡◌, ℕ, ◌≤◌, ◌⊎◌, List, ◌++◌, map, length, Option, Some, None, IsSome, IfSome, filter_map, slice_set}
+use Rattle.std.specs.Prelude.{◌≡◌, ℕ, ◌≤◌, ◌⊎◌, List, ◌++◌, map, length, Option, Some, None, IsSome, IfSome, option_map, filter_map, slice_set}
 use Rattle.std.specs.List.{AllByRecursion}
 use Rattle.kb_classfile.specs.declared.file.ClassFile.{ClassFile}
 use Rattle.kb_classfile.specs.declared.file.Code.{Code}
@@ -8,7 +8,7 @@ use Rattle.kb_classfile.specs.declared.file.Method.{Method as ClassMethod}
 use Rattle.kb_classfile.specs.declared.file.PoolEntry.{PoolEntry}
 use Rattle.kb_classfile.specs.declared.file.PoolEntry.TheVariants as entries
 use Rattle.kb_classfile.specs.declared.pool.EntryKind.TheVariants as kinds
-use Rattle.kb_classfile.specs.Pool.{utf8_of, name_index_of, NamesEntry, RefersWell}
+use Rattle.kb_classfile.specs.Pool.{utf8_in, utf8_of, name_index_of, NamesEntry, RefersWell}
 use Rattle.kb_names.specs.declared.types.JType.{JType}
 use Rattle.kb_names.specs.declared.types.MethodType.{MethodType}
 use Rattle.kb_names.specs.declared.class_names.Spelling.TheVariants.{Raw}
@@ -48,6 +48,15 @@ method_index method = method.kind
 -- the descriptors of NameAndType entries, of fields and of methods
 abbrev pub kind_numbers : ClassFile → List ℕ
 kind_numbers file = (filter_map kind_index_of file.pool ++ map field_index file.fields) ++ map method_index file.methods
+
+-- the number that a String entry names its text by, where a text stands there
+abbrev pub literal_index_of : List PoolEntry → PoolEntry → Option ℕ
+literal_index_of pool (entries.Str text) = option_map (λ (found : List ℕ). text) (utf8_in pool text)
+literal_index_of pool _ = None
+
+-- the texts of String entries (JVMS 8 section 4.4.3)
+abbrev pub literal_numbers : List PoolEntry → List ℕ
+literal_numbers pool = filter_map (literal_index_of pool) pool
 
 -- ---- tables
 

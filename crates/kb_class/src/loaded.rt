@@ -1,13 +1,15 @@
 //! A class loaded: given as a file, or of the platform.
 
-ghost use Rattle.std.specs.Prelude.{◌≡◌, ◌↔◌, ◌<◌, Some, IfOk, length, slice_get, option_map};
+ghost use Rattle.std.specs.Prelude.{◌≡◌, ◌↔◌, ◌<◌, ℕ, List, Some, IfOk, length, slice_get, option_map, option_and_then};
 ghost use Rattle.std.specs.Option.{option_copied};
+ghost use Rattle.kb_classfile.specs.declared.file.ClassFile.{ClassFile};
+ghost use Rattle.kb_classfile.specs.Pool.{utf8_of};
 ghost use Rattle.kb_names.specs.declared.types.ExactType.{ExactType};
 ghost use Rattle.kb_format.specs.Rules.{KeepsRules};
 ghost use Rattle.kb_class.specs.declared.members.MemberKind.{MemberKind};
 ghost use Rattle.kb_class.specs.Given.{IsGiven, given_of};
 ghost use Rattle.kb_class.specs.Loading.{IsClassOf};
-ghost use Rattle.kb_class.specs.Class.{TypeEntry, type_of_entry, text_of_entry, int_of_entry, reference_of_entry};
+ghost use Rattle.kb_class.specs.Class.{TextEntry, TypeEntry, type_of_entry, text_of_entry, int_of_entry, reference_of_entry};
 ghost use Rattle.kb_class.specs.References.{sought_of};
 ghost use Rattle.kb_class.specs.Naming.{Has, HasKind};
 ghost use Rattle.kb_class.specs.Platform.{PlatformClass, platform_table, IsPlatform};
@@ -15,7 +17,7 @@ ghost use Rattle.kb_class.specs.Platform.{PlatformClass, platform_table, IsPlatf
 use crate::entries::{Reference, int_entry, reference_entry, text_entry, type_entry};
 use crate::given::GivenClass;
 use crate::ids::ClassId;
-use crate::loading::{members_of, named_of};
+use crate::loading::{literals_of, members_of, named_of};
 use crate::members::{FieldInfo, MemberKind, MethodInfo};
 use crate::platform::{kind_at, kinds_of_methods, name_at};
 use kb_classfile::ClassFile;
@@ -264,6 +266,19 @@ impl LoadedClass {
         ensures { (kind : MemberKind) → Has result.now (Some kind) ↔ HasKind self.now kind }
     {
         self.kinds.as_slice()
+    }
+
+    /// The texts of its String entries, between empty places. The text of a Utf8 entry is copied once, however many String entries
+    /// name it, and stands at the number of that entry.
+    pub fn literals(&self, alloc: Global) -> Result<Row<Option<Row<u8>>>, NoMemory>
+        ensures texts { IfOk result (λ texts. (text : List ℕ) → Has texts (Some text) ↔ Has self.now.entries (TextEntry text)) }
+        ensures once { IfOk result (λ texts. (number : ℕ) (text : List ℕ) → slice_get texts number ≡ Some (Some text)
+            → option_and_then (λ (file : ClassFile). utf8_of file number) self.now.file ≡ Some text) }
+    {
+        match &self.origin {
+            Origin::File(file) => literals_of(alloc, file.get()),
+            Origin::Platform(_) => Ok(Row::new(alloc)),
+        }
     }
 
     /// How many entries its constant pool has, that of number 0 among them: none of a platform class.

@@ -10,12 +10,12 @@ ghost use Rattle.kb_classfile.specs.Pool.{class_name_of};
 ghost use Rattle.kb_format.specs.Rules.{KeepsRules};
 ghost use Rattle.kb_class.specs.Loading.{SpellsExact, SpellsKind, IsFieldOf, IsCodeOf, IsMethodOf, AreMethodsOf};
 ghost use Rattle.kb_class.specs.Loaded.{told_at};
-ghost use Rattle.kb_class.specs.Tables.{type_numbers, name_numbers, kind_numbers, SpellsItself, IsTable, IsSound, HasSize, IsFieldTold, IsMethodTold};
+ghost use Rattle.kb_class.specs.Tables.{type_numbers, name_numbers, kind_numbers, literal_numbers, SpellsItself, IsTable, IsSound, HasSize, IsFieldTold, IsMethodTold};
 
 use crate::handlers::handlers_of;
 use crate::ids::ClassId;
 use crate::members::{FieldInfo, MemberKind, MethodCode, MethodInfo};
-use crate::tables::{kind_numbers, name_numbers, table_of, type_numbers};
+use crate::tables::{kind_numbers, literal_numbers, name_numbers, table_of, type_numbers};
 use kb_classfile::{ClassFile, Code, Field, Method};
 use kb_code::Listing;
 use kb_names::{ExactType, JType, MethodType, Name, NoMemory, Row};
@@ -87,6 +87,14 @@ fn member_names(alloc: Global, file: &ClassFile) -> Result<Row<Option<Name>>, No
     ensures { IfOk result (IsTable SpellsItself file.now.pool (name_numbers file.now)) }
 {
     let numbers = name_numbers(alloc, file)?;
+    table_of(alloc, file, numbers.as_slice())
+}
+
+/// The texts of String entries.
+pub(crate) fn literals_of(alloc: Global, file: &ClassFile) -> Result<Row<Option<Row<u8>>>, NoMemory>
+    ensures { IfOk result (IsTable SpellsItself file.now.pool (literal_numbers file.now.pool)) }
+{
+    let numbers = literal_numbers(alloc, file)?;
     table_of(alloc, file, numbers.as_slice())
 }
 

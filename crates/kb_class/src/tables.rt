@@ -1,11 +1,11 @@
 //! Tables over the constant pool: what its texts say, each read once in each role.
 
-ghost use Rattle.std.specs.Prelude.{◌≡◌, ◌↔◌, ◌++◌, None, IfOk, OnOk, IsTrue, IsSome, map, length, replicate, option_to_list, filter_map};
+ghost use Rattle.std.specs.Prelude.{◌≡◌, ◌↔◌, ◌++◌, ℕ, List, None, IfOk, OnOk, IsTrue, IsSome, map, length, replicate, option_map, option_to_list, filter_map};
 ghost use Rattle.std.specs.List.{AllByRecursion};
-ghost use Rattle.kb_classfile.specs.Pool.{name_index_of};
+ghost use Rattle.kb_classfile.specs.Pool.{utf8_of, name_index_of};
 ghost use Rattle.kb_class.specs.Loading.{HasText};
 ghost use Rattle.kb_class.specs.Loaded.{told_at};
-ghost use Rattle.kb_class.specs.Tables.{type_numbers, field_name_index, method_name_index, name_numbers, kind_index_of, kind_numbers, field_index, method_index, IsSpelled, IsTable, Puts};
+ghost use Rattle.kb_class.specs.Tables.{type_numbers, field_name_index, method_name_index, name_numbers, kind_index_of, kind_numbers, field_index, method_index, literal_index_of, literal_numbers, IsSpelled, IsTable, Puts};
 
 use crate::texts::{Spelled, text_of};
 use kb_classfile::{ClassFile, Field, Method, PoolEntry};
@@ -159,4 +159,34 @@ fn add_method_kinds(numbers: &mut Row<u16>, methods: &[Method]) -> Result<(), No
         numbers.push(method.kind)?;
     }
     Ok(())
+}
+
+/// The numbers of the texts of String entries.
+pub(crate) fn literal_numbers(alloc: Global, file: &ClassFile) -> Result<Row<u16>, NoMemory>
+    ensures { IfOk result (λ numbers. numbers ≡ literal_numbers file.now.pool) }
+{
+    let mut numbers = Row::new(alloc);
+    for entry in file.pool.as_slice() {
+        add_literal(&mut numbers, file, entry)?;
+    }
+    Ok(numbers)
+}
+
+fn add_literal(numbers: &mut Row<u16>, file: &ClassFile, entry: &PoolEntry) -> Result<(), NoMemory>
+    ensures { OnOk result (numbers.new ≡ numbers.old ++ option_to_list (literal_index_of file.now.pool entry.now)) }
+{
+    match entry {
+        PoolEntry::Str(text) => add_text(numbers, file, *text),
+        _ => Ok(()),
+    }
+}
+
+// Adds the number, if a text stands there.
+fn add_text(numbers: &mut Row<u16>, file: &ClassFile, number: u16) -> Result<(), NoMemory>
+    ensures { OnOk result (numbers.new ≡ numbers.old ++ option_to_list (option_map (λ (text : List ℕ). number) (utf8_of file.now number))) }
+{
+    match file.utf8(number) {
+        Some(_) => Ok(numbers.push(number)?),
+        None => Ok(()),
+    }
 }

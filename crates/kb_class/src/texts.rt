@@ -10,7 +10,7 @@ ghost use Rattle.kb_class.specs.Tables.{SpellsItself, IsSpelling};
 use crate::members::MemberKind;
 use kb_classfile::ClassFile;
 use kb_names::{
-    ExactType, JType, MethodType, Name, NameRefusal, NoMemory, read_method_type, read_type,
+    ExactType, JType, MethodType, Name, NameRefusal, NoMemory, Row, read_method_type, read_type,
 };
 use std::alloc::Global;
 
@@ -45,6 +45,15 @@ impl Spelled for Name {
 
     fn read(alloc: Global, text: &[u8]) -> Result<Name, NoMemory> {
         Name::from_slice(alloc, text)
+    }
+}
+
+/// The text of a String entry.
+impl Spelled for Row<u8> {
+    ghost spells = { SpellsItself };
+
+    fn read(alloc: Global, text: &[u8]) -> Result<Row<u8>, NoMemory> {
+        Ok(Row::from_vec(text.to_vec(alloc)?))
     }
 }
 
