@@ -1,5 +1,5 @@
 -- The texts of String entries, by a table.
-use Rattle.std.proofs.Common.{◌≡◌, ◌↔◌, ℕ, List, map, Option, Some, None, slice_get, option_map, refl, sym, ap, subst, ◌∙◌}
+use Rattle.std.proofs.Common.{◌≡◌, ◌↔◌, ℕ, List, map, Option, Some, None, slice_get, option_map, Result, Ok, Err, IfOk, refl, sym, ap, subst, ◌∙◌}
 use Rattle.std.specs.List.{AllByRecursion}
 use Rattle.kb_classfile.specs.declared.file.PoolEntry.{PoolEntry}
 use Rattle.kb_classfile.specs.declared.file.PoolEntry.TheVariants as entries
@@ -8,7 +8,7 @@ use Rattle.kb_names.specs.declared.types.ExactType.{ExactType}
 use Rattle.kb_class.specs.declared.members.MemberKind.{MemberKind}
 use Rattle.kb_class.specs.Class.{Entry, TextEntry, text_of_entry}
 use Rattle.kb_class.specs.Naming.{Has}
-use Rattle.kb_class.specs.Loaded.{told_text, text_told, entry_told}
+use Rattle.kb_class.specs.Loaded.{told_at, told_text, text_told, entry_told}
 use Rattle.kb_class.specs.Tables.{literal_index_of, literal_numbers, SpellsItself, IsSpelled, IsTable}
 use Rattle.kb_class.proofs.Lists.{map_has, has_mapped, filter_has, has_filtered, all_by_has}
 use Rattle.kb_class.proofs.EntryLooks.{text_of_told}
@@ -73,19 +73,32 @@ module _ (pool : List PoolEntry) where
           let stands = map_has (entry_told pool types kinds) pool (entries.Str has.0) there in
           subst (λ (o : Option (List ℕ)). Has (map (entry_told pool types kinds) pool) (text_told o)) (literal_at has.0 text has.1) stands
 
+      -- an entry that is such a text names it by some number
+      told_as_text : (entry : PoolEntry) (text : List ℕ) → entry_told pool types kinds entry ≡ TextEntry text → (number : ℕ) × (entry ≡ entries.Str number) × (utf8_in pool number ≡ Some text)
+      told_as_text entry text e = by_text entry text (sym (text_of_told pool types kinds (Some entry)) ∙ ap (λ (told_entry : Entry). text_of_entry (Some told_entry)) e)
+
+      string_has : (number : ℕ) (text : List ℕ) → Has pool (entries.Str number) → utf8_in pool number ≡ Some text → Has texts (Some text)
+      string_has number text there at =
+          let index : literal_index_of pool (entries.Str number) ≡ Some number = ap (λ (o : Option (List ℕ)). option_map (λ (found : List ℕ). number) o) at in
+          let found = told.whole number (filter_has (literal_index_of pool) pool (entries.Str number) number there index) in
+          (number, told_stands texts number text (found.1 ∙ ap (λ (t : List ℕ). Some t) (same number text found.0 at found.1)))
+        where
+          same : (at : ℕ) (text value : List ℕ) → utf8_in pool at ≡ Some text → told_at texts at ≡ Some value → value ≡ text
+          same at text value is found =
+              let right = (told.right at value found).1 in
+              right.2 ∙ same_some (utf8_in pool at) right.0 text right.1 is
+
       standing_literal : (text : List ℕ) → Has (map (entry_told pool types kinds) pool) (TextEntry text) → Has texts (Some text)
       standing_literal text has =
           let entry = has_mapped (entry_told pool types kinds) pool (TextEntry text) has in
-          let is : told_text pool (Some entry.0) ≡ Some text = sym (text_of_told pool types kinds (Some entry.0)) ∙ ap (λ (e : Entry). text_of_entry (Some e)) entry.2 in
-          let string = by_text entry.0 text is in
-          let number : ℕ = string.0 in
-          let index : literal_index_of pool entry.0 ≡ Some number =
-          ap (literal_index_of pool) string.1 ∙ ap (λ (o : Option (List ℕ)). option_map (λ (found : List ℕ). number) o) string.2 in
-          let found = told.whole number (filter_has (literal_index_of pool) pool entry.0 number entry.1 index) in
-          let right = (told.right number found.0 found.1).1 in
-          let same : found.0 ≡ text = right.2 ∙ same_some (utf8_in pool number) right.0 text right.1 string.2 in
-          (number, told_stands texts number text (found.1 ∙ ap (λ (t : List ℕ). Some t) same))
+          let string = told_as_text entry.0 text entry.2 in
+          string_has string.0 text (subst (λ (e : PoolEntry). Has pool e) string.1 entry.1) string.2
 
       -- the table has the texts of String entries
       pub literals_told : (text : List ℕ) → Has texts (Some text) ↔ Has (map (entry_told pool types kinds) pool) (TextEntry text)
       literals_told text = (literal_stands text, standing_literal text)
+
+-- what follows of what is answered
+pub answered_so : {A E : Type 0} (result : Result A E) (P Q : A → Type 0) → IfOk result P → ((x : A) → P x → Q x) → IfOk result Q
+answered_so (Ok x) P Q is follows = follows x is
+answered_so (Err e) P Q is follows = tt
