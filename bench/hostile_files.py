@@ -31,7 +31,7 @@ from pathlib import Path
 
 from class_files import attribute, method_entry, name_and_type
 from link import PUBLIC, Pool
-from straight import ROOT, class_entry, utf8
+from straight import ROOT, class_entry, string_entry, utf8
 
 SHARES = [0.25, 0.5, 1.0]
 HALF_GOAL, TWIN_GOAL = 2.4, 2.0
@@ -66,7 +66,7 @@ def overload(number):
 
 
 class ClassFile:
-    """A class that grows. Each entry of its pool stands there once, but for references that are added again."""
+    """A class that grows. Each entry of its pool stands there once, but for references and strings that are added again."""
 
     def __init__(self, name, parent="java/lang/Object", access=PUBLIC):
         self.name, self.pool, self.numbers, self.access, self.methods = name, Pool(), {}, access, []
@@ -87,6 +87,9 @@ class ClassFile:
     def add_reference(self, owner, name, kind):
         member = self.once((self.text(name), self.text(kind)), lambda said: name_and_type(*said))
         return self.pool.add(method_entry(owner, member))
+
+    def add_string(self, text):
+        return self.pool.add(string_entry(self.text(text)))
 
     def add_method(self, access, name, kind, code=None, most_locals=0):
         attributes = b""
@@ -189,6 +192,25 @@ def references_chain(share, is_twin):
     parents = ["java/lang/Object"] + [f"H{number}" for number in range(count)]
     files = [references_class(f"H{number}", parents[number], 65_000, member) for number in range(count)]
     return Case(files, "H0.none()I", texts=[[member]] * count)
+
+
+def strings_class(name, count, text):
+    file = ClassFile(name)
+    for _ in range(count):
+        file.add_string(text)
+    return file.bytes()
+
+
+def literals(share, is_twin):
+    """65,000 String entries of one text of 65,535 bytes."""
+    text = long_name(is_twin)
+    return Case([strings_class("H", int(65_000 * share), text)], "H.none()I", texts=[[text]])
+
+
+def literals_beside(share, is_twin):
+    """64 classes, each with 65,000 such String entries."""
+    count, text = int(64 * share), long_name(is_twin)
+    return Case([strings_class(f"H{number}", 65_000, text) for number in range(count)], "H0.none()I", texts=[[text]] * count)
 
 
 def add_overloads(file, access, numbers, is_twin):
@@ -346,6 +368,8 @@ FAMILIES = [
     methods,
     references,
     references_chain,
+    literals,
+    literals_beside,
     overloads,
     two_packages,
     packages_chain,

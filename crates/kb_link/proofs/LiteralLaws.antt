@@ -1,10 +1,10 @@
 -- Lists of texts that grow, and the texts of string constants.
-use Rattle.std.proofs.Common.{◌≡◌, ◌↔◌, ◌==◌, nat_lt, ℕ, zero, suc, ◌+◌, ◌<◌, ◌≤◌, ◌⊎◌, inl, inr, Bool, true, false, List, [], ◌∷◌, ◌++◌, length, take, drop, get_or, ◌-◌, Option, Some, None, Result, Ok, Err, IfOk, OnOk, slice_get, slice_index_or, refl, sym, ap, subst, ◌∙◌, arith}
+use Rattle.std.proofs.Common.{◌≡◌, ◌↔◌, nat_lt, ℕ, zero, suc, ◌+◌, ◌<◌, ◌≤◌, ◌⊎◌, inl, inr, Bool, true, false, List, [], ◌∷◌, ◌++◌, length, take, drop, get_or, ◌-◌, Option, Some, None, Result, Ok, Err, IfOk, OnOk, slice_get, slice_index_or, refl, sym, ap, subst, ◌∙◌, arith}
 use Rattle.std.specs.List.{Contains, position_or_len}
-use Rattle.kb_class.specs.Class.{Class, Entry, IntEntry, TextEntry, TypeEntry, MemberEntry, FieldEntry, MethodEntry, InterfaceMethodEntry, OtherEntry, text_of_entry}
+use Rattle.kb_class.specs.Class.{Class, TextEntry}
 use Rattle.kb_class.specs.Naming.{Has}
 use Rattle.std.specs.Str.{bytes_eq}
-use Rattle.std.proofs.lemmas.Bool.{cases_order, lt-ltb, le-ltb}
+use Rattle.std.proofs.lemmas.Bool.{lt-ltb, le-ltb}
 use Rattle.std.proofs.lemmas.List.{take_all}
 use Rattle.std.proofs.lemmas.Slice.Eq.{bytes_eq-Decides}
 use Rattle.kb_order.specs.Texts.{IsBefore, IsRising, IsPlace}
@@ -12,7 +12,7 @@ use Rattle.kb_order.proofs.TextLaws.{before_itself, contains_tail, rising_head, 
 use Rattle.std.specs.declared.alloc.AllocError.{AllocError as NoMemory}
 use Rattle.kb_link.specs.World.{literal_in}
 use Rattle.kb_link.specs.Universe.{IsLiteral, AreLiterals}
-use Rattle.kb_link.specs.Mentions.{AddsTexts, AnyOf, HasLiteral}
+use Rattle.kb_link.specs.Mentions.{AddsTexts, AnyOf, HasLiteral, IsFoundText}
 
 -- ---- what stands in a list
 
@@ -79,49 +79,11 @@ adds_both before middle after Is Other Both both first second = λ t. (
   ],
 )
 
--- what a walk has added that has come to a place, and to the next
-abbrev pub Below : ℕ → (ℕ → List ℕ → Type 0) → List ℕ → Type 0
-Below end Is text = (i : ℕ) × (i < end) × Is i text
-
-pub adds_first : (before : List (List ℕ)) (Is : ℕ → List ℕ → Type 0) → AddsTexts before before (Below 0 Is)
-adds_first before Is = adds_none before (Below 0 Is) (λ t below. (let h = below.1 in omega (arith, h)))
-
-pub adds_next : (before middle after : List (List ℕ)) (end : ℕ) (Is : ℕ → List ℕ → Type 0)
-    → AddsTexts before middle (Below end Is) → AddsTexts middle after (Is end) → AddsTexts before after (Below (end + 1) Is)
-adds_next before middle after end Is first second = adds_both before middle after (Below end Is) (Is end) (Below (end + 1) Is)
-    (λ t. (λ below. split t below.0 below.1 below.2, λ one. elim one [ inl b ↦ (b.0, (let h = b.1 in omega (arith, h)), b.2) | inr h ↦ (end, omega arith, h) ])) first second
-  where
-    split : (t : List ℕ) (i : ℕ) → i < end + 1 → Is i t → Below end Is t ⊎ Is end t
-    split t i below is = elim (cases_order i end) [
-      | inl e ↦ inr (subst (λ (n : ℕ). Is n t) e is)
-      | inr (inl less) ↦ inl (i, less, is)
-      | inr (inr more) ↦ absurd (omega (arith, below, more))
-    ]
-
 -- ---- string constants
 
-pub text_there : (entry : Option Entry) (text : List ℕ) → Some text ≡ text_of_entry entry → entry ≡ Some (TextEntry text)
-text_there None text e = absurd cc
-text_there (Some (IntEntry n)) text e = absurd cc
-text_there (Some (TextEntry t)) text e = (let same : text ≡ t = cc in ap (λ (u : List ℕ). Some (TextEntry u)) (sym same))
-text_there (Some (TypeEntry t)) text e = absurd cc
-text_there (Some (MemberEntry m)) text e = absurd cc
-text_there (Some (FieldEntry t m)) text e = absurd cc
-text_there (Some (MethodEntry t m)) text e = absurd cc
-text_there (Some (InterfaceMethodEntry t m)) text e = absurd cc
-text_there (Some OtherEntry) text e = absurd cc
-
-pub adds_entry : (before after : List (List ℕ)) (entry : Option Entry) (text : List ℕ) → Some text ≡ text_of_entry entry → after ≡ before ++ text ∷ []
-    → AddsTexts before after (λ t. entry ≡ Some (TextEntry t))
-adds_entry before after entry text there pushed = adds_same before after (λ t. t ≡ text) (λ t. entry ≡ Some (TextEntry t))
-    (λ t. (λ same. subst (λ (u : List ℕ). entry ≡ Some (TextEntry u)) (sym same) is, λ at. (let h : Some (TextEntry t) ≡ Some (TextEntry text) = sym at ∙ is in cc)))
-    (adds_one before after text pushed)
-  where
-    is : entry ≡ Some (TextEntry text)
-    is = text_there entry text there
-
-pub adds_no_entry : (before : List (List ℕ)) (entry : Option Entry) → None ≡ text_of_entry entry → AddsTexts before before (λ t. entry ≡ Some (TextEntry t))
-adds_no_entry before entry none = adds_none before (λ t. entry ≡ Some (TextEntry t)) (λ t at. (let h : None ≡ text_of_entry (Some (TextEntry t)) = none ∙ ap text_of_entry at in absurd cc))
+pub adds_found : (before after : List (List ℕ)) (text : List ℕ) → after ≡ before ++ text ∷ [] → AddsTexts before after (IsFoundText (Some text))
+adds_found before after text pushed = adds_same before after (λ t. t ≡ text) (IsFoundText (Some text))
+    (λ t. (λ same. ap (λ (u : List ℕ). Some u) (sym same), λ found. (let same : t ≡ text = cc in same))) (adds_one before after text pushed)
 
 -- ---- what a walk over a list adds
 
@@ -163,16 +125,14 @@ module _ {A : Type 0} (Is : A → List ℕ → Type 0) where
     back (y ∷ ys) x (zero, at) is = (let same : y ≡ x = cc in inl (subst (λ (z : A). Is z t) (sym same) is))
     back (y ∷ ys) x (suc i, at) is = inr (back ys x (i, at) is)
 
--- all entries of a class are walked
-pub adds_walked : (before after : List (List ℕ)) (class : Class) (end : ℕ) → length class.entries ≤ end
-    → AddsTexts before after (Below end (λ (i : ℕ) (text : List ℕ). slice_get class.entries i ≡ Some (TextEntry text))) → AddsTexts before after (HasLiteral class)
-adds_walked before after class end all adds = adds_same before after (Below end (λ (i : ℕ) (text : List ℕ). slice_get class.entries i ≡ Some (TextEntry text))) (HasLiteral class)
-    (λ t. (λ below. (below.0, below.2), λ has. (has.0, (let h : has.0 < length class.entries = inside class.entries has.0 (TextEntry t) has.1 in omega (arith, h, all)), has.1))) adds
-  where
-    inside : (es : List Entry) (i : ℕ) (e : Entry) → slice_get es i ≡ Some e → i < length es
-    inside [] i e at = absurd cc
-    inside (f ∷ es) zero e at = omega arith
-    inside (f ∷ es) (suc i) e at = (let h : i < length es = inside es i e at in omega (arith, h))
+-- the texts of a class's string constants are walked
+pub adds_literals : (before after : List (List ℕ)) (class : Class) (texts : List (Option (List ℕ))) → ((text : List ℕ) → Has texts (Some text) ↔ Has class.entries (TextEntry text))
+    → AddsTexts before after (AnyOf IsFoundText texts) → AddsTexts before after (HasLiteral class)
+adds_literals before after class texts are = adds_same before after (AnyOf IsFoundText texts) (HasLiteral class)
+    (λ t. (
+      λ any. (let found = (any_has IsFoundText texts t).0 any in (are t).0 (subst (λ (o : Option (List ℕ)). Has texts o) found.2 found.1)),
+      λ has. (any_has IsFoundText texts t).1 (Some t, (are t).1 has, refl),
+    ))
 
 -- ---- the place of a text
 

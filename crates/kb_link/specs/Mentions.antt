@@ -28,6 +28,10 @@ AnyOf Is (x ∷ xs) text = Is x text ⊎ AnyOf Is xs text
 abbrev pub HasLiteral : Class → List ℕ → Type 0
 HasLiteral class text = Has class.entries (TextEntry text)
 
+-- the text that is found, if there is one
+abbrev pub IsFoundText : Option (List ℕ) → List ℕ → Type 0
+IsFoundText found text = found ≡ Some text
+
 -- ---- descriptors of the types that are named
 
 -- the descriptor of what an object is

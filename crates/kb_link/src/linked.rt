@@ -163,7 +163,7 @@ fn class_tables(
     })
 }
 
-// What is known of methods, beside their tables by names.
+// What is known of methods, beside the numbers of their names and types.
 #[derive(Drop)]
 pub(crate) struct MethodTables {
     places: Vec<MethodPlace>,

@@ -1,13 +1,13 @@
 //! The texts of string constants.
-ghost use Rattle.std.specs.Prelude.{◌≡◌, ◌<◌, ◌↔◌, ◌∷◌, [], ◌++◌, ℕ, List, Some, IfOk, OnOk, length, slice_get};
-ghost use Rattle.kb_class.specs.Class.{TextEntry};
+ghost use Rattle.std.specs.Prelude.{◌≡◌, ◌↔◌, ◌∷◌, [], ◌++◌, ℕ, List, IfOk, OnOk};
 ghost use Rattle.kb_class.specs.Naming.{Has};
 ghost use Rattle.kb_order.specs.Texts.{IsRising};
 ghost use Rattle.kb_link.specs.World.{literal_in};
-ghost use Rattle.kb_link.specs.Universe.{IsLiteral, AreLiterals};
-ghost use Rattle.kb_link.specs.Mentions.{AddsTexts, AnyOf, HasLiteral};
+ghost use Rattle.kb_link.specs.Universe.{AreLiterals};
+ghost use Rattle.kb_link.specs.Mentions.{AddsTexts, AnyOf, HasLiteral, IsFoundText};
 
 use crate::classes::Classes;
+use crate::mentions::push_row;
 use kb_class::LoadedClass;
 use kb_names::{NoMemory, Row};
 use kb_order::{TextSet, ordered_set};
@@ -53,36 +53,34 @@ fn texts_of(alloc: Global, classes: &[LoadedClass]) -> Result<Vec<Row<u8>>, NoMe
     Ok(texts)
 }
 
-// Adds the texts of the string constants of a class. A constant pool of more than 65,535 entries counts as out of memory: no file has
-// one.
+// Adds the texts of the string constants of a class: that of a Utf8 entry once, however many of them have it.
 fn push_texts(alloc: Global, class: &LoadedClass, texts: &mut Vec<Row<u8>>) -> Result<(), NoMemory>
     ensures { OnOk result (AddsTexts texts.old.items texts.new.items (HasLiteral class.now)) }
 {
-    let Ok(count) = u16::try_from(class.entry_count()) else {
-        return Err(NoMemory);
-    };
-    for entry in 0..count {
-        push_entry(alloc, class, entry, texts)?;
+    let literals = class.literals(alloc)?;
+    push_literals(literals.into_vec(), texts)
+}
+
+fn push_literals(literals: Vec<Option<Row<u8>>>, texts: &mut Vec<Row<u8>>) -> Result<(), NoMemory>
+    ensures { OnOk result (AddsTexts texts.old.items texts.new.items (AnyOf IsFoundText literals.items)) }
+{
+    for literal in literals {
+        push_literal(literal, texts)?;
     }
     Ok(())
 }
 
-// Adds the text of an entry, where it is a string constant.
-fn push_entry(
-    alloc: Global,
-    class: &LoadedClass,
-    entry: u16,
-    texts: &mut Vec<Row<u8>>,
-) -> Result<(), NoMemory>
-    ensures { OnOk result (AddsTexts texts.old.items texts.new.items (λ text. slice_get class.now.entries entry ≡ Some (TextEntry text))) }
+// Adds a text, if there is one.
+fn push_literal(literal: Option<Row<u8>>, texts: &mut Vec<Row<u8>>) -> Result<(), NoMemory>
+    ensures { OnOk result (AddsTexts texts.old.items texts.new.items (IsFoundText literal)) }
 {
-    match class.text_entry(entry) {
-        Some(text) => push_text(alloc, text, texts),
+    match literal {
+        Some(text) => push_row(text, texts),
         None => Ok(()),
     }
 }
 
-/// Adds a text.
+/// Adds a copy of a text.
 pub(crate) fn push_text(
     alloc: Global,
     text: &[u8],
@@ -93,8 +91,5 @@ pub(crate) fn push_text(
     let Ok(copy) = text.to_vec(alloc) else {
         return Err(NoMemory);
     };
-    match texts.push(Row::from_vec(copy)) {
-        Ok(()) => Ok(()),
-        Err(_) => Err(NoMemory),
-    }
+    push_row(Row::from_vec(copy), texts)
 }

@@ -173,7 +173,8 @@ fn type_text(alloc: Global, of: &JType) -> Result<Row<u8>, NoMemory>
     Ok(Row::from_vec(text))
 }
 
-fn push_row(text: Row<u8>, texts: &mut Vec<Row<u8>>) -> Result<(), NoMemory>
+/// Adds a text.
+pub(crate) fn push_row(text: Row<u8>, texts: &mut Vec<Row<u8>>) -> Result<(), NoMemory>
     ensures { OnOk result (texts.new.items ≡ texts.old.items ++ text ∷ []) }
 {
     match texts.push(text) {
