@@ -38,6 +38,10 @@ module _ (parts : List Part) (part : Part) where
       let found = position-Some (is_part part) (x ∷ xs) at x e in
       slice_get-get_or (x ∷ xs) at x found.0 ∙ ap (λ (p : Part). Some p) (sym (part_is part (get_or (x ∷ xs) at x) found.1))
 
+  pub part_at : (place : ℕ) → Some place ≡ position (is_part part) parts → (told : Option ℕ) → IfSome told (λ n. n ≡ place + 1) → IfSome told (λ n. n < 2 ^ 32) → IfSome told (HasPart parts part)
+  part_at place found None is fits = tt
+  part_at place found (Some number) is fits = record { place = place; number_is = omega (arith, is); fits = fits; there = place_found parts place (sym found) }
+
   pub missing_part : (number : ℕ) → HasPart parts part number → false ≡ list_any (is_part part) parts → ⊥
   missing_part number has none = true≢false (sym (any_passes_from_place (is_part part) parts has.place part has.there (part_self part)) ∙ sym none)
 

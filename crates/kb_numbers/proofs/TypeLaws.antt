@@ -1,5 +1,5 @@
 -- A part is the first one of one type, also while texts and parts are added.
-use Rattle.std.proofs.Common.{◌≡◌, ℕ, zero, suc, ◌+◌, ◌-◌, ◌<◌, ◌≤◌, Bool, true, false, true≢false, ◌&&◌, ◌==◌, if◌then◌else◌, List, [], ◌∷◌, length, drop, get_or, Option, Some, None, slice_get, refl, sym, ap, subst, ◌∙◌, arith}
+use Rattle.std.proofs.Common.{◌≡◌, ℕ, zero, suc, ◌+◌, ◌-◌, ◌<◌, ◌≤◌, Bool, true, false, true≢false, ◌&&◌, ◌==◌, if◌then◌else◌, List, [], ◌∷◌, length, drop, get_or, Option, Some, None, slice_get, IfSome, refl, sym, ap, subst, ◌∙◌, arith}
 use Rattle.std.specs.Option.{option_map}
 use Rattle.std.proofs.lemmas.Bool.Decides.{Decides-eqb}
 use Rattle.std.proofs.lemmas.List.{drop_more}
@@ -210,6 +210,11 @@ module _ (texts : List (List ℕ)) where
     part_found behind type symbol answer whole found m of =
         let same : symbol ≡ of.symbol = same_Some symbol of.symbol (whole of.symbol of.of_type) in
         found m (subst (λ (s : Symbol). HasPart parts (record { behind = behind; symbol = s }) m) (sym same) of.there)
+
+    pub part_there : (behind : ℕ) (type : Option JType) (symbol : Symbol) (answer : Option ℕ) → IsSymbol texts type symbol → IfSome answer (HasPart parts (record { behind = behind; symbol = symbol }))
+        → IfSome answer (IsPartOf texts parts behind type)
+    part_there behind type symbol None is there = tt
+    part_there behind type symbol (Some number) is there = record { symbol = symbol; of_type = is; there = there }
 
 -- ---- more texts and parts
 

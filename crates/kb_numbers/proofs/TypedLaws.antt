@@ -1,5 +1,5 @@
 -- The number of a type's descriptor is told by the type's first part, also while types are added.
-use Rattle.std.proofs.Common.{◌≡◌, ℕ, Bool, true, false, true≢false, cond, ◌==◌, is_some, List, Option, Some, None, refl, sym, ap, subst, ◌∙◌}
+use Rattle.std.proofs.Common.{◌≡◌, ℕ, Bool, true, false, true≢false, cond, ◌==◌, is_some, List, Option, Some, None, IfSome, refl, sym, ap, subst, ◌∙◌}
 use Rattle.std.specs.HashMap.{HashMap}
 use Rattle.std.proofs.lemmas.Bool.Decides.{Decides-eqb}
 use Rattle.std.proofs.lemmas.Option.{same_Some}
@@ -24,6 +24,11 @@ stays_both first second third one two = record { parts = λ place x at. two.part
 pub typed_on : (texts more : List (List ℕ)) → Keeps texts more → (old new : Types) → KeepsTypes old new → (kind : MethodType) (number : ℕ) → IsTyped texts old kind number → IsTyped more new kind number
 typed_on texts more keeps old new stays kind number is =
     (is.0, path_on texts more keeps old.parts new.parts stays.parts kind.result kind.params is.0 is.1, stays.ends is.0 number is.2)
+
+-- what the first part of a type tells
+pub typed_by : (texts : List (List ℕ)) (types : Types) (kind : MethodType) (first : ℕ) → IsTypePath texts types.parts kind first → (answer : Option ℕ) → answer ≡ told_in types.ends first → IfSome answer (IsTyped texts types kind)
+typed_by texts types kind first path None is = tt
+typed_by texts types kind first path (Some number) is = (first, path, sym is)
 
 -- ---- one descriptor
 

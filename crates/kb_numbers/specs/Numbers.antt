@@ -7,6 +7,7 @@ use Rattle.kb_classfile.specs.declared.file.ClassFile.{ClassFile}
 use Rattle.kb_classfile.specs.declared.file.Method.{Method as ClassMethod}
 use Rattle.kb_classfile.specs.Pool.{utf8_of}
 use Rattle.kb_names.specs.Descriptors.{IsMethodType, SpellsMethod}
+use Rattle.kb_names.specs.declared.types.MethodType.{MethodType}
 use Rattle.kb_names.specs.declared.class_names.Spelling.TheVariants.{Raw}
 use Rattle.kb_texts.specs.Texts.{AreDistinct}
 use Rattle.kb_class.specs.Class.{Class, Sought, reference_of_entry}
@@ -20,7 +21,7 @@ use Rattle.kb_numbers.specs.declared.pairs.Pair.{Pair}
 use Rattle.kb_numbers.specs.declared.pairs.EntryNumbers.{EntryNumbers}
 use Rattle.kb_numbers.specs.declared.numbering.Numbers.{Numbers}
 use Rattle.kb_numbers.specs.Members.{MemberNumbers, method_pairs, methods_of}
-use Rattle.kb_numbers.specs.Typed.{IsTypedMethod}
+use Rattle.kb_numbers.specs.Typed.{AreEnds, IsTyped, IsTypedMethod}
 pub use Rattle.kb_numbers.specs.Types.{HasTextAt}
 
 -- ---- pairs
@@ -64,12 +65,17 @@ AreNumberedFrom texts first (class ∷ classes) (own ∷ numbers) =
 AreNumberedFrom texts first _ _ = ⊥
 
 -- The numbers of the members of these classes; no text has two numbers, and the number of the descriptor of a method's type is
--- told by the parts of the type.
+-- told by the parts of the type. Every number that is told so is that of the type's descriptor.
 pub record AreNumbered (classes : List Class) (numbers : Numbers) : Type 0 where
   pub distinct : AreDistinct numbers.texts
   pub few : length numbers.texts < 2 ^ 32
   pub each : AreNumberedFrom numbers.texts 0 classes numbers.classes.items
   pub typed : AllZip (IsTypedMethod numbers.texts numbers.types) (methods_of classes) (method_pairs numbers.classes.items)
+  pub ends : AreEnds numbers.texts numbers.types
+
+-- The pair has the number of the name, and that which is told by the parts of the type.
+abbrev pub IsPairOf : Numbers → List ℕ → MethodType → Pair → Type 0
+IsPairOf numbers name kind pair = (slice_get numbers.texts pair.name ≡ Some name) × IsTyped numbers.texts numbers.types kind pair.kind
 
 -- ---- what is known of a class that is numbered
 

@@ -1,16 +1,41 @@
 -- The types of methods by their parts: the result, and before it the parameters from the last one to the first (JVMS 8 section
 -- 4.3.3).
-use Rattle.std.specs.Prelude.{◌≡◌, ℕ, suc, ◌<◌, ◌^◌, Bool, ◌==◌, ◌&&◌, List, [], ◌∷◌, Option, Some, None, slice_get}
+use Rattle.std.specs.Prelude.{◌≡◌, ℕ, suc, ◌<◌, ◌^◌, Bool, ◌==◌, ◌&&◌, if◌then◌else◌, List, [], ◌∷◌, ◌++◌, fold, Option, Some, None, slice_get}
+use Rattle.std.specs.List.{list_any}
 use Rattle.kb_names.specs.Shape.{Base, bool_base, byte_base, char_base, short_base, int_base, long_base, float_base, double_base, class_base}
 use Rattle.kb_names.specs.Types.{shape_of}
 use Rattle.kb_names.specs.declared.types.JType.{JType}
 use Rattle.kb_names.specs.declared.types.MethodType.{MethodType}
+use Rattle.kb_texts.specs.Texts.{with_text}
 use Rattle.kb_numbers.specs.declared.parts.Part.{Part}
 use Rattle.kb_numbers.specs.declared.parts.Symbol.{Symbol}
 
 -- the text of that number is such
 abbrev pub HasTextAt : List (List ℕ) → ℕ → (List ℕ → Type 0) → Type 0
 HasTextAt texts number Is = (text : List ℕ) × (slice_get texts number ≡ Some text) × Is text
+
+-- ---- the names of the classes in a type
+
+-- the texts with the name of the class that elements are, which goes to the end unless it is there
+abbrev pub with_base : List (List ℕ) → Base → List (List ℕ)
+with_base texts (class_base name) = with_text texts name
+with_base texts _ = texts
+
+abbrev pub with_name : List (List ℕ) → JType → List (List ℕ)
+with_name texts type = with_base texts (shape_of type).base
+
+-- with those of all parameters
+abbrev pub with_param_names : List (List ℕ) → List JType → List (List ℕ)
+with_param_names texts params = fold with_name texts params
+
+-- with that of a result
+abbrev pub with_result_name : List (List ℕ) → Option JType → List (List ℕ)
+with_result_name texts None = texts
+with_result_name texts (Some type) = with_name texts type
+
+-- with those of a type, its parameters' before its result's
+abbrev pub with_names : List (List ℕ) → MethodType → List (List ℕ)
+with_names texts kind = with_result_name (with_param_names texts kind.params) kind.result
 
 -- ---- types by numbers
 
@@ -54,6 +79,10 @@ is_symbol one other = (one.dims == other.dims) && ((one.base == other.base) && (
 
 abbrev pub is_part : Part → Part → Bool
 is_part one other = (one.behind == other.behind) && is_symbol one.symbol other.symbol
+
+-- the parts with one that goes to the end unless it is there
+abbrev pub with_part : List Part → Part → List Part
+with_part parts part = if list_any (is_part part) parts then parts else parts ++ part ∷ []
 
 -- ---- paths
 

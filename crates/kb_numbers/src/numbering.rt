@@ -1,12 +1,11 @@
 //! The numbers of the members of all classes.
-ghost use Rattle.std.specs.Prelude.{◌≡◌, ◌+◌, ◌<◌, ◌^◌, Some, IfOk, OnOk, length};
+ghost use Rattle.std.specs.Prelude.{◌≡◌, ◌+◌, ◌<◌, ◌^◌, Some, IfOk, IfSome, OnOk, length};
 ghost use Rattle.std.specs.List.{AllByRecursion, AllZip};
-ghost use Rattle.kb_class.specs.declared.members.MemberKind.TheVariants as kinds;
 ghost use Rattle.kb_numbers.specs.declared.pairs.Pair.{Pair as PlainPair};
 ghost use Rattle.kb_texts.specs.Texts.{Keeps};
 ghost use Rattle.kb_numbers.specs.Members.{entry_named, field_place, fields_at, method_number, method_pairs, method_place, methods_at, methods_of};
-ghost use Rattle.kb_numbers.specs.Numbers.{AreNumbered, AreNumberedFrom, HasTexts, IsNumbered, StandsFor};
-ghost use Rattle.kb_numbers.specs.Typed.{IsTyped, IsTypedMethod};
+ghost use Rattle.kb_numbers.specs.Numbers.{AreNumbered, AreNumberedFrom, HasTexts, IsNumbered, IsPairOf};
+ghost use Rattle.kb_numbers.specs.Typed.{AreEnds, IsTypedMethod};
 
 use crate::class_numbers::ClassNumbers;
 use crate::pairs::{EntryNumbers, Pair};
@@ -19,8 +18,8 @@ use kb_names::{MethodType, Name, NoMemory};
 use kb_texts::Texts;
 use std::alloc::Global;
 
-/// The different texts of the constant pools of some classes, the members of the classes by the numbers of their names and
-/// types, and the types of methods by their parts.
+/// Different texts, among them the names and descriptors of the members of some classes and all that the entries of their
+/// constant pools name; the members of the classes by the numbers of these texts; and the types of their methods by their parts.
 #[derive(Drop)]
 pub struct Numbers {
     pub texts: Texts,
@@ -47,7 +46,7 @@ pub fn numbers_of(alloc: Global, classes: &[LoadedClass]) -> Result<Numbers, NoM
     })
 }
 
-// The numbers of the members of these classes, by the numbers of the texts, to which theirs are added.
+// The numbers of the members of these classes; texts that have none are added.
 fn number_all(
     alloc: Global,
     classes: &[LoadedClass],
@@ -79,6 +78,7 @@ fn types_of(
     requires { AreNumberedFrom texts.old 0 classes.now numbers.now }
     ensures keeps { OnOk result (Keeps texts.old texts.new) }
     ensures typed { IfOk result (λ types. AllZip (IsTypedMethod texts.new types) (methods_of classes.now) (method_pairs numbers.now)) }
+    ensures ends { IfOk result (AreEnds texts.new) }
 {
     let mut types = Types::new(alloc);
     for (number, class) in classes.iter().enumerate() {
@@ -119,10 +119,11 @@ fn class_numbers(
 }
 
 impl Numbers {
-    /// The pair of a name and of a type, if a method has them: looks into tables.
+    /// The pair of a name and of the type of a method, if both have numbers: looks into tables.
     pub fn pair_of(&self, name: &Name, kind: &MethodType) -> Option<Pair>
         requires { length self.now.texts < 2 ^ 32 }
-        ensures { (pair : PlainPair) → StandsFor self.now.texts pair name.now (kinds.Method kind.now) → IsTyped self.now.texts self.now.types kind.now pair.kind → result ≡ Some pair }
+        ensures found { IfSome result (IsPairOf self.now name.now kind.now) }
+        ensures whole { (pair : PlainPair) → IsPairOf self.now name.now kind.now pair → result ≡ Some pair }
     {
         let name = text_number(&self.texts, name.as_slice())?;
         let kind = self.types.number_of(&self.texts, kind)?;

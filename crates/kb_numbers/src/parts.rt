@@ -3,7 +3,7 @@ ghost use Rattle.std.specs.Prelude.{◌≡◌, ◌+◌, ◌<◌, ◌≤◌, ◌^
 ghost use Rattle.kb_names.specs.Types.{shape_of};
 ghost use Rattle.kb_texts.specs.Texts.{Keeps};
 ghost use Rattle.kb_numbers.specs.declared.parts.Symbol.{Symbol as PlainSymbol};
-ghost use Rattle.kb_numbers.specs.Types.{HasPart, IsNameOf, IsSymbol, IsTypeSymbol, code_of};
+ghost use Rattle.kb_numbers.specs.Types.{HasPart, IsNameOf, IsSymbol, IsTypeSymbol, code_of, with_part};
 
 use indexmap::IndexSet;
 use kb_names::{JType, NoMemory};
@@ -64,6 +64,7 @@ impl Parts {
 
     /// The number of a part, which goes to the end unless it is there. Parts without numbers of 32 bits count as out of memory.
     pub(crate) fn add(&mut self, part: Part) -> Result<u32, NoMemory>
+        ensures parts { OnOk result (self.new ≡ with_part self.old part) }
         ensures number { IfOk result (HasPart self.new part) }
         ensures keeps { OnOk result (Keeps self.old self.new) }
     {
@@ -76,7 +77,8 @@ impl Parts {
 
     /// The number of a part, if it is there.
     pub(crate) fn number(&self, part: Part) -> Option<u32>
-        ensures { (number : ℕ) → HasPart self.now part number → result ≡ Some number }
+        ensures found { IfSome result (HasPart self.now part) }
+        ensures whole { (number : ℕ) → HasPart self.now part number → result ≡ Some number }
     {
         let place = self.set.get_index_of(&part)?;
         number_of_place(place)

@@ -3,7 +3,7 @@ ghost use Rattle.std.specs.Prelude.{◌≡◌, Some, map, slice_get, slice_index
 ghost use Rattle.std.specs.Option.{option_copied};
 ghost use Rattle.kb_classfile.specs.Pool.{text_of};
 ghost use Rattle.kb_class.specs.Class.{Class as PlainClass};
-ghost use Rattle.kb_texts.specs.Texts.{Keeps};
+ghost use Rattle.kb_texts.specs.Texts.{Keeps, with_text};
 ghost use Rattle.kb_numbers.specs.Numbers.{IsNumbered, IsOfFile};
 ghost use Rattle.kb_numbers.specs.Pools.{HasNumber, IsTextRow, class_index, entry_numbers, field_pair, method_pair, name_type_at, numbers_by, pair_at};
 
@@ -69,6 +69,7 @@ fn text_of(entry: &PoolEntry) -> Option<&[u8]>
 
 /// The number of a text, which is added unless it is there. Texts without numbers of 32 bits count as out of memory.
 pub(crate) fn number_of_text(alloc: Global, text: &[u8], texts: &mut Texts) -> Result<u32, NoMemory>
+    ensures texts { OnOk result (texts.new ≡ with_text texts.old text.now) }
     ensures keeps { OnOk result (Keeps texts.old texts.new) }
     ensures number { IfOk result (λ number. slice_get texts.new number ≡ Some text.now) }
 {

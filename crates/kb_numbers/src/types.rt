@@ -1,12 +1,12 @@
-//! The types of methods by their parts, so that the number of a type's descriptor is found without memory.
-ghost use Rattle.std.specs.Prelude.{◌≡◌, ℕ, List, Some, IfOk, OnOk};
+//! The types of methods by their parts, so that the number of a type's descriptor is found without writing it.
+ghost use Rattle.std.specs.Prelude.{◌≡◌, ℕ, List, Some, true, false, is_some, IfOk, IfSome, OnOk};
 ghost use Rattle.std.specs.List.{AllZip};
 ghost use Rattle.kb_class.specs.Loading.{SpellsKind};
 ghost use Rattle.kb_class.specs.declared.members.MemberKind.TheVariants as kinds;
 ghost use Rattle.kb_texts.specs.Texts.{Keeps};
 ghost use Rattle.kb_numbers.specs.Numbers.{IsMethodPair};
-ghost use Rattle.kb_numbers.specs.Typed.{AreEnds, IsTyped, IsTypedMethod, KeepsTypes};
-ghost use Rattle.kb_numbers.specs.Types.{HasTextAt, IsPartOf, IsTypePath};
+ghost use Rattle.kb_numbers.specs.Typed.{AreEnds, IsTyped, IsTypedMethod, KeepsTypes, told_in};
+ghost use Rattle.kb_numbers.specs.Types.{HasTextAt, IsPartOf, IsTypePath, with_name, with_names, with_param_names};
 
 use crate::pairs::Pair;
 use crate::parts::{Part, Parts, element_of, result_symbol, symbol_of};
@@ -38,9 +38,10 @@ impl Types {
         }
     }
 
-    /// The number of the descriptor of a type.
+    /// The number of the descriptor of a type, if it is told.
     pub(crate) fn number_of(&self, texts: &Texts, kind: &MethodType) -> Option<u32>
-        ensures { (number : ℕ) → IsTyped texts.now self.now kind.now number → result ≡ Some number }
+        ensures found { IfSome result (IsTyped texts.now self.now kind.now) }
+        ensures whole { (number : ℕ) → IsTyped texts.now self.now kind.now number → result ≡ Some number }
     {
         let first = first_part(&self.parts, texts, kind)?;
         self.ends.get(&first).copied()
@@ -49,7 +50,8 @@ impl Types {
 
 // The number of the first part of a type, if all its parts are there.
 fn first_part(parts: &Parts, texts: &Texts, kind: &MethodType) -> Option<u32>
-    ensures { (number : ℕ) → IsTypePath texts.now parts.now kind.now number → result ≡ Some number }
+    ensures found { IfSome result (IsTypePath texts.now parts.now kind.now) }
+    ensures whole { (number : ℕ) → IsTypePath texts.now parts.now kind.now number → result ≡ Some number }
 {
     let params = kind.params.as_slice();
     let mut number = result_part(parts, texts, &kind.result)?;
@@ -62,7 +64,8 @@ fn first_part(parts: &Parts, texts: &Texts, kind: &MethodType) -> Option<u32>
 }
 
 fn result_part(parts: &Parts, texts: &Texts, of: &Option<JType>) -> Option<u32>
-    ensures { (number : ℕ) → IsPartOf texts.now parts.now 0 of.now number → result ≡ Some number }
+    ensures found { IfSome result (IsPartOf texts.now parts.now 0 of.now) }
+    ensures whole { (number : ℕ) → IsPartOf texts.now parts.now 0 of.now number → result ≡ Some number }
 {
     let symbol = result_symbol(texts, of)?;
     parts.number(Part { behind: 0, symbol })
@@ -70,7 +73,8 @@ fn result_part(parts: &Parts, texts: &Texts, of: &Option<JType>) -> Option<u32>
 
 // The number of the part of a parameter that stands before the part of the other number.
 fn param_part(parts: &Parts, texts: &Texts, behind: u32, of: &JType) -> Option<u32>
-    ensures { (number : ℕ) → IsPartOf texts.now parts.now behind (Some of.now) number → result ≡ Some number }
+    ensures found { IfSome result (IsPartOf texts.now parts.now behind (Some of.now)) }
+    ensures whole { (number : ℕ) → IsPartOf texts.now parts.now behind (Some of.now) number → result ≡ Some number }
 {
     let symbol = symbol_of(texts, of)?;
     parts.number(Part { behind, symbol })
@@ -117,7 +121,8 @@ fn add_param(parts: &mut Parts, texts: &Texts, behind: u32, of: &JType) -> Resul
 
 // Gives numbers to the names of the classes in a type.
 fn add_names(alloc: Global, kind: &MethodType, texts: &mut Texts) -> Result<(), NoMemory>
-    ensures { OnOk result (Keeps texts.old texts.new) }
+    ensures keeps { OnOk result (Keeps texts.old texts.new) }
+    ensures names { OnOk result (texts.new ≡ with_names texts.old kind.now) }
 {
     add_param_names(alloc, kind.params.as_slice(), texts)?;
     match &kind.result {
@@ -127,7 +132,8 @@ fn add_names(alloc: Global, kind: &MethodType, texts: &mut Texts) -> Result<(), 
 }
 
 fn add_param_names(alloc: Global, params: &[JType], texts: &mut Texts) -> Result<(), NoMemory>
-    ensures { OnOk result (Keeps texts.old texts.new) }
+    ensures keeps { OnOk result (Keeps texts.old texts.new) }
+    ensures names { OnOk result (texts.new ≡ with_param_names texts.old params.now) }
 {
     for param in params {
         add_name(alloc, param, texts)?;
@@ -135,11 +141,16 @@ fn add_param_names(alloc: Global, params: &[JType], texts: &mut Texts) -> Result
     Ok(())
 }
 
+// A type of more dimensions than 32 bits tell counts as out of memory.
 fn add_name(alloc: Global, of: &JType, texts: &mut Texts) -> Result<(), NoMemory>
-    ensures { OnOk result (Keeps texts.old texts.new) }
+    ensures keeps { OnOk result (Keeps texts.old texts.new) }
+    ensures names { OnOk result (texts.new ≡ with_name texts.old of.now) }
 {
-    match element_of(of) {
-        Some((_, JType::Class(name))) => {
+    let Some((_, element)) = element_of(of) else {
+        return Err(NoMemory);
+    };
+    match element {
+        JType::Class(name) => {
             texts.place(alloc, name.as_slice())?;
             Ok(())
         }
@@ -147,7 +158,7 @@ fn add_name(alloc: Global, of: &JType, texts: &mut Texts) -> Result<(), NoMemory
     }
 }
 
-/// Adds the type of a method, whose descriptor has that number, unless the number was met.
+// Adds the type of a method, whose descriptor has that number, unless the number was met.
 fn add_type(
     alloc: Global,
     kind: &MethodType,
@@ -156,6 +167,8 @@ fn add_type(
     texts: &mut Texts,
 ) -> Result<(), NoMemory>
     requires { AreEnds texts.old types.old × HasTextAt texts.old number (SpellsKind (kinds.Method kind.now)) }
+    ensures met { OnOk result (is_some (told_in types.old.seen number) ≡ true → (texts.new ≡ texts.old) × (types.new ≡ types.old)) }
+    ensures names { OnOk result (is_some (told_in types.old.seen number) ≡ false → texts.new ≡ with_names texts.old kind.now) }
     ensures keeps { OnOk result (Keeps texts.old texts.new × KeepsTypes types.old types.new) }
     ensures ends { OnOk result (AreEnds texts.new types.new) }
     ensures typed { OnOk result (IsTyped texts.new types.new kind.now number) }

@@ -15,4 +15,5 @@ returns c = record {
   few = omega (arith, c.count.ensures, c.if-count.false);
   each = all_numbered_on c.number_all.new.texts c.types_of.new.texts c.in_ok-types.ensures.keeps 0 c.args.classes.now c.in_ok-numbers.numbers.items c.in_ok-numbers.ensures;
   typed = subst (λ (ns : List MemberNumbers). AllZip (IsTypedMethod c.types_of.new.texts c.in_ok-types.types) (methods_of c.args.classes.now) (method_pairs ns)) c.as_slice.ensures.value c.in_ok-types.ensures.typed;
+  ends = c.in_ok-types.ensures.ends;
 }

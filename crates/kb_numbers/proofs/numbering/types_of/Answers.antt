@@ -80,6 +80,9 @@ loop-number-preserved c =
 pub returns-clause-keeps : goal.returns-clause-keeps
 returns-clause-keeps c = c.loop-number.invariant.keeps
 
+pub returns-clause-ends : goal.returns-clause-ends
+returns-clause-ends c = c.loop-number.invariant.ends
+
 pub returns-clause-typed : goal.returns-clause-typed
 returns-clause-typed c =
     let classes = c.args.classes.now in

@@ -1,6 +1,7 @@
-use Rattle.std.proofs.Common.{List, sym, subst, ◌∙◌}
+use Rattle.std.proofs.Common.{List, sym, ap, subst, ◌∙◌}
 use Rattle.kb_texts.specs.Texts.{AreDistinct, Keeps}
 use Rattle.kb_numbers.specs.declared.parts.Part.{Part}
+use Rattle.kb_numbers.specs.Types.{with_part}
 use Rattle.kb_numbers.proofs.PartLaws.{kept_more, distinct_more, number_there}
 use Rattle.kb_numbers.proofs.parts.Parts.add.Goals as goal
 
@@ -9,6 +10,9 @@ invariant_of-self-2 c = subst AreDistinct (sym c.in_ok-place.ensures.keys) (dist
 
 pub invariant_of-self-in_default : goal.invariant_of-self-in_default
 invariant_of-self-in_default c = subst AreDistinct (sym c.in_ok-place.ensures.keys) (distinct_more c.self.inside.set.keys c.args.part c.self.invariant)
+
+pub returns-clause-parts : goal.returns-clause-parts
+returns-clause-parts c = c.in_ok-place.ensures.keys ∙ ap (λ (ps : List Part). with_part ps c.args.part) c.self.view_is
 
 pub returns-clause-number : goal.returns-clause-number
 returns-clause-number c =
