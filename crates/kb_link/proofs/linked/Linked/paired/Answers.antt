@@ -25,7 +25,7 @@ returns-in_err-pair-clause-whole c = λ id is.
     let here : IsNumberOf c.self.inside.classes c.args.class c.args.target.now.name c.args.target.now.kind id =
     subst (λ (cs : List Class). IsNumberOf cs c.args.class c.args.target.now.name c.args.target.now.kind id) (sym classes) is in
     let pair = pair_of_number c.self.inside.classes c.get-numbers.result.now are c.self.invariant.0.loaded.methods c.args.class c.args.target.now.name c.args.target.now.kind id here in
-    absurd (none-some pair.0 (c.in_err-pair.ensures pair.0 pair.1 pair.3))
+    absurd (none-some pair.0 (c.in_err-pair.ensures.whole pair.0 (pair.1.named, pair.3)))
 
 pub returns-in_err-number-clause-whole : goal.returns-in_err-number-clause-whole
 returns-in_err-number-clause-whole c = λ id is.
@@ -34,7 +34,7 @@ returns-in_err-number-clause-whole c = λ id is.
     let here : IsNumberOf c.self.inside.classes c.args.class c.args.target.now.name c.args.target.now.kind id =
     subst (λ (cs : List Class). IsNumberOf cs c.args.class c.args.target.now.name c.args.target.now.kind id) (sym classes) is in
     let pair = pair_of_number c.self.inside.classes c.get-numbers.result.now are c.self.invariant.0.loaded.methods c.args.class c.args.target.now.name c.args.target.now.kind id here in
-    let same : c.in_ok-pair.pair ≡ pair.0 = same_Some c.in_ok-pair.pair pair.0 (c.in_ok-pair.ensures pair.0 pair.1 pair.3) in
+    let same : c.in_ok-pair.pair ≡ pair.0 = same_Some c.in_ok-pair.pair pair.0 (c.in_ok-pair.ensures.whole pair.0 (pair.1.named, pair.3)) in
     absurd (none-some id (c.in_err-number.ensures ∙ ap (λ (p : Pair). method_number c.get-numbers.result.now.classes.items c.args.class p) same ∙ pair.2))
 
 pub returns-clause-found : goal.returns-clause-found
@@ -51,7 +51,7 @@ returns-clause-whole c = λ id is.
     let here : IsNumberOf c.self.inside.classes c.args.class c.args.target.now.name c.args.target.now.kind id =
     subst (λ (cs : List Class). IsNumberOf cs c.args.class c.args.target.now.name c.args.target.now.kind id) (sym classes) is in
     let pair = pair_of_number c.self.inside.classes c.get-numbers.result.now are c.self.invariant.0.loaded.methods c.args.class c.args.target.now.name c.args.target.now.kind id here in
-    let same : c.in_ok-pair.pair ≡ pair.0 = same_Some c.in_ok-pair.pair pair.0 (c.in_ok-pair.ensures pair.0 pair.1 pair.3) in
+    let same : c.in_ok-pair.pair ≡ pair.0 = same_Some c.in_ok-pair.pair pair.0 (c.in_ok-pair.ensures.whole pair.0 (pair.1.named, pair.3)) in
     let number : c.in_ok-number.number ≡ id =
     same_Some c.in_ok-number.number id (c.in_ok-number.ensures ∙ ap (λ (p : Pair). method_number c.get-numbers.result.now.classes.items c.args.class p) same ∙ pair.2) in
     ap (λ (n : ℕ). Some (record { 0 = n })) number

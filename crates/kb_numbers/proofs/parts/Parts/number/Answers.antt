@@ -1,4 +1,4 @@
-use Rattle.std.proofs.Common.{ℕ, List, Option, Some, None, IfSome, sym, ap, subst, ◌∙◌, arith}
+use Rattle.std.proofs.Common.{List, IfSome, sym, subst}
 use Rattle.kb_numbers.specs.declared.parts.Part.{Part}
 use Rattle.kb_numbers.specs.Types.{HasPart}
 use Rattle.kb_numbers.proofs.PartLaws.{missing_part, found_part, part_at}
