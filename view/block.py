@@ -116,7 +116,7 @@ class BlockReader:
         self.path.seen[slot.text] = seen
 
     def slot(self, text):
-        """The slot, whose object may have been found by now."""
+        """The slot, whose object may have been found before."""
         slot = read_slot(text)
         if slot is None:
             self.lines.fail(f"{text} is no slot")
