@@ -9,7 +9,8 @@ from script.tests.maker import ABSTRACT, ICONST_0, IRETURN, NEW, POP, Maker
 from script.tests.tools import DATA, LEAST, ROOT, call, cells, environment, folder, rows, same, stand_in
 
 EXPLAINS = "explain: give the number of a refusal, a whole line `refused N ..`, or `status N`"
-WITH_HELP = "the commands with a page of help are explore, tests, diagrams, replay, assemble, explain, targets, build, view, junit"
+NAMED = "explore, tests, diagrams, replay, assemble, explain, targets, build, view, junit"
+WITH_HELP = f"the commands with a page of help are {NAMED}"
 FAULTS = [
     (["--help", "x"], 2, ["--help stands alone"]),
     (["-h", "--help"], 2, ["-h stands alone"]),
