@@ -28,7 +28,7 @@ struct Reading<'a> {
 }
 
 /// How the run ends and the heap that it leaves, as the ended path states them for an instance, where `places` are those that
-/// [`crate::places`] gives for the two. More objects than a `u32` can number are want of memory.
+/// [`crate::places`] gives for the two. More objects than a `u32` can number count as out of memory.
 pub fn ending_at(
     alloc: Global,
     world: &World,
@@ -156,7 +156,7 @@ impl<'a> Reading<'a> {
         Ok(values)
     }
 
-    // The value that a symbolic one has. A number past a `u32` is want of memory: no heap has such an object.
+    // The value that a symbolic one has. A number past a `u32` counts as out of memory: no heap has such an object.
     fn value(&self, out: Out) -> Result<Value, NoMemory>
         ensures { IfOk result (λ value. value ≡ out_value (as_read self.now) out) }
     {
