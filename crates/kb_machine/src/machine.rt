@@ -121,7 +121,7 @@ fn no_target(alloc: Global) -> Target
 }
 
 /// The first heap of a run over an input with that heap, whose objects keep their numbers: behind them stands one object for
-/// each string literal of the world. More objects than a `u32` can number are want of memory.
+/// each string literal of the world. More objects than a `u32` can number count as out of memory.
 pub fn first_heap(alloc: Global, world: &World, heap: &Heap) -> Result<Heap, NoMemory>
     ensures { IfOk result (λ first. first ≡ first_heap world.now heap.now) }
 {
