@@ -1,4 +1,4 @@
--- Tests have one answer in a linked world, but for want of memory.
+-- Tests have one answer in a linked world, but that memory may run out.
 use Rattle.std.proofs.Common.{◌≡◌, ℕ, suc, List, [], ◌∷◌, ◌++◌, length, refl, sym, ◌∙◌, ap, subst}
 use Rattle.std.specs.List.{AllByRecursion}
 use Rattle.kb_class.specs.declared.ids.MethodId.{MethodId}
@@ -50,7 +50,7 @@ correct_there world linked test a b p q correct =
 abbrev pub IsFine : World → Test → Type 0
 IsFine world test = (id : MethodId) × IsRunnable world test id
 
--- something but want of memory stops it
+-- something else stops it than memory that ran out
 abbrev pub IsStopped : World → Test → Type 0
 IsStopped world test = (stop : ReplayStop) × (stop ≡ NoMemory → ⊥) × Stops world test stop
 

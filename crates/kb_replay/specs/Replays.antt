@@ -34,7 +34,7 @@ AreRunnable world [] (id ∷ ids) = ⊥
 AreRunnable world (test ∷ tests) [] = ⊥
 
 -- What stops a test: there is no such method; or its input is none of the method; or, with both as they should be, what the
--- method reaches is refused. Want of memory may stop each.
+-- method reaches is refused. Memory may run out for each.
 abbrev pub Stops : World → Test → ReplayStop → Type 0
 Stops world test TestMethod = (id : MethodId) → IsTargetOf world test.target id → ⊥
 Stops world test TestTypes = (id : MethodId) × IsTargetOf world test.target id × (IsTypeCorrect world id test.input → ⊥)

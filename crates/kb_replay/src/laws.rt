@@ -13,7 +13,7 @@ ghost use Rattle.kb_heap.specs.declared.heap.Input.{Input};
 ghost use Rattle.kb_replay.specs.Ends.{IsRunEnding, KeepsInput};
 ghost use Rattle.kb_replay.specs.Replays.{AreReplayed, AreRunnable, StopsAt};
 
-/// Tests have one answer in a linked world, but for want of memory: one of them is the first that is stopped, or each has a
+/// Tests have one answer in a linked world, but that memory may run out: one of them is the first that is stopped, or each has a
 /// method; and of runs there is one that is told.
 pub fn tests_have_one_answer()
     ensures stop { (world : World) → IsLinked world → (tests : List Test) (one other : BadTest) → StopsAt world tests one → StopsAt world tests other → (one.stop ≡ NoMemory → ⊥) → (other.stop ≡ NoMemory → ⊥) → one ≡ other }
