@@ -20,7 +20,7 @@ use std::alloc::Global;
 /// of a variable its value; a variable without one has 0.
 ///
 /// It takes time in proportion to the picture and the slots of its objects; the first exact type that fits a declared type is
-/// found once. Where there are more objects than 32 bits number, it is want of memory.
+/// found once. Where there are more objects than 32 bits number, that counts as out of memory.
 #[tactic(auto, unfolding(crate::specs::Emitted::emitted_input))]
 pub fn input_of(
     alloc: Global,
