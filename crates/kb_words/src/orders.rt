@@ -131,7 +131,7 @@ fn read_command(
     }
 }
 
-/// The target that a word spells, if there is a word and it spells one. Refused for want of memory alone.
+/// The target that a word spells, if there is a word and it spells one. Refused only where memory runs out.
 fn target_in(alloc: Global, word: Option<&str>) -> Result<Option<Target>, WordFault>
     ensures found { IfOk result (λ target. IsTargetIn (option_copied word.entry) target) }
     ensures spelled { IfOk result (λ target. IfSome target IsTarget) }
