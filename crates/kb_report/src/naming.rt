@@ -59,7 +59,7 @@ impl<'a> NamedWorld<'a> {
     }
 }
 
-// Of each class the names that more than one of its fields have. Classes without numbers of 32 bits are want of memory.
+// Of each class the names that more than one of its fields have. Classes without numbers of 32 bits count as out of memory.
 fn shared_in(alloc: Global, world: &World) -> Result<Vec<IndexSet<Vec<u8>>>, NoMemory>
     ensures { IfOk result (λ tables. AreShared world.now.classes tables.items) }
 {

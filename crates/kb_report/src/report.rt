@@ -34,7 +34,7 @@ pub struct Report {
     pub leaves: Row<Path>,
 }
 
-/// The text of a report on a method of the world. Refused for want of memory alone. What its paths name need not be there: a
+/// The text of a report on a method of the world. Refused only where memory runs out. What its paths name need not be there: a
 /// field that no class has is left out. It also tells that the report's numbers are in the ranges of their types, which is
 /// what the law of kb_report_laws asks of them.
 #[tactic(auto, using(crate::proofs::TextLaws::lines_joined), unfolding(crate::specs::Report::report_text, crate::specs::Report::report_lines))]

@@ -14,7 +14,7 @@ use kb_names::{JType, Name, Spelling, Target, write_name, write_target, write_ty
 use std::alloc::Global;
 use std::marker::Model;
 
-/// The bytes of a text. Each call appends; after want of memory the text is only dropped.
+/// The bytes of a text. Each call appends; after memory ran out the text is only dropped.
 #[derive(Drop)]
 pub(crate) struct Text {
     alloc: Global,
