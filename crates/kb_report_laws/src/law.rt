@@ -22,7 +22,7 @@ pub fn example_is_a_report()
     ensures { ExampleIsReport }
 {}
 
-/// The text of a report whose paths are well-formed, which no other report has. Refused for want of memory alone.
+/// The text of a report whose paths are well-formed, which no other report has. Refused only where memory runs out.
 pub fn own_report_text(alloc: Global, world: &World, report: &Report) -> Result<Vec<u8>, NoMemory>
     requires linked { IsLinked world.now }
     requires paths { AllByRecursion (IsSound world.now) report.now.leaves }
