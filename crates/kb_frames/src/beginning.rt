@@ -14,7 +14,7 @@ use kb_world::World;
 use std::alloc::Global;
 
 impl SymState {
-    /// Reads the next argument, an int or a boolean: it is a new variable. After want of memory the state is only dropped.
+    /// Reads the next argument, an int or a boolean: it is a new variable. After memory ran out the state is only dropped.
     pub fn read_int(&mut self, kind: VarKind) -> Result<(), NoMemory>
         ensures { OnOk result (self.new ≡ read_int self.old kind) }
     {
@@ -32,7 +32,7 @@ impl SymState {
         }
     }
 
-    /// Begins the run, its arguments being read. After want of memory the state is only dropped.
+    /// Begins the run, its arguments being read. After memory ran out the state is only dropped.
     pub fn begin(&mut self, world: &World) -> Result<(), NoMemory>
         ensures { OnOk result (self.new ≡ begun world.now self.old) }
     {

@@ -20,7 +20,7 @@ use std::alloc::Global;
 impl SymState {
     /// Reads a reference for the first time: what was chosen for it is found there. The picture sees it, a new object has cells
     /// of which none is touched, and the slot keeps the value; an argument is one more that was read. It takes time in
-    /// proportion to the cells of a new object. After want of memory the state is only dropped.
+    /// proportion to the cells of a new object. After memory ran out the state is only dropped.
     ///
     /// Source: Khurshid, Păsăreanu and Visser (TACAS 2003).
     pub fn first_reference(
@@ -37,7 +37,7 @@ impl SymState {
     }
 
     /// Reads an int or a boolean for the first time: it is a new variable, which the slot keeps; an argument is one more that
-    /// was read. After want of memory the state is only dropped.
+    /// was read. After memory ran out the state is only dropped.
     pub fn first_int(&mut self, slot: Origin, kind: VarKind) -> Result<(), NoMemory>
         ensures { OnOk result (self.new ≡ first_int slot kind self.old) }
     {

@@ -16,7 +16,7 @@ use std::alloc::Global;
 
 impl SymState {
     /// Adds an object of the class to those that the run has made, each slot with the default value of its type, and gives its
-    /// number. After want of memory the state is only dropped.
+    /// number. After memory ran out the state is only dropped.
     pub fn make_object(&mut self, world: &World, class: &[u8]) -> Result<u32, NoMemory>
         ensures number { IfOk result (λ number. number ≡ length self.old.made) }
         ensures state { OnOk result (self.new ≡ with_made world.now self.old class.now) }

@@ -45,7 +45,7 @@ struct Numbered {
 impl SymState {
     /// The path with the state's picture and conditions, and with these decisions and this leaf. In the leaf that is handed in,
     /// the terms have their numbers in the state's pool; the path numbers those that its conditions and its leaf meet. It takes
-    /// time in proportion to what it gives. Refused for want of memory alone, and then the leaf is handed back.
+    /// time in proportion to what it gives. Refused only where memory runs out, and then the leaf is handed back.
     #[tactic(auto, unfolding(crate::specs::Paths::path_of))]
     pub fn path(&self, decisions: &[u32], leaf: Leaf) -> Result<Path, PathStop>
         requires terms { AreTerms self.now.nodes (path_roots self.now leaf) }

@@ -27,7 +27,7 @@ impl SymState {
         }
     }
 
-    /// Adds a condition, unless its term has a truth already. Refused for want of memory alone.
+    /// Adds a condition, unless its term has a truth already. Refused only where memory runs out.
     pub fn add_condition(&mut self, term: TermId, truth: bool) -> Result<(), NoMemory>
         requires { IsTerm self.old.nodes term }
         ensures ok { OnOk result (self.new ≡ conditioned self.old term truth) }
