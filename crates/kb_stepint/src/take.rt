@@ -32,7 +32,7 @@ use std::alloc::Global;
 /// state asks for its next choice. Else the conditions of the alternative are added, as far as they are not decided, and the
 /// instruction is carried out: it goes on, the run ends, or it is cut at a bound.
 ///
-/// After want of memory the state is only dropped or undone. It takes time in proportion to the conditions that are added,
+/// After memory ran out the state is only dropped or undone. It takes time in proportion to the conditions that are added,
 /// whatever the state has met.
 pub fn take_int(
     alloc: Global,

@@ -86,7 +86,7 @@ fn push_all(state: &mut SymState, values: &[SymValue]) -> Result<(), NoMemory>
     Ok(())
 }
 
-/// A new object of the class is thrown, which ends the run. After want of memory the state is only dropped.
+/// A new object of the class is thrown, which ends the run. After memory ran out the state is only dropped.
 pub fn throws(turn: &Turn<'_>, state: &mut SymState, class: &[u8]) -> Result<Outcome, NoMemory>
     ensures { IfOk result (λ outcome. told state.new outcome ≡ led turn.now state.old (Throws class.now)) }
 {
