@@ -27,7 +27,7 @@ use std::alloc::Global;
 /// asks for its next choice; or the instruction that reads the slot is carried out. Where nothing is asked the instruction is
 /// carried out.
 ///
-/// After want of memory the state is only dropped or undone. It takes time in proportion to the cells of a new object, to the
+/// After memory ran out the state is only dropped or undone. It takes time in proportion to the cells of a new object, to the
 /// locals of the method where its first instruction is taken up, and to the classes above that of the object whose field is
 /// read or written, however many instructions and objects the state has met.
 pub fn take_ref(
