@@ -60,7 +60,7 @@ pub fn explore_from<O: Oracle>(
     ensures seen { IfOk result (EachPath (SeesWhatIsRead world.now start.method bounds.now)) }
     ensures given { IfOk result (λ listed. OfGiven (HaveValuesFrom world.now start.method listed) (O.given oracle.old) (O.given oracle.new)) }
 
-    // It stops for want of memory, or where the oracle has counted a bad stop: then the path tells what was asked.
+    // It stops where memory runs out, or where the oracle has counted a bad stop: then the path tells what was asked.
     ensures counted { IfErr result (IfOracle (λ _ _. Rose (O.bad oracle.old) (O.bad oracle.new))) }
     ensures unserved { IfErr result (IfOracle (IsUnserved world.now start.method bounds.now (O.unfit oracle.old))) }
 

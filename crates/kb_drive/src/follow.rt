@@ -94,7 +94,8 @@ fn lists(alloc: Global, piece: &Piece, leaf: Leaf) -> Result<Next, NoMemory>
     Ok(Next::Lists(path_of(alloc, piece, leaf)?))
 }
 
-// What follows where the values from before the take meet all conditions behind it.
+// What follows where the values that go with what was taken, those from before the take or those of a new model, meet all its
+// conditions.
 fn follow_met(alloc: Global, world: &World, bounds: &Bounds, taken: Taken) -> Result<Next, NoMemory>
     requires { CanFollow world.now taken }
     ensures { IfOk result (λ next. next ≡ follows_outcome world.now bounds.now taken.piece taken.outcome) }

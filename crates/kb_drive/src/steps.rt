@@ -36,7 +36,7 @@ pub(crate) fn choices(
     Ok(Row::from_vec(choices))
 }
 
-/// Takes an alternative of a state, which goes on by it. After want of memory the state is only dropped.
+/// Takes an alternative of a state, which goes on by it. After memory ran out the state is only dropped.
 pub(crate) fn take(
     alloc: Global,
     world: &World,
