@@ -19,7 +19,7 @@ use Rattle.kiasan.specs.Tests.{RefusesTests, literals_in, test_refusal, passes, 
 
 -- ---- refusals
 
--- what stops a test is told, unless it is want of memory
+-- what stops a test is told, unless memory ran out
 told : {A : Type 0} (world : World) (tests : List Test) (bad : BadTest) (Fine : A → Type 0) → StopsAt world tests bad → (stop : Stop) →
     test_refusal bad.number bad.stop ≡ stop → (stop ≡ ReadFault → ⊥) → Gives {A = A} ⊥ (RefusesTests world tests) Fine (Err stop)
 told world tests bad Fine is (Refused refusal) e other = (bad, is, e)

@@ -352,7 +352,7 @@ pub record Owes (words : List (List ℕ)) (holds : List ℕ → Option (List ℕ
   pub write_part : status ≡ WriteFault → (other : Status) × (text : List ℕ) × Answers words holds other text × GrowsByPart written.0 written.1 text
   -- Nothing was written without an answer.
   pub nothing : WritesNothing status → written.1 ≡ written.0
-  -- Where neither count rose, the call ends with the status of what answers, or want of memory. Where the shelf tells what it
-  -- holds, every reply is the same as the one that answers.
+  -- Where neither count rose, the call ends with the status of what answers, or with memory that ran out. Where the shelf tells
+  -- what it holds, every reply is the same as the one that answers.
   pub certain : (Rose reads.0 reads.1 → ⊥) → (Rose writes.0 writes.1 → ⊥) → AreTold words holds → (reply : Reply) → Replies words holds reply →
       (status ≡ Memory) ⊎ EndsAs words reply status

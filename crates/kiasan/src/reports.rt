@@ -19,7 +19,7 @@ use kb_words::Job;
 use kb_world::World;
 use std::alloc::Global;
 
-/// The report of the job's method, whose exploration is built. Refused for want of memory alone.
+/// The report of the job's method, whose exploration is built. Refused only where memory runs out.
 #[tactic(auto, using(crate::proofs::JobLaws::built_report))]
 pub fn report_of(
     alloc: Global,

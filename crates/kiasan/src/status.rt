@@ -3,7 +3,7 @@
 ghost use Rattle.std.specs.Prelude.{◌≡◌};
 ghost use Rattle.kiasan.specs.StatusNumber.{status_number};
 
-/// How the program ends. Each comes exactly where the contract of the top call says; want of memory is free.
+/// How the program ends. Each comes exactly where the contract of the top call says; that memory runs out is free.
 #[derive(Clone, Copy, Debug, PartialEq, Eq)]
 pub enum Status {
     /// What was asked for was written whole; of a replay, each test passes.

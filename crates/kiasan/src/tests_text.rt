@@ -22,7 +22,7 @@ use kb_test::{FinalHeap, Test, write_test};
 use kb_world::World;
 use std::alloc::Global;
 
-/// The text of the tests of a report in its world: that of each ended path, in order. Refused for want of memory alone.
+/// The text of the tests of a report in its world: that of each ended path, in order. Refused only where memory runs out.
 pub fn tests_text(alloc: Global, world: &World, report: &Report) -> Result<Vec<u8>, NoMemory>
     requires target { IsTarget report.now.target }
     requires bounds { IsRunBounds report.now.bounds.run }

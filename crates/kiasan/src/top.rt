@@ -12,8 +12,8 @@ use std::alloc::Global;
 /// Does what the words after the program's name ask for: reads from the shelf, writes the whole text to `out`, and says
 /// how the program ends. The text is built before any of it is written.
 ///
-/// Words come first, then reading, then the classes, then the texts, then the methods. `Status::Memory` is want of memory, and
-/// is tied to nothing.
+/// Words come first, then reading, then the classes, then the texts, then the methods. `Status::Memory` says that memory
+/// ran out, and is tied to nothing.
 #[tactic(auto, using(crate::proofs::TopLaws::owes_read, crate::proofs::TopLaws::owes_memory, crate::proofs::TopLaws::owes_answer, crate::proofs::TopLaws::owes_part))]
 pub fn kiasan<S: Shelf, K: Sink>(
     alloc: Global,
