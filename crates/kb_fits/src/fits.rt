@@ -10,12 +10,10 @@ ghost use Rattle.kb_semantics.specs.Inputs.{HasReceiver, HasValuesOf, IsInputObj
 ghost use Rattle.kb_semantics.specs.Values.{AreValuesOf, IsObjectOf, IsValueOf};
 
 use kb_class::{MethodId, MethodInfo};
+use kb_classfile::STATIC;
 use kb_heap::{Heap, Input, Object, Value};
 use kb_names::{ExactType, JType};
 use kb_world::{FieldSlot, World};
-
-/// ACC_STATIC (JVMS 8 table 4.6-A).
-const STATIC: u16 = 0x0008;
 
 // What has a type: a slot, or the type itself.
 trait Typed {
