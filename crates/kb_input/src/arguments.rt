@@ -10,15 +10,13 @@ ghost use Rattle.kb_input.specs.Emitted.{arguments_of};
 
 use crate::NoMemory;
 use kb_class::{MethodId, MethodInfo};
+use kb_classfile::STATIC;
 use kb_heap::Value;
 use kb_names::{ExactType, JType, Name};
 use kb_picture::{Origin, PicObject};
 use kb_rows::Row;
 use kb_world::World;
 use std::alloc::Global;
-
-/// ACC_STATIC (JVMS 8 table 4.6-A).
-const STATIC: u16 = 0x0008;
 
 /// The types of the method's arguments, a receiver's class before those of the parameters.
 pub(crate) fn argument_types(
