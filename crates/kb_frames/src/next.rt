@@ -10,14 +10,12 @@ use crate::NoMemory;
 use crate::code::{declaring_class, instruction_at};
 use crate::state::{Stage, SymState};
 use kb_class::{MethodId, MethodInfo};
+use kb_classfile::STATIC;
 use kb_code::Instr;
 use kb_names::{JType, Name};
 use kb_terms::VarKind;
 use kb_world::World;
 use std::alloc::Global;
-
-/// ACC_STATIC (JVMS 8 table 4.6-A).
-const STATIC: u16 = 0x0008;
 
 /// An argument that is to be read.
 #[derive(Clone, Copy)]
