@@ -7,12 +7,10 @@ ghost use Rattle.kb_stepint.specs.Reached.{IsReached};
 ghost use Rattle.kb_stepint.specs.IntMethods.{has_none, is_int_code, is_int_info, is_int_method, is_int_type, is_none_or_int};
 
 use kb_class::{MethodCode, MethodId, MethodInfo};
+use kb_classfile::STATIC;
 use kb_frames::is_int_instruction;
 use kb_names::JType;
 use kb_world::World;
-
-/// ACC_STATIC (JVMS 8 table 4.6-A).
-const STATIC: u16 = 0x0008;
 
 /// Whether the method is one over ints: static, its parameters and its result ints and booleans, with code that has no handlers
 /// and uses instructions on ints and the stack alone. Then the steps of its states are steps of ints. It takes no memory.
