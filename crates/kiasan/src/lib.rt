@@ -1,4 +1,4 @@
-//! Kiasan tells what a Java method does on every input, path by path.
+//! Kiasan tells what a Java method does on every input that its types allow, path by path.
 //!
 //! `specs/` has the definitions: what the program answers, stage by stage (`Answers`); which orders and methods are built
 //! (`Orders`, `Unbuilt`); what a report says of a method (`Exploring`); and the refusals with their lines (`Refusals`).
