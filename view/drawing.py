@@ -2,8 +2,11 @@
 
 import re
 import subprocess
-import tempfile
+from concurrent.futures import ThreadPoolExecutor
+from contextlib import suppress
+from functools import lru_cache
 from html import escape, unescape
+from queue import SimpleQueue
 from shutil import which
 
 from .marks import ASIDE, BEYOND, CHANGED, LOST, OPEN, OVERWRITTEN, cell_mark
@@ -17,11 +20,16 @@ HEAD = (
     "digraph{graph[rankdir=LR nodesep=.15 ranksep=.35 bgcolor=transparent]"
     "node[shape=plain fontname=Courier fontsize=11]edge[arrowsize=.6]"
 )
-PICTURE = re.compile(r"<svg.*?</svg>", re.DOTALL)
 SIZE = re.compile(r'viewBox="0\.00 0\.00 ([0-9.]+) ([0-9.]+)".*?translate\(([-0-9.]+),? ([-0-9.]+)\)', re.DOTALL)
-PART = re.compile(r"<(polygon|polyline|path|text) ([^>]*?)(?:/>|>([^<]*)</text>)")
+# A line with its place, and a text with its own; what stands around these is what it looks like.
+DRAWN = re.compile(r'<(polygon|polyline|path) ([^>]*?)\b(?:points|d)="([^"]*)"([^>]*)/>')
+WRITTEN = re.compile(r'<text ([^>]*?)\bx="([^"]*)" y="([^"]*)"([^>]*)>([^<]*)</text>')
 WORD = re.compile(r'([a-z0-9-]+)="([^"]*)"')
 BOX = re.compile(r"(\S+),(\S+) \1,(\S+) (\S+),\3 \4,\2 \1,\2")
+
+
+class NotDrawn(Exception):
+    """`dot` is not there, or does not draw."""
 
 
 def can_draw():
@@ -102,62 +110,91 @@ def coloured(colour):
 
 
 def draw(texts):
-    """The pictures of all texts, in their order, by one run of `dot` that begins with the first; None where it fails."""
+    """The picture of each text, by one run of `dot`, which draws each text once; they come as it draws."""
     if not can_draw():
-        return None
-    with tempfile.TemporaryFile() as output:
-        count = feed(texts, output)
-        output.seek(0)
-        found = PICTURE.findall(output.read().decode("utf-8"))
-    return [smaller(picture) for picture in found] if len(found) == count else None
-
-
-def feed(texts, output):
-    """Lets `dot` draw all texts into a file. How many there are."""
-    count = 0
-    with subprocess.Popen(["dot", "-Tsvg"], stdin=subprocess.PIPE, stdout=output, stderr=subprocess.DEVNULL) as dot:
+        raise NotDrawn
+    fed, ends = SimpleQueue(), {"stdin": subprocess.PIPE, "stdout": subprocess.PIPE, "stderr": subprocess.DEVNULL}
+    with ThreadPoolExecutor(1) as pool, subprocess.Popen(["dot", "-Tsvg"], **ends) as dot:
+        feeding = pool.submit(feed, texts, dot.stdin, fed)
         try:
-            for count, text in enumerate(texts, 1):
-                dot.stdin.write(text.encode("utf-8"))
-            dot.stdin.close()
-        except BrokenPipeError:
-            count = -1
-    return count
+            yield from in_order(fed, pictures_of(dot.stdout))
+        finally:
+            # where no more pictures are wanted `dot` ends, and so no text waits for it
+            dot.stdout.close()
+            feeding.result()
+
+
+def feed(texts, sink, fed):
+    """Hands each text on once. Of each text is told which of those that are handed on it is, and at the end None."""
+    numbers = {}
+    try:
+        # of what is not taken no picture comes
+        with suppress(BrokenPipeError), sink:
+            for text in texts:
+                is_new = text not in numbers
+                fed.put(numbers.setdefault(text, len(numbers)))
+                if is_new:
+                    sink.write(text.encode("utf-8"))
+    finally:
+        fed.put(None)
+
+
+def in_order(fed, coming):
+    """The picture of each text that was fed."""
+    pictures = []
+    for number in iter(fed.get, None):
+        if number == len(pictures):
+            picture = next(coming, None)
+            if picture is None:
+                raise NotDrawn
+            pictures.append(smaller(picture))
+        yield pictures[number]
+
+
+def pictures_of(output):
+    """The pictures that `dot` writes, as they come."""
+    lines = []
+    for each in output:
+        lines.append(each)
+        if each.startswith(b"</svg>"):
+            yield b"".join(lines).decode("utf-8")
+            lines.clear()
 
 
 def smaller(picture):
     """A picture with what readers see alone: no names of its own, and parts of one look as one path."""
     width, height, left, top = (short(each) for each in SIZE.search(picture).groups())
-    looks, texts = {}, []
-    for sort, words, text in PART.findall(picture):
-        words = dict(WORD.findall(words))
-        if sort == "text":
-            texts.append(written(words, text))
-        else:
-            looks.setdefault(look(words), []).append(line(sort, words))
+    looks = {}
+    for sort, before, points, behind in DRAWN.findall(picture):
+        looks.setdefault(look(before + behind), []).append(line(sort, points))
     paths = [f'<path{each} d="{"".join(lines)}"/>' for each, lines in sorted(looks.items(), reverse=True)]
+    texts = [
+        f'<text{weight(before + behind)} x="{x}" y="{y}">{escape(unescape(text))}</text>'
+        for before, x, y, behind, text in WRITTEN.findall(picture)
+    ]
     head = f'<svg class="d" role="img" width="{width}pt" height="{height}pt" viewBox="0 0 {width} {height}">'
     return f'{head}<g transform="translate({left} {top})">{"".join(paths + texts)}</g></svg>'
 
 
-def written(words, text):
-    """A text of a picture."""
-    bold, middle = words.get("font-weight") == "bold", words.get("text-anchor") == "middle"
-    place = f'x="{words["x"]}" y="{words["y"]}"'
-    return f'<text{BOLD if bold else MIDDLE if middle else ""} {place}>{escape(unescape(text))}</text>'
+@lru_cache(maxsize=1024)
+def weight(words):
+    """What a text looks like, where that is not what the page's style says."""
+    words = dict(WORD.findall(words))
+    return BOLD if words.get("font-weight") == "bold" else MIDDLE if words.get("text-anchor") == "middle" else ""
 
 
+@lru_cache(maxsize=1024)
 def look(words):
     """What a line looks like, where that is not what the page's style says."""
+    words = dict(WORD.findall(words))
     words = {name: "none" if words.get(name) == "transparent" else words.get(name, usual) for name, usual in LOOKS.items()}
     return "".join(f' {name}="{value}"' for name, value in words.items() if value != LOOKS[name])
 
 
-def line(sort, words):
+def line(sort, points):
     """A line of a picture as a piece of a path."""
     if sort == "path":
-        return words["d"]
-    points = words["points"]
+        return points
     box = BOX.fullmatch(points)
     if box:
         left, top, bottom, right = box.groups()

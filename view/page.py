@@ -2,11 +2,12 @@
 
 import base64
 import hashlib
+from contextlib import closing
 from html import escape
 from os.path import dirname, join
 from urllib.parse import quote
 
-from .drawing import MOST_OBJECTS, draw, sources
+from .drawing import MOST_OBJECTS, NotDrawn, draw, sources
 from .marks import LEGEND, LOST, OVERWRITTEN, RING, SIGNS, UNREAD, cell_mark
 from .text import NOTES
 from .words_of_heap import argument_words, cell_words, marks_of, thing_words
@@ -95,14 +96,13 @@ def legend():
 
 
 def paths(stories):
-    """All paths, with the pictures of one run of `dot`."""
-    heaps = [Pictured(story) for story in stories]
-    pictures = draw(text for pictured in heaps for text in pictured.texts())
-    if pictures is not None:
-        waiting = iter(pictures)
-        for pictured in heaps:
-            pictured.take(waiting)
-    return [path(pictured, len(stories) > MOST_DRAWN) for pictured in heaps]
+    """All paths, with the pictures of one run of `dot` where it draws."""
+    heaps, waits = [Pictured(story) for story in stories], len(stories) > MOST_DRAWN
+    try:
+        with closing(draw(text for pictured in heaps for text in pictured.texts())) as pictures:
+            return [path(pictured.taken(pictures), waits) for pictured in heaps]
+    except NotDrawn:
+        return [path(Pictured(story), waits) for story in stories]
 
 
 class Pictured:
@@ -119,9 +119,11 @@ class Pictured:
             return []
         return sources(self.story, self.heap, marks_of(self.story, self.heap, True))
 
-    def take(self, pictures):
+    def taken(self, pictures):
+        """The same with its pictures, which are the next ones."""
         if len(self.heap.things) <= MOST_OBJECTS:
             self.pictures = [next(pictures) for _ in self.sides]
+        return self
 
     def figures(self, waits):
         """The heaps; `waits` where pictures are drawn when the path is opened."""

@@ -12,7 +12,10 @@ def node(folder):
 
 
 def many(paths, objects):
-    """A report with that many paths, each of a list of that many nodes, whose ints are compared with one another."""
+    """A report with that many paths, each of a list of that many nodes, whose ints are compared with one another.
+
+    No two paths end with the same heap, as long as there are more heaps than paths.
+    """
     lines = [
         "kiasan report 1",
         "target coll/Node.turn(Lcoll/Node;)Lcoll/Node;",
@@ -25,16 +28,20 @@ def many(paths, objects):
 
 
 def path(number, objects):
-    """The lines of one path: a list whose last node leads to null or, where the number is odd, to the first one."""
+    """The lines of one path: a list whose last node leads to null or, where the number is odd, to the first one.
+
+    Behind the run the nodes lead where the digits of the number say.
+    """
     last = "o0" if number % 2 else "null"
     nexts = [*(f"o{each + 1}" for each in range(objects - 1)), last]
-    turned = ["null", *(f"o{each}" for each in range(objects - 1))]
+    places_after = ["null", *(f"o{each}" for each in range(objects))]
+    after = [places_after[number // (objects + 1) ** each % (objects + 1)] for each in range(objects)]
     lines = [f"path {number}", "see a0 o0"]
     for each, held in enumerate(nexts):
         lines += [f"see o{each}.coll/Node.elem v{each}", f"see o{each}.coll/Node.next {held}"]
     lines += ["obj o0 coll/Node a0", *(f"obj o{each} coll/Node o{each - 1}.coll/Node.next" for each in range(1, objects))]
     lines += [f"let t{each} lt v{each} v{each + 1}" for each in range(objects - 1)]
     lines += [f"when not t{each}" for each in range(objects - 1)]
-    lines += [f"returns o{objects - 1}", *(f"set o{each}.coll/Node.next {held}" for each, held in enumerate(turned))]
+    lines += [f"returns o{objects - 1}", *(f"set o{each}.coll/Node.next {held}" for each, held in enumerate(after))]
     places = [held.replace("o", "i") for held in nexts]
     return [*lines, "arg i0", *(f"in i{each} coll/Node 0 {held}" for each, held in enumerate(places))]

@@ -1,7 +1,9 @@
 """The page, by a parser of HTML."""
 
+import os
 import re
 import subprocess
+from contextlib import contextmanager
 from html.parser import HTMLParser
 from shutil import which
 
@@ -12,7 +14,7 @@ from view.classes import Classes
 from view.drawing import MOST_OBJECTS
 from view.model import Model
 from view.names import shown_name
-from view.page import MOST_DRAWN, write_page
+from view.page import MOST_DRAWN, Pictured, write_page
 from view.report import read_report
 
 from .java import is_there
@@ -25,6 +27,17 @@ ELEMENTS = set(
     "html head meta title style body h1 h3 p ul li a details summary i b code div figure figcaption template pre script span "
     "svg g path polygon polyline text".split()
 )
+
+
+# Stands in for `dot`: keeps each text that comes, a line, draws nothing at all for it, and ends behind so many.
+STAND_IN = """#!/bin/sh
+while read -r text; do
+  printf '%s\\n' "$text" >> FOLDER/fed
+  echo '<svg viewBox="0.00 0.00 8.00 8.00"><g transform="scale(1 1) rotate(0) translate(4 4)"></g>'
+  echo '</svg>'
+  if [ "$(wc -l < FOLDER/fed)" -ge MOST ]; then exit 0; fi
+done
+"""
 
 
 class Page(HTMLParser):
@@ -120,6 +133,20 @@ def without_dot(work):
         return work()
     finally:
         drawing.can_draw = kept
+
+
+@contextmanager
+def stand_in(most):
+    """Where `dot` is the stand-in that ends behind so many texts. The file of those that come."""
+    with folder() as place:
+        path, kept = place / "dot", os.environ["PATH"]
+        path.write_text(STAND_IN.replace("FOLDER", str(place)).replace("MOST", str(most)))
+        path.chmod(0o755)
+        os.environ["PATH"] = f"{place}:{kept}"
+        try:
+            yield place / "fed"
+        finally:
+            os.environ["PATH"] = kept
 
 
 def test_pages_of_all_rows():
@@ -279,6 +306,26 @@ def test_a_heap_of_many_objects_is_boxes():
             page = page_of(many(1, count), [node(place)])[1]
             drawn = 2 if which("dot") and count == MOST_OBJECTS else 0
             same((page.elements.count("svg"), page.elements.count("figure")), (drawn, 2), f"pictures of {count} objects")
+
+
+def test_each_drawing_is_made_once():
+    with folder() as place, stand_in(1000) as fed:
+        model, page = page_of(many(40, 2), [node(place)])
+        texts = [text for story in model.stories for text in Pictured(story).texts()]
+        same(fed.read_text(), "".join(dict.fromkeys(texts)), "what is drawn")
+        same((len(texts), page.elements.count("svg"), len(set(texts)) < 40), (80, 80, True), "pictures")
+
+
+def test_boxes_where_dot_ends_early():
+    with folder() as place:
+        file = node(place)
+        for most, paths in ((1, 1), (3, 40), (1, 400)):
+            with stand_in(most) as fed:
+                model, page = page_of(many(paths, 4), [file])
+                same(len(fed.read_text().splitlines()), most, "texts that are drawn")
+            same((page.elements.count("svg"), page.elements.count("template")), (0, 0), f"pictures, {most} of {2 * paths}")
+            check_paths(model, page)
+            same(["o0 Node" in each["texts"] for each in page.paths], [True] * paths, "boxes")
 
 
 def test_few_paths_are_drawn_at_once():
