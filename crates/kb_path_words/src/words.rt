@@ -1,23 +1,19 @@
 //! The parts of a line are written.
-ghost use Rattle.std.specs.Prelude.{◌≡◌, ◌++◌, [], OnOk};
+ghost use Rattle.std.specs.Prelude.{◌≡◌, ◌++◌, OnOk};
 ghost use Rattle.std.specs.Fmt.{decimal};
-ghost use Rattle.std.specs.Option.{option_copied, option_map_or};
-ghost use Rattle.kb_names.specs.Escapes.{name_text};
-ghost use Rattle.kb_report.specs.Words.{exact_text, place_text, bound_name, field_text, field_of_type, field_of, slot_text, seen_text, standing_text, length_text, operand_text, second_text, term_text, out_text, value_text};
-ghost use Rattle.kb_semantics.specs.Config.{class_name};
+ghost use Rattle.std.specs.Option.{option_copied};
+ghost use Rattle.kb_path_words.specs.Words.{exact_text, place_text, bound_name, field_of_type, seen_text, standing_text, length_text, operand_text, second_text, term_text, out_text, value_text};
 
 use crate::NoMemory;
-use crate::naming::NamedWorld;
 use crate::text::Text;
-use kb_class::ClassId;
 use kb_heap::{Bound, Place, Value};
 use kb_names::ExactType;
-use kb_picture::{Length, Operand, Origin, Out, PicObject, Seen, Standing, Term};
+use kb_picture::{Length, Operand, Out, Seen, Standing, Term};
 use kb_world::{FieldSlot, World};
 
 /// A class by its name, an array by its descriptor.
 #[tactic(auto, unfolding(crate::specs::Words::exact_text))]
-pub(crate) fn write_exact(text: &mut Text, kind: &ExactType) -> Result<(), NoMemory>
+pub fn write_exact(text: &mut Text, kind: &ExactType) -> Result<(), NoMemory>
     ensures { OnOk result (text.new ≡ text.old ++ exact_text kind.now) }
 {
     match kind {
@@ -30,7 +26,7 @@ pub(crate) fn write_exact(text: &mut Text, kind: &ExactType) -> Result<(), NoMem
 }
 
 #[tactic(auto, unfolding(crate::specs::Words::place_text))]
-pub(crate) fn write_place(text: &mut Text, place: &Place) -> Result<(), NoMemory>
+pub fn write_place(text: &mut Text, place: &Place) -> Result<(), NoMemory>
     ensures { OnOk result (text.new ≡ text.old ++ place_text place.now) }
 {
     text.target(&place.method)?;
@@ -39,7 +35,7 @@ pub(crate) fn write_place(text: &mut Text, place: &Place) -> Result<(), NoMemory
 }
 
 #[tactic(auto, unfolding(crate::specs::Words::bound_name))]
-pub(crate) fn bound_name(bound: Bound) -> &'static str
+pub fn bound_name(bound: Bound) -> &'static str
     ensures { result.now ≡ bound_name bound }
 {
     match bound {
@@ -52,32 +48,8 @@ pub(crate) fn bound_name(bound: Bound) -> &'static str
     }
 }
 
-// The name of a class; nothing where there is no such class.
-fn write_class_name(text: &mut Text, world: &NamedWorld<'_>, class: ClassId) -> Result<(), NoMemory>
-    ensures { OnOk result (text.new ≡ text.old ++ name_text (class_name world.now class.0)) }
-{
-    match world.world().class_at(class) {
-        Some(class) => text.name(class.name()),
-        None => Ok(()),
-    }
-}
-
-#[tactic(auto, unfolding(crate::specs::Words::field_text))]
-fn write_field(text: &mut Text, world: &NamedWorld<'_>, field: &FieldSlot) -> Result<(), NoMemory>
-    ensures { OnOk result (text.new ≡ text.old ++ field_text world.now field.now) }
-{
-    write_class_name(text, world, field.class)?;
-    text.put(".")?;
-    text.name(&field.name)?;
-    if !world.has_namesake(field) {
-        return Ok(());
-    }
-    text.put(":")?;
-    text.descriptor(&field.kind)
-}
-
-// The field of that slot of an object of the exact type.
-fn field_of_type<'a>(world: &'a World, slot: u32, kind: &ExactType) -> Option<&'a FieldSlot>
+/// The field of that slot of an object of the exact type.
+pub fn field_of_type<'a>(world: &'a World, slot: u32, kind: &ExactType) -> Option<&'a FieldSlot>
     ensures { option_copied result ≡ field_of_type world.now slot kind.now }
 {
     match kind {
@@ -86,52 +58,8 @@ fn field_of_type<'a>(world: &'a World, slot: u32, kind: &ExactType) -> Option<&'
     }
 }
 
-// The field of that slot of that object of the picture; nothing where there is none.
-fn write_field_of(
-    text: &mut Text,
-    world: &NamedWorld<'_>,
-    objects: &[PicObject],
-    object: u32,
-    slot: u32,
-) -> Result<(), NoMemory>
-    ensures { OnOk result (text.new ≡ text.old ++ option_map_or (field_text world.now) (field_of world.now objects.now object slot) []) }
-{
-    let Some(object) = objects.get(object as usize) else {
-        return Ok(());
-    };
-    match field_of_type(world.world(), slot, &object.kind) {
-        Some(field) => write_field(text, world, field),
-        None => Ok(()),
-    }
-}
-
-/// A slot of the first heap.
-#[tactic(auto, unfolding(crate::specs::Words::slot_text))]
-pub(crate) fn write_slot(
-    text: &mut Text,
-    world: &NamedWorld<'_>,
-    objects: &[PicObject],
-    slot: Origin,
-) -> Result<(), NoMemory>
-    ensures { OnOk result (text.new ≡ text.old ++ slot_text world.now objects.now slot) }
-{
-    match slot {
-        Origin::Arg(number) => write_numbered(text, "a", number),
-        Origin::Field(object, slot) => {
-            write_numbered(text, "o", object)?;
-            text.put(".")?;
-            write_field_of(text, world, objects, object, slot)
-        }
-        Origin::Element(array, index) => {
-            write_numbered(text, "o", array)?;
-            write_numbered(text, "[", index)?;
-            text.put("]")
-        }
-    }
-}
-
 /// A number behind a letter or the like.
-pub(crate) fn write_numbered(text: &mut Text, front: &str, number: u32) -> Result<(), NoMemory>
+pub fn write_numbered(text: &mut Text, front: &str, number: u32) -> Result<(), NoMemory>
     ensures { OnOk result (text.new ≡ text.old ++ (front.now ++ decimal number)) }
 {
     text.put(front)?;
@@ -139,7 +67,7 @@ pub(crate) fn write_numbered(text: &mut Text, front: &str, number: u32) -> Resul
 }
 
 #[tactic(auto, unfolding(crate::specs::Words::seen_text))]
-pub(crate) fn write_seen(text: &mut Text, seen: Seen) -> Result<(), NoMemory>
+pub fn write_seen(text: &mut Text, seen: Seen) -> Result<(), NoMemory>
     ensures { OnOk result (text.new ≡ text.old ++ seen_text seen) }
 {
     match seen {
@@ -152,7 +80,7 @@ pub(crate) fn write_seen(text: &mut Text, seen: Seen) -> Result<(), NoMemory>
 }
 
 #[tactic(auto, unfolding(crate::specs::Words::standing_text))]
-pub(crate) fn write_standing(text: &mut Text, standing: Standing) -> Result<(), NoMemory>
+pub fn write_standing(text: &mut Text, standing: Standing) -> Result<(), NoMemory>
     ensures { OnOk result (text.new ≡ text.old ++ standing_text standing) }
 {
     match standing {
@@ -163,7 +91,7 @@ pub(crate) fn write_standing(text: &mut Text, standing: Standing) -> Result<(), 
 }
 
 #[tactic(auto, unfolding(crate::specs::Words::length_text))]
-pub(crate) fn write_length(text: &mut Text, length: Length) -> Result<(), NoMemory>
+pub fn write_length(text: &mut Text, length: Length) -> Result<(), NoMemory>
     ensures { OnOk result (text.new ≡ text.old ++ length_text length) }
 {
     match length {
@@ -199,7 +127,7 @@ fn write_second(text: &mut Text, operand: Option<Operand>) -> Result<(), NoMemor
 
 /// An operation and its operands.
 #[tactic(auto, unfolding(crate::specs::Words::term_text))]
-pub(crate) fn write_term(text: &mut Text, term: &Term) -> Result<(), NoMemory>
+pub fn write_term(text: &mut Text, term: &Term) -> Result<(), NoMemory>
     ensures { OnOk result (text.new ≡ text.old ++ term_text term.now) }
 {
     text.put(term.op.name())?;
@@ -209,7 +137,7 @@ pub(crate) fn write_term(text: &mut Text, term: &Term) -> Result<(), NoMemory>
 }
 
 #[tactic(auto, unfolding(crate::specs::Words::out_text))]
-pub(crate) fn write_out(text: &mut Text, out: &Out) -> Result<(), NoMemory>
+pub fn write_out(text: &mut Text, out: &Out) -> Result<(), NoMemory>
     ensures { OnOk result (text.new ≡ text.old ++ out_text out.now) }
 {
     match *out {
@@ -224,7 +152,7 @@ pub(crate) fn write_out(text: &mut Text, out: &Out) -> Result<(), NoMemory>
 
 /// A value of an input.
 #[tactic(auto, unfolding(crate::specs::Words::value_text))]
-pub(crate) fn write_value(text: &mut Text, value: &Value) -> Result<(), NoMemory>
+pub fn write_value(text: &mut Text, value: &Value) -> Result<(), NoMemory>
     ensures { OnOk result (text.new ≡ text.old ++ value_text value.now) }
 {
     match *value {

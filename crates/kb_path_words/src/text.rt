@@ -16,7 +16,7 @@ use std::marker::Model;
 
 /// The bytes of a text. Each call appends; after memory ran out the text is only dropped.
 #[derive(Drop)]
-pub(crate) struct Text {
+pub struct Text {
     alloc: Global,
     bytes: Vec<u8>,
 }
@@ -30,7 +30,7 @@ impl Model for Text {
 }
 
 impl Text {
-    pub(crate) fn new(alloc: Global) -> Text
+    pub fn new(alloc: Global) -> Text
         ensures { result ≡ [] }
     {
         Text {
@@ -39,27 +39,27 @@ impl Text {
         }
     }
 
-    pub(crate) fn into_bytes(self) -> Vec<u8>
+    pub fn into_bytes(self) -> Vec<u8>
         ensures { result.items ≡ self }
     {
         self.bytes
     }
 
-    pub(crate) fn put(&mut self, piece: &str) -> Result<(), NoMemory>
+    pub fn put(&mut self, piece: &str) -> Result<(), NoMemory>
         ensures { OnOk result (self.new ≡ self.old ++ piece.now) }
     {
         self.bytes.extend_from_slice(piece.as_bytes())?;
         Ok(())
     }
 
-    pub(crate) fn end_line(&mut self) -> Result<(), NoMemory>
+    pub fn end_line(&mut self) -> Result<(), NoMemory>
         ensures { OnOk result (self.new ≡ self.old ++ 10 ∷ []) }
     {
         self.bytes.extend_from_slice(b"\n".as_slice())?;
         Ok(())
     }
 
-    pub(crate) fn number(&mut self, number: u32) -> Result<(), NoMemory>
+    pub fn number(&mut self, number: u32) -> Result<(), NoMemory>
         ensures { OnOk result (self.new ≡ self.old ++ decimal number) }
     {
         let digits = format!(in self.alloc; "{number}")?;
@@ -67,7 +67,7 @@ impl Text {
         Ok(())
     }
 
-    pub(crate) fn count(&mut self, count: usize) -> Result<(), NoMemory>
+    pub fn count(&mut self, count: usize) -> Result<(), NoMemory>
         ensures { OnOk result (self.new ≡ self.old ++ decimal count) }
     {
         let digits = format!(in self.alloc; "{count}")?;
@@ -75,7 +75,7 @@ impl Text {
         Ok(())
     }
 
-    pub(crate) fn int(&mut self, value: i32) -> Result<(), NoMemory>
+    pub fn int(&mut self, value: i32) -> Result<(), NoMemory>
         ensures { OnOk result (self.new ≡ self.old ++ signed_decimal value) }
     {
         let digits = format!(in self.alloc; "{value}")?;
@@ -83,28 +83,28 @@ impl Text {
         Ok(())
     }
 
-    pub(crate) fn name(&mut self, name: &Name) -> Result<(), NoMemory>
+    pub fn name(&mut self, name: &Name) -> Result<(), NoMemory>
         ensures { OnOk result (self.new ≡ self.old ++ name_text name.now) }
     {
         write_name(name, &mut self.bytes)?;
         Ok(())
     }
 
-    pub(crate) fn descriptor(&mut self, of: &JType) -> Result<(), NoMemory>
+    pub fn descriptor(&mut self, of: &JType) -> Result<(), NoMemory>
         ensures { OnOk result (self.new ≡ self.old ++ type_text Spelling.Escaped of.now) }
     {
         write_type(of, Spelling::Escaped, &mut self.bytes)?;
         Ok(())
     }
 
-    pub(crate) fn target(&mut self, target: &Target) -> Result<(), NoMemory>
+    pub fn target(&mut self, target: &Target) -> Result<(), NoMemory>
         ensures { OnOk result (self.new ≡ self.old ++ target_text target.now) }
     {
         write_target(target, &mut self.bytes)?;
         Ok(())
     }
 
-    pub(crate) fn log(&mut self, log: &Log) -> Result<(), NoMemory>
+    pub fn log(&mut self, log: &Log) -> Result<(), NoMemory>
         ensures { OnOk result (self.new ≡ self.old ++ lines_text (learn_lines log.now)) }
     {
         write_log(self.alloc, log, &mut self.bytes)?;
