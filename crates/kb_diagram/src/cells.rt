@@ -42,10 +42,7 @@ pub(crate) fn put_seen(
 }
 
 /// Puts what the run wrote into the table.
-pub(crate) fn put_writes(
-    cells: &mut HashMap<Slot, Cell>,
-    writes: &[Write],
-) -> Result<(), NoMemory>
+pub(crate) fn put_writes(cells: &mut HashMap<Slot, Cell>, writes: &[Write]) -> Result<(), NoMemory>
     ensures { OnOk result (HasMore (written_cell writes.now) cells.old cells.new) }
 {
     let mut rest = writes;

@@ -42,12 +42,7 @@ fn write_title(text: &mut Text, decisions: &[u32]) -> Result<(), NoMemory>
 
 // The heap before the run and, where the path has ended, after it.
 #[tactic(auto, using(kb_path_words::proofs::TextLaws::lines_joined), unfolding(crate::specs::Diagram::heap_lines))]
-fn write_heaps(
-    text: &mut Text,
-    alloc: Global,
-    world: &World,
-    path: &Path,
-) -> Result<(), NoMemory>
+fn write_heaps(text: &mut Text, alloc: Global, world: &World, path: &Path) -> Result<(), NoMemory>
     ensures { OnOk result (text.new ≡ text.old ++ lines_text (heap_lines world.now path.now)) }
 {
     let mut cells = HashMap::new(alloc);

@@ -7,4 +7,4 @@ use Rattle.kb_diagram.proofs.made.write_elements.Given as goal
 abbrev pub invariant-loop-index : goal.invariant-loop-index
 invariant-loop-index l =
     l.initial.text ++ numbered_words (λ index out. cell_word (decimal index) (out_text out)) 0 l.values
-        ≡ l.text ++ numbered_words (λ index out. cell_word (decimal index) (out_text out)) l.index (drop l.index l.values)
+    ≡ l.text ++ numbered_words (λ index out. cell_word (decimal index) (out_text out)) l.index (drop l.index l.values)
