@@ -2,6 +2,7 @@
 -- stands in each slot; the objects that the run made; and the first line of the leaf. A line has no line feed in it; the text of
 -- lines puts one behind each.
 use Rattle.std.specs.Prelude.{ℕ, zero, suc, ◌+◌, List, [], ◌∷◌, ◌++◌, codes, slice_get}
+use Rattle.std.specs.List.{flat_map}
 use Rattle.std.specs.Option.{option_map_or}
 use Rattle.std.specs.Fmt.{decimal}
 use Rattle.kb_grammar.specs.Lines.{lines_text}
@@ -103,3 +104,7 @@ diagram_lines world path = title_line path.decisions ∷ (heap_lines world path 
 -- The text of the diagram of a path of the world.
 unfoldable pub diagram_text : World → Path → List ℕ
 diagram_text world path = lines_text (diagram_lines world path)
+
+-- That of the diagrams of some paths, in order.
+unfoldable pub diagrams_text : World → List Path → List ℕ
+diagrams_text world paths = flat_map (diagram_text world) paths

@@ -1,34 +1,58 @@
-//! The text of a diagram.
+//! The text of diagrams.
 ghost use Rattle.std.specs.Prelude.{◌≡◌, ◌++◌, ◌∷◌, [], OnOk, IfOk};
-ghost use Rattle.kb_grammar.specs.Lines.{lines_text};
-ghost use Rattle.kb_diagram.specs.Diagram.{title_line, before_lines, after_lines, heap_lines, diagram_text};
-ghost use Rattle.kb_diagram.specs.Tables.{HasSeen};
-ghost use Rattle.std.specs.HashMap.{IsEmpty};
+ghost use Rattle.kb_diagram.specs.Diagram.{title_line, diagram_text, diagrams_text};
 
 use crate::NoMemory;
-use crate::cells::{Cell, Slot, put_seen, put_writes};
-use crate::made::write_made;
-use crate::objects::write_objects;
+use crate::heaps::write_heaps;
 use kb_path_words::{Text, write_decisions, write_leaf_line};
-use kb_picture::{Ended, Leaf, Path, Picture};
+use kb_picture::Path;
 use kb_world::World;
 use std::alloc::Global;
-use std::collections::HashMap;
 
 /// The text of the diagram of a path of the world: the objects of its picture before the run and, where the path has ended, after
 /// it, with the objects that the run made. Refused only where memory runs out. What the path names need not be there.
 ///
 /// It takes time in proportion to the path and the text.
-#[tactic(auto, using(kb_path_words::proofs::TextLaws::lines_joined), unfolding(crate::specs::Diagram::diagram_text, crate::specs::Diagram::diagram_lines))]
 pub fn diagram_text(alloc: Global, world: &World, path: &Path) -> Result<Vec<u8>, NoMemory>
     ensures { IfOk result (λ text. text.items ≡ diagram_text world.now path.now) }
 {
     let mut text = Text::new(alloc);
-    write_title(&mut text, path.decisions.as_slice())?;
-    write_heaps(&mut text, alloc, world, path)?;
-    write_leaf_line(&mut text, &path.leaf)?;
-    text.end_line()?;
+    write_diagram(&mut text, alloc, world, path)?;
     Ok(text.into_bytes())
+}
+
+/// The text of the diagrams of these paths, one behind the other.
+pub fn diagrams_text(alloc: Global, world: &World, paths: &[Path]) -> Result<Vec<u8>, NoMemory>
+    ensures { IfOk result (λ text. text.items ≡ diagrams_text world.now paths.now) }
+{
+    let mut text = Text::new(alloc);
+    write_diagrams(&mut text, alloc, world, paths)?;
+    Ok(text.into_bytes())
+}
+
+#[tactic(auto, unfolding(crate::specs::Diagram::diagrams_text))]
+fn write_diagrams(
+    text: &mut Text,
+    alloc: Global,
+    world: &World,
+    paths: &[Path],
+) -> Result<(), NoMemory>
+    ensures { OnOk result (text.new ≡ text.old ++ diagrams_text world.now paths.now) }
+{
+    for path in paths {
+        write_diagram(text, alloc, world, path)?;
+    }
+    Ok(())
+}
+
+#[tactic(auto, using(kb_path_words::proofs::TextLaws::lines_joined), unfolding(crate::specs::Diagram::diagram_text, crate::specs::Diagram::diagram_lines))]
+fn write_diagram(text: &mut Text, alloc: Global, world: &World, path: &Path) -> Result<(), NoMemory>
+    ensures { OnOk result (text.new ≡ text.old ++ diagram_text world.now path.now) }
+{
+    write_title(text, path.decisions.as_slice())?;
+    write_heaps(text, alloc, world, path)?;
+    write_leaf_line(text, &path.leaf)?;
+    text.end_line()
 }
 
 #[tactic(auto, unfolding(crate::specs::Diagram::title_line))]
@@ -38,52 +62,4 @@ fn write_title(text: &mut Text, decisions: &[u32]) -> Result<(), NoMemory>
     text.put("diagram ")?;
     write_decisions(text, decisions)?;
     text.end_line()
-}
-
-// The heap before the run and, where the path has ended, after it.
-#[tactic(auto, using(kb_path_words::proofs::TextLaws::lines_joined), unfolding(crate::specs::Diagram::heap_lines))]
-fn write_heaps(text: &mut Text, alloc: Global, world: &World, path: &Path) -> Result<(), NoMemory>
-    ensures { OnOk result (text.new ≡ text.old ++ lines_text (heap_lines world.now path.now)) }
-{
-    let mut cells = HashMap::new(alloc);
-    write_before(text, world, &path.picture, &mut cells)?;
-    match &path.leaf {
-        Leaf::Ended(ended) => write_after(text, world, &path.picture, ended, &mut cells),
-        Leaf::Cut(..) | Leaf::Undecided(_) | Leaf::Open => Ok(()),
-    }
-}
-
-// What is seen, from an empty table on, which has it all then.
-#[tactic(auto, unfolding(crate::specs::Diagram::before_lines))]
-fn write_before(
-    text: &mut Text,
-    world: &World,
-    picture: &Picture,
-    cells: &mut HashMap<Slot, Cell>,
-) -> Result<(), NoMemory>
-    requires { IsEmpty cells.old }
-    ensures text { OnOk result (text.new ≡ text.old ++ lines_text (before_lines world.now picture.now)) }
-    ensures cells { OnOk result (HasSeen picture.now cells.new) }
-{
-    put_seen(cells, picture.locs.as_slice(), picture.seen.as_slice())?;
-    text.put("before\n")?;
-    write_objects(text, world, cells, picture.objects.as_slice())
-}
-
-// What the run has left, from a table on that has what is seen.
-#[tactic(auto, using(kb_path_words::proofs::TextLaws::lines_joined), unfolding(crate::specs::Diagram::after_lines))]
-fn write_after(
-    text: &mut Text,
-    world: &World,
-    picture: &Picture,
-    ended: &Ended,
-    cells: &mut HashMap<Slot, Cell>,
-) -> Result<(), NoMemory>
-    requires { HasSeen picture.now cells.old }
-    ensures { OnOk result (text.new ≡ text.old ++ lines_text (after_lines world.now picture.now ended.now)) }
-{
-    put_writes(cells, ended.writes.as_slice())?;
-    text.put("after\n")?;
-    write_objects(text, world, cells, picture.objects.as_slice())?;
-    write_made(text, world, ended.made.as_slice())
 }

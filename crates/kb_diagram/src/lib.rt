@@ -6,8 +6,9 @@
 
 mod cells;
 mod diagram;
+mod heaps;
 mod made;
 mod objects;
 
-pub use diagram::diagram_text;
+pub use diagram::{diagram_text, diagrams_text};
 pub use std::alloc::AllocError as NoMemory;

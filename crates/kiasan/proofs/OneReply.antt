@@ -334,7 +334,8 @@ order_one words (Tests job) ordered texts world given =
 order_one words (Replay name files) ordered (bytes ∷ []) world given = replay_one (SameEnd words) bytes world given (λ s u t v e f replay. (e, f))
 order_one words (Replay name files) ordered [] world given = λ one other p q. absurd p
 order_one words (Replay name files) ordered (bytes ∷ more ∷ texts) world given = λ one other p q. absurd p
-order_one words (Diagrams job) ordered texts world given = λ one other p q. absurd p
+order_one words (Diagrams job) ordered texts world given =
+    job_one (SameEnd words) _ world job given (λ s u t v replay. absurd (not_both words (Diagrams job) ordered (λ tests files e. cc) replay))
 order_one words (Assemble name) ordered (bytes ∷ []) world given =
     assembly_one (SameEnd words) bytes (λ s u t v replay. absurd (not_both words (Assemble name) ordered (λ tests files e. cc) replay))
 order_one words (Assemble name) ordered [] world given = λ one other p q. absurd p

@@ -38,7 +38,7 @@ lazy_is Lazier built = cc
 pub built_order : (order : Order) → IsOrder order → is_built order ≡ true → IsBuiltOrder order
 built_order (Explore job) is built = record { numbers = is; lazy = lazy_is job.init built }
 built_order (Tests job) is built = record { numbers = is; lazy = lazy_is job.init built }
-built_order (Diagrams job) is built = cc
+built_order (Diagrams job) is built = record { numbers = is; lazy = lazy_is job.init built }
 built_order (Replay tests files) is built = tt
 built_order (Assemble text) is built = tt
 built_order (Sample blocks) is built = cc

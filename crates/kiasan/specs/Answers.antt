@@ -40,6 +40,7 @@ use Rattle.kiasan.specs.CodeFaults.{MethodsRefuse}
 use Rattle.kb_words.specs.Orders.{Orders}
 use Rattle.kiasan.specs.Orders.{OrdersBuilt, OrdersUnbuilt, texts_of, classes_of, files_of}
 use Rattle.kiasan.specs.Refusals.{Gives, class_refusal, link_refusal, refusal_status, refusal_line, word_refusal}
+use Rattle.kb_diagram.specs.Diagram.{diagrams_text}
 use Rattle.kb_report.specs.Report.{report_text}
 use Rattle.kiasan.specs.Reach.{TargetRefuses}
 use Rattle.kiasan.specs.Exploring.{IsReportOf, status_of, tests_of}
@@ -102,6 +103,10 @@ pub record IsTestsTextOf (world : World) (id : MethodId) (report : Report) (text
   pub spelled : SpellsTests (literals_in world) (tests_of world report) text
   pub end_as_stated : AllByRecursion (EndsAsStated world id) (tests_of world report)
 
+-- the text of the command `diagrams`: the diagrams of the report's paths, in order
+abbrev pub IsDiagramsText : TextOf
+IsDiagramsText world id report text = text ≡ diagrams_text world report.leaves
+
 -- the end of a replay: what the runs of the tests say, in order
 pub record EndsReplay (world : World) (tests : List Test) (status : Status) (text : List ℕ) : Type 0 where
   pub verdicts : List Replayed
@@ -159,6 +164,7 @@ RepliesAssembly bytes (ends status text) = EndsAssembly bytes status text
 abbrev pub RepliesIn : Order → List (List ℕ) → World → Reply → Type 0
 RepliesIn (Explore job) texts world = RepliesJob IsReportText world job
 RepliesIn (Tests job) texts world = RepliesJob IsTestsTextOf world job
+RepliesIn (Diagrams job) texts world = RepliesJob IsDiagramsText world job
 RepliesIn (Replay name files) (bytes ∷ []) world = RepliesReplay bytes world
 RepliesIn (Assemble name) (bytes ∷ []) world = RepliesAssembly bytes
 RepliesIn _ texts world = λ reply. ⊥
@@ -304,7 +310,7 @@ IsOfVerdicts _ = ⊥
 abbrev pub EndsOrder : Order → Status → Status → Type 0
 EndsOrder (Explore job) one status = IsOfReport status
 EndsOrder (Tests job) one status = IsOfReport status
-EndsOrder (Diagrams job) one status = ⊥
+EndsOrder (Diagrams job) one status = IsOfReport status
 EndsOrder (Replay tests files) one status = (status ≡ one) × IsOfVerdicts status
 EndsOrder (Assemble text) one status = IsDone status
 EndsOrder (Sample blocks) one status = ⊥

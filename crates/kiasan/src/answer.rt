@@ -9,7 +9,7 @@ ghost use Rattle.kiasan.specs.Orders.{IsBuiltOrder, classes_of, files_of, texts_
 
 use crate::assembly::answer_assembly;
 use crate::classes::{link_classes, read_classes};
-use crate::methods::{answer_report, answer_tests};
+use crate::methods::{answer_diagrams, answer_report, answer_tests};
 use crate::orders::{classes_of, read_order, texts_of};
 use crate::ranges::tell_files;
 use crate::refusals::{Answer, Fault, Stop, settle};
@@ -151,8 +151,9 @@ fn answer_in(alloc: Global, order: &Order, texts: &[Row<u8>], world: &World) -> 
     match order {
         Order::Explore(job) => answer_report(alloc, world, job),
         Order::Tests(job) => answer_tests(alloc, world, job),
+        Order::Diagrams(job) => answer_diagrams(alloc, world, job),
         Order::Replay(..) => replay(alloc, world, texts[0].as_slice()),
         Order::Assemble(_) => answer_assembly(alloc, texts[0].as_slice()),
-        Order::Diagrams(_) | Order::Sample(_) => unreachable!(),
+        Order::Sample(_) => unreachable!(),
     }
 }

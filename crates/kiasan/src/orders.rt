@@ -40,9 +40,9 @@ fn is_built(order: &Order) -> bool
     ensures { result ≡ is_built order.now }
 {
     match order {
-        Order::Explore(job) | Order::Tests(job) => is_lazy(job.init),
+        Order::Explore(job) | Order::Tests(job) | Order::Diagrams(job) => is_lazy(job.init),
         Order::Replay(..) | Order::Assemble(_) => true,
-        Order::Diagrams(_) | Order::Sample(_) => false,
+        Order::Sample(_) => false,
     }
 }
 
