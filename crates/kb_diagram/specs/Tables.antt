@@ -1,5 +1,5 @@
 -- Tables of what stands in the slots of objects.
-use Rattle.std.specs.Prelude.{◌≡◌, ℕ, ◌==◌, ◌&&◌, List, codes, Option, Some, None, option_map}
+use Rattle.std.specs.Prelude.{◌≡◌, ℕ, ◌==◌, ◌&&◌, List, codes, map, Option, Some, None}
 use Rattle.std.specs.HashMap.{HashMap, get_by}
 use Rattle.std.specs.Option.{option_or}
 use Rattle.kb_path_words.specs.Words.{seen_text, out_text}
@@ -11,7 +11,7 @@ use Rattle.kb_picture.specs.declared.picture.Seen.{Seen}
 use Rattle.kb_diagram.specs.declared.cells.Cell.{Cell}
 use Rattle.kb_diagram.specs.declared.cells.Cell.TheVariants.{Shown, Written}
 use Rattle.kb_diagram.specs.declared.cells.Slot.{Slot}
-use Rattle.kb_diagram.specs.Cells.{last_said, shown_as, written}
+use Rattle.kb_diagram.specs.Cells.{last_said, shown_as}
 
 -- what the table has for that slot of the object
 abbrev pub cell_in : {S : Type 0} → HashMap Slot Cell S → ℕ → ℕ → Option Cell
@@ -27,16 +27,17 @@ cell_text (Some (Written out)) = out_text out
 abbrev pub held_in : {S : Type 0} → HashMap Slot Cell S → ℕ → ℕ → List ℕ
 held_in cells object number = cell_text (cell_in cells object number)
 
-abbrev pub seen_cell : List PicLoc → List (Origin × Seen) → ℕ → ℕ → Option Cell
-seen_cell locs seen object number = option_map (λ (s : Seen). Shown (shown_as locs s)) (last_said seen object number)
+-- the slots that were read, with what they are seen to hold, and those that the run wrote, with the values
+abbrev pub seen_cell : List PicLoc → Origin × Seen → Origin × Cell
+seen_cell locs slot = (slot.0, Shown (shown_as locs slot.1))
 
-abbrev pub written_cell : List Write → ℕ → ℕ → Option Cell
-written_cell writes object number = option_map Written (last_said (written writes) object number)
+abbrev pub written_cell : Write → Origin × Cell
+written_cell write = (write.slot, Written write.value)
 
--- the table has what the list says, and what it had before of all else
-abbrev pub HasMore : {S : Type 0} → (ℕ → ℕ → Option Cell) → HashMap Slot Cell S → HashMap Slot Cell S → Type 0
-HasMore said before after = (object number : ℕ) → cell_in after object number ≡ option_or (said object number) (cell_in before object number)
+-- the table has what is said last of a slot, and what it had before where nothing is said
+abbrev pub HasMore : {S : Type 0} → List (Origin × Cell) → HashMap Slot Cell S → HashMap Slot Cell S → Type 0
+HasMore said before after = (object number : ℕ) → cell_in after object number ≡ option_or (last_said said object number) (cell_in before object number)
 
--- the table has what the picture says, and nothing else
+-- the table has what is seen, and nothing else
 abbrev pub HasSeen : {S : Type 0} → Picture → HashMap Slot Cell S → Type 0
-HasSeen picture cells = (object number : ℕ) → cell_in cells object number ≡ seen_cell picture.locs picture.seen object number
+HasSeen picture cells = (object number : ℕ) → cell_in cells object number ≡ last_said (map (seen_cell picture.locs) picture.seen) object number

@@ -1,6 +1,5 @@
 //! What stands in the slots of objects, as a table by object and slot, which is made once for a path.
-ghost use Rattle.std.specs.Prelude.{◌≡◌, ◌++◌, ◌==◌, ◌&&◌, ℕ, Some, if◌then◌else◌, OnOk};
-ghost use Rattle.std.specs.Option.{option_copied};
+ghost use Rattle.std.specs.Prelude.{◌≡◌, ◌++◌, ◌==◌, ◌&&◌, ℕ, map, Some, if◌then◌else◌, OnOk};
 ghost use Rattle.kb_diagram.specs.Cells.{is_slot, shown_as, standing_as};
 ghost use Rattle.kb_diagram.specs.Tables.{cell_in, cell_text, seen_cell, written_cell, HasMore};
 
@@ -31,11 +30,11 @@ pub(crate) fn put_seen(
     locs: &[PicLoc],
     seen: &[(Origin, Seen)],
 ) -> Result<(), NoMemory>
-    ensures { OnOk result (HasMore (seen_cell locs.now seen.now) cells.old cells.new) }
+    ensures { OnOk result (HasMore (map (seen_cell locs.now) seen.now) cells.old cells.new) }
 {
     let mut rest = seen;
-    while let [(slot, seen), others @ ..] = rest {
-        put(cells, *slot, Cell::Shown(shown_as(locs, *seen)))?;
+    while let [slot, others @ ..] = rest {
+        put(cells, slot.0, Cell::Shown(shown_as(locs, slot.1)))?;
         rest = others;
     }
     Ok(())
@@ -43,7 +42,7 @@ pub(crate) fn put_seen(
 
 /// Puts what the run wrote into the table.
 pub(crate) fn put_writes(cells: &mut HashMap<Slot, Cell>, writes: &[Write]) -> Result<(), NoMemory>
-    ensures { OnOk result (HasMore (written_cell writes.now) cells.old cells.new) }
+    ensures { OnOk result (HasMore (map written_cell writes.now) cells.old cells.new) }
 {
     let mut rest = writes;
     while let [write, others @ ..] = rest {

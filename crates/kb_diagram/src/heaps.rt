@@ -2,7 +2,7 @@
 ghost use Rattle.std.specs.Prelude.{◌≡◌, ◌++◌, OnOk};
 ghost use Rattle.std.specs.HashMap.{IsEmpty};
 ghost use Rattle.kb_grammar.specs.Lines.{lines_text};
-ghost use Rattle.kb_diagram.specs.Diagram.{before_lines, after_lines, heap_lines};
+ghost use Rattle.kb_diagram.specs.Diagram.{before_lines, after_lines, end_lines, heap_lines};
 ghost use Rattle.kb_diagram.specs.Tables.{HasSeen};
 
 use crate::NoMemory;
@@ -27,10 +27,7 @@ pub(crate) fn write_heaps(
 {
     let mut cells = HashMap::new(alloc);
     write_before(text, world, &path.picture, &mut cells)?;
-    match &path.leaf {
-        Leaf::Ended(ended) => write_after(text, world, &path.picture, ended, &mut cells),
-        Leaf::Cut(..) | Leaf::Undecided(_) | Leaf::Open => Ok(()),
-    }
+    write_end(text, world, &path.picture, &path.leaf, &mut cells)
 }
 
 // What is seen, from an empty table on, which has it all then.
@@ -50,7 +47,23 @@ fn write_before(
     write_objects(text, world, cells, picture.objects.as_slice())
 }
 
-// What the run has left, from a table on that has what is seen.
+// What a run has left whose end the path states, from a table on that has what is seen.
+fn write_end(
+    text: &mut Text,
+    world: &World,
+    picture: &Picture,
+    leaf: &Leaf,
+    cells: &mut HashMap<Slot, Cell>,
+) -> Result<(), NoMemory>
+    requires { HasSeen picture.now cells.old }
+    ensures { OnOk result (text.new ≡ text.old ++ lines_text (end_lines world.now picture.now leaf.now)) }
+{
+    match leaf {
+        Leaf::Ended(ended) => write_after(text, world, picture, ended, cells),
+        Leaf::Cut(..) | Leaf::Undecided(_) | Leaf::Open => Ok(()),
+    }
+}
+
 #[tactic(auto, using(kb_path_words::proofs::TextLaws::lines_joined), unfolding(crate::specs::Diagram::after_lines))]
 fn write_after(
     text: &mut Text,

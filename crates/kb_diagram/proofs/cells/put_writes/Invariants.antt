@@ -1,11 +1,10 @@
-use Rattle.std.proofs.Common.{◌≡◌, ℕ, length}
-use Rattle.std.specs.Option.{option_or}
+use Rattle.std.proofs.Common.{length}
 use Rattle.kb_diagram.specs.Tables.{cell_in, written_cell}
+use Rattle.kb_diagram.proofs.CellLaws.{Goes}
 use Rattle.kb_diagram.proofs.cells.put_writes.Given as goal
 
 abbrev pub invariant-loop-rest : goal.invariant-loop-rest
-invariant-loop-rest l =
-    (object number : ℕ) → option_or (written_cell l.writes object number) (cell_in l.initial.cells object number) ≡ option_or (written_cell l.rest object number) (cell_in l.cells object number)
+invariant-loop-rest l = Goes written_cell (cell_in l.fn.cells) (cell_in l.cells) l.writes l.rest
 
 abbrev pub decreases-loop-rest : goal.decreases-loop-rest
 decreases-loop-rest l = length l.rest
