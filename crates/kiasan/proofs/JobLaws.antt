@@ -1,5 +1,5 @@
 -- How a job is answered.
-use Rattle.std.proofs.Common.{◌≡◌, List, [], ◌∷◌, ◌++◌, ℕ, true, false, Err, refl, sym, ◌∙◌, ap, subst, inl, inr, arith}
+use Rattle.std.proofs.Common.{◌≡◌, List, [], ◌∷◌, ◌++◌, ℕ, suc, true, false, Some, slice_get, Err, refl, sym, ◌∙◌, ap, subst, inl, inr, arith}
 use Rattle.std.specs.List.{AllByRecursion}
 use Rattle.kb_class.specs.declared.ids.MethodId.{MethodId}
 use Rattle.kb_drive.specs.Compared.{ComparesAsRuns}
@@ -20,6 +20,7 @@ use Rattle.kb_picture.specs.declared.path.Leaf.{Leaf}
 use Rattle.kb_picture.specs.declared.path.Leaf.TheVariants.{Ended as EndedLeaf, Cut, Undecided, Open}
 use Rattle.kb_picture.specs.declared.path.Path.{Path}
 use Rattle.kb_report.specs.declared.report.Report.{Report}
+use Rattle.kb_report_laws.specs.OneText.{IsSound}
 use Rattle.kb_names.specs.Targets.{IsTarget}
 use Rattle.kb_test_lines.specs.Lines.{IsRunBounds}
 use Rattle.kb_test.specs.Tests.{SpellsTests}
@@ -111,6 +112,17 @@ pub listed_of : (world : World) (state : State) (init : Init) (id : MethodId) (b
 listed_of world state init id bounds paths budget asked leaves e f covers compared seen =
     subst (λ (m : MethodId). AreListed world m bounds paths budget leaves) (is_start state init id e).1
     (subst (λ (b : ℕ). AreListed world state.method bounds paths b leaves) f (record { covers = covers; compared = compared; seen = seen }))
+
+-- ---- the report's text is its own
+
+all_of : {A : Type 0} (P : A → Type 0) (xs : List A) → ((i : ℕ) (x : A) → slice_get xs i ≡ Some x → P x) → AllByRecursion P xs
+all_of P [] each = tt
+all_of P (x ∷ xs) each = (each 0 x refl, all_of P xs (λ i y at. each (suc i) y at))
+
+-- the paths of a report are well-formed for its method
+pub paths_sound : (world : World) (job : Job) (report : Report) → IsBuiltReport world job report → AllByRecursion (IsSound world) report.leaves
+paths_sound world job report built =
+    all_of (IsSound world) report.leaves (λ i path at. record { method = built.reported.id; formed = built.reported.listed.covers.formed.each i path at })
 
 -- ---- the tests of a report end as they state
 

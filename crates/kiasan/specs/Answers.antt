@@ -41,7 +41,9 @@ use Rattle.kb_words.specs.Orders.{Orders}
 use Rattle.kiasan.specs.Orders.{OrdersBuilt, OrdersUnbuilt, texts_of, classes_of, files_of}
 use Rattle.kiasan.specs.Refusals.{Gives, class_refusal, link_refusal, refusal_status, refusal_line, word_refusal}
 use Rattle.kb_diagram.specs.Diagram.{diagrams_text}
+use Rattle.kb_report.specs.Ranges.{ReportFits}
 use Rattle.kb_report.specs.Report.{report_text}
+use Rattle.kb_report_laws.specs.OneText.{IsReport}
 use Rattle.kiasan.specs.Reach.{TargetRefuses}
 use Rattle.kiasan.specs.Exploring.{IsReportOf, status_of, tests_of}
 use Rattle.kiasan.specs.Tests.{EndsAsStated, RefusesTests, literals_in, replay_status}
@@ -94,9 +96,15 @@ pub record EndsJob (IsTextOf : TextOf) (world : World) (job : Job) (status : Sta
   pub status_is : status ≡ status_of report.leaves
   pub text_is : IsTextOf world reported.id report text
 
+-- the text is that of the report, whose numbers are in the ranges of their types, and no other report has it
+pub record IsOwnText (world : World) (report : Report) (text : List ℕ) : Type 0 where
+  pub text_is : text ≡ report_text world report
+  pub ranges : ReportFits report
+  pub only : (other : Report) → IsReport world other → report_text world other ≡ text → other ≡ report
+
 -- the text of the command `explore`
 abbrev pub IsReportText : TextOf
-IsReportText world id report text = text ≡ report_text world report
+IsReportText world id report text = IsOwnText world report text
 
 -- The text of the command `tests`: that of the report's tests. Each ends as it states, where the machine runs the method.
 pub record IsTestsTextOf (world : World) (id : MethodId) (report : Report) (text : List ℕ) : Type 0 where
