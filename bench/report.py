@@ -1,15 +1,15 @@
 #!/usr/bin/env python3
 """Times the text of reports of kb_report, and that of their paths' diagrams of kb_diagram, beside its length.
 
-Reports have so many open paths; one path with so many terms, each the sum of the one before it and a variable; one path that has
-seen so many arguments; or one ended path with so many arrays of one element, each of which the run has written. How many bytes the
-text has is compared with the text that this script makes after the format. The time of a call is the mean of many, less that of a
-run which only makes the report. Where the work is linear, the time a byte is about the same in each line. Diagrams are to take no
-longer than reports of the same paths.
+Reports have so many open paths; one path with so many terms, each the sum of the one before it and a variable; one path that
+has seen so many arguments; or one ended path with so many arrays of one element, each of which the run has written. How many
+bytes the text has is compared with the text that this script makes after the format. The time of a call is the mean of many,
+less that of a run which only makes the report. Where the work is linear, the time a byte is about the same in each line.
+Diagrams are to take no longer than reports of the same paths.
 
 Usage: bench/report.py [--runs N]
-The first run takes as long as the proofs of kb_report, kb_diagram and the crates below them take, unless a checkout on this machine
-has kept them.
+The first run takes as long as the proofs of kb_report, kb_diagram and the crates below them take, unless a checkout on this
+machine has kept them.
 """
 
 import argparse
@@ -20,7 +20,7 @@ from built import Program, with_main, with_those_below
 CRATES = with_those_below("reporting: kb_diagram kb_heap kb_names kb_picture kb_report kb_rows kb_terms kb_world")
 
 SOURCE = with_main("""\
-//! Makes a report with so many paths, terms, seen arguments or objects, and gives its text, or that of its diagrams, so many times.
+//! Makes a report with so many paths, terms, seen arguments or objects, and gives its text, or its diagrams', so many times.
 #![tactic(auto)]
 
 use kb_diagram::diagrams_text;

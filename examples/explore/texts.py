@@ -1,4 +1,4 @@
-"""The texts of paths: the blocks of a report, the inputs that paths carry, their tests, and their diagrams, after docs/USING.md."""
+"""The texts of paths: the blocks of a report, the inputs that they carry, their tests, and diagrams, after docs/USING.md."""
 
 import re
 from dataclasses import dataclass
