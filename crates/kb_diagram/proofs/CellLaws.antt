@@ -1,5 +1,6 @@
 -- What a table has for a slot, and what a list says of it.
-use Rattle.std.proofs.Common.{◌≡◌, ℕ, ◌-◌, ◌<◌, ◌≤◌, ◌==◌, ◌&&◌, Bool, true, false, if◌then◌else◌, List, [], ◌∷◌, length, map, drop, take, take_all, get_or, codes, Option, Some, None, refl, sym, ap, subst, ◌∙◌, arith}
+use Rattle.std.proofs.Common.{◌≡◌, ℕ, ◌-◌, ◌<◌, ◌≤◌, ◌==◌, ◌&&◌, Bool, true, false, if◌then◌else◌, List, [], ◌∷◌, length, map, drop, take, get_or, codes, Option, Some, None, refl, sym, ap, subst, ◌∙◌, arith}
+use Rattle.std.proofs.lemmas.List.{take_all}
 use Rattle.std.specs.HashMap.{HashMap, IsEmpty}
 use Rattle.std.specs.Map.{lookup}
 use Rattle.std.specs.Option.{option_map, option_map_or, option_or}
@@ -60,7 +61,7 @@ none_behind (Some a) = refl
 
 module _ {S : Type 0} where
   none_in : (cells : HashMap Slot Cell S) (object number : ℕ) → IsEmpty cells → cell_in cells object number ≡ None
-  none_in cells object number empty = ap (λ es. lookup (λ (key : Slot). (object == key.object) && (number == key.number)) es) empty
+  none_in cells object number empty = ap (λ (es : List (Slot × Cell)). lookup (λ (key : Slot). (object == key.object) && (number == key.number)) es) empty
 
   pub seen_from_none : (picture : Picture) (before after : HashMap Slot Cell S) → IsEmpty before → HasMore (map (seen_cell picture.locs) picture.seen) before after → HasSeen picture after
   seen_from_none picture before after empty more object number =
