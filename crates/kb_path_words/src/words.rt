@@ -26,7 +26,7 @@ pub fn write_exact(text: &mut Text, kind: &ExactType) -> Result<(), NoMemory>
 }
 
 #[tactic(auto, unfolding(crate::specs::Words::place_text))]
-pub fn write_place(text: &mut Text, place: &Place) -> Result<(), NoMemory>
+pub(crate) fn write_place(text: &mut Text, place: &Place) -> Result<(), NoMemory>
     ensures { OnOk result (text.new ≡ text.old ++ place_text place.now) }
 {
     text.target(&place.method)?;
@@ -35,7 +35,7 @@ pub fn write_place(text: &mut Text, place: &Place) -> Result<(), NoMemory>
 }
 
 #[tactic(auto, unfolding(crate::specs::Words::bound_name))]
-pub fn bound_name(bound: Bound) -> &'static str
+pub(crate) fn bound_name(bound: Bound) -> &'static str
     ensures { result.now ≡ bound_name bound }
 {
     match bound {
