@@ -1,21 +1,18 @@
 -- How the parts of a line are written: what slots are seen to hold, operands, values, types, bounds. Each has one spelling. They
 -- stand in reports and in diagrams.
-use Rattle.std.specs.Prelude.{ℕ, List, [], ◌++◌, codes, Option, Some, None, slice_get}
+use Rattle.std.specs.Prelude.{ℕ, List, [], ◌++◌, codes, Option, Some, None}
 use Rattle.std.specs.Fmt.{decimal, signed_decimal}
 use Rattle.kb_heap.specs.declared.bounds.Bound.{Bound}
 use Rattle.kb_heap.specs.declared.bounds.Bound.TheVariants.{K, Array as ArrayBound, Alloc, Loops, Depth, Steps}
 use Rattle.kb_heap.specs.declared.ending.Place.{Place}
 use Rattle.kb_heap.specs.declared.heap.Value.{Value}
 use Rattle.kb_heap.specs.declared.heap.Value.TheVariants as values
-use Rattle.kb_link.specs.World.{World}
-use Rattle.kb_link.specs.declared.slots.FieldSlot.{FieldSlot}
 use Rattle.kb_names.specs.Descriptors.{type_text}
 use Rattle.kb_names.specs.Escapes.{name_text}
 use Rattle.kb_names.specs.Targets.{target_text}
 use Rattle.kb_names.specs.declared.class_names.Spelling.TheVariants.{Escaped}
 use Rattle.kb_names.specs.declared.types.ExactType.{ExactType}
 use Rattle.kb_names.specs.declared.types.ExactType.TheVariants as exact
-use Rattle.kb_semantics.specs.Values.{slots_of_class}
 use Rattle.kb_terms.specs.Op.{op_name}
 use Rattle.kb_terms.specs.declared.listing.Operand.{Operand}
 use Rattle.kb_terms.specs.declared.listing.Operand.TheVariants.{Const, Var, Term as TermOperand}
@@ -48,12 +45,7 @@ bound_name Loops = codes "loops"
 bound_name Depth = codes "depth"
 bound_name Steps = codes "steps"
 
--- ---- slots and what they hold
-
--- the field of that slot of an object of the exact type, where there is one
-abbrev pub field_of_type : World → ℕ → ExactType → Option FieldSlot
-field_of_type world slot (exact.Class name) = slice_get (slots_of_class world name) slot
-field_of_type world slot (exact.Array component) = None
+-- ---- what slots hold
 
 unfoldable pub seen_text : Seen → List ℕ
 seen_text (seens.Int number) = codes "v" ++ decimal number

@@ -12,6 +12,6 @@ pub use lines::{write_decisions, write_leaf_line};
 pub use std::alloc::AllocError as NoMemory;
 pub use text::Text;
 pub use words::{
-    field_of_type, write_exact, write_length, write_numbered, write_out, write_seen,
-    write_standing, write_term, write_value,
+    write_exact, write_length, write_numbered, write_out, write_seen, write_standing, write_term,
+    write_value,
 };

@@ -1,15 +1,13 @@
 //! The parts of a line are written.
 ghost use Rattle.std.specs.Prelude.{◌≡◌, ◌++◌, OnOk};
 ghost use Rattle.std.specs.Fmt.{decimal};
-ghost use Rattle.std.specs.Option.{option_copied};
-ghost use Rattle.kb_path_words.specs.Words.{exact_text, place_text, bound_name, field_of_type, seen_text, standing_text, length_text, operand_text, second_text, term_text, out_text, value_text};
+ghost use Rattle.kb_path_words.specs.Words.{exact_text, place_text, bound_name, seen_text, standing_text, length_text, operand_text, second_text, term_text, out_text, value_text};
 
 use crate::NoMemory;
 use crate::text::Text;
 use kb_heap::{Bound, Place, Value};
 use kb_names::ExactType;
 use kb_picture::{Length, Operand, Out, Seen, Standing, Term};
-use kb_world::{FieldSlot, World};
 
 /// A class by its name, an array by its descriptor.
 #[tactic(auto, unfolding(crate::specs::Words::exact_text))]
@@ -45,16 +43,6 @@ pub(crate) fn bound_name(bound: Bound) -> &'static str
         Bound::Loops => "loops",
         Bound::Depth => "depth",
         Bound::Steps => "steps",
-    }
-}
-
-/// The field of that slot of an object of the exact type.
-pub fn field_of_type<'a>(world: &'a World, slot: u32, kind: &ExactType) -> Option<&'a FieldSlot>
-    ensures { option_copied result ≡ field_of_type world.now slot kind.now }
-{
-    match kind {
-        ExactType::Class(name) => world.slots_named(name).get(slot as usize),
-        ExactType::Array(_) => None,
     }
 }
 

@@ -1,5 +1,5 @@
 -- Slots, as they stand in the lines of a report.
-use Rattle.std.specs.Prelude.{ℕ, Bool, true, false, nat_lt, List, [], ◌++◌, codes, count_by, Option, option_and_then, slice_get}
+use Rattle.std.specs.Prelude.{ℕ, Bool, true, false, nat_lt, List, [], ◌++◌, codes, count_by, Option, None, option_and_then, slice_get}
 use Rattle.std.specs.Option.{option_map_or}
 use Rattle.std.specs.Fmt.{decimal}
 use Rattle.std.specs.Str.{bytes_eq}
@@ -10,9 +10,11 @@ use Rattle.kb_link.specs.declared.slots.FieldSlot.{FieldSlot}
 use Rattle.kb_names.specs.Descriptors.{type_text}
 use Rattle.kb_names.specs.Escapes.{name_text}
 use Rattle.kb_names.specs.declared.class_names.Spelling.TheVariants.{Escaped}
+use Rattle.kb_names.specs.declared.types.ExactType.{ExactType}
+use Rattle.kb_names.specs.declared.types.ExactType.TheVariants as exact
 use Rattle.kb_names.specs.declared.types.JType.{JType}
 use Rattle.kb_semantics.specs.Config.{class_name}
-use Rattle.kb_path_words.specs.Words.{field_of_type}
+use Rattle.kb_semantics.specs.Values.{slots_of_class}
 use Rattle.kb_picture.specs.declared.picture.Origin.{Origin}
 use Rattle.kb_picture.specs.declared.picture.Origin.TheVariants.{Arg, Field, Element}
 use Rattle.kb_picture.specs.declared.picture.PicObject.{PicObject}
@@ -33,6 +35,11 @@ kind_text false kind = []
 -- a field by the class that declares it and its name, and by its descriptor where it has a namesake there
 unfoldable pub field_text : World → FieldSlot → List ℕ
 field_text world field = name_text (class_name world field.class.0) ++ (codes "." ++ (name_text field.name ++ kind_text (has_namesake world field) field.kind))
+
+-- the field of that slot of an object of the exact type, where there is one
+abbrev pub field_of_type : World → ℕ → ExactType → Option FieldSlot
+field_of_type world slot (exact.Class name) = slice_get (slots_of_class world name) slot
+field_of_type world slot (exact.Array component) = None
 
 abbrev pub field_of : World → List PicObject → ℕ → ℕ → Option FieldSlot
 field_of world objects object slot = option_and_then (λ (o : PicObject). field_of_type world slot o.kind) (slice_get objects object)

@@ -1,16 +1,17 @@
 //! The slots in the lines of a report.
 ghost use Rattle.std.specs.Prelude.{◌≡◌, ◌++◌, [], OnOk};
-ghost use Rattle.std.specs.Option.{option_map_or};
+ghost use Rattle.std.specs.Option.{option_copied, option_map_or};
 ghost use Rattle.kb_names.specs.Escapes.{name_text};
-ghost use Rattle.kb_report.specs.Slots.{field_text, field_of, slot_text};
+ghost use Rattle.kb_report.specs.Slots.{field_text, field_of_type, field_of, slot_text};
 ghost use Rattle.kb_semantics.specs.Config.{class_name};
 
 use crate::NoMemory;
 use crate::naming::NamedWorld;
 use kb_class::ClassId;
-use kb_path_words::{Text, field_of_type, write_numbered};
+use kb_names::ExactType;
+use kb_path_words::{Text, write_numbered};
 use kb_picture::{Origin, PicObject};
-use kb_world::FieldSlot;
+use kb_world::{FieldSlot, World};
 
 // The name of a class; nothing where there is no such class.
 fn write_class_name(text: &mut Text, world: &NamedWorld<'_>, class: ClassId) -> Result<(), NoMemory>
@@ -34,6 +35,16 @@ fn write_field(text: &mut Text, world: &NamedWorld<'_>, field: &FieldSlot) -> Re
     }
     text.put(":")?;
     text.descriptor(&field.kind)
+}
+
+// The field of that slot of an object of the exact type.
+fn field_of_type<'a>(world: &'a World, slot: u32, kind: &ExactType) -> Option<&'a FieldSlot>
+    ensures { option_copied result ≡ field_of_type world.now slot kind.now }
+{
+    match kind {
+        ExactType::Class(name) => world.slots_named(name).get(slot as usize),
+        ExactType::Array(_) => None,
+    }
 }
 
 // The field of that slot of that object of the picture; nothing where there is none.
