@@ -1,5 +1,5 @@
 -- Tables of what stands in the slots of objects.
-use Rattle.std.specs.Prelude.{◌≡◌, ℕ, ◌==◌, ◌&&◌, List, codes, map, Option, Some, None}
+use Rattle.std.specs.Prelude.{◌≡◌, ℕ, ◌==◌, ◌&&◌, if◌then◌else◌, List, codes, map, Option, Some, None}
 use Rattle.std.specs.HashMap.{HashMap, get_by}
 use Rattle.std.specs.Option.{option_or}
 use Rattle.kb_path_words.specs.Words.{seen_text, out_text}
@@ -11,7 +11,7 @@ use Rattle.kb_picture.specs.declared.picture.Seen.{Seen}
 use Rattle.kb_diagram.specs.declared.cells.Cell.{Cell}
 use Rattle.kb_diagram.specs.declared.cells.Cell.TheVariants.{Shown, Written}
 use Rattle.kb_diagram.specs.declared.cells.Slot.{Slot}
-use Rattle.kb_diagram.specs.Cells.{last_said, shown_as}
+use Rattle.kb_diagram.specs.Cells.{is_slot, last_said, shown_as}
 
 -- what the table has for that slot of the object
 abbrev pub cell_in : {S : Type 0} → HashMap Slot Cell S → ℕ → ℕ → Option Cell
@@ -33,6 +33,10 @@ seen_cell locs slot = (slot.0, Shown (shown_as locs slot.1))
 
 abbrev pub written_cell : Write → Origin × Cell
 written_cell write = (write.slot, Written write.value)
+
+-- the table has what is said of a slot in the place of what it had there; of an argument it has nothing
+abbrev pub Puts : {S : Type 0} → Origin × Cell → HashMap Slot Cell S → HashMap Slot Cell S → Type 0
+Puts said before after = (object number : ℕ) → cell_in after object number ≡ (if is_slot object number said.0 then Some said.1 else cell_in before object number)
 
 -- the table has what is said last of a slot, and what it had before where nothing is said
 abbrev pub HasMore : {S : Type 0} → List (Origin × Cell) → HashMap Slot Cell S → HashMap Slot Cell S → Type 0

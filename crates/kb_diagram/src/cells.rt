@@ -1,7 +1,7 @@
 //! What stands in the slots of objects, as a table by object and slot, which is made once for a path.
 ghost use Rattle.std.specs.Prelude.{◌≡◌, ◌++◌, ◌==◌, ◌&&◌, ℕ, map, Some, if◌then◌else◌, OnOk};
-ghost use Rattle.kb_diagram.specs.Cells.{is_slot, shown_as, standing_as};
-ghost use Rattle.kb_diagram.specs.Tables.{cell_in, cell_text, seen_cell, written_cell, HasMore};
+ghost use Rattle.kb_diagram.specs.Cells.{shown_as, standing_as};
+ghost use Rattle.kb_diagram.specs.Tables.{cell_in, cell_text, seen_cell, written_cell, HasMore, Puts};
 
 use crate::NoMemory;
 use kb_path_words::{Text, write_out, write_seen};
@@ -34,7 +34,7 @@ pub(crate) fn put_seen(
 {
     let mut rest = seen;
     while let [slot, others @ ..] = rest {
-        put(cells, slot.0, Cell::Shown(shown_as(locs, slot.1)))?;
+        put_slot(cells, locs, slot)?;
         rest = others;
     }
     Ok(())
@@ -46,10 +46,26 @@ pub(crate) fn put_writes(cells: &mut HashMap<Slot, Cell>, writes: &[Write]) -> R
 {
     let mut rest = writes;
     while let [write, others @ ..] = rest {
-        put(cells, write.slot, Cell::Written(write.value))?;
+        put_write(cells, write)?;
         rest = others;
     }
     Ok(())
+}
+
+fn put_slot(
+    cells: &mut HashMap<Slot, Cell>,
+    locs: &[PicLoc],
+    slot: &(Origin, Seen),
+) -> Result<(), NoMemory>
+    ensures { OnOk result (Puts (seen_cell locs.now slot.now) cells.old cells.new) }
+{
+    put(cells, slot.0, Cell::Shown(shown_as(locs, slot.1)))
+}
+
+fn put_write(cells: &mut HashMap<Slot, Cell>, write: &Write) -> Result<(), NoMemory>
+    ensures { OnOk result (Puts (written_cell write.now) cells.old cells.new) }
+{
+    put(cells, write.slot, Cell::Written(write.value))
 }
 
 // A location that is bound is shown as its object.
@@ -76,7 +92,7 @@ fn standing_as(number: u32, standing: Standing) -> Seen
 
 // Puts what stands in a slot of an object in the place of what the table had there; an argument is no such slot.
 fn put(cells: &mut HashMap<Slot, Cell>, slot: Origin, cell: Cell) -> Result<(), NoMemory>
-    ensures { OnOk result ((object number : ℕ) → cell_in cells.new object number ≡ (if is_slot object number slot then Some cell else cell_in cells.old object number)) }
+    ensures { OnOk result (Puts (slot, cell) cells.old cells.new) }
 {
     match slot {
         Origin::Arg(_) => Ok(()),
