@@ -25,10 +25,10 @@ returns-clause-text c =
     (subst (λ (locs : List PicLoc). HasMore (map (seen_cell locs) c.as_slice-2.result.now) c.args.cells.now cells) c.as_slice.ensures c.in_ok-put_seen.ensures) in
     let has : HasSeen picture cells = seen_from_none picture c.args.cells.now cells c.requires more in
     on_ok_weaker c.write_objects.result
-    (λ last. line_joined c.args.text.now c.put.new.text c.write_objects.new.text (codes "before") (numbered_lines (object_line world (cell_before picture)) 0 picture.objects) c.in_ok-put.ensures
+    (λ last. line_joined c.args.text.now c.put.new.self c.write_objects.new.text (codes "before") (numbered_lines (object_line world (cell_before picture)) 0 picture.objects) c.in_ok-put.ensures
     (last
-    ∙ ap (λ (os : List PicObject). c.put.new.text ++ lines_text (numbered_lines (object_line world (held_in cells)) 0 os)) c.as_slice-3.ensures
-    ∙ ap (λ (ls : List (List ℕ)). c.put.new.text ++ lines_text ls) (same_lines world (held_in cells) (cell_before picture) (held_before picture cells has) 0 picture.objects)))
+    ∙ ap (λ (os : List PicObject). c.put.new.self ++ lines_text (numbered_lines (object_line world (held_in cells)) 0 os)) c.as_slice-3.ensures
+    ∙ ap (λ (ls : List (List ℕ)). c.put.new.self ++ lines_text ls) (same_lines world (held_in cells) (cell_before picture) (held_before picture cells has) 0 picture.objects)))
     c.write_objects.ensures
 
 pub returns-clause-cells : goal.returns-clause-cells
