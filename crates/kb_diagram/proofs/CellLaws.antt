@@ -38,15 +38,14 @@ module _ {A : Type 0} (say : A → Origin × Cell) (start : ℕ → ℕ → Opti
       ∙ said_next (last_said (map say others) object number) (is_slot object number (say x).0) (say x).1 (now object number)
       ∙ ap (λ (c : Option Cell). option_or (last_said (map say others) object number) c) (sym (put object number))
 
-  pub goes_more : (now next : ℕ → ℕ → Option Cell) (all rest : List A) (x : A) → 1 ≤ length rest → x ≡ get_or rest 0 x → Goes now all rest
-      → ((object number : ℕ) → next object number ≡ (if is_slot object number (say x).0 then Some (say x).1 else now object number)) → Goes next all (take (length rest - 1) (drop 1 rest))
-  goes_more now next all [] x some at goes put = absurd (omega (arith, some))
-  goes_more now next all (y ∷ others) x some at goes put =
+  pub goes_more : (now next : ℕ → ℕ → Option Cell) (all rest : List A) (none : A) → 1 ≤ length rest → Goes now all rest
+      → ((object number : ℕ) → next object number ≡ (if is_slot object number (say (get_or rest 0 none)).0 then Some (say (get_or rest 0 none)).1 else now object number))
+      → Goes next all (take (length rest - 1) (drop 1 rest))
+  goes_more now next all [] none some goes put = absurd (omega (arith, some))
+  goes_more now next all (y ∷ others) none some goes put =
       let long : length others ≤ length (y ∷ others) - 1 = omega arith in
       let same : take (length (y ∷ others) - 1) others ≡ others = take_all (length (y ∷ others) - 1) others long in
-      let is : x ≡ y = at in
-      subst (Goes next all) (sym same)
-      (goes_next now next all others y goes (subst (λ (z : A). (object number : ℕ) → next object number ≡ (if is_slot object number (say z).0 then Some (say z).1 else now object number)) is put))
+      subst (Goes next all) (sym same) (goes_next now next all others y goes put)
 
   pub goes_done : (now : ℕ → ℕ → Option Cell) (all rest : List A) → length rest < 1 → Goes now all rest
       → (object number : ℕ) → now object number ≡ option_or (last_said (map say all) object number) (start object number)

@@ -5,8 +5,8 @@ use Rattle.kb_diagram.proofs.cells.put_seen.Goals as goal
 
 pub loop-rest-preserved : goal.loop-rest-preserved
 loop-rest-preserved c =
-    goes_more (seen_cell c.args.locs.now) (cell_in c.args.cells.now) (cell_in c.loop-rest.cells) (cell_in c.put_slot.new.cells) c.args.seen.now c.loop-rest.rest.now c.slot-item.result
-    c.in-len1-up.len_at_least c.slot-item.is c.loop-rest.invariant c.in_ok-put_slot.ensures
+    goes_more (seen_cell c.args.locs.now) (cell_in c.args.cells.now) (cell_in c.loop-rest.cells) (cell_in c.put_slot.new.cells) c.args.seen.now c.loop-rest.rest.now _
+    c.in-len1-up.len_at_least c.loop-rest.invariant c.in_ok-put_slot.ensures
 
 pub returns : goal.returns
 returns c =

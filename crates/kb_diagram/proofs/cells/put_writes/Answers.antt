@@ -5,7 +5,7 @@ use Rattle.kb_diagram.proofs.cells.put_writes.Goals as goal
 
 pub loop-rest-preserved : goal.loop-rest-preserved
 loop-rest-preserved c =
-    goes_more written_cell (cell_in c.args.cells.now) (cell_in c.loop-rest.cells) (cell_in c.put_write.new.cells) c.args.writes.now c.loop-rest.rest.now c.write-item.result c.in-len1-up.len_at_least c.write-item.is
+    goes_more written_cell (cell_in c.args.cells.now) (cell_in c.loop-rest.cells) (cell_in c.put_write.new.cells) c.args.writes.now c.loop-rest.rest.now _ c.in-len1-up.len_at_least
     c.loop-rest.invariant c.in_ok-put_write.ensures
 
 pub returns : goal.returns
