@@ -15,5 +15,6 @@ mod slots;
 
 pub use kb_rows::Row;
 pub use kinds::LeafKind;
+pub use ranges::tell_report;
 pub use report::{Report, report_text};
 pub use std::alloc::AllocError as NoMemory;

@@ -19,6 +19,7 @@ use Rattle.kb_picture.specs.declared.choice.Init.TheVariants.{Lazy}
 use Rattle.kb_picture.specs.declared.path.Leaf.{Leaf}
 use Rattle.kb_picture.specs.declared.path.Leaf.TheVariants.{Ended as EndedLeaf, Cut, Undecided, Open}
 use Rattle.kb_picture.specs.declared.path.Path.{Path}
+use Rattle.kb_report.specs.Ranges.{ReportFits}
 use Rattle.kb_report.specs.declared.report.Report.{Report}
 use Rattle.kb_report_laws.specs.OneText.{IsSound}
 use Rattle.kb_names.specs.Targets.{IsTarget}
@@ -74,7 +75,7 @@ unfolding RepliesJob
 job_ends IsTextOf world job report status text built is told = (
   built.reported.id,
   record { found = built.reported.found; accepted = built.accepted; built = built.built },
-  record { report = report; reported = built.reported; status_is = is; text_is = told },
+  record { report = report; reported = built.reported; ranges = built.ranges; status_is = is; text_is = told },
 )
 
 -- a method whose exploration is not built
@@ -83,14 +84,15 @@ pub unbuilt_target : (world : World) (target : Target) (id : MethodId) → IsTar
 unbuilt_target world target id found accepted not =
     inr (refl, record { id = id; found = found; accepted = accepted; none = λ built. let both : true ≡ false = sym built ∙ not in cc })
 
--- a report with the head of the job and the paths of its method
+-- a report with the head of the job and the paths of its method, whose numbers are in their ranges
 pub built_report : (world : World) (job : Job) (report : Report) (id : MethodId) (leaves : List Path) → HasHead job report → report.leaves ≡ leaves →
-    IsTargetOf world job.target id → IsAccepted world id → IsBuiltFor world id → AreListed world id job.bounds job.paths job.budget leaves →
+    IsTargetOf world job.target id → IsAccepted world id → IsBuiltFor world id → AreListed world id job.bounds job.paths job.budget leaves → ReportFits report →
     IsBuiltReport world job report
-built_report world job report id leaves head are found accepted built listed = record {
+built_report world job report id leaves head are found accepted built listed ranges = record {
   reported = record { head = head; id = id; found = found; listed = rw (head.bounds, head.paths, head.budget, are) listed };
   accepted = accepted;
   built = built;
+  ranges = ranges;
 }
 
 -- the state before the arguments are read is of the method

@@ -89,17 +89,18 @@ Carries Fault Replied result = Gives Fault (λ refusal. Replied (refuses refusal
 abbrev pub TextOf : Type 1
 TextOf = World → MethodId → Report → List ℕ → Type 0
 
--- the end of a job: there is a report of the world for it, and the text is that of the task on it and on its method
+-- The end of a job: there is a report of the world for it, whose numbers are in the ranges of their types, and the text is that of the
+-- task on it and on its method.
 pub record EndsJob (IsTextOf : TextOf) (world : World) (job : Job) (status : Status) (text : List ℕ) : Type 0 where
   pub report : Report
   pub reported : IsReportOf world job report
+  pub ranges : ReportFits report
   pub status_is : status ≡ status_of report.leaves
   pub text_is : IsTextOf world reported.id report text
 
--- the text is that of the report, whose numbers are in the ranges of their types, and no other report has it
+-- the text is that of the report, and no other report has it
 pub record IsOwnText (world : World) (report : Report) (text : List ℕ) : Type 0 where
   pub text_is : text ≡ report_text world report
-  pub ranges : ReportFits report
   pub only : (other : Report) → IsReport world other → report_text world other ≡ text → other ≡ report
 
 -- the text of the command `explore`
