@@ -1,11 +1,11 @@
 #!/usr/bin/env python3
 """Times the text of reports of kb_report, and that of their paths' diagrams of kb_diagram, beside its length.
 
-Reports have so many open paths; one path with so many terms, each the sum of the one before it and a variable; one path that
-has seen so many arguments; or one ended path with so many arrays of one element, each of which the run has written. How many
-bytes the text has is compared with the text that this script makes after the format. The time of a call is the mean of many,
-less that of a run which only makes the report. Where the work is linear, the time a byte is about the same in each line.
-Diagrams are to take no longer than reports of the same paths.
+Reports have so many ended paths, each with one array of one element that the run has written; one path with so many terms,
+each the sum of the one before it and a variable; one path that has seen so many arguments; or one ended path with so many of
+those arrays. How many bytes the text has is compared with the text that this script makes after the format. The time of a
+call is the mean of many, less that of a run which only makes the report. Where the work is linear, the time a byte is about
+the same in each line. Diagrams are to take no longer than reports of the same paths.
 
 Usage: bench/report.py [--runs N]
 The first run takes as long as the proofs of kb_report, kb_diagram and the crates below them take, unless a checkout on this
@@ -24,7 +24,7 @@ SOURCE = with_main("""\
 #![tactic(auto)]
 
 use kb_diagram::diagrams_text;
-use kb_heap::{Bounds, Heap, Input, RunBounds};
+use kb_heap::{Bounds, Heap, Input, Object, RunBounds, Value};
 use kb_names::{ExactType, JType, read_target};
 use kb_picture::{
     Ended, Init, Leaf, Length, Origin, Out, Path, PicObject, Picture, Seen, SymEnding, Write,
@@ -55,10 +55,10 @@ fn answer(alloc: Global, words: &[String]) -> Result<Option<String>, Stop> {
         return Err(Stop);
     };
     let leaves = match shape.as_str() {
-        "paths" => open_paths(alloc, size)?,
-        "terms" => one_path(alloc, Picture::new(alloc), sums(alloc, size)?)?,
-        "arguments" => one_path(alloc, arguments(alloc, size)?, Row::new(alloc))?,
-        "objects" => one_ended(alloc, arrays(alloc, size)?, writes(alloc, size)?)?,
+        "paths" => small_paths(alloc, size)?,
+        "terms" => one_open(alloc, Picture::new(alloc), sums(alloc, size)?)?,
+        "arguments" => one_open(alloc, arguments(alloc, size)?, Row::new(alloc))?,
+        "objects" => one_ended(alloc, size)?,
         _ => return Ok(None),
     };
     let report = report_of(alloc, leaves)?;
@@ -102,56 +102,88 @@ fn report_of(alloc: Global, leaves: Row<Path>) -> Result<Report, Stop> {
     })
 }
 
-fn open_path(picture: Picture, decisions: Row<u32>, terms: Row<Term>, when: Row<(u32, bool)>) -> Path {
-    Path {
-        decisions,
-        picture,
-        terms,
-        when,
-        leaf: Leaf::Open,
-    }
-}
-
-fn open_paths(alloc: Global, size: u32) -> Result<Row<Path>, Stop> {
+/// So many paths of one written array each.
+fn small_paths(alloc: Global, size: u32) -> Result<Row<Path>, Stop> {
     let mut paths = Row::new(alloc);
     for number in 0..size {
-        let mut decisions = Row::new(alloc);
-        decisions.push(number)?;
-        paths.push(open_path(Picture::new(alloc), decisions, Row::new(alloc), Row::new(alloc)))?;
+        paths.push(small_path(alloc, number)?)?;
     }
     Ok(paths)
 }
 
-fn one_path(alloc: Global, picture: Picture, terms: Row<Term>) -> Result<Row<Path>, Stop> {
-    let mut paths = Row::new(alloc);
-    paths.push(open_path(picture, Row::new(alloc), terms, Row::new(alloc)))?;
-    Ok(paths)
+fn small_path(alloc: Global, number: u32) -> Result<Path, Stop> {
+    let mut decisions = Row::new(alloc);
+    decisions.push(number)?;
+    ended_path(alloc, decisions, 1)
 }
 
-fn one_ended(alloc: Global, picture: Picture, writes: Row<Write>) -> Result<Row<Path>, Stop> {
-    let input = Input {
-        heap: Heap::new(alloc),
-        args: Row::new(alloc),
-    };
-    let ended = Ended {
-        ending: SymEnding::Returned(None),
-        writes,
-        made: Row::new(alloc),
-        input,
-    };
+fn one_open(alloc: Global, picture: Picture, terms: Row<Term>) -> Result<Row<Path>, Stop> {
     let path = Path {
         decisions: Row::new(alloc),
         picture,
-        terms: Row::new(alloc),
+        terms,
         when: Row::new(alloc),
-        leaf: Leaf::Ended(ended),
+        leaf: Leaf::Open,
     };
     let mut paths = Row::new(alloc);
     paths.push(path)?;
     Ok(paths)
 }
 
+fn one_ended(alloc: Global, size: u32) -> Result<Row<Path>, Stop> {
+    let mut paths = Row::new(alloc);
+    paths.push(ended_path(alloc, Row::new(alloc), size)?)?;
+    Ok(paths)
+}
+
+/// A path that has ended, with so many arrays of one int, each an argument whose element the run has written.
+fn ended_path(alloc: Global, decisions: Row<u32>, size: u32) -> Result<Path, Stop> {
+    let picture = arrays(alloc, size)?;
+    let leaf = ended(alloc, size)?;
+    Ok(Path {
+        decisions,
+        picture,
+        terms: Row::new(alloc),
+        when: Row::new(alloc),
+        leaf,
+    })
+}
+
+fn ended(alloc: Global, size: u32) -> Result<Leaf, Stop> {
+    let writes = writes(alloc, size)?;
+    let input = input(alloc, size)?;
+    Ok(Leaf::Ended(Ended {
+        ending: SymEnding::Returned(None),
+        writes,
+        made: Row::new(alloc),
+        input,
+    }))
+}
+
 /// So many arrays of one int, each an argument.
+fn input(alloc: Global, size: u32) -> Result<Input, Stop> {
+    let mut objects = Row::new(alloc);
+    let mut args = Row::new(alloc);
+    for number in 0..size {
+        objects.push(one_int(alloc)?)?;
+        args.push(Value::Ref(number))?;
+    }
+    Ok(Input {
+        heap: Heap { objects },
+        args,
+    })
+}
+
+fn one_int(alloc: Global) -> Result<Object, Stop> {
+    let mut values = Row::new(alloc);
+    values.push(Value::Int(0))?;
+    Ok(Object {
+        kind: ExactType::Array(JType::Int),
+        values,
+    })
+}
+
+/// So many arrays of one int are seen, each in an argument.
 fn arrays(alloc: Global, size: u32) -> Result<Picture, Stop> {
     let mut picture = Picture::new(alloc);
     for number in 0..size {
@@ -217,23 +249,32 @@ WORK = 2_000_000
 def blocks(shape, size):
     """The lines of the paths."""
     if shape == "paths":
-        return [line for i in range(size) for line in (f"path {i}", "open")]
+        return [line for i in range(size) for line in ended_block(i, 1)]
     if shape == "terms":
         return ["path -", *(f"let t{i} add t{i} v0" for i in range(size)), "open"]
     if shape == "arguments":
         return ["path -", *(f"see a{i} v{i}" for i in range(size)), "open"]
-    lines = [form.format(i) for form in ("see a{0} o{0}", "obj o{0} [I length 1 a{0}") for i in range(size)]
-    return ["path -", *lines, "returns", *(f"set o{i}[0] 0" for i in range(size))]
+    return ended_block("-", size)
+
+
+def ended_block(decisions, size):
+    seen = [form.format(i) for form in ("see a{0} o{0}", "obj o{0} [I length 1 a{0}") for i in range(size)]
+    left = [form.format(i) for form in ("set o{0}[0] 0", "arg i{0}", "in i{0} [I 0") for i in range(size)]
+    return [f"path {decisions}", *seen, "returns", *left]
 
 
 def diagrams(shape, size):
     """The lines of the diagrams."""
     if shape == "paths":
-        return [line for i in range(size) for line in (f"diagram {i}", "before", "open")]
+        return [line for i in range(size) for line in ended_diagram(i, 1)]
     if shape in ("terms", "arguments"):
         return ["diagram -", "before", "open"]
+    return ended_diagram("-", size)
+
+
+def ended_diagram(decisions, size):
     before, after = ([f"o{i} [I 0={held}" for i in range(size)] for held in ("?", "0"))
-    return ["diagram -", "before", *before, "after", *after, "returns"]
+    return [f"diagram {decisions}", "before", *before, "after", *after, "returns"]
 
 
 def report(shape, size):
@@ -242,7 +283,8 @@ def report(shape, size):
         "target A.f(I)I",
         "init lazy k 3 array 3 alloc 16 loops 10 depth 16 steps 2000 paths 1000 budget 2000",
     ]
-    count, ended = size if shape == "paths" else 1, int(shape == "objects")
+    count = size if shape == "paths" else 1
+    ended = count if shape in ("paths", "objects") else 0
     total = f"total {count} ended {ended} cut 0 undecided 0 open {count - ended}"
     return [*head, *blocks(shape, size), total]
 
