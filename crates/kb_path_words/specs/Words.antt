@@ -1,5 +1,5 @@
--- How the parts of a line are written: what slots are seen to hold, operands, values, types, bounds. Each has one spelling. They
--- stand in reports and in diagrams.
+-- How the parts of a line are written: what slots are seen to hold, operands, values, types, bounds. Each has one spelling. Most of
+-- them stand in reports and in diagrams, the others in reports alone.
 use Rattle.std.specs.Prelude.{ℕ, List, [], ◌++◌, codes, Option, Some, None}
 use Rattle.std.specs.Fmt.{decimal, signed_decimal}
 use Rattle.kb_heap.specs.declared.bounds.Bound.{Bound}

@@ -1,4 +1,4 @@
-//! The words that reports and diagrams share.
+//! The words of reports that need no world, most of which diagrams have too.
 //!
 //! `specs/` has the definitions: how the parts of a line are written (`Words`), the decisions of a path and the first line of its
 //! leaf (`Lines`).
