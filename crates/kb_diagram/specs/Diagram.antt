@@ -33,9 +33,13 @@ abbrev pub numbered_words : {A : Type 0} → (ℕ → A → List ℕ) → ℕ �
 numbered_words word n [] = []
 numbered_words word n (x ∷ xs) = word n x ++ numbered_words word (n + 1) xs
 
--- a slot by its name, with what it holds, and a space before it
+-- a slot by its name, with a space before it
+abbrev pub cell_front : List ℕ → List ℕ
+cell_front name = codes " " ++ (name ++ codes "=")
+
+-- and with what it holds
 unfoldable pub cell_word : List ℕ → List ℕ → List ℕ
-cell_word name held = codes " " ++ (name ++ (codes "=" ++ held))
+cell_word name held = cell_front name ++ held
 
 abbrev pub field_cell : (ℕ → List ℕ) → ℕ → FieldSlot → List ℕ
 field_cell held slot field = cell_word (name_text field.name) (held slot)

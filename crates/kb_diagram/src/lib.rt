@@ -6,6 +6,7 @@
 
 mod cells;
 mod diagram;
+mod fronts;
 mod heaps;
 mod made;
 mod objects;

@@ -4,9 +4,10 @@ ghost use Rattle.std.specs.Fmt.{decimal};
 ghost use Rattle.kb_grammar.specs.Lines.{lines_text};
 ghost use Rattle.kb_path_words.specs.Lines.{numbered_lines};
 ghost use Rattle.kb_path_words.specs.Words.{out_text};
-ghost use Rattle.kb_diagram.specs.Diagram.{numbered_words, cell_word, field_name, made_cells, made_line};
+ghost use Rattle.kb_diagram.specs.Diagram.{numbered_words, cell_front, cell_word, field_name, made_cells, made_line};
 
 use crate::NoMemory;
+use crate::fronts::{begin_element, begin_field};
 use kb_names::ExactType;
 use kb_path_words::{Text, write_exact, write_out};
 use kb_picture::{Made, Out};
@@ -43,22 +44,22 @@ fn write_values(text: &mut Text, world: &World, made: &Made) -> Result<(), NoMem
 {
     let values = made.values.as_slice();
     match &made.kind {
-        ExactType::Class(name) => write_fields(text, world.slots_named(name), values),
-        ExactType::Array(_) => write_elements(text, values),
+        ExactType::Class(name) => write_field_values(text, world.slots_named(name), values),
+        ExactType::Array(_) => write_element_values(text, values),
     }
 }
 
-fn write_fields(text: &mut Text, fields: &[FieldSlot], values: &[Out]) -> Result<(), NoMemory>
+fn write_field_values(text: &mut Text, fields: &[FieldSlot], values: &[Out]) -> Result<(), NoMemory>
     ensures { OnOk result (text.new ≡ text.old ++ numbered_words (λ slot out. cell_word (field_name fields.now slot) (out_text out)) 0 values.now) }
 {
     for (slot, value) in values.iter().enumerate() {
-        write_field(text, fields, slot, value)?;
+        write_field_value(text, fields, slot, value)?;
     }
     Ok(())
 }
 
 #[tactic(auto, unfolding(crate::specs::Diagram::cell_word))]
-fn write_field(
+fn write_field_value(
     text: &mut Text,
     fields: &[FieldSlot],
     slot: usize,
@@ -66,37 +67,33 @@ fn write_field(
 ) -> Result<(), NoMemory>
     ensures { OnOk result (text.new ≡ text.old ++ cell_word (field_name fields.now slot) (out_text value.now)) }
 {
-    text.put(" ")?;
-    write_field_name(text, fields, slot)?;
-    text.put("=")?;
+    begin_slot(text, fields, slot)?;
     write_out(text, value)
 }
 
-// The name of the field of that slot; nothing where there is none.
-fn write_field_name(text: &mut Text, fields: &[FieldSlot], slot: usize) -> Result<(), NoMemory>
-    ensures { OnOk result (text.new ≡ text.old ++ field_name fields.now slot) }
+// Where there is no field of that slot, it has no name.
+fn begin_slot(text: &mut Text, fields: &[FieldSlot], slot: usize) -> Result<(), NoMemory>
+    ensures { OnOk result (text.new ≡ text.old ++ cell_front (field_name fields.now slot)) }
 {
     match fields.get(slot) {
-        Some(field) => text.name(&field.name),
-        None => Ok(()),
+        Some(field) => begin_field(text, field),
+        None => text.put(" ="),
     }
 }
 
-fn write_elements(text: &mut Text, values: &[Out]) -> Result<(), NoMemory>
+fn write_element_values(text: &mut Text, values: &[Out]) -> Result<(), NoMemory>
     ensures { OnOk result (text.new ≡ text.old ++ numbered_words (λ index out. cell_word (decimal index) (out_text out)) 0 values.now) }
 {
     for (index, value) in values.iter().enumerate() {
-        write_element(text, index, value)?;
+        write_element_value(text, index, value)?;
     }
     Ok(())
 }
 
 #[tactic(auto, unfolding(crate::specs::Diagram::cell_word))]
-fn write_element(text: &mut Text, index: usize, value: &Out) -> Result<(), NoMemory>
+fn write_element_value(text: &mut Text, index: usize, value: &Out) -> Result<(), NoMemory>
     ensures { OnOk result (text.new ≡ text.old ++ cell_word (decimal index) (out_text value.now)) }
 {
-    text.put(" ")?;
-    text.count(index)?;
-    text.put("=")?;
+    begin_element(text, index)?;
     write_out(text, value)
 }

@@ -9,6 +9,7 @@ ghost use Rattle.std.specs.Fmt.{decimal};
 
 use crate::NoMemory;
 use crate::cells::{Cell, Slot, write_held};
+use crate::fronts::{begin_element, begin_field};
 use kb_names::ExactType;
 use kb_path_words::{Text, write_exact};
 use kb_picture::{Length, PicObject};
@@ -87,9 +88,7 @@ fn write_field(
 ) -> Result<(), NoMemory>
     ensures { OnOk result (text.new ≡ text.old ++ cell_word (name_text field.now.name) (held_in cells.now object slot)) }
 {
-    text.put(" ")?;
-    text.name(&field.name)?;
-    text.put("=")?;
+    begin_field(text, field)?;
     write_held(text, cells, object, slot)
 }
 
@@ -130,8 +129,6 @@ fn write_element(
 ) -> Result<(), NoMemory>
     ensures { OnOk result (text.new ≡ text.old ++ cell_word (decimal index) (held_in cells.now array index)) }
 {
-    text.put(" ")?;
-    text.count(index)?;
-    text.put("=")?;
+    begin_element(text, index)?;
     write_held(text, cells, array, index)
 }

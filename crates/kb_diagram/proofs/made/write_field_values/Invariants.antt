@@ -1,7 +1,7 @@
 use Rattle.std.proofs.Common.{◌≡◌, ◌++◌, drop}
 use Rattle.kb_path_words.specs.Words.{out_text}
 use Rattle.kb_diagram.specs.Diagram.{numbered_words, cell_word, field_name}
-use Rattle.kb_diagram.proofs.made.write_fields.Given as goal
+use Rattle.kb_diagram.proofs.made.write_field_values.Given as goal
 
 abbrev pub invariant-loop-slot : goal.invariant-loop-slot
 invariant-loop-slot l =

@@ -2,7 +2,7 @@ use Rattle.std.proofs.Common.{◌≡◌, ◌++◌, drop}
 use Rattle.std.specs.Fmt.{decimal}
 use Rattle.kb_path_words.specs.Words.{out_text}
 use Rattle.kb_diagram.specs.Diagram.{numbered_words, cell_word}
-use Rattle.kb_diagram.proofs.made.write_elements.Given as goal
+use Rattle.kb_diagram.proofs.made.write_element_values.Given as goal
 
 abbrev pub invariant-loop-index : goal.invariant-loop-index
 invariant-loop-index l =
