@@ -32,10 +32,10 @@ use Rattle.kb_words.specs.declared.orders.Job.{Job}
 use Rattle.kb_stepref.specs.HeapMethods.{is_heap_method}
 use Rattle.kb_stepref.specs.Laws.{AreInRange}
 use Rattle.kb_world.specs.Reach.{IsAccepted, Refuses}
-use Rattle.kiasan.specs.declared.refusals.Refusal.TheVariants.{Unbuilt}
+use Rattle.kb_refusals.specs.declared.refusal.Refusal.TheVariants.{Unbuilt}
 use Rattle.kiasan.specs.declared.refusals.Stop.{Stop}
 use Rattle.kiasan.specs.declared.refusals.Stop.TheVariants.{Refused, ReadFault, NoMemory}
-use Rattle.kiasan.specs.declared.status.Status.{Status}
+use Rattle.kb_refusals.specs.declared.status.Status.{Status}
 use Rattle.kiasan.specs.Answers.{ends, Carries, IsTestsTextOf, RepliesJob, TextOf}
 use Rattle.kiasan.specs.Exploring.{AreListed, HasHead, IsBuiltReport, IsCarried, IsReportOf, StatesTexts, path_tests, status_of, tests_of}
 use Rattle.kiasan.specs.Reach.{TargetRefuses}

@@ -1,10 +1,10 @@
 -- Stages: how their parts give a reply, and that a reply is one.
 use Rattle.std.proofs.Common.{◌≡◌, ℕ, List, Result, Ok, Err, subst, inl, inr}
 use Rattle.kiasan.specs.declared.refusals.Answer.{Answer}
-use Rattle.kiasan.specs.declared.refusals.Refusal.{Refusal}
+use Rattle.kb_refusals.specs.declared.refusal.Refusal.{Refusal}
 use Rattle.kiasan.specs.declared.refusals.Stop.{Stop}
 use Rattle.kiasan.specs.declared.refusals.Stop.TheVariants.{Refused, ReadFault, NoMemory}
-use Rattle.kiasan.specs.declared.status.Status.{Status}
+use Rattle.kb_refusals.specs.declared.status.Status.{Status}
 use Rattle.kiasan.specs.Answers.{Reply, refuses, ends, Stage, Carries}
 use Rattle.kiasan.specs.Refusals.{Gives}
 

@@ -8,7 +8,7 @@ use Rattle.kb_words.specs.declared.orders.WordFault.{WordFault}
 use Rattle.kb_words.specs.declared.orders.WordFault.TheVariants as faults
 use Rattle.kb_words.specs.Orders.{IsFaultOf, IsOrder, Orders}
 use Rattle.kb_words.proofs.OneOrder.{orders_one}
-use Rattle.kiasan.specs.declared.refusals.Refusal.TheVariants.{Unbuilt}
+use Rattle.kb_refusals.specs.declared.refusal.Refusal.TheVariants.{Unbuilt}
 use Rattle.kiasan.specs.Answers.{WordsRefuse}
 use Rattle.kiasan.specs.Orders.{IsBuiltOrder, OrdersBuilt, OrdersUnbuilt, is_built, is_lazy}
 use Rattle.kiasan.specs.Refusals.{Gives, word_refusal}

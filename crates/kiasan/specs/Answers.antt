@@ -22,8 +22,9 @@ use Rattle.kiasan.specs.declared.answer.Contents.{Contents}
 use Rattle.kiasan.specs.declared.refusals.Answer.{Answer}
 use Rattle.kiasan.specs.declared.refusals.Fault.{Fault}
 use Rattle.kiasan.specs.declared.refusals.Fault.TheVariants as faults
-use Rattle.kiasan.specs.declared.refusals.Refusal.{Refusal}
-use Rattle.kiasan.specs.declared.refusals.Refusal.TheVariants.{AssemblyLine, TestLine, LongText, Unbuilt}
+use Rattle.kb_refusals.specs.declared.refusal.Refusal.{Refusal}
+use Rattle.kb_refusals.specs.declared.refusal.Refusal.TheVariants.{Text as TextRefused, Unbuilt}
+use Rattle.kb_refusals.specs.declared.refusal.TextRefusal.TheVariants as texts
 use Rattle.kiasan.specs.declared.refusals.Stop.{Stop}
 use Rattle.kiasan.specs.declared.refusals.Stop.TheVariants.{Refused}
 use Rattle.kiasan.specs.declared.refusals.Stop.TheVariants as stops
@@ -34,12 +35,13 @@ use Rattle.kb_words.specs.declared.orders.Job.{Job}
 use Rattle.kb_words.specs.declared.orders.Order.{Order}
 use Rattle.kb_words.specs.declared.orders.Order.TheVariants.{Explore, Tests, Diagrams, Replay, Assemble, Sample}
 use Rattle.kb_words.specs.declared.orders.WordFault.{WordFault}
-use Rattle.kiasan.specs.declared.status.Status.{Status}
-use Rattle.kiasan.specs.declared.status.Status.TheVariants.{Complete, Partial, Words, Class, Link, Outside, ReadFault, WriteFault, Memory, Text, Differs}
+use Rattle.kb_refusals.specs.declared.status.Status.{Status}
+use Rattle.kb_refusals.specs.declared.status.Status.TheVariants.{Complete, Partial, Words, Class, Link, Outside, ReadFault, WriteFault, Memory, Text, Differs}
 use Rattle.kiasan.specs.CodeFaults.{MethodsRefuse}
 use Rattle.kb_words.specs.Orders.{Orders}
 use Rattle.kiasan.specs.Orders.{OrdersBuilt, OrdersUnbuilt, texts_of, classes_of, files_of}
-use Rattle.kiasan.specs.Refusals.{Gives, class_refusal, link_refusal, refusal_status, refusal_line, word_refusal}
+use Rattle.kb_refusals.specs.Refusals.{refusal_status, refusal_line}
+use Rattle.kiasan.specs.Refusals.{Gives, class_refusal, link_refusal, word_refusal}
 use Rattle.kb_diagram.specs.Diagram.{diagrams_text}
 use Rattle.kb_report.specs.Ranges.{ReportFits}
 use Rattle.kb_report.specs.Report.{report_text}
@@ -141,8 +143,8 @@ text_limit = 67108864
 -- the bytes are no text of tests for a world of so many literals: they are too many, or no such text goes on at a line
 abbrev pub TextRefuses : ℕ → List ℕ → Refusal → Type 0
 TextRefuses literals bytes refusal =
-    ((refusal ≡ LongText) × (text_limit < length bytes))
-    ⊎ ((number : ℕ) × (refusal ≡ TestLine number) × (length bytes ≤ text_limit) × IsFirstBadLine (IsTestsText literals) bytes number)
+    ((refusal ≡ TextRefused texts.Long) × (text_limit < length bytes))
+    ⊎ ((number : ℕ) × (refusal ≡ TextRefused (texts.TestLine number)) × (length bytes ≤ text_limit) × IsFirstBadLine (IsTestsText literals) bytes number)
 
 abbrev pub AreTestsOf : ℕ → List ℕ → List Test → Type 0
 AreTestsOf literals bytes tests = (length bytes ≤ text_limit) × SpellsTests literals tests bytes
@@ -156,8 +158,8 @@ RepliesReplay bytes world =
 -- the bytes are no text of a class: they are too many, or this is the first line that does not fit
 abbrev pub AssemblyRefuses : List ℕ → Refusal → Type 0
 AssemblyRefuses bytes refusal =
-    ((refusal ≡ LongText) × (text_limit < length bytes))
-    ⊎ ((number : ℕ) × (refusal ≡ AssemblyLine number) × (length bytes ≤ text_limit) × IsFirstUnfit bytes number)
+    ((refusal ≡ TextRefused texts.Long) × (text_limit < length bytes))
+    ⊎ ((number : ℕ) × (refusal ≡ TextRefused (texts.AssemblyLine number)) × (length bytes ≤ text_limit) × IsFirstUnfit bytes number)
 
 -- the end of an assembly: the class file that the text is
 pub record EndsAssembly (bytes : List ℕ) (status : Status) (text : List ℕ) : Type 0 where

@@ -22,8 +22,8 @@ use Rattle.kb_test.specs.declared.test_case.Test.{Test}
 use Rattle.kb_test_laws.specs.Texts.{EndHasTexts}
 use Rattle.kb_words.specs.declared.orders.Job.{Job}
 use Rattle.kb_world.specs.Reach.{IsAccepted}
-use Rattle.kiasan.specs.declared.status.Status.{Status}
-use Rattle.kiasan.specs.declared.status.Status.TheVariants.{Complete, Partial}
+use Rattle.kb_refusals.specs.declared.status.Status.{Status}
+use Rattle.kb_refusals.specs.declared.status.Status.TheVariants.{Complete, Partial}
 use Rattle.kiasan.specs.Unbuilt.{IsBuiltFor}
 
 -- ---- reports

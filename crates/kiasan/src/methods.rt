@@ -20,11 +20,11 @@ ghost use Rattle.kiasan.specs.Tests.{literals_in};
 
 use crate::NoMemory;
 use crate::refusals::{Answer, Stop};
-use crate::status::Status;
 use crate::tests_text::tests_text;
 use crate::unbuilt::built_report;
 use kb_diagram::diagrams_text;
 use kb_picture::{Leaf, Path};
+use kb_refusals::Status;
 use kb_report::Report;
 use kb_report_laws::own_report_text;
 use kb_rows::Held;

@@ -1,6 +1,6 @@
 use Rattle.std.proofs.Common.{[], ◌∷◌, append_assoc}
-use Rattle.kiasan.specs.Refusals.{hexadecimal, opcode_front, opcode_line}
-use Rattle.kiasan.proofs.refusals.opcode_line.Goals as goal
+use Rattle.kb_refusals.specs.Lines.{hexadecimal, opcode_front, opcode_line}
+use Rattle.kb_refusals.proofs.lines.opcode_line.Goals as goal
 
 pub returns : goal.returns
 unfolding opcode_line

@@ -1,7 +1,7 @@
 //! How the program ends.
 
 ghost use Rattle.std.specs.Prelude.{◌≡◌};
-ghost use Rattle.kiasan.specs.StatusNumber.{status_number};
+ghost use Rattle.kb_refusals.specs.StatusNumber.{status_number};
 
 /// How the program ends. Each comes exactly where the contract of the top call says; that memory runs out is free.
 #[derive(Clone, Copy, Debug, PartialEq, Eq)]

@@ -3,7 +3,7 @@ use Rattle.kb_words.specs.declared.orders.Order.{Order}
 use Rattle.kiasan.specs.Answers.{Carries, IsReadFault, RepliesTo}
 use Rattle.kiasan.specs.Orders.{files_of}
 use Rattle.kiasan.proofs.AnswerLaws.{words_go}
-use Rattle.kiasan.proofs.answer.carry_out.Goals as goal
+use Rattle.kiasan.proofs.answer.reply_to_words.Goals as goal
 
 pub carry_out_order-requires : goal.carry_out_order-requires
 carry_out_order-requires g c = rw c.get.ensures c.in_ok-order.ensures.built

@@ -1,7 +1,7 @@
 -- The number with which the program ends.
 use Rattle.std.specs.Prelude.{ℕ}
-use Rattle.kiasan.specs.declared.status.Status.{Status}
-use Rattle.kiasan.specs.declared.status.Status.TheVariants.{Complete, Partial, Words, Class, Link, Outside, ReadFault, WriteFault, Memory, Text, Differs}
+use Rattle.kb_refusals.specs.declared.status.Status.{Status}
+use Rattle.kb_refusals.specs.declared.status.Status.TheVariants.{Complete, Partial, Words, Class, Link, Outside, ReadFault, WriteFault, Memory, Text, Differs}
 
 abbrev pub status_number : Status → ℕ
 status_number Complete = 0
