@@ -32,9 +32,20 @@ is_refusal _ = true
 -- ---- statuses
 
 abbrev pub link_status : LinkRefusal → Status
+link_status (links.TwoMembers file entry) = statuses.Link
+link_status (links.BadName file entry) = statuses.Link
+link_status (links.BadDescriptor file entry) = statuses.Link
+link_status (links.Twice name) = statuses.Link
+link_status (links.Missing name) = statuses.Link
+link_status (links.Circle name) = statuses.Link
+link_status (links.BadSuper name) = statuses.Link
+link_status (links.SplitPackage name method) = statuses.Link
+link_status (links.NoMethod target) = statuses.Link
+link_status (links.NoField target at) = statuses.Link
 link_status (links.Outside target at what) = statuses.Outside
 link_status (links.Initialiser name) = statuses.Outside
-link_status _ = statuses.Link
+link_status links.TooMany = statuses.Link
+link_status links.NoMemory = statuses.Link
 
 abbrev pub refusal_status : Refusal → Status
 refusal_status (Words fault) = statuses.Words

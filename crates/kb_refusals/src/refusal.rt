@@ -72,6 +72,17 @@ fn link_status(refusal: &LinkRefusal) -> Status
 {
     match refusal {
         LinkRefusal::Outside(..) | LinkRefusal::Initialiser(_) => Status::Outside,
-        _ => Status::Link,
+        LinkRefusal::TwoMembers(..)
+        | LinkRefusal::BadName(..)
+        | LinkRefusal::BadDescriptor(..)
+        | LinkRefusal::Twice(_)
+        | LinkRefusal::Missing(_)
+        | LinkRefusal::Circle(_)
+        | LinkRefusal::BadSuper(_)
+        | LinkRefusal::SplitPackage(..)
+        | LinkRefusal::NoMethod(_)
+        | LinkRefusal::NoField(..)
+        | LinkRefusal::TooMany
+        | LinkRefusal::NoMemory => Status::Link,
     }
 }
