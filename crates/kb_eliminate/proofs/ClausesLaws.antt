@@ -4,10 +4,10 @@ use Rattle.std.proofs.Math.Seq.{drop-append_seam}
 use Rattle.std.proofs.Common.{◌≡◌, ◌+◌, ◌-◌, drop, ◌≤◌, List, [], ◌∷◌, ◌++◌, arith, refl, ap, ◌∙◌, inl, inr, length, take, zero, suc}
 use Rattle.kb_chain.specs.Literal.{Literal}
 use Rattle.kb_eliminate.specs.Rows.{IsNamed, AreNamed, EndWithin, row_of, rows_of}
-use Rattle.kb_eliminate.specs.declared.clauses.Span.{Span}
+use Rattle.kb_eliminate.specs.declared.span.Span.{Span}
 use Rattle.kb_eliminate.proofs.Places.{at_pushed}
 
-row_longer : (flat more : List Literal) (span : Span) → span.start ≤ span.end → span.end ≤ length flat → row_of (flat ++ more) span ≡ row_of flat span
+pub row_longer : {X : Type 0} (flat more : List X) (span : Span) → span.start ≤ span.end → span.end ≤ length flat → row_of (flat ++ more) span ≡ row_of flat span
 row_longer flat more span s e =
     let room : span.end - span.start ≤ length (drop span.start flat) = rw (length-drop span.start flat) omega (arith, s, e) in
     ap (take (span.end - span.start)) (drop-append-le span.start flat more (omega (arith, s, e)))
@@ -31,7 +31,7 @@ within_pushed : (flat : List Literal) (spans : List Span) (span : Span) → EndW
 within_pushed flat spans span w s e k other h =
     elim (at_pushed spans span k other h) [ inl old ↦ w k other old | inr last ↦ rw (← last.1) (s, e) ]
 
-row_last : (flat literals : List Literal) (span : Span) → span.start ≡ length flat → span.end ≡ length flat + length literals
+pub row_last : {X : Type 0} (flat literals : List X) (span : Span) → span.start ≡ length flat → span.end ≡ length flat + length literals
     → row_of (flat ++ literals) span ≡ literals
 row_last flat literals span s e =
     let count : span.end - span.start ≡ length literals = omega (arith, s, e) in

@@ -296,7 +296,3 @@ Quiet-unit rows pairs t head row a b count p le quiet =
       second = λ e. absurd (false≢true (sym (p.valueless b p.second).1 ∙ taken_part t.literals head (negated b) e));
       single = λ e. has_pushed t.literals a a ∙ or_right _ _ (same_refl a);
     }))
-
-pub steps_of : (steps before : List (ℕ × ℕ)) (v : ℕ) (pivot : Literal) (n : ℕ) → steps ≡ before ++ (v, n) ∷ [] → before ≡ [] → v ≡ pivot.variable
-    → steps ≡ (pivot.variable, n) ∷ []
-steps_of steps before v pivot n e f g = e ∙ (ap (λ (z : List (ℕ × ℕ)). z ++ (v, n) ∷ []) f ∙ ap (λ (k : ℕ). (k, n) ∷ []) g)

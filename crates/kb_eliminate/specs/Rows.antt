@@ -1,10 +1,10 @@
 -- The rows of literals that clauses are.
 use Rattle.std.specs.Prelude.{◌≡◌, ℕ, ◌<◌, ◌≤◌, ◌-◌, ◌^◌, true, List, length, map, take, drop, Some, slice_get}
 use Rattle.kb_chain.specs.Literal.{Literal, has}
-use Rattle.kb_eliminate.specs.declared.clauses.Span.{Span}
+use Rattle.kb_eliminate.specs.declared.span.Span.{Span}
 
--- the literals that stand in a span of the flat table
-abbrev pub row_of : List Literal → Span → List Literal
+-- what stands in a span of a flat table
+abbrev pub row_of : {X : Type 0} → List X → Span → List X
 row_of flat span = take (span.end - span.start) (drop span.start flat)
 
 abbrev pub rows_of : List Literal → List Span → List (List Literal)

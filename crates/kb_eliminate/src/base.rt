@@ -8,10 +8,11 @@ ghost use Rattle.kb_eliminate.specs.Watches.{IsAwake};
 use crate::NoMemory;
 use crate::begin::watch_all;
 use crate::clauses::Clauses;
+use crate::flat_log::FlatLog;
 use crate::propagation::propagate;
 use crate::trail::Trail;
 use crate::watches::Watches;
-use kb_chain::{Chain, Formula, Lit, Row};
+use kb_chain::{Formula, Lit};
 use std::alloc::Global;
 
 /// What a search stands on.
@@ -19,7 +20,7 @@ use std::alloc::Global;
 pub struct Base<'a> {
     pub formula: &'a Formula,
     /// The derivations of the clauses that came to those of the formula.
-    pub entries: Row<Chain>,
+    pub entries: FlatLog,
     pub clauses: Clauses,
     pub watches: Watches,
     pub trail: Trail,
@@ -51,7 +52,7 @@ impl<'a> Base<'a> {
         let conflict = watch_all(&clauses, &mut watches, &mut trail)?;
         let base = Base {
             formula,
-            entries: Row::new(alloc),
+            entries: FlatLog::new(alloc),
             clauses,
             watches,
             trail,

@@ -3,16 +3,10 @@ ghost use Rattle.std.specs.Prelude.{◌≡◌, ◌<◌, [], ◌∷◌, ◌++◌,
 ghost use Rattle.kb_eliminate.specs.Rows.{IsNamed, AreNamed};
 
 use crate::NoMemory;
+use crate::span::Span;
 use kb_chain::Lit;
 use std::alloc::Global;
 use std::marker::Model;
-
-/// Where the literals of a clause stand: from `start` up to `end`, which is not of them.
-#[derive(Clone, Copy, Drop)]
-struct Span {
-    start: u32,
-    end: u32,
-}
 
 /// The stored literals of the clauses of the formula and, behind them, of the learned ones, by the numbers that a log gives
 /// them. The literals of all clauses stand in one table, one clause after the other.

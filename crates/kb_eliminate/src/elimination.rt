@@ -87,7 +87,7 @@ fn eliminate_all(
     sorted.sort_by_key(|candidate| candidate.pairs)?;
     let mut eliminated = Eliminated::new(alloc);
     for candidate in sorted.as_slice() {
-        if base.entries.as_slice().len() >= bounds.entries {
+        if base.entries.len() >= bounds.entries {
             break;
         }
         let pivot = candidate.pivot;
@@ -224,7 +224,7 @@ fn is_worthwhile(
     if !is_free(&base.trail, sides.pivot) {
         return Ok(false);
     }
-    let entries = base.entries.as_slice().len();
+    let entries = base.entries.len();
     let clauses = sides.left.len().saturating_add(sides.right.len());
     let mut room = clauses.min(bounds.entries.saturating_sub(entries));
     for left in sides.left.as_slice() {
@@ -344,7 +344,7 @@ fn add(
         return Ok(false);
     }
     let number = base.clauses.len();
-    add_resolvent(alloc, base, left, right, pivot, row.as_slice())?;
+    add_resolvent(base, left, right, pivot, row.as_slice())?;
     occurrences.add(number, row.as_slice())?;
     Ok(true)
 }

@@ -10,7 +10,7 @@ use crate::NoMemory;
 use crate::base::{Base, second_of};
 use crate::begin::watch_pair;
 use crate::trail::Trail;
-use kb_chain::{Chain, Lit, Row};
+use kb_chain::{Lit, Row};
 use std::alloc::Global;
 
 /// The resolvent of two clauses, without what is false at level 0. None where a clause has both literals of the pivot's
@@ -115,7 +115,6 @@ fn of_variable(literals: &[Lit], variable: u32) -> Option<Lit>
 /// Adds the resolvent of two clauses on a variable without a value: an entry of the log, and a clause that is watched. The base
 /// is whole no longer. Where the resolvent is one literal, it becomes true.
 pub fn add_resolvent(
-    alloc: Global,
     base: &mut Base<'_>,
     left: u32,
     right: u32,
@@ -139,13 +138,7 @@ pub fn add_resolvent(
     ensures formula { OnOk result (base.new.formula.now ≡ base.old.formula.now) }
 {
     base.trail.tell_trail();
-    let mut steps = Vec::new(alloc);
-    steps.push((pivot.variable(), right))?;
-    let chain = Chain {
-        start: left,
-        steps: Row::from_vec(steps),
-    };
-    base.entries.push(chain)?;
+    base.entries.push(left, &[(pivot.variable(), right)])?;
     let number = base.clauses.len();
     let first = row[0];
     base.clauses.push(row)?;

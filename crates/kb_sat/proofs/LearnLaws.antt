@@ -12,7 +12,7 @@ use Rattle.kb_chain.proofs.PropagationLaws.{IsPart, all_negated-at, has-others, 
 use Rattle.kb_chain.proofs.LogLaws.{derived-push, EachEntry-push}
 use Rattle.kb_chain.proofs.LeastSets.{Misses-by}
 use Rattle.kb_eliminate.specs.Trail.{Assigned, IsTrail, level_zero, level_start, before_level, cut_back}
-use Rattle.kb_eliminate.specs.Store.{IsRow, IsJustified}
+use Rattle.kb_eliminate.specs.Store.{IsRow}
 use Rattle.kb_sat.specs.Search.{IsLearned}
 use Rattle.kb_eliminate.specs.Watches.{Quiet, paired, put_pair}
 use Rattle.kb_eliminate.specs.Base.{IsBase, IsSecondLiteral}

@@ -144,9 +144,10 @@ impl<'a> Search<'a> {
         )?;
         let level = learned.level;
         let literals = learned.literals;
+        let chain = learned.chain;
         let levels = levels_of(&self.base.trail, literals.as_slice());
-        self.ranks.note(&learned.chain);
-        self.base.entries.push(learned.chain)?;
+        self.ranks.note(&chain);
+        self.base.entries.push(chain.start, chain.steps.as_slice())?;
         self.go_back(level)?;
         let row = literals.as_slice();
         let first = row[0];

@@ -1,8 +1,8 @@
-use Rattle.std.proofs.Common.{◌≡◌, ◌+◌, ◌*◌, ◌<◌, ◌≤◌, ◌∙◌, refl, length, [], ◌∷◌, ◌++◌, arith}
+use Rattle.std.proofs.Common.{◌≡◌, ℕ, ap, ◌+◌, ◌*◌, ◌<◌, ◌≤◌, refl, length, [], ◌∷◌, ◌++◌, arith}
 use Rattle.std.proofs.lemmas.List.{length_push}
 use Rattle.kb_chain.specs.Literal.{place_of}
 use Rattle.kb_chain.specs.declared.log.Chain.{Chain}
-use Rattle.kb_eliminate.proofs.ResolventLaws.{IsAdded-from, IsDerived-at, IsBase-add, IsBase-unit, Quiet-add, Quiet-unit, steps_of}
+use Rattle.kb_eliminate.proofs.ResolventLaws.{IsAdded-from, IsDerived-at, IsBase-add, IsBase-unit, Quiet-add, Quiet-unit}
 use Rattle.kb_eliminate.proofs.resolvents.add_resolvent.Goals as goal
 
 pub watch_pair-requires-clause-first : goal.watch_pair-requires-clause-first
@@ -54,15 +54,14 @@ returns-then-row-eq1-clause-stands c =
     let b = c.second_of.result in
     let n = c.len-number.result in
     let row = c.args.row.now in
-    let chain : Chain = record { start = c.args.left; steps = c.from_vec.result } in
+    let chain : Chain = record { start = c.args.left; steps = (c.variable.result, c.args.right) ∷ [] } in
     let one : length row ≡ 1 = c.if-row-eq1.true in
-    let steps = c.from_vec.ensures ∙ steps_of c.push.new.self.items c.new-steps.result.items c.variable.result c.args.pivot c.args.right c.in_ok-push.ensures.items c.new-steps.ensures.items
-    c.variable.ensures.value in
+    let steps : (c.variable.result, c.args.right) ∷ [] ≡ (c.args.pivot.variable, c.args.right) ∷ [] = ap (λ (v : ℕ). (v, c.args.right) ∷ []) c.variable.ensures.value in
     let p = IsAdded-from s.trail s.clauses s.watches.pairs.items s.watches.lists.items h.watching c.args.left c.args.right c.requires.left c.requires.right c.args.pivot row
     c.requires.resolvent c.requires.some a b c.index-row-0.is c.second_of.ensures in
     let d = IsDerived-at h.clauses s.clauses s.trail h.justified c.requires.level c.args.left c.args.right c.args.pivot row chain c.requires.left c.requires.right c.requires.absent
     c.requires.possible c.requires.resolvent refl steps in
-    rw (c.in_ok-push-2.ensures.ok, c.in_ok-push-3.ensures, c.in_ok-watch_pair.ensures.pairs, c.in_ok-watch_pair.ensures.lists, c.assign.ensures)
+    rw (c.in_ok-push.ensures, c.in_ok-push-2.ensures, c.in_ok-watch_pair.ensures.pairs, c.in_ok-watch_pair.ensures.lists, c.assign.ensures)
     (IsBase-unit s.formula.now (s.entries ++ chain ∷ []) s.clauses _ _ s.trail row a b n c.requires.level c.tell_trail.ensures p one c.len-number.ensures
     (IsBase-add s.formula.now s.entries s.clauses s.watches.pairs.items s.watches.lists.items s.trail s.whole h chain row a b n c.requires.level d p c.len-number.ensures))
 
@@ -79,7 +78,7 @@ returns-then-row-eq1-clause-ready c =
     c.requires.resolvent c.requires.some a b c.index-row-0.is c.second_of.ensures in
     record {
       head = rw c.assign.ensures (omega (arith, le, more));
-      quiet = rw (c.in_ok-push-3.ensures, c.in_ok-watch_pair.ensures.pairs, c.assign.ensures)
+      quiet = rw (c.in_ok-push-2.ensures, c.in_ok-watch_pair.ensures.pairs, c.assign.ensures)
           (Quiet-unit s.clauses s.watches.pairs.items s.trail s.head row a b w.count p le c.requires.ready.quiet);
     }
 
@@ -90,14 +89,13 @@ returns-else-row-eq1-clause-stands c =
     let a = c.index-row-0.result in
     let b = c.second_of.result in
     let row = c.args.row.now in
-    let chain : Chain = record { start = c.args.left; steps = c.from_vec.result } in
-    let steps = c.from_vec.ensures ∙ steps_of c.push.new.self.items c.new-steps.result.items c.variable.result c.args.pivot c.args.right c.in_ok-push.ensures.items c.new-steps.ensures.items
-    c.variable.ensures.value in
+    let chain : Chain = record { start = c.args.left; steps = (c.variable.result, c.args.right) ∷ [] } in
+    let steps : (c.variable.result, c.args.right) ∷ [] ≡ (c.args.pivot.variable, c.args.right) ∷ [] = ap (λ (v : ℕ). (v, c.args.right) ∷ []) c.variable.ensures.value in
     let p = IsAdded-from s.trail s.clauses s.watches.pairs.items s.watches.lists.items h.watching c.args.left c.args.right c.requires.left c.requires.right c.args.pivot row
     c.requires.resolvent c.requires.some a b c.index-row-0.is c.second_of.ensures in
     let d = IsDerived-at h.clauses s.clauses s.trail h.justified c.requires.level c.args.left c.args.right c.args.pivot row chain c.requires.left c.requires.right c.requires.absent
     c.requires.possible c.requires.resolvent refl steps in
-    rw (c.in_ok-push-2.ensures.ok, c.in_ok-push-3.ensures, c.in_ok-watch_pair.ensures.pairs, c.in_ok-watch_pair.ensures.lists)
+    rw (c.in_ok-push.ensures, c.in_ok-push-2.ensures, c.in_ok-watch_pair.ensures.pairs, c.in_ok-watch_pair.ensures.lists)
     (IsBase-add s.formula.now s.entries s.clauses s.watches.pairs.items s.watches.lists.items s.trail s.whole h chain row a b c.len-number.result c.requires.level d p c.len-number.ensures)
 
 pub returns-else-row-eq1-clause-ready : goal.returns-else-row-eq1-clause-ready
@@ -111,6 +109,6 @@ returns-else-row-eq1-clause-ready c =
     c.requires.resolvent c.requires.some a b c.index-row-0.is c.second_of.ensures in
     record {
       head = c.requires.ready.head;
-      quiet = rw (c.in_ok-push-3.ensures, c.in_ok-watch_pair.ensures.pairs)
+      quiet = rw (c.in_ok-push-2.ensures, c.in_ok-watch_pair.ensures.pairs)
           (Quiet-add s.clauses s.watches.pairs.items s.trail s.head row a b w.count p c.if-row-eq1.false c.requires.ready.quiet);
     }

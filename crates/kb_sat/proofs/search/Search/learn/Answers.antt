@@ -111,7 +111,7 @@ returns-clause-goes_on c =
     let stands = IsBase_same new.base.formula.now s.formula.now new.base.entries (s.entries ++ l.chain ∷ []) new.base.clauses (s.clauses ++ l.literals ∷ [])
     new.base.watches.pairs.items (s.watches.pairs.items ++ paired a b ∷ []) new.base.watches.lists.items (put_pair s.watches.lists.items a b n)
     new.base.trail (learned_trail t l.level a n) new.base.whole s.whole
-    (kept.formula ∙ g.formula) (kept.entries ∙ (g.entries ∙ c.in_ok-push.ensures.ok)) rows pairs lists trail (kept.whole ∙ g.whole)
+    (kept.formula ∙ g.formula) (kept.entries ∙ (g.entries ∙ (c.in_ok-push.ensures ∙ ap (λ z. s.entries ++ record { start = l.chain.start; steps = z } ∷ []) c.as_slice-2.ensures))) rows pairs lists trail (kept.whole ∙ g.whole)
     (IsBase-learn s.formula.now s.entries s.clauses s.watches.pairs.items s.watches.lists.items t s.whole c.requires.stands l.chain l.literals l.level a b n c.tell_trail.ensures k p (ap length g.clauses)) in
     record {
       stands = stands;
