@@ -14,11 +14,10 @@ use Rattle.kb_chain.proofs.PropagationLaws.{IsPart, all_negated-from, all_negate
 use Rattle.kb_chain.proofs.LeastSets.{not_unit_refuted}
 use Rattle.kb_eliminate.specs.Trail.{Assigned, IsTrail, HasReasons, level_zero, level_start, before_level, TrailGrows, cut_back}
 use Rattle.kb_eliminate.specs.Store.{IsRow, IsStored, IsJustified}
-use Rattle.kb_eliminate.specs.Rows.{AreNamed}
+use Rattle.kb_eliminate.specs.Rows.{StoredClause, AreNamed, rows_of}
 use Rattle.kb_eliminate.specs.Base.{IsConflict}
-use Rattle.kb_eliminate.specs.Watches.{is_met, IsQuiet, Quiet, IsAwake, AllAwake, IsWatching, AllListed, StaysQuiet}
+use Rattle.kb_eliminate.specs.Watches.{Pair, pairs_of, is_met, IsQuiet, Quiet, IsAwake, AllAwake, IsWatching, AllListed, StaysQuiet}
 use Rattle.kb_eliminate.specs.Base.{IsBase, AllAssigned, IsModelOf}
-use Rattle.kb_eliminate.specs.declared.watch.Pair.{Pair}
 use Rattle.kb_eliminate.specs.declared.watch.Watch.{Watch}
 use Rattle.kb_eliminate.proofs.Places.{at_kept, at_inside, at_within}
 use Rattle.kb_eliminate.proofs.TrailLaws.{length_taken, start_pushed, start_taken}
@@ -151,10 +150,11 @@ conflict_clause clauses rows t k j c =
     }
 
 -- propagation
-pub IsBase-propagated : (formula : Cnf) (entries : List Chain) (rows : List (List Literal)) (pairs pairs' : List Pair) (lists lists' : List (List Watch)) (t t' : Assigned) (whole : Bool)
-    → IsBase formula entries rows pairs lists t whole → IsTrail t → IsWatching rows pairs' lists' t'.vars → AllListed lists' pairs' → StaysQuiet rows pairs pairs' (has t.literals) → TrailGrows t t'
-    → ((all : List (List Literal)) → IsJustified all rows t → IsJustified all rows t') → IsBase formula entries rows pairs' lists' t' whole
-IsBase-propagated formula entries rows pairs pairs' lists lists' t t' whole s h watching listed stays grows justified = record {
+pub IsBase-propagated : (formula : Cnf) (entries : List Chain) (old new : List StoredClause) (lists lists' : List (List Watch)) (t t' : Assigned) (whole : Bool)
+    → IsBase formula entries (rows_of old) (pairs_of old) lists t whole → IsTrail t → IsWatching (rows_of new) (pairs_of new) lists' t'.vars → AllListed lists' (pairs_of new)
+    → StaysQuiet old new (has t.literals) → TrailGrows t t'
+    → ((all : List (List Literal)) → IsJustified all (rows_of old) t → IsJustified all (rows_of new) t') → IsBase formula entries (rows_of new) (pairs_of new) lists' t' whole
+IsBase-propagated formula entries old new lists lists' t t' whole s h watching listed stays grows justified = record {
   clauses = s.clauses;
   derives = s.derives;
   fresh = λ w. (stays.0 (s.fresh w).0, (s.fresh w).1);
@@ -162,11 +162,11 @@ IsBase-propagated formula entries rows pairs pairs' lists lists' t t' whole s h 
   justified = justified s.clauses s.justified;
   watching = watching;
   listed = listed;
-  cuts = λ j lt. (let old : j < length t.starts = subst (λ (z : List ℕ). j < length z) grows.starts lt in
-      let inside : level_start t.starts j < length t.literals = h.inside j old in
+  cuts = λ j lt. (let before : j < length t.starts = subst (λ (z : List ℕ). j < length z) grows.starts lt in
+      let inside : level_start t.starts j < length t.literals = h.inside j before in
       let e : before_level t' j ≡ before_level t j =
       ap (λ (z : List ℕ). take (level_start z j) t'.literals) grows.starts ∙ IsFrontOf-take t.literals t'.literals (level_start t.starts j) grows.literals (omega (arith, inside)) in
-      subst (λ z. Quiet rows pairs' (has z) (has z)) (sym e) (stays.1 (has (before_level t j)) (taken_part t.literals (level_start t.starts j)) (s.cuts j old)));
+      subst (λ z. Quiet (rows_of new) (pairs_of new) (has z) (has z)) (sym e) (stays.1 (has (before_level t j)) (taken_part t.literals (level_start t.starts j)) (s.cuts j before)));
 }
 
 -- a decision

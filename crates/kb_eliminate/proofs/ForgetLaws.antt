@@ -1,5 +1,5 @@
 -- Clauses that are watched no longer, and lists without their watches.
-use Rattle.std.proofs.Common.{◌≡◌, ℕ, List, [], ◌∷◌, Bool, true, false, refl, ap, sym, ◌∙◌, inl, inr, length, map, filter, Option, Some, None, slice_get, length-set, ◌==◌}
+use Rattle.std.proofs.Common.{◌≡◌, ℕ, List, [], ◌∷◌, Bool, true, false, refl, ap, sym, subst, ◌∙◌, inl, inr, length, map, filter, set, zero, suc, Option, Some, None, slice_get, length-set, ◌==◌}
 use Rattle.std.specs.List.{list_all}
 use Rattle.std.proofs.lemmas.Bool.{false≢true, and_parts, and_from, eqb-true}
 use Rattle.std.proofs.lemmas.List.{length-map}
@@ -8,13 +8,50 @@ use Rattle.std.proofs.lemmas.Map.Views.{any-filter_same}
 use Rattle.kb_chain.specs.Literal.{Literal, has, place_of}
 use Rattle.kb_chain.specs.Cnf.{Cnf}
 use Rattle.kb_chain.specs.declared.log.Chain.{Chain}
-use Rattle.kb_eliminate.specs.declared.watch.Pair.{Pair}
 use Rattle.kb_eliminate.specs.declared.watch.Watch.{Watch}
 use Rattle.kb_eliminate.specs.Trail.{Assigned}
-use Rattle.kb_eliminate.specs.Watches.{Quiet, watches_clause, at_literal, is_blocked, all_blocked, IsWatching, AllListed}
-use Rattle.kb_eliminate.specs.Forgetting.{is_awake, has_awake_clause, only_awake, asleep_at, asleep}
+use Rattle.kb_eliminate.specs.Rows.{StoredClause, rows_of}
+use Rattle.kb_eliminate.specs.Watches.{Pair, pair_of, pairs_of, Quiet, watches_clause, at_literal, is_blocked, all_blocked, IsWatching, AllListed}
+use Rattle.kb_eliminate.specs.Forgetting as forgetting
+use Rattle.kb_eliminate.specs.Forgetting.{is_awake, has_awake_clause, only_awake}
 use Rattle.kb_eliminate.specs.Base.{IsBase}
 use Rattle.kb_eliminate.proofs.Places.{at_set}
+use Rattle.kb_eliminate.proofs.PairLaws.{is_awake-at}
+
+-- the pairs when the clause of a number is let go
+
+abbrev asleep_at : List Pair → ℕ → Option Pair → List Pair
+asleep_at pairs k None = pairs
+asleep_at pairs k (Some pair) = set pairs k (record pair { awake = false })
+
+abbrev asleep : List Pair → ℕ → List Pair
+asleep pairs k = asleep_at pairs k (slice_get pairs k)
+
+pairs_asleep : (clauses : List StoredClause) (n : ℕ) → pairs_of (forgetting.asleep clauses n) ≡ asleep (pairs_of clauses) n
+pairs_asleep [] zero = refl
+pairs_asleep [] (suc n) = refl
+pairs_asleep (c ∷ clauses) zero = refl
+pairs_asleep (c ∷ clauses) (suc n) =
+    later (slice_get clauses n) ∙ (ap (λ z. pair_of c ∷ z) (pairs_asleep clauses n) ∙ sym (behind (slice_get (pairs_of clauses) n)))
+  where
+    later : (found : Option StoredClause) → pairs_of (forgetting.asleep_at (c ∷ clauses) (suc n) found) ≡ pair_of c ∷ pairs_of (forgetting.asleep_at clauses n found)
+    later None = refl
+    later (Some d) = refl
+
+    behind : (found : Option Pair) → asleep_at (pair_of c ∷ pairs_of clauses) (suc n) found ≡ pair_of c ∷ asleep_at (pairs_of clauses) n found
+    behind None = refl
+    behind (Some p) = refl
+
+-- their literals stay
+pub rows_asleep : (clauses : List StoredClause) (n : ℕ) → rows_of (forgetting.asleep clauses n) ≡ rows_of clauses
+rows_asleep [] zero = refl
+rows_asleep [] (suc n) = refl
+rows_asleep (c ∷ clauses) zero = refl
+rows_asleep (c ∷ clauses) (suc n) = later (slice_get clauses n) ∙ ap (λ z. c.literals ∷ z) (rows_asleep clauses n)
+  where
+    later : (found : Option StoredClause) → rows_of (forgetting.asleep_at (c ∷ clauses) (suc n) found) ≡ c.literals ∷ rows_of (forgetting.asleep_at clauses n found)
+    later None = refl
+    later (Some d) = refl
 
 -- the pair of a clause is what it was, but for whether it is awake
 record Stood (old : List Pair) (k : ℕ) (pair : Pair) : Type 0 where
@@ -62,9 +99,15 @@ awake_before pairs n k pair e h =
     let s = stood pairs n k pair e in
     s.there ∙ ap Some (s.awake h)
 
-pub Quiet-asleep : (rows : List (List Literal)) (pairs : List Pair) (n : ℕ) (early late : Literal → Bool) → Quiet rows pairs early late
+asleep_quiet : (rows : List (List Literal)) (pairs : List Pair) (n : ℕ) (early late : Literal → Bool) → Quiet rows pairs early late
     → Quiet rows (asleep pairs n) early late
-Quiet-asleep rows pairs n early late q k row pair r e h = q k row pair r (awake_before pairs n k pair e h) h
+asleep_quiet rows pairs n early late q k row pair r e h = q k row pair r (awake_before pairs n k pair e h) h
+
+pub Quiet-asleep : (clauses : List StoredClause) (n : ℕ) (early late : Literal → Bool) → Quiet (rows_of clauses) (pairs_of clauses) early late
+    → Quiet (rows_of (forgetting.asleep clauses n)) (pairs_of (forgetting.asleep clauses n)) early late
+Quiet-asleep clauses n early late q =
+    subst (λ z. Quiet z (pairs_of (forgetting.asleep clauses n)) early late) (sym (rows_asleep clauses n))
+    (subst (λ z. Quiet (rows_of clauses) z early late) (sym (pairs_asleep clauses n)) (asleep_quiet (rows_of clauses) (pairs_of clauses) n early late q))
 
 IsWatching-asleep : (rows : List (List Literal)) (pairs : List Pair) (lists : List (List Watch)) (vars n : ℕ) → IsWatching rows pairs lists vars
     → IsWatching rows (asleep pairs n) lists vars
@@ -78,10 +121,9 @@ IsWatching-asleep rows pairs lists vars n w = record {
   within = w.within;
 }
 
--- a clause is let go
-pub IsBase-asleep : (formula : Cnf) (entries : List Chain) (rows : List (List Literal)) (pairs : List Pair) (lists : List (List Watch)) (t : Assigned) (whole : Bool) (n : ℕ)
+asleep_base : (formula : Cnf) (entries : List Chain) (rows : List (List Literal)) (pairs : List Pair) (lists : List (List Watch)) (t : Assigned) (whole : Bool) (n : ℕ)
     → IsBase formula entries rows pairs lists t whole → IsBase formula entries rows (asleep pairs n) lists t false
-IsBase-asleep formula entries rows pairs lists t whole n s = record {
+asleep_base formula entries rows pairs lists t whole n s = record {
   clauses = s.clauses;
   derives = s.derives;
   vars = s.vars;
@@ -89,18 +131,27 @@ IsBase-asleep formula entries rows pairs lists t whole n s = record {
   watching = IsWatching-asleep rows pairs lists t.vars n s.watching;
   listed = λ k pair e h. s.listed k pair (awake_before pairs n k pair e h) h;
   fresh = λ e. absurd (false≢true e);
-  cuts = λ j lt. Quiet-asleep rows pairs n _ _ (s.cuts j lt);
+  cuts = λ j lt. asleep_quiet rows pairs n _ _ (s.cuts j lt);
 }
 
-at_only_awake : (pairs : List Pair) (lists : List (List Watch)) (l : Literal) → at_literal (map (only_awake pairs) lists) l ≡ only_awake pairs (at_literal lists l)
-at_only_awake pairs lists l = get_or-map (only_awake pairs) lists (place_of l) []
+-- a clause is let go
+pub IsBase-asleep : (formula : Cnf) (entries : List Chain) (clauses : List StoredClause) (lists : List (List Watch)) (t : Assigned) (whole : Bool) (n : ℕ)
+    → IsBase formula entries (rows_of clauses) (pairs_of clauses) lists t whole
+    → IsBase formula entries (rows_of (forgetting.asleep clauses n)) (pairs_of (forgetting.asleep clauses n)) lists t false
+IsBase-asleep formula entries clauses lists t whole n s =
+    subst (λ z. IsBase formula entries z (pairs_of (forgetting.asleep clauses n)) lists t false) (sym (rows_asleep clauses n))
+    (subst (λ z. IsBase formula entries (rows_of clauses) z lists t false) (sym (pairs_asleep clauses n))
+    (asleep_base formula entries (rows_of clauses) (pairs_of clauses) lists t whole n s))
+
+at_only_awake : (clauses : List StoredClause) (lists : List (List Watch)) (l : Literal) → at_literal (map (only_awake clauses) lists) l ≡ only_awake clauses (at_literal lists l)
+at_only_awake clauses lists l = get_or-map (only_awake clauses) lists (place_of l) []
 
 -- an awake clause's watch stays
-watch_kept : (pairs : List Pair) (list : List Watch) (k : ℕ) (pair : Pair) → slice_get pairs k ≡ Some pair → pair.awake ≡ true → watches_clause list k ≡ true
-    → watches_clause (only_awake pairs list) k ≡ true
-watch_kept pairs list k pair e h w =
-    any-filter_same (λ (w : Watch). w.clause == k) (has_awake_clause pairs) true
-    (λ x s. ap (λ n. is_awake (slice_get pairs n)) (eqb-true x.clause k s) ∙ (ap is_awake e ∙ h)) list
+watch_kept : (clauses : List StoredClause) (list : List Watch) (k : ℕ) → is_awake (slice_get clauses k) ≡ true → watches_clause list k ≡ true
+    → watches_clause (only_awake clauses list) k ≡ true
+watch_kept clauses list k h w =
+    any-filter_same (λ (w : Watch). w.clause == k) (has_awake_clause clauses) true
+    (λ x s. ap (λ n. is_awake (slice_get clauses n)) (eqb-true x.clause k s) ∙ h) list
     ∙ w
 
 all_filtered : {X : Type 0} (p q : X → Bool) (xs : List X) → list_all p xs ≡ true → list_all p (filter q xs) ≡ true
@@ -115,32 +166,32 @@ all_mapped : {X : Type 0} (p : X → Bool) (f : X → X) → ((x : X) → p x �
 all_mapped p f keeps [] h = h
 all_mapped p f keeps (x ∷ xs) h = let q = and_parts _ _ h in and_from _ _ (keeps x q.0) (all_mapped p f keeps xs q.1)
 
-IsWatching-purged : (rows : List (List Literal)) (pairs : List Pair) (lists : List (List Watch)) (vars : ℕ) → IsWatching rows pairs lists vars
-    → IsWatching rows pairs (map (only_awake pairs) lists) vars
-IsWatching-purged rows pairs lists vars w = record {
+IsWatching-purged : (rows : List (List Literal)) (pairs : List Pair) (clauses : List StoredClause) (lists : List (List Watch)) (vars : ℕ) → IsWatching rows pairs lists vars
+    → IsWatching rows pairs (map (only_awake clauses) lists) vars
+IsWatching-purged rows pairs clauses lists vars w = record {
   count = w.count;
-  places = length-map lists (only_awake pairs) ∙ w.places;
+  places = length-map lists (only_awake clauses) ∙ w.places;
   own = w.own;
-  blocked = all_mapped (all_blocked rows) (only_awake pairs) (λ list e. all_filtered (is_blocked rows) (has_awake_clause pairs) list e) lists w.blocked;
+  blocked = all_mapped (all_blocked rows) (only_awake clauses) (λ list e. all_filtered (is_blocked rows) (has_awake_clause clauses) list e) lists w.blocked;
   within = w.within;
 }
 
-AllListed-purged : (lists : List (List Watch)) (pairs : List Pair) → AllListed lists pairs → AllListed (map (only_awake pairs) lists) pairs
-AllListed-purged lists pairs a k pair e h = (here pair.first (a k pair e h).0, here pair.second (a k pair e h).1)
+AllListed-purged : (lists : List (List Watch)) (clauses : List StoredClause) → AllListed lists (pairs_of clauses) → AllListed (map (only_awake clauses) lists) (pairs_of clauses)
+AllListed-purged lists clauses a k pair e h = (here pair.first (a k pair e h).0, here pair.second (a k pair e h).1)
   where
-    here : (l : Literal) → watches_clause (at_literal lists l) k ≡ true → watches_clause (at_literal (map (only_awake pairs) lists) l) k ≡ true
-    here l w = ap (λ z. watches_clause z k) (at_only_awake pairs lists l) ∙ watch_kept pairs (at_literal lists l) k pair e h w
+    here : (l : Literal) → watches_clause (at_literal lists l) k ≡ true → watches_clause (at_literal (map (only_awake clauses) lists) l) k ≡ true
+    here l w = ap (λ z. watches_clause z k) (at_only_awake clauses lists l) ∙ watch_kept clauses (at_literal lists l) k (is_awake-at clauses k pair e h) w
 
 -- the lists lose the watches of clauses that were let go
-pub IsBase-purged : (formula : Cnf) (entries : List Chain) (rows : List (List Literal)) (pairs : List Pair) (lists : List (List Watch)) (t : Assigned) (whole : Bool)
-    → IsBase formula entries rows pairs lists t whole → IsBase formula entries rows pairs (map (only_awake pairs) lists) t whole
-IsBase-purged formula entries rows pairs lists t whole s = record {
+pub IsBase-purged : (formula : Cnf) (entries : List Chain) (clauses : List StoredClause) (lists : List (List Watch)) (t : Assigned) (whole : Bool)
+    → IsBase formula entries (rows_of clauses) (pairs_of clauses) lists t whole → IsBase formula entries (rows_of clauses) (pairs_of clauses) (map (only_awake clauses) lists) t whole
+IsBase-purged formula entries clauses lists t whole s = record {
   clauses = s.clauses;
   derives = s.derives;
   vars = s.vars;
   justified = s.justified;
-  watching = IsWatching-purged rows pairs lists t.vars s.watching;
-  listed = AllListed-purged lists pairs s.listed;
+  watching = IsWatching-purged (rows_of clauses) (pairs_of clauses) clauses lists t.vars s.watching;
+  listed = AllListed-purged lists clauses s.listed;
   fresh = s.fresh;
   cuts = s.cuts;
 }

@@ -3,6 +3,8 @@ pub mod ClausesLaws
 pub mod FlatLogLaws
 pub mod TrailLaws
 pub mod WatchLaws
+pub mod PairLaws
+pub mod ReorderLaws
 pub mod JustifyLaws
 pub mod BaseLaws
 pub mod BeginLaws

@@ -15,10 +15,9 @@ use Rattle.kb_chain.proofs.PropagationLaws.{taken_part}
 use Rattle.kb_eliminate.specs.Tables.{IsDistinct}
 use Rattle.kb_eliminate.specs.Trail.{Assigned, IsTrail, level_zero}
 use Rattle.kb_eliminate.specs.Store.{IsRow, IsStored, IsJustified}
-use Rattle.kb_eliminate.specs.Watches.{IsWatching, Quiet, paired, put_pair}
+use Rattle.kb_eliminate.specs.Watches.{Pair, IsWatching, Quiet, paired, put_pair}
 use Rattle.kb_eliminate.specs.Base.{IsBase, IsSecondLiteral}
 use Rattle.kb_eliminate.specs.Resolvents.{IsResolvent, IsMerged}
-use Rattle.kb_eliminate.specs.declared.watch.Pair.{Pair}
 use Rattle.kb_eliminate.specs.declared.watch.Watch.{Watch}
 use Rattle.kb_eliminate.proofs.Places.{at_pushed, at_inside, at_within, at_last, at_has, at_same, has_at, get_or_at_place}
 use Rattle.kb_eliminate.proofs.TrailLaws.{has_pushed}

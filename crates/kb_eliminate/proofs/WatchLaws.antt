@@ -9,9 +9,9 @@ use Rattle.kb_chain.proofs.LiteralLaws.{same-true, same_refl, has_head, negated-
 use Rattle.std.specs.Option.{IfNone, IfSome}
 use Rattle.kb_chain.proofs.OrderLaws.{has_take-suc, has_get_or}
 use Rattle.kb_chain.proofs.PropagationLaws.{IsPart, place_of-negated}
-use Rattle.kb_eliminate.specs.declared.watch.Pair.{Pair}
 use Rattle.kb_eliminate.specs.declared.watch.Watch.{Watch}
-use Rattle.kb_eliminate.specs.Watches.{is_met, IsQuiet, Quiet, AllAwake, watches_clause, at_literal, with_list, IsWatchListed, is_blocked, all_blocked, AreOwn, IsWatching, IsSettledOrWaiting, IsPending, Walks, AllListed, StaysQuiet, IsOther, put, paired, put_pair}
+use Rattle.kb_eliminate.specs.Rows.{StoredClause}
+use Rattle.kb_eliminate.specs.Watches.{Pair, is_met, IsQuiet, Quiet, AllAwake, watches_clause, at_literal, with_list, IsWatchListed, is_blocked, all_blocked, AreOwn, IsWatching, IsSettledOrWaiting, IsPending, Walks, AllListed, StaysQuiet, IsOther, put, paired, put_pair}
 use Rattle.kb_eliminate.specs.Walking.{IfKept, IfConflict}
 use Rattle.kb_eliminate.specs.declared.propagation.Outcome.{Outcome}
 use Rattle.kb_eliminate.specs.declared.propagation.Outcome.TheVariants.{Kept, Removed, Conflict}
@@ -173,26 +173,43 @@ Walks-drop early late rows pairs lists w rest f h apart =
     waits row m n (inl e) = inl e
     waits row m n (inr e) = absurd (not_same m f n e.0)
 
+-- what both watched literals have
+both_of : (pair : Pair) (l other : Literal) (P : Literal → Type 0) → IsOther pair l other → P l → P other → P pair.first × P pair.second
+both_of pair l other P (inl e) p q = (subst P e.0 p, subst P e.1 q)
+both_of pair l other P (inr e) p q = (subst P e.1 q, subst P e.0 p)
+
+-- two literals that differ are not one literal that is watched twice
+never_single : (pair : Pair) (l other : Literal) → IsOther pair l other → same l other ≡ false → same pair.first pair.second ≡ true → ⊥
+never_single pair l other o apart s = go o (same-true pair.first pair.second s)
+  where
+    differ : l ≡ other → ⊥
+    differ e = false≢true (sym apart ∙ (ap (λ z. same z other) e ∙ same_refl other))
+
+    go : IsOther pair l other → pair.first ≡ pair.second → ⊥
+    go (inl e) s = differ (e.0 ∙ (s ∙ sym e.1))
+    go (inr e) s = differ (e.0 ∙ (sym s ∙ sym e.1))
+
 -- a clause watches another literal in place of the false one
 pub Walks-move : (early late : Literal → Bool) (rows : List (List Literal)) (pairs : List Pair) (lists : List (List Watch)) (w w' : Watch) (rest : List Watch) (f : Literal)
-    (pair : Pair) (other next : Literal)
+    (pair pair' : Pair) (other next : Literal)
     → Walks early late rows pairs lists (w ∷ rest) f → IsPart early late → place_of next < length lists → w'.clause ≡ w.clause
-    → slice_get pairs w.clause ≡ Some pair → pair.awake ≡ true → IsOther pair f other → late f ≡ false → late (negated next) ≡ false → same next other ≡ false
+    → slice_get pairs w.clause ≡ Some pair → pair.awake ≡ true → IsOther pair f other → IsOther pair' next other → late f ≡ false → late (negated next) ≡ false → same next other ≡ false
     → (row : List Literal) → slice_get rows w.clause ≡ Some row
-    → Walks early late rows (set pairs w.clause (paired other next)) (put lists next w') rest f
-Walks-move early late rows pairs lists w w' rest f pair other next h part lt same_clause was awake is_other lacks free apart row is_row =
-    Walks-step early late late rows pairs (set pairs w.clause (paired other next)) lists (put lists next w') w rest f h (λ l e. e) (listed_more lists next w')
-    (λ k p e n. elim (at_set pairs w.clause (paired other next) k p e) [ inl s ↦ s.0 | inr s ↦ absurd (n (sym s.0)) ])
-    (λ p e aw. subst (λ z. IsWatchListed (put lists next w') rest f w.clause z.first × IsWatchListed (put lists next w') rest f w.clause z.second) (is_new p e)
-    (still (listed_other is_other), inl (listed_new lists next w' w.clause lt same_clause)))
-    (λ r p g e aw. subst (λ z. IsPending early late r z rest f w.clause) (is_new p e) (record {
-      first = λ n. waits r (pending_other r g is_other n);
-      second = λ n. absurd (false≢true (sym free ∙ part (negated next) n));
-      single = λ s. absurd (false≢true (sym apart ∙ (ap (λ z. same z other) (sym (same-true other next s)) ∙ same_refl other)));
+    → Walks early late rows (set pairs w.clause pair') (put lists next w') rest f
+Walks-move early late rows pairs lists w w' rest f pair pair' other next h part lt same_clause was awake is_other is_next lacks free apart row is_row =
+    Walks-step early late late rows pairs (set pairs w.clause pair') lists (put lists next w') w rest f h (λ l e. e) (listed_more lists next w')
+    (λ k p e n. elim (at_set pairs w.clause pair' k p e) [ inl s ↦ s.0 | inr s ↦ absurd (n (sym s.0)) ])
+    (λ p e aw. subst (λ (z : Pair). IsWatchListed (put lists next w') rest f w.clause z.first × IsWatchListed (put lists next w') rest f w.clause z.second) (is_new p e)
+    (both_of pair' next other (IsWatchListed (put lists next w') rest f w.clause) is_next (inl (listed_new lists next w' w.clause lt same_clause)) (still (listed_other is_other))))
+    (λ r p g e aw. subst (λ z. IsPending early late r z rest f w.clause) (is_new p e) (let both = both_of pair' next other (IsSettledOrWaiting early late r rest f w.clause) is_next
+    (λ n. absurd (false≢true (sym free ∙ part (negated next) n))) (λ n. waits r (pending_other r g is_other n)) in record {
+      first = both.0;
+      second = both.1;
+      single = λ s. absurd (never_single pair' next other is_next apart s);
     }))
   where
-    is_new : (p : Pair) → slice_get (set pairs w.clause (paired other next)) w.clause ≡ Some p → paired other next ≡ p
-    is_new p e = elim (at_set pairs w.clause (paired other next) w.clause p e) [ inl s ↦ absurd (s.1 refl) | inr s ↦ s.1 ]
+    is_new : (p : Pair) → slice_get (set pairs w.clause pair') w.clause ≡ Some p → pair' ≡ p
+    is_new p e = elim (at_set pairs w.clause pair' w.clause p e) [ inl s ↦ absurd (s.1 refl) | inr s ↦ s.1 ]
 
     single : pair.first ≡ f → pair.second ≡ f → ⊥
     single a b = false≢true (sym lacks ∙ (ap late (sym a) ∙ (h.pending w.clause row pair is_row was awake).single (ap (λ z. same z pair.second) (a ∙ sym b) ∙ same_refl pair.second)))
@@ -219,27 +236,28 @@ Walks-move early late rows pairs lists w w' rest f pair other next h part lt sam
     waits r (inr e) = absurd (other_apart is_other e.0)
 
 -- sets within the trail stay quiet as a watch moves to a literal that is not false
-pub StaysQuiet-move : (rows : List (List Literal)) (pairs : List Pair) (k : ℕ) (trail : Literal → Bool) (pair : Pair) (f other next : Literal)
-    → slice_get pairs k ≡ Some pair → pair.awake ≡ true → IsOther pair f other → trail (negated next) ≡ false → same next other ≡ false
-    → StaysQuiet rows pairs (set pairs k (paired other next)) trail
-StaysQuiet-move rows pairs k trail pair f other next was awake is_other free apart = (
-  λ all j p e. elim (at_set pairs k (paired other next) j p e) [
-    | inl s ↦ all j p s.0
-    | inr s ↦ ap (λ z. z.awake) (sym s.1)
-  ],
-  λ set' part quiet j row p r e aw. elim (at_set pairs k (paired other next) j p e) [
-    | inl s ↦ quiet j row p r s.0 aw
-    | inr s ↦ subst (λ z. IsQuiet set' set' row z) s.1 (record {
-      first = λ n. met set' row (quiet j row pair r (ap (slice_get pairs) s.0 ∙ was) awake) is_other n;
-      second = λ n. absurd (false≢true (sym free ∙ part (negated next) n));
-      single = λ n. absurd (false≢true (sym apart ∙ (ap (λ z. same z other) (sym (same-true other next n)) ∙ same_refl other)));
-    })
-  ],
-)
+pub AllAwake-move : (pairs : List Pair) (k : ℕ) (pair' : Pair) → pair'.awake ≡ true → AllAwake pairs → AllAwake (set pairs k pair')
+AllAwake-move pairs k pair' awake all j p e = elim (at_set pairs k pair' j p e) [
+  | inl s ↦ all j p s.0
+  | inr s ↦ ap (λ (z : Pair). z.awake) (sym s.1) ∙ awake
+]
+
+pub Quiet-move : (rows : List (List Literal)) (pairs : List Pair) (k : ℕ) (trail set' : Literal → Bool) (pair pair' : Pair) (f other next : Literal)
+    → slice_get pairs k ≡ Some pair → pair.awake ≡ true → IsOther pair f other → IsOther pair' next other → trail (negated next) ≡ false → same next other ≡ false
+    → IsPart set' trail → Quiet rows pairs set' set' → Quiet rows (set pairs k pair') set' set'
+Quiet-move rows pairs k trail set' pair pair' f other next was awake is_other is_next free apart part quiet j row p r e aw = elim (at_set pairs k pair' j p e) [
+  | inl s ↦ quiet j row p r s.0 aw
+  | inr s ↦ subst (λ z. IsQuiet set' set' row z) s.1 (let both = both_of pair' next other (λ l. set' (negated l) ≡ true → is_met set' row ≡ true) is_next
+      (λ n. absurd (false≢true (sym free ∙ part (negated next) n))) (met (quiet j row pair r (ap (slice_get pairs) s.0 ∙ was) awake) is_other) in record {
+        first = both.0;
+        second = both.1;
+        single = λ n. absurd (never_single pair' next other is_next apart n);
+      })
+]
   where
-    met : (set' : Literal → Bool) (row : List Literal) → IsQuiet set' set' row pair → IsOther pair f other → set' (negated other) ≡ true → is_met set' row ≡ true
-    met set' row q (inl o) n = q.second (ap (λ z. set' (negated z)) (sym o.1) ∙ n)
-    met set' row q (inr o) n = q.first (ap (λ z. set' (negated z)) (sym o.1) ∙ n)
+    met : IsQuiet set' set' row pair → IsOther pair f other → set' (negated other) ≡ true → is_met set' row ≡ true
+    met q (inl o) n = q.second (ap (λ z. set' (negated z)) (sym o.1) ∙ n)
+    met q (inr o) n = q.first (ap (λ z. set' (negated z)) (sym o.1) ∙ n)
 
 -- the tables
 pub IsWatching-put : (rows : List (List Literal)) (pairs : List Pair) (lists : List (List Watch)) (vars : ℕ) (l : Literal) (w : Watch) → IsWatching rows pairs lists vars
@@ -252,17 +270,16 @@ IsWatching-put rows pairs lists vars l w h e = record {
   within = h.within;
 }
 
-pub IsWatching-move : (rows : List (List Literal)) (pairs : List Pair) (lists : List (List Watch)) (vars k : ℕ) (row : List Literal) (a b : Literal) → IsWatching rows pairs lists vars
-    → slice_get rows k ≡ Some row → has row a ≡ true → has row b ≡ true → IsWatching rows (set pairs k (paired a b)) lists vars
-IsWatching-move rows pairs lists vars k row a b h is has_a has_b = record {
-  count = length-set pairs k (paired a b) ∙ h.count;
+pub IsWatching-move : (rows : List (List Literal)) (pairs : List Pair) (lists : List (List Watch)) (vars k : ℕ) (row : List Literal) (pair' : Pair) (a b : Literal)
+    → IsWatching rows pairs lists vars → slice_get rows k ≡ Some row → IsOther pair' a b → has row a ≡ true → has row b ≡ true → IsWatching rows (set pairs k pair') lists vars
+IsWatching-move rows pairs lists vars k row pair' a b h is o has_a has_b = record {
+  count = length-set pairs k pair' ∙ h.count;
   places = h.places;
-  own = λ j r p g e. elim (at_set pairs k (paired a b) j p e) [
+  own = λ j r p g e. elim (at_set pairs k pair' j p e) [
     | inl s ↦ h.own j r p g s.0
-    | inr s ↦ (let same_row : row ≡ r = at_same rows k row r is (ap (slice_get rows) (sym s.0) ∙ g) in (
-      ap (has r) (sym (ap (λ z. z.first) s.1)) ∙ (ap (λ z. has z a) (sym same_row) ∙ has_a),
-      ap (has r) (sym (ap (λ z. z.second) s.1)) ∙ (ap (λ z. has z b) (sym same_row) ∙ has_b),
-    ))
+    | inr s ↦ (let same_row : row ≡ r = at_same rows k row r is (ap (slice_get rows) (sym s.0) ∙ g) in
+        subst (λ (z : Pair). (has r z.first ≡ true) × (has r z.second ≡ true)) s.1
+        (both_of pair' a b (λ l. has r l ≡ true) o (ap (λ z. has z a) (sym same_row) ∙ has_a) (ap (λ z. has z b) (sym same_row) ∙ has_b)))
   ];
   blocked = h.blocked;
   within = h.within;
@@ -319,15 +336,15 @@ Walks-stay early late later rows pairs lists kept w w' rest f h grown lt same_cl
     (Walks-keep early late later rows pairs (with_list lists f kept) w w' rest f h grown (subst (λ n. place_of f < n) (sym (length-set lists (place_of f) kept)) lt) same_clause met)
 
 pub Walks-away : (early late : Literal → Bool) (rows : List (List Literal)) (pairs : List Pair) (lists : List (List Watch)) (kept : List Watch) (w w' : Watch) (rest : List Watch) (f : Literal)
-    (pair : Pair) (other next : Literal)
+    (pair pair' : Pair) (other next : Literal)
     → Walks early late rows pairs (with_list lists f kept) (w ∷ rest) f → IsPart early late → place_of next < length lists → w'.clause ≡ w.clause
-    → slice_get pairs w.clause ≡ Some pair → pair.awake ≡ true → IsOther pair f other → late f ≡ false → late (negated f) ≡ true → late (negated next) ≡ false → same next other ≡ false
-    → (row : List Literal) → slice_get rows w.clause ≡ Some row
-    → Walks early late rows (set pairs w.clause (paired other next)) (with_list (put lists next w') f kept) rest f
-Walks-away early late rows pairs lists kept w w' rest f pair other next h part lt same_clause was awake is_other lacks falsified free apart row is_row =
-    subst (λ z. Walks early late rows (set pairs w.clause (paired other next)) z rest f) (put_beside lists f next kept w' beside)
-    (Walks-move early late rows pairs (with_list lists f kept) w w' rest f pair other next h part (subst (λ n. place_of next < n) (sym (length-set lists (place_of f) kept)) lt) same_clause
-    was awake is_other lacks free apart row is_row)
+    → slice_get pairs w.clause ≡ Some pair → pair.awake ≡ true → IsOther pair f other → IsOther pair' next other → late f ≡ false → late (negated f) ≡ true → late (negated next) ≡ false
+    → same next other ≡ false → (row : List Literal) → slice_get rows w.clause ≡ Some row
+    → Walks early late rows (set pairs w.clause pair') (with_list (put lists next w') f kept) rest f
+Walks-away early late rows pairs lists kept w w' rest f pair pair' other next h part lt same_clause was awake is_other is_next lacks falsified free apart row is_row =
+    subst (λ z. Walks early late rows (set pairs w.clause pair') z rest f) (put_beside lists f next kept w' beside)
+    (Walks-move early late rows pairs (with_list lists f kept) w w' rest f pair pair' other next h part (subst (λ n. place_of next < n) (sym (length-set lists (place_of f) kept)) lt) same_clause
+    was awake is_other is_next lacks free apart row is_row)
   where
     beside : place_of next ≡ place_of f → ⊥
     beside s = false≢true (sym free ∙ (ap (λ z. late (negated z)) (place_of-injective next f s) ∙ falsified))
@@ -467,9 +484,8 @@ IsWatching-out rows pairs lists vars f h = (
   all_get_or (all_blocked rows) lists (place_of f) [] h.blocked refl,
 )
 
-pub StaysQuiet-trans : (rows : List (List Literal)) (a b c : List Pair) (early late : Literal → Bool) → IsPart early late → StaysQuiet rows a b early → StaysQuiet rows b c late
-    → StaysQuiet rows a c early
-StaysQuiet-trans rows a b c early late part f g = (
+pub StaysQuiet-trans : (a b c : List StoredClause) (early late : Literal → Bool) → IsPart early late → StaysQuiet a b early → StaysQuiet b c late → StaysQuiet a c early
+StaysQuiet-trans a b c early late part f g = (
   λ all. g.0 (f.0 all),
   λ set' inside q. g.1 set' (λ l e. part l (inside l e)) (f.1 set' inside q),
 )

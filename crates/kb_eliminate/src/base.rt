@@ -3,7 +3,8 @@
 ghost use Rattle.std.specs.Prelude.{◌≡◌, ℕ, ◌+◌, ◌<◌, true, [], ◌∷◌, length, OnOk, IfOk, IfSome, IfNone};
 ghost use Rattle.kb_eliminate.specs.Base.{Stands, IsReady, KeepsBase, Forgets, IsConflict, IsPropagated, IsSecondLiteral, IsDoomed};
 ghost use Rattle.kb_eliminate.specs.Trail.{TrailGrows};
-ghost use Rattle.kb_eliminate.specs.Watches.{IsAwake};
+ghost use Rattle.kb_eliminate.specs.Rows.{rows_of};
+ghost use Rattle.kb_eliminate.specs.Watches.{pairs_of, IsAwake};
 
 use crate::NoMemory;
 use crate::begin::watch_all;
@@ -67,12 +68,17 @@ impl<'a> Base<'a> {
         requires stands { Stands self.old }
         requires ready { IsReady self.old }
         ensures keeps { OnOk result (KeepsBase self.old self.new) }
-        ensures conflict { IfOk result (λ conflict. IfSome conflict (λ number. IsConflict self.new.clauses self.new.trail number × IsAwake self.new.watches.pairs.items number)) }
+        ensures conflict { IfOk result (λ conflict. IfSome conflict (λ number. IsConflict (rows_of self.new.clauses) self.new.trail number × IsAwake (pairs_of self.new.clauses) number)) }
         ensures settled { IfOk result (λ conflict. IfNone conflict (IsPropagated self.new)) }
         ensures grows { OnOk result (TrailGrows self.old.trail self.new.trail) }
     {
         self.trail.tell_trail();
-        let conflict = propagate(&self.clauses, &mut self.watches, &mut self.trail, self.head)?;
+        let conflict = propagate(
+            &mut self.clauses,
+            &mut self.watches,
+            &mut self.trail,
+            self.head,
+        )?;
         if let Some(number) = conflict {
             return Ok(Some(number));
         }
@@ -88,7 +94,7 @@ impl<'a> Base<'a> {
         ensures { Forgets self.old self.new }
     {
         self.whole = false;
-        self.watches.let_go(number);
+        self.clauses.let_go(number);
     }
 
     /// Takes the watches of clauses that were let go out of the lists.
@@ -98,7 +104,7 @@ impl<'a> Base<'a> {
         ensures forgets { Forgets self.old self.new }
         ensures whole { self.new.whole ≡ self.old.whole }
     {
-        self.watches.purge();
+        self.watches.purge(&self.clauses);
     }
 }
 

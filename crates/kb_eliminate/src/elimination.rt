@@ -3,6 +3,7 @@
 ghost use Rattle.std.specs.Prelude.{◌≡◌, ◌++◌, false, [], OnOk, IfOk, IfSome};
 ghost use Rattle.std.specs.Bool.{OnTrue};
 ghost use Rattle.kb_chain.specs.Literal.{has, negated};
+ghost use Rattle.kb_eliminate.specs.Rows.{rows_of};
 ghost use Rattle.kb_eliminate.specs.Base.{Stands, IsReady};
 ghost use Rattle.kb_eliminate.specs.Elimination.{IsUndecided, IsResolventAt, each_with, AreGone};
 
@@ -164,9 +165,8 @@ fn few_clauses(
     bounds: EliminationBounds,
     pivot: Lit,
 ) -> Result<Option<Sides>, NoMemory> {
-    let pairs = base.watches.pairs.as_slice();
-    occurrences.prune(pairs, pivot);
-    occurrences.prune(pairs, pivot.negated());
+    occurrences.prune(&base.clauses, pivot);
+    occurrences.prune(&base.clauses, pivot.negated());
     let left = occurrences.at(pivot);
     let right = occurrences.at(pivot.negated());
     if !are_few(bounds, left.len(), right.len()) {
@@ -267,7 +267,7 @@ fn resolvent_at(
     right: u32,
     pivot: Lit,
 ) -> Result<Option<Row<Lit>>, NoMemory>
-    ensures { IfOk result (λ found. IfSome found (IsResolventAt (has base.now.trail.literals) base.now.clauses left right pivot)) }
+    ensures { IfOk result (λ found. IfSome found (IsResolventAt (has base.now.trail.literals) (rows_of base.now.clauses) left right pivot)) }
 {
     let clauses = &base.clauses;
     if left >= clauses.len() {

@@ -26,5 +26,5 @@ pub use flat_log::FlatLog;
 pub use restoring::restored;
 pub use std::alloc::AllocError as NoMemory;
 pub use trail::Trail;
-pub use watch::{Pair, Watch};
+pub use watch::Watch;
 pub use watches::{WatchList, Watches};

@@ -2,8 +2,8 @@
 //! use.
 use crate::NoMemory;
 use crate::base::Base;
+use crate::clauses::Clauses;
 use crate::trail::Trail;
-use crate::watch::Pair;
 use kb_chain::Lit;
 use std::alloc::Global;
 
@@ -17,10 +17,9 @@ impl Occurrences {
     /// The occurrences in the clauses that are awake and not true.
     pub fn new(alloc: Global, base: &Base<'_>) -> Result<Occurrences, NoMemory> {
         let mut occurrences = Occurrences::empty(alloc, base.trail.vars())?;
-        let pairs = base.watches.pairs.as_slice();
         for number in 0..base.clauses.len() {
             let literals = base.clauses.literals(number);
-            if is_awake(pairs, number) && !is_true(&base.trail, literals) {
+            if base.clauses.is_awake(number) && !is_true(&base.trail, literals) {
                 occurrences.add(number, literals)?;
             }
         }
@@ -59,9 +58,9 @@ impl Occurrences {
     }
 
     /// Takes the clauses that were let go out of the list of a literal.
-    pub fn prune(&mut self, pairs: &[Pair], literal: Lit) {
+    pub fn prune(&mut self, clauses: &Clauses, literal: Lit) {
         if let Some(list) = self.lists.get_mut(literal.place()) {
-            list.retain(|number| is_awake(pairs, *number));
+            list.retain(|number| clauses.is_awake(*number));
         }
     }
 
@@ -69,13 +68,6 @@ impl Occurrences {
         if let Some(list) = self.lists.get_mut(literal.place()) {
             list.clear();
         }
-    }
-}
-
-fn is_awake(pairs: &[Pair], number: u32) -> bool {
-    match pairs.get(number as usize) {
-        Some(pair) => pair.awake,
-        None => false,
     }
 }
 

@@ -4,6 +4,7 @@ ghost use Rattle.std.specs.Bool.{OnTrue};
 ghost use Rattle.kb_chain.specs.Literal.{Literal, has, negated};
 ghost use Rattle.kb_chain.specs.Clause.{has_only};
 ghost use Rattle.kb_eliminate.specs.Resolvents.{IsResolvent, IsMerged};
+ghost use Rattle.kb_eliminate.specs.Rows.{rows_of, awake_clause};
 ghost use Rattle.kb_eliminate.specs.Base.{Stands, IsReady};
 
 use crate::NoMemory;
@@ -126,15 +127,15 @@ pub fn add_resolvent(
     requires level { base.old.trail.starts ≡ [] }
     requires absent { has base.old.trail.literals pivot ≡ false }
     requires possible { has base.old.trail.literals (negated pivot) ≡ false }
-    requires left { left < length base.old.clauses }
-    requires right { right < length base.old.clauses }
-    requires resolvent { (l r : List Literal) → slice_get base.old.clauses left ≡ Some l → slice_get base.old.clauses right ≡ Some r
+    requires left { left < length (rows_of base.old.clauses) }
+    requires right { right < length (rows_of base.old.clauses) }
+    requires resolvent { (l r : List Literal) → slice_get (rows_of base.old.clauses) left ≡ Some l → slice_get (rows_of base.old.clauses) right ≡ Some r
         → IsResolvent (has base.old.trail.literals) l r pivot row.now }
     requires some { 0 < length row.now }
     ensures stands { OnOk result (Stands base.new) }
     ensures ready { OnOk result (IsReady base.new) }
     ensures level { OnOk result (base.new.trail.starts ≡ []) }
-    ensures clauses { OnOk result (base.new.clauses ≡ base.old.clauses ++ row.now ∷ []) }
+    ensures clauses { OnOk result (base.new.clauses ≡ base.old.clauses ++ awake_clause row.now ∷ []) }
     ensures formula { OnOk result (base.new.formula.now ≡ base.old.formula.now) }
 {
     base.trail.tell_trail();

@@ -1,8 +1,19 @@
 //! Parts of a table in which lists stand one after the other.
+ghost use Rattle.std.specs.Prelude.{◌≡◌, ◌+◌, ◌<◌};
 
 /// Where the items of a list stand: from `start` up to `end`, which is not of them.
 #[derive(Clone, Copy, Drop)]
 pub(crate) struct Span {
     pub(crate) start: u32,
     pub(crate) end: u32,
+}
+
+impl Span {
+    /// Where in the table an item of the list stands.
+    pub(crate) fn place(self, item: usize) -> usize
+        requires { self.start + item < self.end }
+        ensures { result ≡ self.start + item }
+    {
+        self.start as usize + item
+    }
 }

@@ -14,9 +14,8 @@ use Rattle.kb_chain.proofs.LeastSets.{Misses-by}
 use Rattle.kb_eliminate.specs.Trail.{Assigned, IsTrail, level_zero, level_start, before_level, cut_back}
 use Rattle.kb_eliminate.specs.Store.{IsRow}
 use Rattle.kb_sat.specs.Search.{IsLearned}
-use Rattle.kb_eliminate.specs.Watches.{Quiet, paired, put_pair}
+use Rattle.kb_eliminate.specs.Watches.{Pair, Quiet, paired, put_pair}
 use Rattle.kb_eliminate.specs.Base.{IsBase, IsSecondLiteral}
-use Rattle.kb_eliminate.specs.declared.watch.Pair.{Pair}
 use Rattle.kb_eliminate.specs.declared.watch.Watch.{Watch}
 use Rattle.kb_eliminate.proofs.Places.{at_last, at_inside, at_has}
 use Rattle.kb_eliminate.proofs.TrailLaws.{length_taken, has_pushed, IsTrail-cut, start_taken}

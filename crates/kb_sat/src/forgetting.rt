@@ -1,6 +1,7 @@
 //! Clause database reduction: learned clauses of little use are let go (as in Glucose: Audemard and Simon, 2009). Which ones is
 //! free; that nothing relies on them any longer is under proof.
 ghost use Rattle.std.specs.Prelude.{◌≡◌, ◌<◌, length, OnOk};
+ghost use Rattle.kb_eliminate.specs.Rows.{rows_of};
 ghost use Rattle.kb_eliminate.specs.Base.{Stands, IsReady, Forgets};
 ghost use Rattle.kb_sat.specs.Solver.{Equipped};
 
@@ -52,27 +53,31 @@ fn candidates(alloc: Global, search: &Search<'_>) -> Result<Vec<Candidate>, NoMe
 
 /// The clause of this number, if it is one that may be let go.
 fn as_candidate(search: &Search<'_>, number: u32) -> Option<Candidate>
-    requires { number < length search.now.base.clauses }
+    requires { number < length (rows_of search.now.base.clauses) }
 {
     let rank = search.ranks.ranks.get(number as usize)?;
     if rank.used || rank.levels <= STAYING_LEVELS {
         return None;
     }
-    let pair = search.base.watches.pairs.get(number as usize)?;
-    if !pair.awake
-        || forces(&search.base.trail, number, pair.first)
-        || forces(&search.base.trail, number, pair.second)
-    {
+    let literals = search.base.clauses.literals(number);
+    if !search.base.clauses.is_awake(number) || is_reason(&search.base.trail, number, literals) {
         return None;
     }
     Some(Candidate {
         number,
         levels: rank.levels,
-        length: search.base.clauses.literals(number).len(),
+        length: literals.len(),
     })
 }
 
-/// Whether the clause of this number is the reason of a true literal.
+/// Whether the clause of this number is the reason of one of its literals.
+fn is_reason(trail: &Trail, number: u32, literals: &[Lit]) -> bool {
+    literals
+        .iter()
+        .any(|literal| forces(trail, number, *literal))
+}
+
+/// Whether the clause of this number is the reason of a literal that is true.
 fn forces(trail: &Trail, number: u32, literal: Lit) -> bool {
     trail.is_true(literal) && trail.reason(trail.position(literal)) == Some(number)
 }
