@@ -19,7 +19,7 @@ use Rattle.kb_eliminate.specs.Base.{IsConflict}
 use Rattle.kb_eliminate.specs.Watches.{Pair, pairs_of, is_met, IsQuiet, Quiet, IsAwake, AllAwake, IsWatching, AllListed, StaysQuiet}
 use Rattle.kb_eliminate.specs.Base.{IsBase, AllAssigned, IsModelOf}
 use Rattle.kb_eliminate.specs.declared.watch.Watch.{Watch}
-use Rattle.kb_eliminate.proofs.Places.{at_kept, at_inside, at_within}
+use Rattle.kb_eliminate.proofs.Places.{some_in, at_kept, at_inside, at_within}
 use Rattle.kb_eliminate.proofs.TrailLaws.{length_taken, start_pushed, start_taken}
 use Rattle.kb_eliminate.proofs.WatchLaws.{is_met-from, is_met-some, Quiet_more}
 use Rattle.kb_eliminate.proofs.JustifyLaws.{pushed, level_zero_part, IsJustified-decide, IsJustified-cut, push_part}
@@ -91,7 +91,8 @@ quiet_all set low clauses rows pairs lists vars h stored w awake q k clause e =
     let row = at_within rows k (omega (arith, count, inside)) in
     let both : length pairs ≡ length rows = w.count in
     let pair = at_within pairs k (omega (arith, count, inside, both)) in
-    quiet_settled set low row.0 clause pair.0 h (q k row.0 pair.0 row.1 pair.1 (awake k pair.0 pair.1)) (w.own k row.0 pair.0 row.1 pair.1) (stored.each k clause row.0 e row.1)
+    let own = w.own k row.0 pair.0 row.1 pair.1 (awake k pair.0 pair.1) in
+    quiet_settled set low row.0 clause pair.0 h (q k row.0 pair.0 row.1 pair.1 (awake k pair.0 pair.1)) own (stored.each k clause row.0 e row.1 (some_in row.0 pair.0.first own.0))
 
 pub closed_from : (clauses : List (List Literal)) (set : Literal → Bool)
     → ((k : ℕ) (clause : List Literal) → slice_get clauses k ≡ Some clause → IsSettled set set clause) → IsClosed clauses set × (NegatesSome clauses set → ⊥)
@@ -132,15 +133,15 @@ not_false_before formula entries rows pairs lists t whole s h j lt k row e awake
     let both : length pairs ≡ length rows = s.watching.count in
     let inside : k < length rows = at_inside rows k row e in
     let pair = at_within pairs k (omega (arith, both, inside)) in
-    false_from_ne_true _ (quiet_row (has (before_level t j)) row pair.0 (taken_consistent t (level_start t.starts j) h) (s.cuts j lt k row pair.0 e pair.1 (awake pair.0 pair.1)) (s.watching.own k row pair.0 e pair.1).0)
+    false_from_ne_true _ (quiet_row (has (before_level t j)) row pair.0 (taken_consistent t (level_start t.starts j) h) (s.cuts j lt k row pair.0 e pair.1 (awake pair.0 pair.1)) (s.watching.own k row pair.0 e pair.1 (awake pair.0 pair.1)).0)
 
 -- a conflict of a row is one of its clause
-pub conflict_clause : (clauses rows : List (List Literal)) (t : Assigned) (k : ℕ) → IsJustified clauses rows t → IsConflict rows t k → IsConflict clauses t k
-conflict_clause clauses rows t k j c =
+conflict_clause : (clauses rows : List (List Literal)) (t : Assigned) (k : ℕ) → IsJustified clauses rows t → (c : IsConflict rows t k) → 0 < length c.row → IsConflict clauses t k
+conflict_clause clauses rows t k j c some =
     let count : length rows ≡ length clauses = j.stored.count in
     let inside : k < length rows = at_inside rows k c.row c.numbered in
     let clause = at_within clauses k (omega (arith, count, inside)) in
-    let r = j.stored.each k clause.0 c.row clause.1 c.numbered in record {
+    let r = j.stored.each k clause.0 c.row clause.1 c.numbered some in record {
       row = clause.0;
       numbered = clause.1;
       false_all = all_negated-from (has t.literals) clause.0 (λ l i. elim (cases_Bool (has c.row l)) [
@@ -253,8 +254,8 @@ formula_clause formula entries rows pairs lists t whole s h awake named assigned
     let row = at_within rows k (omega (arith, count, inside)) in
     let pair = at_within pairs k (omega (arith, count, inside, both)) in
     let x = pair.0.first in
-    let own = (s.watching.own k row.0 pair.0 row.1 pair.1).0 in
-    let r = s.justified.stored.each k clause row.0 there row.1 in
+    let own = (s.watching.own k row.0 pair.0 row.1 pair.1 (awake k pair.0 pair.1)).0 in
+    let r = s.justified.stored.each k clause row.0 there row.1 (some_in row.0 x own) in
     let found = is_met-some (has t.literals) row.0 (meets row.0 x (quiet k row.0 pair.0 row.1 pair.1 (awake k pair.0 pair.1)).first own (low x (s.watching.within k row.0 row.1 x own)) (named k row.0 row.1 x own)) in
     let bounds = named k row.0 row.1 found.0 found.1 in
     (found.0, r.part found.0 found.1, found.2, bounds.0, bounds.1, low found.0 (s.watching.within k row.0 row.1 found.0 found.1))
@@ -311,6 +312,11 @@ model_satisfies formula entries rows pairs lists t bits whole s h awake named as
 
 -- a row that is false at level 0 dooms the search
 pub doomed_from : (formula : Cnf) (entries : List Chain) (rows : List (List Literal)) (pairs : List Pair) (lists : List (List Watch)) (t : Assigned) (whole : Bool) (number : ℕ)
-    → (s : IsBase formula entries rows pairs lists t whole) → IsConflict rows t number
+    → (s : IsBase formula entries rows pairs lists t whole) → IsConflict rows t number → IsAwake pairs number
     → HasReasons s.clauses t × IsConflict s.clauses t number
-doomed_from formula entries rows pairs lists t whole number s c = (s.justified.reasons, conflict_clause s.clauses rows t number s.justified c)
+doomed_from formula entries rows pairs lists t whole number s c awake =
+    let count : length pairs ≡ length rows = s.watching.count in
+    let inside : number < length rows = at_inside rows number c.row c.numbered in
+    let pair = at_within pairs number (omega (arith, count, inside)) in
+    let own = s.watching.own number c.row pair.0 c.numbered pair.1 (awake pair.0 pair.1) in
+    (s.justified.reasons, conflict_clause s.clauses rows t number s.justified c (some_in c.row pair.0.first own.0))

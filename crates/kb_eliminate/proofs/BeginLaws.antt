@@ -14,7 +14,6 @@ use Rattle.kb_chain.proofs.ChainLaws.{AllWithin-get, AreWithin-from}
 use Rattle.kb_eliminate.specs.Store.{IsJustified}
 use Rattle.kb_eliminate.specs.Base.{IsConflict}
 use Rattle.kb_eliminate.specs.Base.{IsBase}
-use Rattle.kb_eliminate.proofs.BaseLaws.{conflict_clause}
 use Rattle.kb_eliminate.specs.Trail.{Assigned, TrailGrows, HasReasons}
 use Rattle.kb_chain.specs.Clause.{IsOrdered}
 use Rattle.kb_chain.proofs.LiteralLaws.{same-true}
@@ -93,7 +92,7 @@ IsBegun-none lists t empty places = record {
   watching = record {
     count = refl;
     places = places;
-    own = λ k row pair e f. cc;
+    own = λ k row pair e f aw. cc;
     blocked = none_blocked lists empty;
     within = λ k row e l i. cc;
   };
@@ -121,12 +120,13 @@ IsJustified-start : (clauses rows : List (List Literal)) (vars : ℕ) → rows �
 IsJustified-start clauses rows vars e = record {
   stored = record {
     count = ap length e;
-    each = λ k clause row f g. (let s : row ≡ clause = at_same clauses k row clause (ap (λ z. slice_get z k) (sym e) ∙ g) f in record {
+    each = λ k clause row f g some. (let s : row ≡ clause = at_same clauses k row clause (ap (λ z. slice_get z k) (sym e) ∙ g) f in record {
       part = λ l i. ap (λ z. has z l) (sym s) ∙ i;
       rest = λ l i n. absurd (false≢true (sym n ∙ (ap (λ z. has z l) s ∙ i)));
     });
   };
   reasons = λ i c l f g. cc;
+  kept = λ i c row f g. cc;
 }
 
 pub clause_places : (formula : Cnf) (rows : List (List Literal)) → rows ≡ formula.clauses → AllWithin formula.vars formula.clauses → (k : ℕ) (row : List Literal) → slice_get rows k ≡ Some row
@@ -156,4 +156,4 @@ pub doomed : (formula : Cnf) (entries : List Chain) (rows : List (List Literal))
     → (t.starts ≡ []) × (derived formula.clauses entries ≡ Some formula.clauses) × HasReasons formula.clauses t × IsConflict formula.clauses t number
 doomed formula entries rows first t number none e start grows justified conflict =
     let j = justified formula.clauses (subst (λ z. IsJustified formula.clauses rows z) (sym start) (IsJustified-start formula.clauses rows formula.vars e)) in
-    (grows.starts ∙ ap (λ (z : Assigned). z.starts) start, ap (λ z. derived formula.clauses z) none, j.reasons, conflict_clause formula.clauses rows t number j conflict)
+    (grows.starts ∙ ap (λ (z : Assigned). z.starts) start, ap (λ z. derived formula.clauses z) none, j.reasons, subst (λ z. IsConflict z t number) e conflict)

@@ -2,14 +2,14 @@
 use Rattle.std.proofs.lemmas.List.{take-append-le, drop-append-le, length-drop, length-take-le, map-append, map-set, set-set, length-append, length-map, take_all, take-set-le, drop-set-lt, drop-set-add, get_or-take, get_or-drop}
 use Rattle.std.proofs.lemmas.List.Edits.{swap_is, length-swap}
 use Rattle.std.proofs.lemmas.List.Sorted.{IsPermutation-swap, list_any-IsPermutation}
-use Rattle.std.proofs.lemmas.Bool.{cases_lt}
+use Rattle.std.proofs.lemmas.Bool.{cases_lt, false≢true}
 use Rattle.std.proofs.lemmas.Option.{slice_get_read}
 use Rattle.std.proofs.Math.Seq.{drop-append_seam}
 use Rattle.std.proofs.Common.{◌≡◌, ℕ, ◌+◌, ◌-◌, ◌<◌, ◌⊎◌, drop, ◌≤◌, true, false, List, [], ◌∷◌, ◌++◌, arith, refl, ap, sym, subst, ◌∙◌, inl, inr, length, length-set, take, set, get_or, zero, suc, Option, Some, None, slice_get}
 use Rattle.std.specs.List.{swap}
 use Rattle.kb_chain.specs.Literal.{Literal, has, same}
 use Rattle.kb_eliminate.specs.Rows.{StoredClause, stored_at, stored_of, rows_of, IsNamed, AreNamed, AreApart, EndWithin, row_of}
-use Rattle.kb_eliminate.specs.Forgetting.{asleep_at, asleep}
+use Rattle.kb_eliminate.specs.Forgetting.{asleep_at, asleep, deleted_at, deleted}
 use Rattle.kb_eliminate.specs.declared.span.Span.{Span}
 use Rattle.kb_eliminate.specs.declared.clauses.Slot.{Slot}
 use Rattle.kb_eliminate.proofs.Places.{at_pushed, at_inside, at_set, at_mapped, mapped_at}
@@ -262,7 +262,7 @@ named_swapped flat slots k slot i j w apart e lt_i lt_j named =
       | inr s ↦ subst (λ z. IsNamed z) s.1 (λ l h. named k row (row_there flat slots k slot e) l (sym (has-swap row i j l lt_i lt_j) ∙ h))
     ]))
 
--- a clause that is let go in the table
+-- a clause that is let go or deleted in the table
 
 pub stored_asleep : (flat : List Literal) (slots : List Slot) (k : ℕ) (slot later : Slot) → slice_get slots k ≡ Some slot → later.span ≡ slot.span → later.awake ≡ false
     → stored_of flat (set slots k later) ≡ asleep (stored_of flat slots) k
@@ -271,6 +271,15 @@ stored_asleep flat slots k slot later e span awake =
     ∙ (ap (λ z. set (stored_of flat slots) k (record { literals = row_of flat z; awake = later.awake })) span
     ∙ (ap (λ z. set (stored_of flat slots) k (record { literals = row_of flat slot.span; awake = z })) awake
     ∙ ap (λ z. asleep_at (stored_of flat slots) k z) (sym (stored_there flat slots k slot e))))
+
+pub stored_deleted : (flat : List Literal) (slots : List Slot) (k : ℕ) (slot later : Slot) → slice_get slots k ≡ Some slot → later.span.end ≡ later.span.start → later.awake ≡ false
+    → stored_of flat (set slots k later) ≡ deleted (stored_of flat slots) k
+stored_deleted flat slots k slot later e empty awake =
+    let none : later.span.end - later.span.start ≡ 0 = omega (arith, empty) in
+    map-set (stored_at flat) slots k later
+    ∙ (ap (λ n. set (stored_of flat slots) k (record { literals = take n (drop later.span.start flat); awake = later.awake })) none
+    ∙ (ap (λ z. set (stored_of flat slots) k (record { literals = []; awake = z })) awake
+    ∙ ap (λ z. deleted_at (stored_of flat slots) k z) (sym (stored_there flat slots k slot e))))
 
 -- its span does not grow
 pub record IsWithin (later slot : Span) : Type 0 where
@@ -312,4 +321,14 @@ named_asleep clauses k h = go (slice_get clauses k) refl
     go (Some c) e = subst (λ z. AreNamed z) (sym (map-set (λ (c : StoredClause). c.literals) clauses k (record c { awake = false }))) (λ n r f. elim (at_set (rows_of clauses) k c.literals n r f) [
       | inl s ↦ h n r s.0
       | inr s ↦ subst (λ z. IsNamed z) s.1 (h k c.literals (row_at clauses k c e))
+    ])
+
+pub named_deleted : (clauses : List StoredClause) (k : ℕ) → AreNamed (rows_of clauses) → AreNamed (rows_of (deleted clauses k))
+named_deleted clauses k h = go (slice_get clauses k)
+  where
+    go : (found : Option StoredClause) → AreNamed (rows_of (deleted_at clauses k found))
+    go None = h
+    go (Some c) = subst (λ z. AreNamed z) (sym (map-set (λ (c : StoredClause). c.literals) clauses k (record { literals = []; awake = false }))) (λ n r f. elim (at_set (rows_of clauses) k [] n r f) [
+      | inl s ↦ h n r s.0
+      | inr s ↦ subst (λ z. IsNamed z) s.1 (λ l i. absurd (false≢true i))
     ])

@@ -1,5 +1,6 @@
 pub mod Places
 pub mod ClausesLaws
+pub mod CompactLaws
 pub mod FlatLogLaws
 pub mod TrailLaws
 pub mod WatchLaws

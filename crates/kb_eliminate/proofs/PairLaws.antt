@@ -18,11 +18,6 @@ length-pairs clauses = length-map clauses pair_of
 pub pair_at : (clauses : List StoredClause) (k : ℕ) (clause : StoredClause) → slice_get clauses k ≡ Some clause → slice_get (pairs_of clauses) k ≡ Some (pair_of clause)
 pair_at clauses k clause e = at_mapped pair_of clauses k clause e
 
--- a row with a literal is not empty
-pub some_in : (row : List Literal) (l : Literal) → has row l ≡ true → 0 < length row
-some_in [] l e = absurd (false≢true e)
-some_in (x ∷ row) l e = omega arith
-
 -- the clause of a pair
 pub paired_at : (clauses : List StoredClause) (k : ℕ) (pair : Pair) → slice_get (pairs_of clauses) k ≡ Some pair
     → (clause : StoredClause) × (slice_get clauses k ≡ Some clause) × (pair_of clause ≡ pair)

@@ -100,6 +100,11 @@ at_has [] i l e = cc
 at_has (x ∷ xs) zero l e = let s : x ≡ l = cc in or_left _ _ (ap (same l) s ∙ same_refl l)
 at_has (x ∷ xs) (suc i) l e = or_right _ _ (at_has xs i l e)
 
+-- a list with a literal is not empty
+pub some_in : (row : List Literal) (l : Literal) → has row l ≡ true → 0 < length row
+some_in [] l e = absurd (false≢true e)
+some_in (x ∷ row) l e = omega arith
+
 pub dropped_part : (i : ℕ) (xs : List Literal) (l : Literal) → has (drop i xs) l ≡ true → has xs l ≡ true
 dropped_part zero xs l e = e
 dropped_part (suc i) [] l e = e

@@ -1,15 +1,16 @@
 -- Literals that change their places in a row: nothing that is said of rows by their literals changes.
-use Rattle.std.proofs.Common.{◌≡◌, ℕ, List, [], ◌∷◌, Bool, true, refl, ap, sym, subst, ◌∙◌, ◌<◌, inl, inr, ◌⊎◌, length, length-set, set, Some, slice_get}
+use Rattle.std.proofs.Common.{◌≡◌, ℕ, List, [], ◌∷◌, Bool, true, arith, refl, ap, sym, subst, ◌∙◌, ◌<◌, inl, inr, ◌⊎◌, length, length-set, set, Some, slice_get}
 use Rattle.std.specs.List.{list_all}
 use Rattle.std.proofs.lemmas.Bool.{and_parts, and_from}
 use Rattle.kb_chain.specs.Literal.{Literal, has}
+use Rattle.kb_chain.proofs.LiteralLaws.{has_head}
 use Rattle.kb_eliminate.specs.Trail.{Assigned}
 use Rattle.kb_eliminate.specs.Store.{IsJustified}
 use Rattle.kb_eliminate.specs.Rows.{AreReordered}
-use Rattle.kb_eliminate.specs.Watches.{Pair, is_met, Quiet, is_blocked, all_blocked, IsWatching, Walks, watches_clause}
+use Rattle.kb_eliminate.specs.Watches.{Pair, is_met, Quiet, is_blocker, blocks, is_blocked, all_blocked, IsWatching, Walks, watches_clause}
 use Rattle.kb_eliminate.specs.declared.watch.Watch.{Watch}
-use Rattle.kb_eliminate.proofs.Places.{at_set, at_inside, at_within, at_same}
-use Rattle.kb_eliminate.proofs.WatchLaws.{is_met-from, is_met-some, blocked_row, is_blocked-from}
+use Rattle.kb_eliminate.proofs.Places.{some_in, at_set, at_inside, at_within, at_same}
+use Rattle.kb_eliminate.proofs.WatchLaws.{is_met-from, is_met-some, blocked_row, blocker_has}
 
 pub AreReordered-refl : (rows : List (List Literal)) → AreReordered rows rows
 AreReordered-refl rows = record {
@@ -67,12 +68,20 @@ Walks-reordered early late old new pairs lists rest f h w = record {
     still k m row later s (inl e) = inl (is_met_same late row later s e)
     still k m row later s (inr e) = inr e
 
+some_same : (row later : List Literal) → ((l : Literal) → has later l ≡ has row l) → 0 < length row → 0 < length later
+some_same [] later h lt = absurd (omega (arith, lt))
+some_same (x ∷ row) later h lt = some_in later x (h x ∙ has_head x row)
+
+blocker_same : (row later : List Literal) (l : Literal) → ((m : Literal) → has later m ≡ has row m) → is_blocker row l ≡ true → is_blocker later l ≡ true
+blocker_same row [] l h e = refl
+blocker_same row (y ∷ later) l h e = h l ∙ blocker_has row l e (some_same (y ∷ later) row (λ m. sym (h m)) (omega arith))
+
 blocked_same : (old new : List (List Literal)) (w : Watch) → AreReordered old new → is_blocked old w ≡ true → is_blocked new w ≡ true
 blocked_same old new w h e =
     let row = blocked_row old w e in
     let inside : w.clause < length old = at_inside old w.clause row.0 row.1 in
     let later = at_within new w.clause (subst (λ n. w.clause < n) (sym h.count) inside) in
-    is_blocked-from new w later.0 later.1 (h.each w.clause row.0 later.0 row.1 later.1 w.blocker ∙ row.2)
+    ap (λ z. blocks z w.blocker) later.1 ∙ blocker_same row.0 later.0 w.blocker (h.each w.clause row.0 later.0 row.1 later.1) row.2
 
 pub blocked_reordered : (old new : List (List Literal)) (list : List Watch) → AreReordered old new → all_blocked old list ≡ true → all_blocked new list ≡ true
 blocked_reordered old new [] h e = refl
@@ -87,8 +96,8 @@ pub IsWatching-reordered : (old new : List (List Literal)) (pairs : List Pair) (
 IsWatching-reordered old new pairs lists vars h w = record {
   count = w.count ∙ sym h.count;
   places = w.places;
-  own = λ k later pair e f. (let row = earlier old new k later h e in
-      let o = w.own k row.0 pair row.1 f in
+  own = λ k later pair e f aw. (let row = earlier old new k later h e in
+      let o = w.own k row.0 pair row.1 f aw in
       (row.2 pair.first ∙ o.0, row.2 pair.second ∙ o.1));
   blocked = lists_reordered old new lists h w.blocked;
   within = λ k later e l i. (let row = earlier old new k later h e in w.within k row.0 row.1 l (sym (row.2 l) ∙ i));
@@ -98,12 +107,13 @@ pub IsJustified-reordered : (clauses old new : List (List Literal)) (t : Assigne
 IsJustified-reordered clauses old new t h j = record {
   stored = record {
     count = h.count ∙ j.stored.count;
-    each = λ k clause later e f. (let row = earlier old new k later h f in
-        let r = j.stored.each k clause row.0 e row.1 in
+    each = λ k clause later e f some. (let row = earlier old new k later h f in
+        let r = j.stored.each k clause row.0 e row.1 (some_same later row.0 (λ l. sym (row.2 l)) some) in
         record {
           part = λ l i. r.part l (sym (row.2 l) ∙ i);
           rest = λ l i n. r.rest l i (sym (row.2 l) ∙ n);
         });
   };
   reasons = j.reasons;
+  kept = λ i c later e f. (let row = earlier old new c later h f in some_same row.0 later row.2 (j.kept i c row.0 e row.1));
 }

@@ -11,11 +11,11 @@ use Rattle.kb_chain.proofs.OrderLaws.{has_take-suc, has_get_or}
 use Rattle.kb_chain.proofs.PropagationLaws.{IsPart, place_of-negated}
 use Rattle.kb_eliminate.specs.declared.watch.Watch.{Watch}
 use Rattle.kb_eliminate.specs.Rows.{StoredClause}
-use Rattle.kb_eliminate.specs.Watches.{Pair, is_met, IsQuiet, Quiet, AllAwake, watches_clause, at_literal, with_list, IsWatchListed, is_blocked, all_blocked, AreOwn, IsWatching, IsSettledOrWaiting, IsPending, Walks, AllListed, StaysQuiet, IsOther, put, paired, put_pair}
+use Rattle.kb_eliminate.specs.Watches.{Pair, is_met, IsQuiet, Quiet, AllAwake, watches_clause, at_literal, with_list, IsWatchListed, is_blocker, blocks, is_blocked, all_blocked, AreOwn, IsWatching, IsSettledOrWaiting, IsPending, Walks, AllListed, StaysQuiet, IsOther, put, paired, put_pair}
 use Rattle.kb_eliminate.specs.Walking.{IfKept, IfConflict}
 use Rattle.kb_eliminate.specs.declared.propagation.Outcome.{Outcome}
 use Rattle.kb_eliminate.specs.declared.propagation.Outcome.TheVariants.{Kept, Removed, Conflict}
-use Rattle.kb_eliminate.proofs.Places.{at_pushed, at_last, at_inside, at_set, at_get_or, at_same}
+use Rattle.kb_eliminate.proofs.Places.{at_pushed, at_kept, at_last, at_inside, at_set, at_get_or, at_same}
 
 pub listed_more : (lists : List (List Watch)) (l : Literal) (w : Watch) (m : Literal) (k : ℕ) → watches_clause (at_literal lists m) k ≡ true
     → watches_clause (at_literal (put lists l w) m) k ≡ true
@@ -56,18 +56,26 @@ blocked_put rows lists l w h e =
     all_set (all_blocked rows) lists (place_of l) (at_literal lists l ++ w ∷ []) h
     (list_all-append (is_blocked rows) (at_literal lists l) (w ∷ []) ∙ and_from _ _ (all_get_or (all_blocked rows) lists (place_of l) [] h refl) (and_from _ _ e refl))
 
+-- a row that is there blocks by its literals
+
+blocker_in : (row : List Literal) (l : Literal) → has row l ≡ true → is_blocker row l ≡ true
+blocker_in [] l e = refl
+blocker_in (x ∷ row) l e = e
+
+pub blocker_has : (row : List Literal) (l : Literal) → is_blocker row l ≡ true → 0 < length row → has row l ≡ true
+blocker_has [] l e lt = absurd (omega (arith, lt))
+blocker_has (x ∷ row) l e lt = e
+
 -- a blocked watch is of a clause that is there
-pub blocked_row : (rows : List (List Literal)) (w : Watch) → is_blocked rows w ≡ true
-    → (row : List Literal) × (slice_get rows w.clause ≡ Some row) × (has row w.blocker ≡ true)
-blocked_row rows w e = go rows w.clause e
+pub blocked_row : (rows : List (List Literal)) (w : Watch) → is_blocked rows w ≡ true → (row : List Literal) × (slice_get rows w.clause ≡ Some row) × (is_blocker row w.blocker ≡ true)
+blocked_row rows w e = go (slice_get rows w.clause) refl e
   where
-    go : (rows : List (List Literal)) (k : ℕ) → has (get_or rows k []) w.blocker ≡ true → (row : List Literal) × (slice_get rows k ≡ Some row) × (has row w.blocker ≡ true)
-    go [] k e = absurd (false≢true e)
-    go (r ∷ rs) zero e = (r, refl, e)
-    go (r ∷ rs) (suc k) e = go rs k e
+    go : (o : Option (List Literal)) → slice_get rows w.clause ≡ o → blocks o w.blocker ≡ true → (row : List Literal) × (slice_get rows w.clause ≡ Some row) × (is_blocker row w.blocker ≡ true)
+    go None f e = absurd (false≢true e)
+    go (Some row) f e = (row, f, e)
 
 pub is_blocked-from : (rows : List (List Literal)) (w : Watch) (row : List Literal) → slice_get rows w.clause ≡ Some row → has row w.blocker ≡ true → is_blocked rows w ≡ true
-is_blocked-from rows w row e h = ap (λ z. has z w.blocker) (at_get_or rows w.clause row [] e) ∙ h
+is_blocked-from rows w row e h = ap (λ z. blocks z w.blocker) e ∙ blocker_in row w.blocker h
 
 pub is_met-from : (set : Literal → Bool) (row : List Literal) (l : Literal) → has row l ≡ true → set l ≡ true → is_met set row ≡ true
 is_met-from set [] l e h = absurd (false≢true e)
@@ -132,14 +140,14 @@ Walks-step early late later rows pairs pairs' lists lists' w rest f h grown more
 -- the watch stays where it was, since its clause has a true literal
 pub Walks-keep : (early late later : Literal → Bool) (rows : List (List Literal)) (pairs : List Pair) (lists : List (List Watch)) (w w' : Watch) (rest : List Watch) (f : Literal)
     → Walks early late rows pairs lists (w ∷ rest) f → IsPart late later → place_of f < length lists → w'.clause ≡ w.clause
-    → ((row : List Literal) → slice_get rows w.clause ≡ Some row → is_met later row ≡ true)
+    → ((row : List Literal) (pair : Pair) → slice_get rows w.clause ≡ Some row → slice_get pairs w.clause ≡ Some pair → pair.awake ≡ true → is_met later row ≡ true)
     → Walks early later rows pairs (put lists f w') rest f
 Walks-keep early late later rows pairs lists w w' rest f h grown lt same_clause met =
     Walks-step early late later rows pairs pairs lists (put lists f w') w rest f h grown (listed_more lists f w') (λ k pair e n. e)
     (λ pair e aw. (here pair.first (h.listed.first w.clause pair e aw), here pair.second (h.listed.second w.clause pair e aw)))
     (λ row pair r e aw. record {
-      first = λ g. inl (met row r);
-      second = λ g. inl (met row r);
+      first = λ g. inl (met row pair r e aw);
+      second = λ g. inl (met row pair r e aw);
       single = λ g. grown pair.first ((h.pending w.clause row pair r e aw).single g);
     })
   where
@@ -275,8 +283,8 @@ pub IsWatching-move : (rows : List (List Literal)) (pairs : List Pair) (lists : 
 IsWatching-move rows pairs lists vars k row pair' a b h is o has_a has_b = record {
   count = length-set pairs k pair' ∙ h.count;
   places = h.places;
-  own = λ j r p g e. elim (at_set pairs k pair' j p e) [
-    | inl s ↦ h.own j r p g s.0
+  own = λ j r p g e aw. elim (at_set pairs k pair' j p e) [
+    | inl s ↦ h.own j r p g s.0 aw
     | inr s ↦ (let same_row : row ≡ r = at_same rows k row r is (ap (slice_get rows) (sym s.0) ∙ g) in
         subst (λ (z : Pair). (has r z.first ≡ true) × (has r z.second ≡ true)) s.1
         (both_of pair' a b (λ l. has r l ≡ true) o (ap (λ z. has z a) (sym same_row) ∙ has_a) (ap (λ z. has z b) (sym same_row) ∙ has_b)))
@@ -306,9 +314,9 @@ Walks-end early late rows pairs lists f h = (
     met row m k (inr e) = absurd (false≢true e.1)
 
 pub other_own : (rows : List (List Literal)) (pairs : List Pair) (k : ℕ) (row : List Literal) (pair : Pair) (f other : Literal) → AreOwn rows pairs
-    → slice_get rows k ≡ Some row → slice_get pairs k ≡ Some pair → IsOther pair f other → has row other ≡ true
-other_own rows pairs k row pair f other h r e (inl o) = ap (has row) o.1 ∙ (h k row pair r e).1
-other_own rows pairs k row pair f other h r e (inr o) = ap (has row) o.1 ∙ (h k row pair r e).0
+    → slice_get rows k ≡ Some row → slice_get pairs k ≡ Some pair → pair.awake ≡ true → IsOther pair f other → has row other ≡ true
+other_own rows pairs k row pair f other h r e aw (inl o) = ap (has row) o.1 ∙ (h k row pair r e aw).1
+other_own rows pairs k row pair f other h r e aw (inr o) = ap (has row) o.1 ∙ (h k row pair r e aw).0
 
 -- the list at a literal is taken out of its place, and what is kept of it and what is still to come are two parts of it
 
@@ -329,7 +337,7 @@ put_beside lists f m kept w apart =
 pub Walks-stay : (early late later : Literal → Bool) (rows : List (List Literal)) (pairs : List Pair) (lists : List (List Watch)) (kept : List Watch) (w w' : Watch) (rest : List Watch)
     (f : Literal)
     → Walks early late rows pairs (with_list lists f kept) (w ∷ rest) f → IsPart late later → place_of f < length lists → w'.clause ≡ w.clause
-    → ((row : List Literal) → slice_get rows w.clause ≡ Some row → is_met later row ≡ true)
+    → ((row : List Literal) (pair : Pair) → slice_get rows w.clause ≡ Some row → slice_get pairs w.clause ≡ Some pair → pair.awake ≡ true → is_met later row ≡ true)
     → Walks early later rows pairs (with_list lists f (kept ++ w' ∷ [])) rest f
 Walks-stay early late later rows pairs lists kept w w' rest f h grown lt same_clause met =
     subst (λ z. Walks early later rows pairs z rest f) (put_kept lists f kept w' lt)
@@ -532,15 +540,10 @@ at_none (Some x) P e p = cc
 
 -- one more clause, with two watched literals
 
-get_or_kept : {X : Type 0} (xs ys : List X) (k : ℕ) (d : X) → k < length xs → get_or (xs ++ ys) k d ≡ get_or xs k d
-get_or_kept [] ys k d lt = absurd (omega arith)
-get_or_kept (x ∷ xs) ys zero d lt = refl
-get_or_kept (x ∷ xs) ys (suc k) d lt = get_or_kept xs ys k d (omega arith)
-
 blocked_kept : (rows : List (List Literal)) (row : List Literal) (w : Watch) → is_blocked rows w ≡ true → is_blocked (rows ++ row ∷ []) w ≡ true
 blocked_kept rows row w e =
     let r = blocked_row rows w e in
-    ap (λ z. has z w.blocker) (get_or_kept rows (row ∷ []) w.clause [] (at_inside rows w.clause r.0 r.1)) ∙ e
+    ap (λ z. blocks z w.blocker) (at_kept rows (row ∷ []) w.clause r.0 r.1) ∙ r.2
 
 all_more : {X : Type 0} (p q : X → Bool) (xs : List X) → ((x : X) → p x ≡ true → q x ≡ true) → list_all p xs ≡ true → list_all q xs ≡ true
 all_more p q [] f h = refl
@@ -563,9 +566,9 @@ IsWatching-push rows pairs lists vars row a b n h e has_a has_b within =
     record {
       count = omega (arith, size_rows, size_pairs, count);
       places = length-set (put lists a (record { clause = n; blocker = b })) (place_of b) _ ∙ (length-set lists (place_of a) _ ∙ h.places);
-      own = λ k r p f g. elim (at_pushed rows row k r f) [
+      own = λ k r p f g aw. elim (at_pushed rows row k r f) [
         | inl i ↦ elim (at_pushed pairs (paired a b) k p g) [
-          | inl j ↦ h.own k r p i j
+          | inl j ↦ h.own k r p i j aw
           | inr j ↦ absurd (let lt : k < length rows = at_inside rows k r i in let at : k ≡ length pairs = j.0 in omega (arith, lt, at, count))
         ]
         | inr i ↦ elim (at_pushed pairs (paired a b) k p g) [

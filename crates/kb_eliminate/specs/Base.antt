@@ -50,7 +50,6 @@ pub record Forgets (old new : Base) : Type 0 where
   pub stands : Stands new
   pub ready : IsReady new
   pub trail : new.trail ≡ old.trail
-  pub clauses : rows_of new.clauses ≡ rows_of old.clauses
   pub entries : new.entries ≡ old.entries
   pub formula : new.formula.now ≡ old.formula.now
 

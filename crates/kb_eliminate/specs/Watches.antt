@@ -1,5 +1,5 @@
 -- Two watched literals a clause (Moskewicz, Madigan, Zhao, Zhang and Malik, 2001).
-use Rattle.std.specs.Prelude.{◌≡◌, ℕ, ◌+◌, ◌*◌, ◌<◌, ◌==◌, ◌⊎◌, Bool, true, List, [], ◌∷◌, ◌++◌, length, map, zero, suc, slice_set, Some, slice_get, slice_index_or}
+use Rattle.std.specs.Prelude.{◌≡◌, ℕ, ◌+◌, ◌*◌, ◌<◌, ◌==◌, ◌⊎◌, Bool, true, false, List, [], ◌∷◌, ◌++◌, length, map, zero, suc, slice_set, Option, Some, None, slice_get, slice_index_or}
 use Rattle.std.specs.List.{list_any, list_all}
 use Rattle.kb_chain.specs.Literal.{Literal, literal, has, negated, same, place_of}
 use Rattle.kb_eliminate.specs.Trail.{Assigned}
@@ -82,17 +82,26 @@ pub record AreListed (lists : List (List Watch)) (rest : List Watch) (falsified 
   pub first : (k : ℕ) (pair : Pair) → slice_get pairs k ≡ Some pair → pair.awake ≡ true → IsWatchListed lists rest falsified k pair.first
   pub second : (k : ℕ) (pair : Pair) → slice_get pairs k ≡ Some pair → pair.awake ≡ true → IsWatchListed lists rest falsified k pair.second
 
+-- a row has the literal, unless its clause was deleted
+abbrev pub is_blocker : List Literal → Literal → Bool
+is_blocker [] l = true
+is_blocker (x ∷ row) l = has (x ∷ row) l
+
+abbrev pub blocks : Option (List Literal) → Literal → Bool
+blocks None l = false
+blocks (Some row) l = is_blocker row l
+
 -- the blocking literal is one of the clause's
 abbrev pub is_blocked : List (List Literal) → Watch → Bool
-is_blocked rows w = has (slice_index_or rows w.clause []) w.blocker
+is_blocked rows w = blocks (slice_get rows w.clause) w.blocker
 
 abbrev pub all_blocked : List (List Literal) → List Watch → Bool
 all_blocked rows list = list_all (is_blocked rows) list
 
--- the watched literals are literals of their rows
+-- the literals that awake clauses watch are literals of their rows
 abbrev pub AreOwn : List (List Literal) → List Pair → Type 0
 AreOwn rows pairs =
-    (k : ℕ) (row : List Literal) (pair : Pair) → slice_get rows k ≡ Some row → slice_get pairs k ≡ Some pair
+    (k : ℕ) (row : List Literal) (pair : Pair) → slice_get rows k ≡ Some row → slice_get pairs k ≡ Some pair → pair.awake ≡ true
     → (has row pair.first ≡ true) × (has row pair.second ≡ true)
 
 abbrev pub AreEmpty : List (List Watch) → Type 0

@@ -1,8 +1,11 @@
 //! The base of a search: its clauses with their derivations in the log, the literals that are true, and the watches that tell
 //! what the clauses force. Under proof: the log derives each clause, and what propagation meets.
-ghost use Rattle.std.specs.Prelude.{◌≡◌, ℕ, ◌+◌, ◌<◌, true, [], ◌∷◌, length, OnOk, IfOk, IfSome, IfNone};
+ghost use Rattle.std.specs.Prelude.{◌≡◌, ℕ, ◌+◌, ◌<◌, true, List, [], ◌∷◌, length, slice_get, Some, OnOk, IfOk, IfSome, IfNone};
 ghost use Rattle.kb_eliminate.specs.Base.{Stands, IsReady, KeepsBase, Forgets, IsConflict, IsPropagated, IsSecondLiteral, IsDoomed};
+ghost use Rattle.std.specs.Bool.{OnFalse};
+ghost use Rattle.kb_chain.specs.Literal.{Literal};
 ghost use Rattle.kb_eliminate.specs.Trail.{TrailGrows};
+ghost use Rattle.kb_eliminate.specs.Store.{IsNoReason};
 ghost use Rattle.kb_eliminate.specs.Rows.{rows_of};
 ghost use Rattle.kb_eliminate.specs.Watches.{pairs_of, IsAwake};
 
@@ -97,7 +100,37 @@ impl<'a> Base<'a> {
         self.clauses.let_go(number);
     }
 
-    /// Takes the watches of clauses that were let go out of the lists.
+    /// Deletes a clause, unless it is the reason of a true literal. The base is whole no longer.
+    pub fn delete(&mut self, number: u32)
+        requires stands { Stands self.old }
+        requires ready { IsReady self.old }
+        ensures { Forgets self.old self.new }
+    {
+        if self.is_reason(number) {
+            return;
+        }
+        self.whole = false;
+        self.clauses.delete(number);
+    }
+
+    /// Whether a clause is the reason of one of its literals.
+    pub fn is_reason(&self, number: u32) -> bool
+        requires { Stands self.now }
+        ensures { OnFalse result (IsNoReason self.now.trail number) }
+    {
+        self.trail.tell_trail();
+        if number >= self.clauses.len() {
+            return false;
+        }
+        for literal in self.clauses.literals(number) {
+            if forces(&self.trail, number, *literal) {
+                return true;
+            }
+        }
+        false
+    }
+
+    /// Takes the watches of clauses that were let go or deleted out of the lists, and moves the others together.
     pub fn purge(&mut self)
         requires stands { Stands self.old }
         requires ready { IsReady self.old }
@@ -105,7 +138,19 @@ impl<'a> Base<'a> {
         ensures whole { self.new.whole ≡ self.old.whole }
     {
         self.watches.purge(&self.clauses);
+        self.clauses.compact();
     }
+}
+
+/// Whether the clause of a number is the reason of a literal that is true.
+fn forces(trail: &Trail, number: u32, literal: Lit) -> bool
+    ensures { OnFalse result ((i : ℕ) → slice_get trail.now.literals i ≡ Some literal → slice_get trail.now.reasons i ≡ Some (Some number) → ⊥) }
+{
+    trail.tell_once();
+    if !trail.is_true(literal) {
+        return false;
+    }
+    trail.reason(trail.position(literal)) == Some(number)
 }
 
 /// The second literal of a clause, or the first one where there is no other.

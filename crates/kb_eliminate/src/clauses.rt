@@ -1,10 +1,10 @@
 //! The clause database: all clauses by number, in one table. Under proof: what was put in is there, and the two literals that
 //! stand first in a row are those that a clause watches.
-ghost use Rattle.std.specs.Prelude.{◌≡◌, ◌<◌, [], ◌∷◌, ◌++◌, List, length, slice_get, slice_set, Some, OnOk};
+ghost use Rattle.std.specs.Prelude.{◌≡◌, ◌<◌, ◌≤◌, [], ◌∷◌, ◌++◌, List, length, take, slice_get, slice_set, Some, OnOk};
 ghost use Rattle.std.specs.List.{swap};
 ghost use Rattle.kb_chain.specs.Literal.{Literal};
-ghost use Rattle.kb_eliminate.specs.Rows.{StoredClause, rows_of, awake_clause, IsNamed, AreNamed};
-ghost use Rattle.kb_eliminate.specs.Forgetting.{is_awake, asleep};
+ghost use Rattle.kb_eliminate.specs.Rows.{StoredClause, rows_of, stored_of, awake_clause, EndWithin, AreApart, IsNamed, AreNamed};
+ghost use Rattle.kb_eliminate.specs.Forgetting.{is_awake, asleep, deleted};
 
 use crate::NoMemory;
 use crate::span::Span;
@@ -130,6 +130,47 @@ impl Clauses {
         let span = self.slots[place].span;
         self.slots[place] = Slot { span, awake: false };
     }
+
+    /// Deletes a clause: nothing is left of it but its number.
+    pub fn delete(&mut self, number: u32)
+        ensures { self.new ≡ deleted self.old number }
+    {
+        let place = number as usize;
+        if place >= self.slots.len() {
+            return;
+        }
+        let span = self.slots[place].span.emptied();
+        self.slots[place] = Slot { span, awake: false };
+    }
+
+    /// Moves the literals of all clauses together, over the gaps that deleted ones left.
+    pub fn compact(&mut self)
+        ensures { self.new ≡ self.old }
+    {
+        let end = move_together(&mut self.flat, &mut self.slots);
+        self.flat.truncate(end);
+    }
+}
+
+/// Moves the literals of each clause to those of the clause before it, and says where the last ones end.
+fn move_together(flat: &mut Vec<Lit>, slots: &mut Vec<Slot>) -> usize
+    requires within { EndWithin flat.old.items slots.old.items }
+    requires apart { AreApart slots.old.items }
+    ensures end { result ≤ length flat.new.items }
+    ensures within { EndWithin (take result flat.new.items) slots.new.items }
+    ensures apart { AreApart slots.new.items }
+    ensures count { length slots.new.items ≡ length slots.old.items }
+    ensures stored { stored_of (take result flat.new.items) slots.new.items ≡ stored_of flat.old.items slots.old.items }
+{
+    let mut end: u32 = 0;
+    for number in 0..slots.len() {
+        let span = slots[number].span;
+        flat.copy_within(span.start as usize..span.end as usize, end as usize);
+        let later = span.earlier(end);
+        end = later.end;
+        slots[number].span = later;
+    }
+    end as usize
 }
 
 /// Nothing: it tells a proof which variables literals have.

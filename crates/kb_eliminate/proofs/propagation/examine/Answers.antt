@@ -6,17 +6,17 @@ use Rattle.kb_chain.proofs.LiteralLaws.{same-true, same_refl, negated-negated}
 use Rattle.kb_chain.proofs.PropagationLaws.{all_negated-from}
 use Rattle.kb_eliminate.specs.Trail.{Assigned}
 use Rattle.kb_eliminate.specs.Rows.{StoredClause, rows_of, awake_clause, AreReordered}
-use Rattle.kb_eliminate.specs.Watches.{Pair, pair_of, pairs_of, other_watched, IsWatchedAt, Quiet, AllAwake, IsWatching, IsOther, Walks, is_met, is_blocked, put, with_list}
+use Rattle.kb_eliminate.specs.Watches.{Pair, pair_of, pairs_of, other_watched, IsWatchedAt, Quiet, AllAwake, IsWatching, IsOther, Walks, is_met, is_blocker, is_blocked, put, with_list}
 use Rattle.kb_eliminate.specs.Store.{IsJustified}
 use Rattle.kb_eliminate.specs.Base.{IsConflict}
 use Rattle.kb_eliminate.specs.Forgetting.{is_awake}
 use Rattle.kb_eliminate.specs.declared.watch.Watch.{Watch}
-use Rattle.kb_eliminate.proofs.Places.{at_has, at_inside, at_same, at_get_or}
+use Rattle.kb_eliminate.proofs.Places.{some_in, at_has, at_inside, at_same, at_get_or}
 use Rattle.kb_eliminate.proofs.ClausesLaws.{has-swap}
 use Rattle.kb_eliminate.proofs.TrailLaws.{has_pushed}
 use Rattle.kb_eliminate.proofs.JustifyLaws.{IsJustified-push, push_part}
-use Rattle.kb_eliminate.proofs.WatchLaws.{Walks-stay, Walks-drop, Walks-away, AllAwake-move, Quiet-move, IsWatching-put, IsWatching-move, blocked_row, is_blocked-from, is_met-from, other_own}
-use Rattle.kb_eliminate.proofs.PairLaws.{awake_there, some_in, pair_at, is_awake-at, other_of, other_moved, watched_inside, false_but_one, rows_set, pairs_set}
+use Rattle.kb_eliminate.proofs.WatchLaws.{Walks-stay, Walks-drop, Walks-away, AllAwake-move, Quiet-move, IsWatching-put, IsWatching-move, blocked_row, blocker_has, is_blocked-from, is_met-from, other_own}
+use Rattle.kb_eliminate.proofs.PairLaws.{awake_there, pair_at, is_awake-at, other_of, other_moved, watched_inside, false_but_one, rows_set, pairs_set}
 use Rattle.kb_eliminate.proofs.ReorderLaws.{AreReordered-refl, AreReordered-set, Quiet-reordered, Walks-reordered, IsWatching-reordered, IsJustified-reordered}
 use Rattle.kb_eliminate.proofs.propagation.examine.Goals as goal
 
@@ -25,18 +25,29 @@ inside_table : (rows : List (List Literal)) (pairs : List Pair) (lists : List (L
     → place_of l < 2 * vars + 2 → place_of l < length lists
 inside_table rows pairs lists vars l h lt = subst (λ n. place_of l < n) (sym h.places) lt
 
-met : (rows : List (List Literal)) (w : Watch) (set : Literal → Bool) (l : Literal) (row : List Literal) → slice_get rows w.clause ≡ Some row → has row l ≡ true → set l ≡ true
-    → (r : List Literal) → slice_get rows w.clause ≡ Some r → is_met set r ≡ true
-met rows w set l row e i t r g = is_met-from set r l (ap (λ z. has z l) (at_same rows w.clause r row g e) ∙ i) t
+met : (rows : List (List Literal)) (pairs : List Pair) (w : Watch) (set : Literal → Bool) (l : Literal) (row : List Literal) → slice_get rows w.clause ≡ Some row → has row l ≡ true → set l ≡ true
+    → (r : List Literal) (pair : Pair) → slice_get rows w.clause ≡ Some r → slice_get pairs w.clause ≡ Some pair → pair.awake ≡ true → is_met set r ≡ true
+met rows pairs w set l row e i t r pair g f aw = is_met-from set r l (ap (λ z. has z l) (at_same rows w.clause r row g e) ∙ i) t
+
+-- an awake clause has the literal that blocks its watch
+met_blocked : (rows : List (List Literal)) (pairs : List Pair) (lists : List (List Watch)) (vars : ℕ) (w : Watch) (set : Literal → Bool) → IsWatching rows pairs lists vars
+    → is_blocked rows w ≡ true → set w.blocker ≡ true
+    → (r : List Literal) (pair : Pair) → slice_get rows w.clause ≡ Some r → slice_get pairs w.clause ≡ Some pair → pair.awake ≡ true → is_met set r ≡ true
+met_blocked rows pairs lists vars w set h b t r pair g f aw =
+    let row = blocked_row rows w b in
+    let same_row : row.0 ≡ r = at_same rows w.clause row.0 r row.1 g in
+    let own = h.own w.clause r pair g f aw in
+    is_met-from set r w.blocker (blocker_has r w.blocker (ap (λ z. is_blocker z w.blocker) (sym same_row) ∙ row.2) (some_in r pair.first own.0)) t
 
 pub returns-then-is_true-clause-walked : goal.returns-then-is_true-clause-walked
 returns-then-is_true-clause-walked c early kept others part h =
     let rows = rows_of c.args.clauses.now in
-    let row = blocked_row rows c.args.watch c.requires.watch in
-    Walks-stay early (has c.args.trail.now.literals) (has c.args.trail.now.literals) rows (pairs_of c.args.clauses.now) c.args.lists.now.items kept c.args.watch c.args.watch
-    others c.args.falsified h (λ l e. e)
-    (inside_table rows (pairs_of c.args.clauses.now) c.args.lists.now.items c.args.trail.now.vars c.args.falsified c.requires.watching c.requires.place) refl
-    (met rows c.args.watch (has c.args.trail.now.literals) c.args.watch.blocker row.0 row.1 row.2 (sym c.is_true.ensures ∙ c.if-is_true.true))
+    let pairs = pairs_of c.args.clauses.now in
+    let lists = c.args.lists.now.items in
+    let t = has c.args.trail.now.literals in
+    Walks-stay early t t rows pairs lists kept c.args.watch c.args.watch others c.args.falsified h (λ l e. e)
+    (inside_table rows pairs lists c.args.trail.now.vars c.args.falsified c.requires.watching c.requires.place) refl
+    (met_blocked rows pairs lists c.args.trail.now.vars c.args.watch t c.requires.watching c.requires.watch (sym c.is_true.ensures ∙ c.if-is_true.true))
 
 pub returns-then-is_true-clause-reordered : goal.returns-then-is_true-clause-reordered
 returns-then-is_true-clause-reordered c = AreReordered-refl (rows_of c.args.clauses.now)
@@ -69,7 +80,7 @@ looked : (clauses : List StoredClause) (lists : List (List Watch)) (vars : ℕ) 
 looked clauses lists vars w row awake h e is aw =
     let there = awake_there clauses w.clause row e (sym is ∙ aw) in
     let paired = pair_at clauses w.clause (awake_clause row) there in
-    let own = h.own w.clause row (pair_of (awake_clause row)) e paired in
+    let own = h.own w.clause row (pair_of (awake_clause row)) e paired refl in
     record {
       there = there;
       paired = paired;
@@ -115,7 +126,7 @@ other_at : (clauses : List StoredClause) (lists : List (List Watch)) (vars : ℕ
 other_at clauses lists vars w row awake f other place h e is aw at o =
     let k = looked clauses lists vars w row awake h e is aw in
     let is_other : IsOther (pair_of (awake_clause row)) f other = subst (λ z. IsOther (pair_of (awake_clause row)) f z) (sym o) (other_of (awake_clause row) f place at) in
-    let own = other_own (rows_of clauses) (pairs_of clauses) w.clause row (pair_of (awake_clause row)) f other h.own e k.paired is_other in
+    let own = other_own (rows_of clauses) (pairs_of clauses) w.clause row (pair_of (awake_clause row)) f other h.own e k.paired refl is_other in
     record {
       there = k.there;
       paired = k.paired;
@@ -138,7 +149,7 @@ returns-then-is_true-2-clause-walked c early kept others part h =
     Walks-stay early (has c.args.trail.now.literals) (has c.args.trail.now.literals) rows (pairs_of c.args.clauses.now) c.args.lists.now.items kept c.args.watch
     (record { clause = c.args.watch.clause; blocker = c.other_watched-other.result }) others c.args.falsified h (λ l e. e)
     (inside_table rows (pairs_of c.args.clauses.now) c.args.lists.now.items c.args.trail.now.vars c.args.falsified c.requires.watching c.requires.place) refl
-    (met rows c.args.watch (has c.args.trail.now.literals) c.other_watched-other.result c.literals-row.result.now c.literals-row.ensures o.own (sym c.is_true-2.ensures ∙ c.if-is_true-2.true))
+    (met rows (pairs_of c.args.clauses.now) c.args.watch (has c.args.trail.now.literals) c.other_watched-other.result c.literals-row.result.now c.literals-row.ensures o.own (sym c.is_true-2.ensures ∙ c.if-is_true-2.true))
 
 pub returns-then-is_true-2-clause-reordered : goal.returns-then-is_true-2-clause-reordered
 returns-then-is_true-2-clause-reordered c = AreReordered-refl (rows_of c.args.clauses.now)
@@ -390,7 +401,7 @@ returns-clause-walked c early kept others part h =
     (Walks-stay early (has xs) (has (xs ++ l ∷ [])) rows (pairs_of c.args.clauses.now) c.args.lists.now.items kept c.args.watch
     (record { clause = c.args.watch.clause; blocker = l }) others c.args.falsified h (push_part xs l)
     (inside_table rows (pairs_of c.args.clauses.now) c.args.lists.now.items c.args.trail.now.vars c.args.falsified c.requires.watching c.requires.place) refl
-    (met rows c.args.watch (has (xs ++ l ∷ [])) l row c.literals-row.ensures o.own (has_pushed xs l l ∙ or_right _ _ (same_refl l))))
+    (met rows (pairs_of c.args.clauses.now) c.args.watch (has (xs ++ l ∷ [])) l row c.literals-row.ensures o.own (has_pushed xs l l ∙ or_right _ _ (same_refl l))))
 
 pub returns-clause-justified : goal.returns-clause-justified
 returns-clause-justified c all j =

@@ -5,7 +5,7 @@ use Rattle.kb_eliminate.specs.Trail.{level_start}
 use Rattle.kb_sat.specs.Analysis.{IsLevels, IsReached, ArePut}
 use Rattle.kb_sat.specs.declared.analysis.Levels.{Levels}
 use Rattle.kb_sat.proofs.MarkedLaws.{once_of}
-use Rattle.kb_sat.proofs.AnalysisLaws.{AreMarked-clean, conflict_false, false_before, some_pending, reached_start, leveled_some, leveled_none, learned_of}
+use Rattle.kb_sat.proofs.AnalysisLaws.{AreMarked-clean, conflict_false, false_before, some_pending, some_open, reached_start, leveled_some, leveled_none, learned_of}
 use Rattle.kb_sat.proofs.analysis.analyse.Goals as goal
 use Rattle.kb_eliminate.specs.Rows.{rows_of}
 use Rattle.kb_sat.proofs.analysis.analyse.Goals.{in-Some, in-None}
@@ -56,8 +56,8 @@ returns-clause-learned c all justified =
     c.in_ok-push.ensures.items ∙ (ap (λ (z : List Literal). z ++ c.negated.result ∷ []) c.new-literals.ensures.items ∙ ap (λ (z : Literal). z ∷ []) c.negated.ensures) in
     let begun = subst (λ (z : List (ℕ × ℕ)). IsReached all number z c.args.trail.now.literals levels.zero (length c.args.trail.now.literals) c.mark_others.new.self.seen.items [])
     (sym c.new-steps.ensures.items)
-    (reached_start all (rows_of c.args.clauses.now) c.args.trail.now levels number c.literals.result.now c.args.marks.now c.mark_others.new.self once is justified c.literals.ensures negates
-    c.requires.clean c.in_ok-mark_others.ensures.marks) in
+    (reached_start all (rows_of c.args.clauses.now) c.args.trail.now levels number c.literals.result.now c.args.marks.now c.mark_others.new.self once is justified c.literals.ensures
+    (some_open _ c.literals.result.now (c.requires.last c.literals.result.now c.literals.ensures)) negates c.requires.clean c.in_ok-mark_others.ensures.marks) in
     let pointed = c.in_ok-point.ensures.reached all number justified begun in
     let ended : IsReached all number c.minimise.new.steps.items c.args.trail.now.literals levels.zero levels.zero c.minimise.new.marks.seen.items c.minimise.new.row.items =
     c.in_ok-highest.ensures.reached all number justified

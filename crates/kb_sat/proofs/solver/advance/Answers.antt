@@ -13,9 +13,9 @@ pub returns-then-level-eq0-clause-advance : goal.returns-then-level-eq0-clause-a
 returns-then-level-eq0-clause-advance c =
     let s = c.run.new.self.base in
     let h = c.in_ok-number.ensures.keeps.stands in
-    let conflict : IsConflict (rows_of s.clauses) s.trail c.in-Some.number =
-    (at_some c.in_ok-number.field-0 c.in-Some.number (λ n. IsConflict (rows_of s.clauses) s.trail n × IsAwake (pairs_of s.clauses) n) c.in-Some.is c.in_ok-number.ensures.conflict).0 in
-    let d = doomed_from s.formula.now s.entries (rows_of s.clauses) (pairs_of s.clauses) s.watches.lists.items s.trail s.whole c.in-Some.number h conflict in (
+    let conflict : IsConflict (rows_of s.clauses) s.trail c.in-Some.number × IsAwake (pairs_of s.clauses) c.in-Some.number =
+    at_some c.in_ok-number.field-0 c.in-Some.number (λ n. IsConflict (rows_of s.clauses) s.trail n × IsAwake (pairs_of s.clauses) n) c.in-Some.is c.in_ok-number.ensures.conflict in
+    let d = doomed_from s.formula.now s.entries (rows_of s.clauses) (pairs_of s.clauses) s.watches.lists.items s.trail s.whole c.in-Some.number h conflict.0 conflict.1 in (
       record {
         level = nil_from_length s.trail.starts (sym c.level.ensures ∙ c.if-level-eq0.true);
         clauses = h.clauses;

@@ -14,9 +14,9 @@ pub returns-in-Some : goal.returns-in-Some
 returns-in-Some c =
     let s = c.settle.new.self.base in
     let h = c.in_ok-number.ensures.keeps.stands in
-    let conflict : IsConflict (rows_of s.clauses) s.trail c.in-Some.number =
-    (at_some c.in_ok-number.field-0 c.in-Some.number (λ n. IsConflict (rows_of s.clauses) s.trail n × IsAwake (pairs_of s.clauses) n) c.in-Some.is c.in_ok-number.ensures.conflict).0 in
-    let d = doomed_from s.formula.now s.entries (rows_of s.clauses) (pairs_of s.clauses) s.watches.lists.items s.trail s.whole c.in-Some.number h conflict in (
+    let conflict : IsConflict (rows_of s.clauses) s.trail c.in-Some.number × IsAwake (pairs_of s.clauses) c.in-Some.number =
+    at_some c.in_ok-number.field-0 c.in-Some.number (λ n. IsConflict (rows_of s.clauses) s.trail n × IsAwake (pairs_of s.clauses) n) c.in-Some.is c.in_ok-number.ensures.conflict in
+    let d = doomed_from s.formula.now s.entries (rows_of s.clauses) (pairs_of s.clauses) s.watches.lists.items s.trail s.whole c.in-Some.number h conflict.0 conflict.1 in (
       record {
         level = c.in_ok-number.ensures.grows.starts ∙ (ap (λ (z : Search). z.base.trail.starts) c.get_mut.ensures.value ∙ c.requires.level);
         clauses = h.clauses;

@@ -1,9 +1,9 @@
-use Rattle.std.proofs.Common.{ap, ◌∙◌, sym, subst, refl, false, take}
+use Rattle.std.proofs.Common.{sym, subst, refl, false, take}
 use Rattle.kb_chain.specs.Literal.{has}
 use Rattle.kb_eliminate.specs.Rows.{rows_of}
 use Rattle.kb_eliminate.specs.Watches.{pairs_of, Quiet}
 use Rattle.kb_eliminate.specs.Base.{IsBase}
-use Rattle.kb_eliminate.proofs.ForgetLaws.{IsBase-asleep, Quiet-asleep, rows_asleep}
+use Rattle.kb_eliminate.proofs.ForgetLaws.{IsBase-asleep, Quiet-asleep}
 use Rattle.kb_eliminate.proofs.base.Base.let_go.Goals as goal
 
 pub returns : goal.returns
@@ -16,7 +16,6 @@ returns c = (let s = c.args.self.now in record {
         (Quiet-asleep s.clauses c.args.number _ _ c.requires.ready.quiet);
   };
   trail = refl;
-  clauses = ap rows_of c.let_go.ensures ∙ rows_asleep s.clauses c.args.number;
   entries = refl;
   formula = refl;
 })

@@ -11,7 +11,8 @@ use Rattle.kb_sat.proofs.LearnLaws.{learned_false, IsAsserting-from, IsBase-lear
 use Rattle.kb_sat.specs.Analysis.{IsClean}
 use Rattle.kb_sat.specs.declared.analysis.Marks.{Marks}
 use Rattle.kb_eliminate.proofs.ClausesLaws.{rows_pushed}
-use Rattle.kb_eliminate.proofs.PairLaws.{pairs_pushed, some_in}
+use Rattle.kb_eliminate.proofs.Places.{some_in}
+use Rattle.kb_eliminate.proofs.PairLaws.{pairs_pushed}
 use Rattle.kb_sat.proofs.search.Search.learn.Goals as goal
 
 pub analyse-requires-clause-last : goal.analyse-requires-clause-last
