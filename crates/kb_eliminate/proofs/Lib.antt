@@ -11,4 +11,3 @@ pub mod BaseLaws
 pub mod BeginLaws
 pub mod ResolventLaws
 pub mod ForgetLaws
-pub mod RestoreLaws

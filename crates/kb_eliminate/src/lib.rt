@@ -1,5 +1,5 @@
 //! What a search for a model stands on, and what can be done with it without any decision: the clauses with their derivations,
-//! unit propagation by two watched literals, and bounded variable elimination with the reconstruction of models.
+//! unit propagation by two watched literals, and bounded variable elimination.
 #![tactic(auto)]
 
 mod base;
@@ -11,7 +11,6 @@ mod flat_log;
 mod occurrences;
 mod propagation;
 mod resolvents;
-mod restoring;
 mod span;
 mod trail;
 mod watch;
@@ -23,7 +22,6 @@ pub use clauses::Clauses;
 pub use complete::model;
 pub use elimination::{Eliminated, EliminationBounds, eliminate};
 pub use flat_log::FlatLog;
-pub use restoring::restored;
 pub use std::alloc::AllocError as NoMemory;
 pub use trail::Trail;
 pub use watch::Watch;

@@ -7,3 +7,4 @@ pub mod MinimiseLaws
 pub mod AnalysisLaws
 pub mod RefuteLaws
 pub mod LearnLaws
+pub mod RestoreLaws

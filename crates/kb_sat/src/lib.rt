@@ -10,6 +10,7 @@ mod pace;
 mod parameters;
 mod pick;
 mod ranks;
+mod restoring;
 mod search;
 mod solver;
 
@@ -19,4 +20,5 @@ pub use kb_eliminate::NoMemory;
 pub use order::ActivityOrder;
 pub use pace::Crowding;
 pub use ranks::{Rank, Ranks, levels_of};
+pub use restoring::restored;
 pub use solver::{Solved, solve, solve_counted, solve_from};

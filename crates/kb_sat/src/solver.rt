@@ -15,9 +15,10 @@ use crate::forgetting::forget;
 use crate::order::ActivityOrder;
 use crate::pace::{Crowding, Pace};
 use crate::parameters::{ELIMINATION, ELIMINATION_CLAUSES, SMALL_BUDGET};
+use crate::restoring::restored;
 use crate::search::Search;
 use kb_chain::{Clause, Formula, Log, Row};
-use kb_eliminate::{Eliminated, NoMemory, eliminate, model, restored};
+use kb_eliminate::{Eliminated, NoMemory, eliminate, model};
 use kb_rows::Held;
 use std::alloc::Global;
 

@@ -9,8 +9,8 @@ use kb_chain::{
     Chain, Clause, Formula, Log, ResolveStop, Row, Store, Verdict, check_fresh, check_refutation,
     derive_needed, resolve,
 };
-use kb_eliminate::{Base, Eliminated, EliminationBounds, eliminate, restored};
-use kb_sat::{Counts, Solved, solve_counted};
+use kb_eliminate::{Base, Eliminated, EliminationBounds, eliminate};
+use kb_sat::{Counts, Solved, restored, solve_counted};
 use kb_table::{RowResult, RowStop, kept, read_number};
 use std::alloc::Global;
 

@@ -7,12 +7,8 @@ ghost use Rattle.kb_chain.specs.Clause.{Satisfies, assignment_of, clause_true};
 ghost use Rattle.kb_eliminate.specs.Rows.{rows_of};
 ghost use Rattle.kb_eliminate.specs.Base.{Stands};
 
-use crate::NoMemory;
-use crate::base::Base;
-use crate::clauses::Clauses;
-use crate::complete::model;
-use crate::elimination::Eliminated;
 use kb_chain::{Clause, Lit, Row};
+use kb_eliminate::{Base, Clauses, Eliminated, NoMemory, model};
 use std::alloc::Global;
 
 /// The model that the trail is, with values of the eliminated variables that make the clauses true that were let go; none where
