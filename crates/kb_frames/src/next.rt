@@ -1,23 +1,20 @@
 //! What a state comes to next.
 ghost use Rattle.std.specs.Prelude.{◌≡◌, Some, IfOk, option_map, slice_get};
-ghost use Rattle.kb_link.specs.Slots.{is_static};
 ghost use Rattle.kb_semantics.specs.Config.{class_number};
 ghost use Rattle.kb_semantics.specs.Inputs.{argument_types};
 ghost use Rattle.kb_picture.specs.Queries.{kind_for};
-ghost use Rattle.kb_frames.specs.Next.{type_of, kind_of, is_reference, argument_next, method_now, offset_now, instruction_next, is_int_entry, is_int_instruction, is_int_next, next_is_int};
+ghost use Rattle.kb_picture.specs.WellTyped.{is_reference_type};
+ghost use Rattle.kb_frames.specs.Next.{type_of, kind_of, argument_next, method_now, offset_now, instruction_next, is_int_entry, is_int_instruction, is_int_next, next_is_int};
 
 use crate::NoMemory;
-use crate::code::{declaring_class, instruction_at};
 use crate::state::{Stage, SymState};
 use kb_class::{MethodId, MethodInfo};
 use kb_code::Instr;
+use kb_lookups::{declaring_class, instruction_at, is_static};
 use kb_names::{JType, Name};
 use kb_terms::VarKind;
 use kb_world::World;
 use std::alloc::Global;
-
-/// ACC_STATIC (JVMS 8 table 4.6-A).
-const STATIC: u16 = 0x0008;
 
 /// An argument that is to be read.
 #[derive(Clone, Copy)]
@@ -120,16 +117,9 @@ fn argument_at<'w>(_world: &World, info: &'w MethodInfo, number: usize) -> Optio
     }
 }
 
-/// Whether the method is static (JVMS 8 section 4.6).
-pub fn is_static(info: &MethodInfo) -> bool
-    ensures { result ≡ is_static info.now.access }
-{
-    info.access & STATIC != 0
-}
-
 /// Whether the type is one of references (JVMS 8 section 2.4).
 pub fn is_reference(kind: &JType) -> bool
-    ensures { result ≡ is_reference kind.now }
+    ensures { result ≡ is_reference_type kind.now }
 {
     matches!(kind, JType::Class(_) | JType::Array(_))
 }

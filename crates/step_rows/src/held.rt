@@ -1,8 +1,8 @@
 //! What a state over a heap holds, as lines.
 
 use crate::told::append_exact;
-use kb_class::MethodId;
 use kb_frames::{Cell, Outcome, SymState, SymValue};
+use kb_lookups::max_locals;
 use kb_table::RowResult;
 use kb_world::World;
 use std::alloc::Global;
@@ -55,20 +55,12 @@ fn append_locals(
     into: &mut Vec<u8>,
 ) -> RowResult<()> {
     into.extend_from_slice(b"  locals")?;
-    for number in 0..local_count(world, state.method()) {
+    for number in 0..max_locals(world, state.method()) {
         into.push(b' ')?;
         append_value(alloc, state.local(number), into)?;
     }
     into.push(b'\n')?;
     Ok(())
-}
-
-/// How many locals the code of the method may write.
-fn local_count(world: &World, method: MethodId) -> u16 {
-    match world.find_code(method) {
-        Some(code) => code.max_locals,
-        None => 0,
-    }
 }
 
 /// A line for each object that was met: `?` for a cell that nobody has read or written, `=` before what was written.
