@@ -40,8 +40,7 @@ pub fn blast(alloc: Global, pool: &Pool, when: &[(TermId, bool)]) -> Result<Blas
     // Its contract says that the pool is formed.
     let _nodes = pool.nodes();
     let listing = listed(alloc, pool, &numbering)?;
-    let blasted = built(alloc, &listing, &numbering, when)?;
-    Ok(blasted)
+    built(alloc, &listing, &numbering, when)
 }
 
 /// The formula of conditions on listed terms.

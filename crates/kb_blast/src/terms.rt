@@ -50,8 +50,7 @@ fn built_term(
     let _truth = builder.truth();
     let left = operand_word(vars, words, term.left);
     let right = second_word(vars, words, term.right);
-    let word = operation(builder, term.op, &left, &right)?;
-    Ok(word)
+    operation(builder, term.op, &left, &right)
 }
 
 /// The circuit of an operation. One with a single operand leaves the second aside.

@@ -58,11 +58,9 @@ fn joined_without(
     ensures { IfOk result (λ literals. literals.items ≡ without pivot (left.now ++ right.now)) }
 {
     let both = left.literals().iter().chain(right.literals().iter());
-    let literals = both
-        .filter(|l| l.variable() != pivot)
+    both.filter(|l| l.variable() != pivot)
         .copied()
-        .collect(alloc)?;
-    Ok(literals)
+        .collect(alloc)
 }
 
 /// The resolvent of two clauses on a variable (Robinson, 1965).

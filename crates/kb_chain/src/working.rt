@@ -162,6 +162,5 @@ fn marked_literals(alloc: Global, marks: &[bool], touched: &[Lit]) -> Result<Vec
     ensures { IfOk result (λ literals. literals.items ≡ filter (marked marks.now) touched.now) }
 {
     let kept = touched.iter().filter(|l| is_marked(marks, l.place()));
-    let literals = kept.copied().collect(alloc)?;
-    Ok(literals)
+    kept.copied().collect(alloc)
 }

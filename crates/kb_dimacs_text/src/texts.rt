@@ -152,11 +152,10 @@ pub fn counts_text(alloc: Global, counts: Counts) -> Result<String, NoMemory>
 pub fn usage_text(alloc: Global) -> Result<String, NoMemory>
     ensures { IfOk result (λ text. string_bytes text ≡ usage_text) }
 {
-    let text = String::from_str(
+    String::from_str(
         alloc,
         "c refused: the words are a budget from 1 to 4294967295 and, if the log is to be checked, check\n",
-    )?;
-    Ok(text)
+    )
 }
 
 /// What is said of a line, by its number from 1.

@@ -98,14 +98,13 @@ fn input_of_piece(alloc: Global, world: &World, piece: &Piece) -> Result<Input, 
     let state = &piece.state;
     let count = state.pool().variables() as usize;
     let values = all_values(alloc, piece.values.as_slice(), count)?;
-    let input = input_of(
+    input_of(
         alloc,
         world,
         state.method(),
         state.picture(),
         values.as_slice(),
-    )?;
-    Ok(input)
+    )
 }
 
 // These values, and 0 for each further one up to so many.
@@ -122,9 +121,7 @@ fn add_zeros(values: &mut Vec<i32>, count: usize) -> Result<(), NoMemory>
     ensures { OnOk result (values.new.items ≡ followed_by_zeros count values.old.items) }
 {
     if values.len() < count {
-        let Ok(()) = values.resize(count, 0) else {
-            return Err(NoMemory);
-        };
+        values.resize(count, 0)?;
     }
     Ok(())
 }

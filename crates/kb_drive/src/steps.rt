@@ -55,6 +55,5 @@ pub(crate) fn take(
         let outcome = take_int(alloc, world, state, choice, bounds)?;
         return Ok(outcome);
     }
-    let outcome = take_ref(alloc, world, state, choice, bounds)?;
-    Ok(outcome)
+    take_ref(alloc, world, state, choice, bounds)
 }

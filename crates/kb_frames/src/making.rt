@@ -35,8 +35,7 @@ impl SymState {
         ensures term { IfOk result (λ t. t ≡ (interned self.old.nodes (Const (pos 0))).1) }
         ensures state { OnOk result (self.new ≡ record self.old { nodes = (interned self.old.nodes (Const (pos 0))).0 }) }
     {
-        let term = self.pool.constant(0)?;
-        Ok(term)
+        self.pool.constant(0)
     }
 }
 

@@ -28,8 +28,7 @@ pub(crate) fn given_numbers(
     let methods = method_pairs(alloc, row.as_slice(), file.methods.as_slice())?;
     let fields = field_pairs(alloc, row.as_slice(), file.fields.as_slice())?;
     let entries = entry_numbers(alloc, row.as_slice(), file.pool.as_slice())?;
-    let own = ClassNumbers::new(alloc, first, methods, fields, entries)?;
-    Ok(own)
+    ClassNumbers::new(alloc, first, methods, fields, entries)
 }
 
 // The number of the text of each entry of a pool: each text is looked up once.
@@ -105,9 +104,7 @@ fn method_pairs(alloc: Global, row: &[u32], methods: &[Method]) -> Result<Vec<Pa
 {
     let mut pairs = Vec::new(alloc);
     for method in methods {
-        let Ok(()) = pairs.push(pair_at(row, method.name, method.kind)) else {
-            return Err(NoMemory);
-        };
+        pairs.push(pair_at(row, method.name, method.kind))?;
     }
     Ok(pairs)
 }
@@ -117,9 +114,7 @@ fn field_pairs(alloc: Global, row: &[u32], fields: &[Field]) -> Result<Vec<Pair>
 {
     let mut pairs = Vec::new(alloc);
     for field in fields {
-        let Ok(()) = pairs.push(pair_at(row, field.name, field.kind)) else {
-            return Err(NoMemory);
-        };
+        pairs.push(pair_at(row, field.name, field.kind))?;
     }
     Ok(pairs)
 }
@@ -134,9 +129,7 @@ fn entry_numbers(
 {
     let mut told = Vec::new(alloc);
     for entry in pool {
-        let Ok(()) = told.push(entry_named(pool, row, entry)) else {
-            return Err(NoMemory);
-        };
+        told.push(entry_named(pool, row, entry))?;
     }
     Ok(told)
 }

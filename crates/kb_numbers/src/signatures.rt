@@ -15,8 +15,7 @@ pub fn first_methods(alloc: Global, numbers: &Numbers) -> Result<Vec<u32>, NoMem
     ensures { IfOk result (λ firsts. AreFirsts (method_pairs numbers.now.classes.items) firsts.items) }
 {
     let pairs = method_pairs(alloc, numbers.classes.as_slice())?;
-    let firsts = firsts_of(alloc, pairs.as_slice())?;
-    Ok(firsts)
+    firsts_of(alloc, pairs.as_slice())
 }
 
 // Of each of these pairs its first place.
@@ -24,8 +23,7 @@ fn firsts_of(alloc: Global, pairs: &[Pair]) -> Result<Vec<u32>, NoMemory>
     ensures { IfOk result (λ firsts. AreFirsts pairs.now firsts.items) }
 {
     let table = first_places(alloc, pairs)?;
-    let firsts = places_in(alloc, &table, pairs)?;
-    Ok(firsts)
+    places_in(alloc, &table, pairs)
 }
 
 // The pairs of the methods of all classes.
@@ -43,9 +41,7 @@ fn push_pairs(more: &[Pair], pairs: &mut Vec<Pair>) -> Result<(), NoMemory>
     ensures { OnOk result (pairs.new.items ≡ pairs.old.items ++ more.now) }
 {
     for pair in more {
-        let Ok(()) = pairs.push(*pair) else {
-            return Err(NoMemory);
-        };
+        pairs.push(*pair)?;
     }
     Ok(())
 }
@@ -60,9 +56,7 @@ fn places_in(
 {
     let mut places = Vec::new(alloc);
     for pair in pairs {
-        let Ok(()) = places.push(place_in(table, *pair)) else {
-            return Err(NoMemory);
-        };
+        places.push(place_in(table, *pair))?;
     }
     Ok(places)
 }

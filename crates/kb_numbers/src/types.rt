@@ -103,8 +103,7 @@ fn add_result(parts: &mut Parts, texts: &Texts, of: &Option<JType>) -> Result<u3
     let Some(symbol) = result_symbol(texts, of) else {
         return Err(NoMemory);
     };
-    let number = parts.add(Part { behind: 0, symbol })?;
-    Ok(number)
+    parts.add(Part { behind: 0, symbol })
 }
 
 // Adds the part of a parameter that stands before the part of that number.
@@ -115,8 +114,7 @@ fn add_param(parts: &mut Parts, texts: &Texts, behind: u32, of: &JType) -> Resul
     let Some(symbol) = symbol_of(texts, of) else {
         return Err(NoMemory);
     };
-    let number = parts.add(Part { behind, symbol })?;
-    Ok(number)
+    parts.add(Part { behind, symbol })
 }
 
 // Gives numbers to the names of the classes in a type.

@@ -26,8 +26,7 @@ pub(crate) fn written_numbers(
     ensures numbers { IfOk result (λ own. (class : PlainClass) → class.methods ≡ methods.now → class.fields ≡ [] → class.entries ≡ [] → IsNumbered texts.new first class own) }
 {
     let pairs = written_pairs(alloc, methods, texts)?;
-    let own = ClassNumbers::new(alloc, first, pairs, Vec::new(alloc), Vec::new(alloc))?;
-    Ok(own)
+    ClassNumbers::new(alloc, first, pairs, Vec::new(alloc), Vec::new(alloc))
 }
 
 // The pairs of these methods.

@@ -59,7 +59,7 @@ fn alternatives(
     if !is_reference(&first.kind) {
         return only(alloc);
     }
-    let choices = read_choices(
+    read_choices(
         alloc,
         world,
         state.picture(),
@@ -69,8 +69,7 @@ fn alternatives(
         state.init(),
         bounds.k,
         bounds.array,
-    )?;
-    Ok(choices)
+    )
 }
 
 // Whether the slot is that of a receiver.

@@ -191,8 +191,7 @@ fn put_on(
     }
     let value = keep(state, &field.kind, value)?;
     put_in(state, object, field.slot, value);
-    let outcome = replaces(turn, state, 2, &[])?;
-    Ok(outcome)
+    replaces(turn, state, 2, &[])
 }
 
 // Whether the object has the field, and so a place for a value.

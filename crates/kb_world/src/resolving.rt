@@ -54,8 +54,7 @@ fn row_of(
     ensures { IfOk result (IsRow linked.now class) }
 {
     let mut known = Known::new(alloc);
-    let row = row_by(alloc, linked, numbers, slots, class, &mut known)?;
-    Ok(row)
+    row_by(alloc, linked, numbers, slots, class, &mut known)
 }
 
 // The same, with what is known.
@@ -116,10 +115,7 @@ fn member_entry(
     ensures known { OnOk result (IsKnown linked.now class numbers.now.texts known.new) }
 {
     match numbers.entry(class, entry) {
-        Some(named) => {
-            let told = stands_for(linked, numbers, slots, class, reference, named, known)?;
-            Ok(told)
-        }
+        Some(named) => stands_for(linked, numbers, slots, class, reference, named, known),
         None => Ok(nothing()),
     }
 }

@@ -12,6 +12,5 @@ use std::alloc::Global;
 pub(crate) fn signatures_of(alloc: Global, linked: &Linked) -> Result<Vec<u32>, NoMemory>
     ensures { IfOk result (λ signatures. HaveSignatures linked.now signatures.items) }
 {
-    let signatures = first_methods(alloc, linked.numbers())?;
-    Ok(signatures)
+    first_methods(alloc, linked.numbers())
 }

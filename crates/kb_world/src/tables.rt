@@ -48,8 +48,7 @@ fn slot_table(
     ensures { IfOk result (IsSlotTableOf linked.now numbers.now.classes.items class.0) }
 {
     let keys = keys_along(alloc, linked, numbers, linked.chain_of(class))?;
-    let table = places_of(alloc, class.0, keys.as_slice())?;
-    Ok(table)
+    places_of(alloc, class.0, keys.as_slice())
 }
 
 // The keys of the slots of the class at the end of a chain of superclasses, in the order of the slots.

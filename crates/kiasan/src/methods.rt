@@ -35,8 +35,7 @@ pub fn answer_report(alloc: Global, world: &World, job: &Job) -> Result<Answer, 
     ensures { Carries ⊥ (RepliesJob IsReportText world.now job.now) result }
 {
     let report = explore_job(alloc, world, job)?;
-    let answer = report_answer(alloc, world, report.get())?;
-    Ok(answer)
+    report_answer(alloc, world, report.get())
 }
 
 /// The answer that tells a report.
@@ -60,8 +59,7 @@ pub fn answer_tests(alloc: Global, world: &World, job: &Job) -> Result<Answer, S
 {
     runs_have_names();
     let report = explore_job(alloc, world, job)?;
-    let answer = tests_answer(alloc, world, report.get())?;
-    Ok(answer)
+    tests_answer(alloc, world, report.get())
 }
 
 /// The answer that tells the tests of a report.

@@ -34,8 +34,7 @@ pub fn report_of(
     ensures { IfOk result (IsBuiltReport world.now job.now) }
 {
     let leaves = explore(alloc, world, job, id)?;
-    let report = report_with(alloc, job, leaves)?;
-    Ok(report)
+    report_with(alloc, job, leaves)
 }
 
 /// The report of these paths, with what the job asks for as its head.
@@ -52,8 +51,7 @@ fn report_with(alloc: Global, job: &Job, leaves: Row<Path>) -> Result<Held<Repor
         budget: job.budget,
         leaves,
     };
-    let held = Held::new(alloc, report)?;
-    Ok(held)
+    Held::new(alloc, report)
 }
 
 /// The paths of the job's method. Each question to the solver has the budget that the job asks for.

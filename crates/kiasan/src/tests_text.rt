@@ -80,8 +80,7 @@ fn test_of(
     };
     let (ending, heap) = ending_at(alloc, world, path, &ended.input, &places)?;
     tell_numbers(&ended.input, &ending, &heap);
-    let test = test_with(alloc, report, &ended.input, ending, &heap, world.literals())?;
-    Ok(test)
+    test_with(alloc, report, &ended.input, ending, &heap, world.literals())
 }
 
 /// The test that ends so, in a box of its own. The first objects of its heap are those of the input, and the next so many literals.
