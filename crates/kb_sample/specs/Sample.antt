@@ -12,21 +12,24 @@ abbrev pub pairs : List (ℕ × ℕ)
 pairs = (0, 1) ∷ (0, 2) ∷ (0, 3) ∷ (1, 2) ∷ (1, 3) ∷ (2, 3) ∷ []
 
 -- blocks compare them in turn
-abbrev pub pair_of : ℕ → ℕ × ℕ
+unfoldable pub pair_of : ℕ → ℕ × ℕ
 pair_of block = get_or pairs (block % 6) (0, 0)
 
 -- a line that ends with a number
 unfoldable pub numbered_line : List ℕ → ℕ → List ℕ
 numbered_line front number = front ++ (decimal number ++ codes "\n")
 
--- the block of that number, from 0: it adds 1 to the count, or jumps to its label behind that
+-- two arguments
+unfoldable pub loads_text : ℕ × ℕ → List ℕ
+loads_text pair = numbered_line (codes "iload ") pair.0 ++ numbered_line (codes "iload ") pair.1
+
+-- 1 is added to the count, unless the first of both is not below the second
+unfoldable pub count_text : ℕ → List ℕ
+count_text block = numbered_line (codes "if_icmpge L") block ++ (codes "iinc 4 1\n" ++ numbered_line (codes ":L") block)
+
+-- the block of that number, from 0
 unfoldable pub block_text : ℕ → List ℕ
-block_text block =
-    numbered_line (codes "iload ") (pair_of block).0
-    ++ (numbered_line (codes "iload ") (pair_of block).1
-    ++ (numbered_line (codes "if_icmpge L") block
-    ++ (codes "iinc 4 1\n"
-    ++ numbered_line (codes ":L") block)))
+block_text block = loads_text (pair_of block) ++ count_text block
 
 -- the first so many blocks
 abbrev pub blocks_text : ℕ → List ℕ

@@ -1,6 +1,6 @@
 //! The sample's text is written.
 ghost use Rattle.std.specs.Prelude.{◌≡◌, ◌++◌, string_bytes, IfOk, OnOk};
-ghost use Rattle.kb_sample.specs.Sample.{block_text, blocks_text, end_text, head_text, numbered_line, pair_of, sample_text};
+ghost use Rattle.kb_sample.specs.Sample.{block_text, blocks_text, count_text, end_text, head_text, loads_text, numbered_line, pair_of, sample_text};
 
 use crate::NoMemory;
 use std::alloc::Global;
@@ -25,7 +25,9 @@ pub fn sample_text(alloc: Global, blocks: u32) -> Result<String, NoMemory>
 fn write_head(text: &mut String) -> Result<(), NoMemory>
     ensures { OnOk result (string_bytes text.new ≡ string_bytes text.old ++ head_text) }
 {
-    text.push_str("class 0021 Sample java/lang/Object\nmethod 0009 run (IIII)I 2 5\niconst_0\nistore 4\n")
+    text.push_str(
+        "class 0021 Sample java/lang/Object\nmethod 0009 run (IIII)I 2 5\niconst_0\nistore 4\n",
+    )
 }
 
 fn write_blocks(text: &mut String, blocks: u32) -> Result<(), NoMemory>
@@ -42,9 +44,22 @@ fn write_blocks(text: &mut String, blocks: u32) -> Result<(), NoMemory>
 fn write_block(text: &mut String, block: u32) -> Result<(), NoMemory>
     ensures { OnOk result (string_bytes text.new ≡ string_bytes text.old ++ block_text block) }
 {
-    let (first, second) = pair_of(block);
-    write_numbered(text, "iload ", first)?;
-    write_numbered(text, "iload ", second)?;
+    write_loads(text, pair_of(block))?;
+    write_count(text, block)
+}
+
+#[tactic(auto, unfolding(crate::specs::Sample::loads_text))]
+fn write_loads(text: &mut String, pair: (u32, u32)) -> Result<(), NoMemory>
+    ensures { OnOk result (string_bytes text.new ≡ string_bytes text.old ++ loads_text pair) }
+{
+    write_numbered(text, "iload ", pair.0)?;
+    write_numbered(text, "iload ", pair.1)
+}
+
+#[tactic(auto, unfolding(crate::specs::Sample::count_text))]
+fn write_count(text: &mut String, block: u32) -> Result<(), NoMemory>
+    ensures { OnOk result (string_bytes text.new ≡ string_bytes text.old ++ count_text block) }
+{
     write_numbered(text, "if_icmpge L", block)?;
     text.push_str("iinc 4 1\n")?;
     write_numbered(text, ":L", block)
@@ -58,6 +73,7 @@ fn write_numbered(text: &mut String, front: &str, number: u32) -> Result<(), NoM
     writeln!(text, "{front}{number}")
 }
 
+#[tactic(auto, unfolding(crate::specs::Sample::pair_of))]
 fn pair_of(block: u32) -> (u32, u32)
     ensures { result ≡ pair_of block }
 {
