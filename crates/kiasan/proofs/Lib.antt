@@ -7,7 +7,5 @@ pub mod OneReply
 pub mod ReadLaws
 pub mod ReplayLaws
 pub mod StageLaws
-pub mod TestLaws
-pub mod TestTexts
 pub mod TopLaws
 pub mod WordsLaws

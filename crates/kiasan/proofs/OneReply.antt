@@ -27,6 +27,7 @@ use Rattle.kb_link.proofs.OneUniverse.{one_world_is}
 use Rattle.kb_link.proofs.OneWorld.{one_refusal, refused_or_linked}
 use Rattle.kb_link.proofs.TargetLaws.{one_declared}
 use Rattle.kb_world.proofs.ReachLaws.{one_refusal as one_reach_refusal, refused_or_accepted}
+use Rattle.kb_report_tests.specs.Tests.{literals_in}
 use Rattle.kiasan.specs.declared.answer.Contents.{Contents}
 use Rattle.kiasan.specs.declared.refusals.Refusal.{Refusal}
 use Rattle.kiasan.specs.declared.refusals.Refusal.TheVariants as refusals
@@ -46,7 +47,7 @@ use Rattle.kiasan.specs.Orders.{OrdersBuilt, files_of, texts_of, classes_of}
 use Rattle.kiasan.specs.Reach.{TargetRefuses}
 use Rattle.kiasan.specs.CodeFaults.{MethodsRefuse, methods_fault}
 use Rattle.kiasan.specs.Refusals.{class_refusal, code_refusal, link_refusal, word_refusal}
-use Rattle.kiasan.specs.Tests.{RefusesTests, literals_in, replay_status, test_refusal}
+use Rattle.kiasan.specs.Tests.{RefusesTests, replay_status, test_refusal}
 use Rattle.kiasan.specs.Unbuilt.{IsBuiltFor, IsBuiltTarget}
 use Rattle.kiasan.proofs.ClassLaws.{no_faults}
 use Rattle.kiasan.proofs.OneAssembly.{assembly_one}

@@ -44,9 +44,10 @@ use Rattle.kb_diagram.specs.Diagram.{diagrams_text}
 use Rattle.kb_report.specs.Ranges.{ReportFits}
 use Rattle.kb_report.specs.Report.{report_text}
 use Rattle.kb_report_laws.specs.OneText.{IsReport}
+use Rattle.kb_report_tests.specs.Tests.{literals_in, tests_of}
 use Rattle.kiasan.specs.Reach.{TargetRefuses}
-use Rattle.kiasan.specs.Exploring.{IsReportOf, status_of, tests_of}
-use Rattle.kiasan.specs.Tests.{EndsAsStated, RefusesTests, literals_in, replay_status}
+use Rattle.kiasan.specs.Exploring.{IsReportOf, status_of}
+use Rattle.kiasan.specs.Tests.{EndsAsStated, RefusesTests, replay_status}
 use Rattle.kiasan.specs.Unbuilt.{IsBuiltTarget}
 use Rattle.kiasan.specs.Verdicts.{replay_text}
 

@@ -2,7 +2,6 @@ pub mod Answers
 pub mod CodeFaults
 pub mod Exploring
 pub mod Orders
-pub mod Ranges
 pub mod Reach
 pub mod Refusals
 pub mod StatusNumber

@@ -1,5 +1,5 @@
 -- The tests of a replay: what refuses them, and how the program ends.
-use Rattle.std.specs.Prelude.{◌≡◌, ℕ, ◌+◌, Bool, true, false, cond, nat_eq, List, [], ◌∷◌, length}
+use Rattle.std.specs.Prelude.{◌≡◌, ℕ, ◌+◌, Bool, true, false, cond, nat_eq, List, [], ◌∷◌}
 use Rattle.kb_class.specs.declared.ids.MethodId.{MethodId}
 use Rattle.kb_link.specs.World.{World}
 use Rattle.kb_replay.specs.declared.checks.BadTest.{BadTest}
@@ -17,10 +17,6 @@ use Rattle.kiasan.specs.declared.refusals.Stop.TheVariants as stops
 use Rattle.kiasan.specs.declared.status.Status.{Status}
 use Rattle.kiasan.specs.declared.status.Status.TheVariants as statuses
 use Rattle.kiasan.specs.Refusals.{link_refusal}
-
--- how many string literals a world has
-abbrev pub literals_in : World → ℕ
-literals_in world = length world.literals
 
 -- ---- what refuses tests
 

@@ -14,7 +14,6 @@ mod refusals;
 mod replay;
 mod reports;
 mod status;
-mod tests_text;
 mod top;
 mod unbuilt;
 mod verdicts;

@@ -10,7 +10,7 @@ use Rattle.kb_test.specs.declared.test_case.Test.{Test}
 use Rattle.kb_test.specs.Refusals.{Appends}
 use Rattle.kb_test.specs.Tests.{SpellsTests}
 use Rattle.kb_test.proofs.TextLaws.{joined, no_tests}
-use Rattle.kiasan.specs.Exploring.{path_tests}
+use Rattle.kb_report_tests.specs.Tests.{path_tests}
 
 -- the tests of some paths of a report
 abbrev pub tests_on : World → Report → List Path → List Test

@@ -1,10 +1,9 @@
 use Rattle.std.proofs.Common.{length}
 use Rattle.kb_class.specs.declared.ids.MethodId.{MethodId}
 use Rattle.kb_drive.specs.Covers.{EachPath}
-use Rattle.kiasan.specs.Exploring.{IsCarried, tests_of}
-use Rattle.kiasan.specs.Tests.{literals_in}
-use Rattle.kiasan.proofs.TestTexts.{IsBehind, tests_on}
-use Rattle.kiasan.proofs.tests_text.tests_text.Given as goal
+use Rattle.kb_report_tests.specs.Tests.{IsCarried, literals_in, tests_of}
+use Rattle.kb_report_tests.proofs.TestTexts.{IsBehind, tests_on}
+use Rattle.kb_report_tests.proofs.tests_text.tests_text.Given as goal
 
 abbrev pub invariant-loop-rest : goal.invariant-loop-rest
 invariant-loop-rest l =

@@ -8,8 +8,7 @@ ghost use Rattle.kb_picture.specs.declared.path.Leaf.TheVariants.{Ended as Ended
 ghost use Rattle.kb_test_lines.specs.Lines.{IsRunBounds};
 ghost use Rattle.kb_test.specs.Refusals.{Appends};
 ghost use Rattle.kb_test.specs.Tests.{IsTest, SpellsTests, literal_objects};
-ghost use Rattle.kiasan.specs.Exploring.{IsCarried, path_tests, test_of, tests_of};
-ghost use Rattle.kiasan.specs.Tests.{literals_in};
+ghost use Rattle.kb_report_tests.specs.Tests.{IsCarried, literals_in, path_tests, test_of, tests_of};
 
 use crate::NoMemory;
 use crate::ranges::tell_numbers;

@@ -29,9 +29,8 @@ use Rattle.kb_report.specs.declared.report.Report.{Report}
 use Rattle.kb_test_lines.specs.Lines.{IsExact, IsRunBounds}
 use Rattle.kb_test.specs.Tests.{AreObjects, AreValues, IsEnding, IsTest, IsValue, kinds_of, literal_objects}
 use Rattle.kb_test_laws.specs.Texts.{EndHasTexts, EndingHasText}
-use Rattle.kiasan.specs.Exploring.{IsCarried, test_of}
-use Rattle.kiasan.specs.Ranges.{EndingHasRange, HasRange, HasRanges, HaveRanges}
-use Rattle.kiasan.specs.Tests.{literals_in}
+use Rattle.kb_report_tests.specs.Tests.{IsCarried, literals_in, test_of}
+use Rattle.kb_report_tests.specs.Ranges.{EndingHasRange, HasRange, HasRanges, HaveRanges}
 
 -- ---- fronts of lists
 
