@@ -3,12 +3,13 @@
 `stdout` what they come to.
 
 What is expected is by hand: the faults of `by_hand.text`, each alone and in pairs, of which the first by its place is the answer,
-and the texts below of the one path of `A.f(II)I`, with the numbers that the words give.
+and the texts below of the one path of `A.f(II)I`, with the numbers that the words give. The counts of samples are those of all orders of
+four ints.
 
 Usage: examples/words/make.py
 """
 
-from itertools import product
+from itertools import combinations, product
 from pathlib import Path
 
 HERE = Path(__file__).resolve().parent
@@ -160,6 +161,20 @@ def orders_rows(orders):
             yield order_row(command, " ".join(turn))
 
 
+def orders_of_ints(blocks):
+    """How many ways there are for the first so many comparisons of two of four ints to come out, by all orders of four ints."""
+    pairs = (list(combinations(range(4), 2)) * blocks)[:blocks]
+    return len({tuple(ints[x] < ints[y] for x, y in pairs) for ints in product(range(4), repeat=4)})
+
+
+def sample_rows():
+    """The sample of each number of blocks: a path for each way, and a test for each path, which passes."""
+    for blocks in range(65):
+        ways = orders_of_ints(min(blocks, 6))
+        counts = f"paths {ways} ended {ways} cut 0 undecided 0 open 0 tests {ways} passed {ways}"
+        yield f"sample {blocks}", "status 0", f"sample {blocks} {counts}\n"
+
+
 def all_rows():
     by_kind = read_by_hand()
     for words, _, _ in by_kind["range"]:
@@ -176,6 +191,7 @@ def all_rows():
     yield from range_rows(by_kind["range"])
     yield from product_rows(by_kind["product"])
     yield from orders_rows(by_kind["orders"])
+    yield from sample_rows()
 
 
 # ---- all of it

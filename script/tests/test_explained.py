@@ -131,7 +131,6 @@ TABLE = [
     ("explore --method B.abs(I)I A.class cut_flags.class", explained("refused 12 file F at N", "file 1 is cut_flags.class")),
     ("explore --init lazier --method A.f(II)I A.class", explained("refused 50", "word 2 is --init lazier")),
     ("diagrams --init lazier --method A.f(II)I A.class", explained("refused 50", "word 2 is --init lazier")),
-    ("sample 6", explained("refused 50", "word 0 is sample")),
     ("sample 65", explained("refused 94 word W", "word 1 is 65, sample takes 0 to 64")),
     (
         "explore --method A.f(II)I Lst.class",

@@ -15,5 +15,5 @@ mod slots;
 
 pub use kb_rows::Row;
 pub use kinds::LeafKind;
-pub use report::{Report, report_text};
+pub use report::{Report, report_text, write_kinds};
 pub use std::alloc::AllocError as NoMemory;

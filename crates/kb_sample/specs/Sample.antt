@@ -23,9 +23,12 @@ numbered_line front number = front ++ (decimal number ++ codes "\n")
 unfoldable pub loads_text : ℕ × ℕ → List ℕ
 loads_text pair = numbered_line (codes "iload ") pair.0 ++ numbered_line (codes "iload ") pair.1
 
+unfoldable pub increment_line : List ℕ
+increment_line = codes "iinc 4 1\n"
+
 -- 1 is added to the count, unless the first of both is not below the second
 unfoldable pub count_text : ℕ → List ℕ
-count_text block = numbered_line (codes "if_icmpge L") block ++ (codes "iinc 4 1\n" ++ numbered_line (codes ":L") block)
+count_text block = numbered_line (codes "if_icmpge L") block ++ (increment_line ++ numbered_line (codes ":L") block)
 
 -- the block of that number, from 0
 unfoldable pub block_text : ℕ → List ℕ

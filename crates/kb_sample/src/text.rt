@@ -1,6 +1,6 @@
 //! The sample's text is written.
 ghost use Rattle.std.specs.Prelude.{◌≡◌, ◌++◌, string_bytes, IfOk, OnOk};
-ghost use Rattle.kb_sample.specs.Sample.{block_text, blocks_text, count_text, end_text, head_text, loads_text, numbered_line, pair_of, sample_text};
+ghost use Rattle.kb_sample.specs.Sample.{block_text, blocks_text, count_text, end_text, head_text, increment_line, loads_text, numbered_line, pair_of, sample_text};
 
 use crate::NoMemory;
 use std::alloc::Global;
@@ -61,8 +61,15 @@ fn write_count(text: &mut String, block: u32) -> Result<(), NoMemory>
     ensures { OnOk result (string_bytes text.new ≡ string_bytes text.old ++ count_text block) }
 {
     write_numbered(text, "if_icmpge L", block)?;
-    text.push_str("iinc 4 1\n")?;
+    write_increment(text)?;
     write_numbered(text, ":L", block)
+}
+
+#[tactic(auto, unfolding(crate::specs::Sample::increment_line))]
+fn write_increment(text: &mut String) -> Result<(), NoMemory>
+    ensures { OnOk result (string_bytes text.new ≡ string_bytes text.old ++ increment_line) }
+{
+    text.push_str("iinc 4 1\n")
 }
 
 // A line that ends with a number.

@@ -127,7 +127,7 @@ paths_sound world job report built =
 
 -- ---- the tests of a report end as they state
 
-both_all : {A : Type 0} (P : A → Type 0) (xs ys : List A) → AllByRecursion P xs → AllByRecursion P ys → AllByRecursion P (xs ++ ys)
+pub both_all : {A : Type 0} (P : A → Type 0) (xs ys : List A) → AllByRecursion P xs → AllByRecursion P ys → AllByRecursion P (xs ++ ys)
 both_all P [] ys front back = back
 both_all P (x ∷ xs) ys front back = (front.0, both_all P xs ys front.1 back)
 

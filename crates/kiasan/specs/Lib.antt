@@ -4,6 +4,7 @@ pub mod Exploring
 pub mod Orders
 pub mod Reach
 pub mod Refusals
+pub mod Samples
 pub mod StatusNumber
 pub mod Tests
 pub mod Texts

@@ -7,7 +7,7 @@ use Rattle.kb_replay.specs.declared.checks.ReplayStop.{ReplayStop}
 use Rattle.kb_replay.specs.declared.checks.ReplayStop.TheVariants.{TestMethod, TestTypes, Reach, NoMemory}
 use Rattle.kb_replay.specs.declared.replays.Replayed.{Replayed}
 use Rattle.kb_replay.specs.declared.replays.Replayed.TheVariants.{Passes, Differs}
-use Rattle.kb_replay.specs.Replays.{StopsAt, run_in, stated}
+use Rattle.kb_replay.specs.Replays.{IsRunnable, StopsAt, run_in, stated}
 use Rattle.kb_test.specs.declared.test_case.Test.{Test}
 use Rattle.kiasan.specs.declared.refusals.Refusal.{Refusal}
 use Rattle.kiasan.specs.declared.refusals.Refusal.TheVariants.{NoTestMethod, IllTypedTest}
@@ -36,6 +36,10 @@ RefusesTests world tests refusal = (bad : BadTest) × StopsAt world tests bad ×
 -- The test ends as it says, where the machine runs that method.
 abbrev pub EndsAsStated : World → MethodId → Test → Type 0
 EndsAsStated world id test = run_in world id test ≡ stated test
+
+-- the machine may run it by that method, and it ends as it says
+abbrev pub RunsAsStated : World → MethodId → Test → Type 0
+RunsAsStated world id test = IsRunnable world test id × EndsAsStated world id test
 
 abbrev pub passes : Replayed → Bool
 passes Passes = true

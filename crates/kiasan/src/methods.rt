@@ -110,7 +110,7 @@ fn diagrams_answer(alloc: Global, world: &World, leaves: &[Path]) -> Result<Answ
 
 /// The report of a job.
 #[tactic(auto, using(crate::proofs::JobLaws::reach_stops))]
-fn explore_job(alloc: Global, world: &World, job: &Job) -> Result<Held<Report>, Stop>
+pub fn explore_job(alloc: Global, world: &World, job: &Job) -> Result<Held<Report>, Stop>
     requires { IsBuiltJob job.now }
     ensures { Gives ⊥ (TargetRefuses world.now job.now.target) (IsBuiltReport world.now job.now) result }
 {
@@ -119,7 +119,7 @@ fn explore_job(alloc: Global, world: &World, job: &Job) -> Result<Held<Report>, 
 }
 
 /// How the program ends where these paths were told.
-fn status_of(leaves: &[Path]) -> Status
+pub fn status_of(leaves: &[Path]) -> Status
     ensures { result ≡ status_of leaves.now }
 {
     let mut rest = leaves;
