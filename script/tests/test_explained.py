@@ -60,7 +60,7 @@ TABLE = [
         explained(
             "refused 91 word W",
             "word 0 is --version",
-            "commands: explore, tests, diagrams, replay, assemble, explain, targets, view, junit, build, --help",
+            "commands: explore, tests, diagrams, replay, assemble, sample, explain, targets, view, junit, build, --help",
         ),
     ),
     ("assemble Unfit.asm A.class", explained("refused 91 word W", "word 2 is A.class")),

@@ -12,7 +12,7 @@ from view.commands import WAYS_TO_CALL
 from view.wants import ENDINGS
 
 EXPLAINS = "explain: give the number of a refusal, a whole line `refused N ..`, or `status N`"
-NAMED = "explore, tests, diagrams, replay, assemble, explain, targets, build, view, junit"
+NAMED = "explore, tests, diagrams, replay, assemble, sample, explain, targets, build, view, junit"
 WITH_HELP = f"the commands with a page of help are {NAMED}"
 FAULTS = [
     (["--help", "x"], 2, ["--help stands alone"]),
