@@ -1,5 +1,5 @@
 -- How a sample is answered: its target has that text, its job is one that is built, and each of its tests passes.
-use Rattle.std.proofs.Common.{◌≡◌, ℕ, List, [], ◌∷◌, length, codes, Err, refl, sym, ◌∙◌, ap, subst, arith}
+use Rattle.std.proofs.Common.{◌≡◌, ℕ, ◌*◌, ◌<◌, ◌≤◌, List, [], ◌∷◌, length, codes, Err, refl, sym, ◌∙◌, ap, subst, arith}
 use Rattle.std.specs.List.{AllByRecursion}
 use Rattle.kb_class.specs.declared.ids.MethodId.{MethodId}
 use Rattle.kb_drive.specs.Covers.{CarriesInstance, EachPath, StatesRuns, input_carried}
@@ -26,7 +26,7 @@ use Rattle.kb_test.specs.declared.reading.TestRefusal.TheVariants as texts
 use Rattle.kb_test.specs.declared.test_case.Test.{Test}
 use Rattle.kb_test.specs.Refusals.{ReadsTests}
 use Rattle.kb_words.specs.declared.orders.Job.{Job}
-use Rattle.kb_words.specs.Orders.{IsJob}
+use Rattle.kb_words.specs.Orders.{AreBounds, IsJob, default_bounds}
 use Rattle.kb_world.specs.Reach.{IsAccepted}
 use Rattle.kiasan.specs.declared.refusals.Stop.{Stop}
 use Rattle.kiasan.specs.declared.refusals.Stop.TheVariants.{Refused, ReadFault, NoMemory}
@@ -42,42 +42,54 @@ use Rattle.kiasan.proofs.OneReply.{tests_apart}
 -- ---- what is explored
 
 is_int : IsType Escaped Int
-is_int = record { base = tt; dims = omega arith }
+is_int = let none : 0 ≤ 255 = omega arith in record { base = tt; dims = none }
+
+not_empty : (byte : ℕ) (bytes : List ℕ) → byte ∷ bytes ≡ [] → ⊥
+not_empty byte bytes e = cc
 
 target_is : IsTarget sample_target
-target_is = record {
-  class = ((λ e. cc), (omega arith, (omega arith, (omega arith, (omega arith, (omega arith, (omega arith, tt)))))));
-  name = (omega arith, (omega arith, (omega arith, tt)));
-  kind = record { params = (is_int, (is_int, (is_int, (is_int, tt)))); result = is_int };
-}
+target_is =
+    let a : 97 < 256 = omega arith in
+    let e : 101 < 256 = omega arith in
+    let l : 108 < 256 = omega arith in
+    let m : 109 < 256 = omega arith in
+    let n : 110 < 256 = omega arith in
+    let p : 112 < 256 = omega arith in
+    let r : 114 < 256 = omega arith in
+    let s : 83 < 256 = omega arith in
+    let u : 117 < 256 = omega arith in
+    record {
+      class = (not_empty 83 (codes "ample"), (s, (a, (m, (p, (l, (e, tt)))))));
+      name = (r, (u, (n, tt)));
+      kind = record { params = (is_int, (is_int, (is_int, (is_int, tt)))); result = is_int };
+    }
 
 -- the text is that of the target
 pub sample_spelled : SpellsTarget sample_target (codes "Sample.run(IIII)I")
 sample_spelled = (target_is, refl)
 
+sample_bounds : AreBounds default_bounds
+sample_bounds =
+    let followed : 3 ≤ 16 = omega arith in
+    let alloc : 16 ≤ 1024 = omega arith in
+    let loops : 10 ≤ 1000 = omega arith in
+    let some_depth : 1 ≤ 16 = omega arith in
+    let depth : 16 ≤ 256 = omega arith in
+    let some_steps : 1 ≤ 2000 = omega arith in
+    let steps : 2000 ≤ 100000 = omega arith in
+    record { k = followed; array = followed; alloc = alloc; loops = loops; some_depth = some_depth; depth = depth; some_steps = some_steps; steps = steps }
+
 -- the job's numbers lie in their ranges
 pub sample_built : IsBuiltJob sample_job
-sample_built = record {
-  numbers = record {
-    target = target_is;
-    bounds = record {
-      k = omega arith;
-      array = omega arith;
-      alloc = omega arith;
-      loops = omega arith;
-      some_depth = omega arith;
-      depth = omega arith;
-      some_steps = omega arith;
-      steps = omega arith;
-    };
-    some_paths = omega arith;
-    paths = omega arith;
-    some_budget = omega arith;
-    budget = omega arith;
-    derived = omega arith;
-  };
-  lazy = refl;
-}
+sample_built =
+    let some_paths : 1 ≤ 100 = omega arith in
+    let paths : 100 ≤ 100000 = omega arith in
+    let some_budget : 1 ≤ 20000 = omega arith in
+    let budget : 20000 ≤ 100000 = omega arith in
+    let derived : 100 * 20000 ≤ 2000000 = omega arith in
+    let numbers : IsJob sample_job =
+    record { target = target_is; bounds = sample_bounds; some_paths = some_paths; paths = paths; some_budget = some_budget; budget = budget; derived = derived } in
+    record { numbers = numbers; lazy = refl }
 
 -- ---- tests that are written are read
 
