@@ -5,7 +5,7 @@
 #![tactic(auto)]
 
 mod ranges;
-mod tests_text;
+mod text;
 
 pub use std::alloc::AllocError as NoMemory;
-pub use tests_text::tests_text;
+pub use text::tests_text;

@@ -3,7 +3,7 @@ use Rattle.kb_class.specs.declared.ids.MethodId.{MethodId}
 use Rattle.kb_drive.specs.Covers.{EachPath}
 use Rattle.kb_report_tests.specs.Tests.{IsCarried, literals_in, tests_of}
 use Rattle.kb_report_tests.proofs.TestTexts.{IsBehind, tests_on}
-use Rattle.kb_report_tests.proofs.tests_text.tests_text.Given as goal
+use Rattle.kb_report_tests.proofs.text.tests_text.Given as goal
 
 abbrev pub invariant-loop-rest : goal.invariant-loop-rest
 invariant-loop-rest l =

@@ -1,7 +1,7 @@
 use Rattle.std.proofs.Common.{arith, rules}
 use Rattle.kb_report_tests.specs.Tests.{IsCarried, literals_in, tests_of}
 use Rattle.kb_report_tests.proofs.TestTexts.{none_behind, all_behind, first_path_more, first_holds, others_hold}
-use Rattle.kb_report_tests.proofs.tests_text.tests_text.Goals as goal
+use Rattle.kb_report_tests.proofs.text.tests_text.Goals as goal
 
 pub loop-rest-init : goal.loop-rest-init
 loop-rest-init c =

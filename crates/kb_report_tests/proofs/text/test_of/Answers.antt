@@ -1,7 +1,7 @@
 use Rattle.std.proofs.Common.{refl, sym, ◌∙◌}
 use Rattle.std.proofs.lemmas.Option.{none-some}
 use Rattle.kb_report_tests.proofs.TestLaws.{carried_all, carried_places, parts_at, test_is}
-use Rattle.kb_report_tests.proofs.tests_text.test_of.Goals as goal
+use Rattle.kb_report_tests.proofs.text.test_of.Goals as goal
 
 pub unreachable-requires : goal.unreachable-requires
 unreachable-requires c =
