@@ -35,7 +35,7 @@ FORMULAS = part(r"kb_(?:blast|circuit)::", r"kb_(?:blast|circuit)\+\+\w+|kb_chai
 SOLVING = part(r"kb_(?:sat|eliminate)::", r"kb_(?:sat|eliminate)\+\+\w+|kb_chain\+\+log")
 # the path of a state with its input
 PATHS = part(r"kb_drive::leaf::|kb_frames::(?:path::|state::SymState::path$)|kb_input::", r"kb_picture\+\+path|kb_heap\+\+heap")
-WRITING = part(r"kb_report::|kiasan::reports::", r"kb_report\+\+\w+")
+WRITING = part(r"kb_(?:report|path_words|diagram)::|kiasan::reports::", r"kb_(?:report|path_words|diagram)\+\+\w+")
 
 # calls of functions of no part are handed on so often at most, and no longer where nothing changes by more than this
 ROUNDS, LEAST = 100, 1e-9

@@ -16,6 +16,10 @@ COMMANDS = {
         (0, 1, 2, 3, 4, 5, 6, 7, 8, 70, 71),
         "./kiasan tests --k 2 --method 'List.reverse(LList;)LList;' examples/List.class > list.tests",
     ),
+    "diagrams": (
+        (0, 1, 2, 3, 4, 5, 6, 7, 8, 70, 71),
+        "./kiasan diagrams --k 1 --method 'List.reverse(LList;)LList;' examples/List.class",
+    ),
     "replay": (
         (0, 2, 3, 4, 5, 6, 7, 8, 9, 10, 70, 71),
         "./kiasan tests --method 'A.f(II)I' examples/A.class | ./kiasan replay --tests /dev/stdin examples/A.class",
@@ -38,7 +42,7 @@ COMMANDS = {
 # How the page begins what it says of some commands alone.
 OF_COMMANDS = re.compile("(of|for) `")
 # Commands that the program knows and that are not built.
-LATER = ("diagrams", "sample")
+LATER = ("sample",)
 
 
 def answer(signals, program, words):

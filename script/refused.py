@@ -18,13 +18,12 @@ from .names import (
 )
 from .remarks import beside
 from .say import MOST_NAMES
+from .words import EXPLORING
 from .world import PLATFORM
 
 MOST_BYTES = 200
 # The types of parameters and results that are left out, by their descriptors.
 LEFT_OUT = {"B": "byte", "C": "char", "S": "short", "J": "long", "F": "float", "D": "double"}
-# The commands that explore and are built.
-BUILT = ("explore", "tests")
 
 
 def lines(call, row, line):
@@ -243,7 +242,7 @@ class Parts:
 
     def _in_the_way(self):
         """The first thing that is not explored today. This goes where everything is."""
-        if self.order.command not in BUILT:
+        if self.order.command not in EXPLORING:
             return [f"word 0 is {self.order.command}"]
         if self.order.value("--init") == "lazier":
             return [f"word {self.order.values['--init']} is --init lazier"]

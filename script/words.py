@@ -6,7 +6,7 @@ from os.path import dirname, join
 from .names import read_target
 
 HERE = dirname(__file__)
-# The commands that explore a method, those that come later among them.
+# The commands that explore a method.
 EXPLORING = ("explore", "tests", "diagrams")
 MOST_CONFLICTS = 2_000_000
 # What stands in front of the lines on a command, behind its words.

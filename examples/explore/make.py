@@ -1,12 +1,12 @@
 #!/usr/bin/env python3
 """Writes the class files, the tests and the `stdout` of crates/kiasan_rows for explorations from unknown heaps, and judges
-what stands there of each `explore` and each `tests` of the table of rows.
+what stands there of each `explore`, each `tests` and each `diagrams` of the table of rows.
 
-Which report or which tests a row writes is what model.py says, which shares nothing with the crates. It leaves open which
-values of ints a solver finds, and by which log it leaves conditions undecided: those are taken from `stdout`, and values must
-meet the conditions of their path, and a log must be fresh. The ends of all paths but the ill-typed ones are those of a Java
-virtual machine, which runs their inputs (examples/replay/Written.java); the files of tests that the table replays are what it
-wrote.
+Which report, which tests or which diagrams a row writes is what model.py says, which shares nothing with the crates. It leaves
+open which values of ints a solver finds, and by which log it leaves conditions undecided: those are taken from `stdout`, and
+values must meet the conditions of their path, and a log must be fresh. The ends of all paths but the ill-typed ones are those
+of a Java virtual machine, which runs their inputs (examples/replay/Written.java); the files of tests that the table replays are
+what it wrote.
 
 With --program FILE the whole of `stdout` is what that program writes; but only what is judged may change. Without it, a row
 that `stdout` lacks is written with values of the model's own.
@@ -82,8 +82,10 @@ def of_model(words):
         explorer, leaves = explored(DATA, words.split(" "))
     except NotExplored:
         return ["refused 50"], "status 5"
-    assert all(leaf.kind != "undecided" for leaf in leaves), f"{words}: a log is the program's own"
     status = status_of(leaves)
+    if command == "diagrams":
+        return [line for leaf in leaves for line in leaf.diagram()], status
+    assert all(leaf.kind != "undecided" for leaf in leaves), f"{words}: a log is the program's own"
     if command == "tests":
         return [line for leaf in leaves if leaf.kind == "ended" for line in leaf.test(leaf.state.values)], status
     lines = report_head(explorer.method.target, explorer.bounds)
@@ -95,7 +97,7 @@ def of_model(words):
 
 
 def files_of(words):
-    """The class files of a row of `explore` or `tests`."""
+    """The class files of a row of `explore`, `tests` or `diagrams`."""
     return re.sub(r"^\w+ (--\S+ \S+ )*", "", words)
 
 

@@ -344,7 +344,7 @@ class Explorer:
 
 
 def explored(folder, words):
-    """The explorer and the paths of the words of `explore` or `tests`, whose class files lie in the folder."""
+    """The explorer and the paths of the words of `explore`, `tests` or `diagrams`, whose class files lie in the folder."""
     options, at = {}, 1
     while words[at].startswith("--"):
         options[words[at][2:]] = words[at + 1]

@@ -31,7 +31,7 @@ def first_difference(some, others):
 def is_judged(words, lines, status):
     """Whether the row is an exploration that was not refused, or refused since its method is none that is explored."""
     is_refused = lines and lines[0].startswith("refused") and lines[0] != "refused 50"
-    return words.split(" ")[0] in ("explore", "tests") and status != "status 6" and not is_refused
+    return words.split(" ")[0] in ("explore", "tests", "diagrams") and status != "status 6" and not is_refused
 
 
 def judge(folder, words, lines, status):
@@ -42,6 +42,10 @@ def judge(folder, words, lines, status):
         explorer, leaves = explored(folder, words.split(" "))
     except NotExplored:
         assert (lines, status) == (["refused 50"], "status 5"), words
+        return []
+    if words.startswith("diagrams "):
+        own = [line for leaf in leaves for line in leaf.diagram()]
+        assert (own, status_of(leaves)) == (lines, status), f"{words}: {first_difference(own, lines)}"
         return []
     is_report = words.startswith("explore ")
     listed = [leaf for leaf in leaves if is_report or leaf.kind == "ended"]

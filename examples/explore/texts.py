@@ -1,4 +1,4 @@
-"""The texts of paths: the blocks of a report, the inputs that paths carry, and their tests, after docs/USING.md."""
+"""The texts of paths: the blocks of a report, the inputs that they carry, their tests, and diagrams, after docs/USING.md."""
 
 import re
 from dataclasses import dataclass
@@ -64,7 +64,7 @@ class Leaf:
     def block(self, found):
         """The lines of a report, where the variables of the input have these values; of an undecided path, with this log."""
         state, pool, world, order = self.state, self.explorer.pool, self.explorer.world, self.order()
-        lines = [f"path {'.'.join(map(str, self.decisions)) or '-'}"]
+        lines = [f"path {self.decisions_text()}"]
         lines += [f"see {self.slot_text(slot)} {shown}" for slot, _, shown in state.seen]
         for number, (name, length, slot) in enumerate(state.objects):
             size = {None: "", "above": f" above {self.explorer.bounds['array']}"}.get(length, f" length {length}")
@@ -73,16 +73,25 @@ class Leaf:
             op, *operands = pool.nodes[term]
             lines.append(" ".join([f"let t{number}", op, *(self.operand(operand, order) for operand in operands)]))
         lines += [f"when {'' if truth else 'not '}t{order[term]}" for term, truth in state.when]
-        if self.kind == "open":
-            return lines + ["open"]
-        if self.kind == "undecided":
-            return lines + [f"undecided {self.explorer.bounds['budget']}", *found]
-        lines.append(self.ending_text(lambda value: self.out_text(value, order)))
+        lines.append(self.leaf_line(order))
+        if self.kind in ("open", "undecided"):
+            return lines + (found if self.kind == "undecided" else [])
         if self.kind == "ended":
             written = [((number, place), value) for number, place, value in self.written()]
             lines += [f"set {self.slot_text(slot)} {self.out_text(value, order)}" for slot, value in written]
             lines += [f"new n{number} {type_text(name)}" for number, (name, _) in enumerate(state.made)]
         return lines + self.input_lines(found)
+
+    def decisions_text(self):
+        return ".".join(map(str, self.decisions)) or "-"
+
+    def leaf_line(self, order):
+        """The first line of the leaf."""
+        if self.kind == "open":
+            return "open"
+        if self.kind == "undecided":
+            return f"undecided {self.explorer.bounds['budget']}"
+        return self.ending_text(lambda value: self.out_text(value, order))
 
     def slot_text(self, slot):
         if slot[0] == "a":
@@ -159,6 +168,31 @@ class Leaf:
         lines = [f"test {explorer.method.target}", f"bounds {names}", *self.input_lines(values), self.ending_text(told)]
         lines += [" ".join([f"out i{number}", *slots]) for number, (_, slots) in enumerate(objects)]
         return lines + [f"new n{number} {type_text(name)}" for number, (name, _) in enumerate(self.state.made)] + ["end"]
+
+    # -- the diagram
+
+    def diagram(self):
+        """The lines of the path's diagram."""
+        order = self.order()
+        before = {slot: shown for slot, _, shown in self.state.seen}
+        lines = [f"diagram {self.decisions_text()}", "before", *self.drawn(before)]
+        if self.kind == "ended":
+            after = before | {(number, place): self.out_text(value, order) for number, place, value in self.written()}
+            made = [f"n{number} {type_text(name)}" for number, (name, _) in enumerate(self.state.made)]
+            lines += ["after", *self.drawn(after), *made]
+        return lines + [self.leaf_line(order)]
+
+    def drawn(self, held):
+        """A line for each object of the picture, where the slots hold that."""
+        for number, (name, length, _) in enumerate(self.state.objects):
+            cells = [f"{slot}={held.get((number, place), '?')}" for place, slot in enumerate(self.slot_names(name, length))]
+            yield " ".join([f"o{number} {type_text(name)}", *cells])
+
+    def slot_names(self, name, length):
+        """The names of fields, or the indices of an array whose length is known."""
+        if length is None:
+            return [escaped(field) for _, field, _ in self.explorer.world.slots(name)]
+        return [] if length == "above" else range(length)
 
     # -- what a solver has chosen
 

@@ -202,7 +202,8 @@ def test_what_starts_a_build():
         stand_in.chmod(0o755)
         env = without_program(PATH=path)
         none = ["", "--help", "-h", "explore --help", "targets --help", "explain 47", "explain status 6", "explain"]
-        none += ["diagrams --help", "none --help", "view", "view none.report", "view --help", "junit none.report none.class"]
+        none += ["diagrams --help", "sample --help", "none --help"]
+        none += ["view", "view none.report", "view --help", "junit none.report none.class"]
         for words in [*none, "targets examples/A.class", "targets none.class", "build x", "--help x"]:
             ran = call(*words.split(), script=top / "kiasan", cwd=top, env=env)
             same((told.exists(), ran.status in (0, 2, 6)), (False, True), f"a build by {words!r}")

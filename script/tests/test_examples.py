@@ -18,7 +18,7 @@ EXPLAINS = "README.md"
 # among what they write.
 WHOLE = re.compile(r"writes\s*$")
 SAID = re.compile(r"(says|says on standard error which class file it takes besides,)\s*$")
-AMONG = re.compile(r"(among them is|lines of the first two:)\s*$")
+AMONG = re.compile(r"(among them is|lines of the first two:|the one that returns is)\s*$")
 # What sentences tell of the last command: how many paths, lines that it writes, its last line.
 PATHS = re.compile(r"lists (\w+) paths")
 LINES = re.compile(r"\s*writes (`[^.]*?)\. ")

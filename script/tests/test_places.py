@@ -228,13 +228,13 @@ def test_archives_in_a_folder_are_not_looked_into():
 
 
 def test_words_of_diagrams():
-    """The command is not built, but its words are those of explore."""
+    """The words are those of explore, and so is the number of paths."""
     with folder() as path:
         write_list(path / "all")
         ran = call("diagrams", "--method", SIZE, "all", cwd=path)
-        same((ran.status, ran.out), (5, b"refused 50\n"), "diagrams")
-        of_all = "of all (4 class files): p/List, p/List$Node"
-        same(ran.said, [of_all, *explained("refused 50", "word 0 is diagrams")], "diagrams")
+        drawn = [line for line in ran.out.decode().splitlines() if line.startswith("diagram ")]
+        same((ran.status, len(drawn)), (0, 3), "diagrams")
+        same(ran.said, ["of all (4 class files): p/List, p/List$Node"], "diagrams")
 
 
 def test_a_file_of_a_folder_that_cannot_be_read():

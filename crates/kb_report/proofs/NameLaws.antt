@@ -17,7 +17,7 @@ use Rattle.kb_link.proofs.Claiming.{taken_next}
 use Rattle.kb_link.proofs.Places.{zip_pushed}
 use Rattle.kb_link.specs.World.{World}
 use Rattle.kb_link.specs.declared.slots.FieldSlot.{FieldSlot}
-use Rattle.kb_report.specs.Words.{fields_named, has_namesake}
+use Rattle.kb_report.specs.Slots.{fields_named, has_namesake}
 use Rattle.kb_report.specs.Tables.{has_name, AreNamesOfMore, AreShared}
 
 or_none : (a b : Bool) → b ≡ false → a ≡ (a || b)

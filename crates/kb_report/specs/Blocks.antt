@@ -1,18 +1,17 @@
 -- The block of a path, line by line: its decisions, what it sees, its locations and objects, its terms and conditions, and its
 -- leaf. A line has no line feed in it; the text of lines puts one behind each.
-use Rattle.std.specs.Prelude.{ℕ, ◌+◌, Bool, cond, List, [], ◌∷◌, ◌++◌, codes, map, length, Some, None}
-use Rattle.std.specs.List.{flat_map}
+use Rattle.std.specs.Prelude.{ℕ, Bool, cond, List, [], ◌∷◌, ◌++◌, codes, map}
 use Rattle.std.specs.Fmt.{decimal}
 use Rattle.kb_heap.specs.declared.heap.Value.{Value}
 use Rattle.kb_heap.specs.declared.heap.Object.{Object}
 use Rattle.kb_heap.specs.declared.heap.Input.{Input}
 use Rattle.kb_link.specs.World.{World}
 use Rattle.kb_log_text.specs.Lines.{learn_lines}
+use Rattle.kb_path_words.specs.Words.{exact_text, seen_text, standing_text, length_text, term_text, out_text, value_text}
+use Rattle.kb_path_words.specs.Lines.{numbered_lines, spaced, decisions_text, leaf_line}
 use Rattle.kb_terms.specs.declared.listing.Term.{Term}
 use Rattle.kb_picture.specs.declared.path.Write.{Write}
 use Rattle.kb_picture.specs.declared.path.Made.{Made}
-use Rattle.kb_picture.specs.declared.path.SymEnding.{SymEnding}
-use Rattle.kb_picture.specs.declared.path.SymEnding.TheVariants.{Returned, Threw, IllTyped}
 use Rattle.kb_picture.specs.declared.path.Leaf.{Leaf}
 use Rattle.kb_picture.specs.declared.path.Leaf.TheVariants.{Ended as EndedLeaf, Cut, Undecided, Open}
 use Rattle.kb_picture.specs.declared.path.Path.{Path}
@@ -21,26 +20,9 @@ use Rattle.kb_picture.specs.declared.picture.PicLoc.{PicLoc}
 use Rattle.kb_picture.specs.declared.picture.PicObject.{PicObject}
 use Rattle.kb_picture.specs.declared.picture.Picture.{Picture}
 use Rattle.kb_picture.specs.declared.picture.Seen.{Seen}
-use Rattle.kb_report.specs.Words.{exact_text, place_text, bound_name, slot_text, seen_text, standing_text, length_text, term_text, out_text, value_text}
-
--- a line for each of a list, with its number, from n on
-abbrev pub numbered_lines : {A : Type 0} → (ℕ → A → List ℕ) → ℕ → List A → List (List ℕ)
-numbered_lines line n [] = []
-numbered_lines line n (x ∷ xs) = line n x ∷ numbered_lines line (n + 1) xs
-
--- the words, each with a space before it
-abbrev pub spaced : {A : Type 0} → (A → List ℕ) → List A → List ℕ
-spaced word xs = flat_map (λ x. codes " " ++ word x) xs
+use Rattle.kb_report.specs.Slots.{slot_text}
 
 -- ---- the path and its picture
-
-unfoldable pub further_decisions : List ℕ → List ℕ
-further_decisions numbers = flat_map (λ number. codes "." ++ decimal number) numbers
-
--- the decisions, joined by dots; `-` where there are none
-unfoldable pub decisions_text : List ℕ → List ℕ
-decisions_text [] = codes "-"
-decisions_text (number ∷ numbers) = decimal number ++ further_decisions numbers
 
 unfoldable pub path_line : List ℕ → List ℕ
 path_line decisions = codes "path " ++ decisions_text decisions
@@ -69,12 +51,6 @@ when_line condition = codes "when " ++ (cond condition.1 [] (codes "not ") ++ (c
 
 -- ---- leaves
 
-unfoldable pub ending_line : SymEnding → List ℕ
-ending_line (Returned None) = codes "returns"
-ending_line (Returned (Some value)) = codes "returns " ++ out_text value
-ending_line (Threw value) = codes "throws " ++ out_text value
-ending_line (IllTyped place) = codes "illtyped " ++ place_text place
-
 unfoldable pub set_line : World → List PicObject → Write → List ℕ
 set_line world objects write = codes "set " ++ (slot_text world objects write.slot ++ (codes " " ++ out_text write.value))
 
@@ -90,13 +66,6 @@ in_line number object = codes "in i" ++ (decimal number ++ (codes " " ++ (exact_
 -- an input: its arguments, and its objects
 unfoldable pub input_lines : Input → List (List ℕ)
 input_lines input = map arg_line input.args ++ numbered_lines in_line 0 input.heap.objects
-
--- the first line of a leaf
-unfoldable pub leaf_line : Leaf → List ℕ
-leaf_line (EndedLeaf ended) = ending_line ended.ending
-leaf_line (Cut bound input) = codes "cut " ++ bound_name bound
-leaf_line (Undecided log) = codes "undecided " ++ decimal (length log.entries)
-leaf_line Open = codes "open"
 
 -- the lines behind it: what an ended path wrote and made, and its input; the input of one that is cut; the log of one that is undecided
 unfoldable pub further_lines : World → List PicObject → Leaf → List (List ℕ)

@@ -1,4 +1,4 @@
-pub mod Words
+pub mod Slots
 pub mod Blocks
 pub mod Report
 pub mod Tables

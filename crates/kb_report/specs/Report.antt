@@ -9,13 +9,13 @@ use Rattle.kb_link.specs.World.{World}
 use Rattle.kb_names.specs.Targets.{target_text}
 use Rattle.kb_names.specs.declared.types.Target.{Target}
 use Rattle.kb_picture.specs.declared.choice.Init.{Init}
+use Rattle.kb_picture.specs.declared.choice.Init.TheVariants.{Lazy, Lazier}
 use Rattle.kb_picture.specs.declared.path.Leaf.{Leaf}
 use Rattle.kb_picture.specs.declared.path.Leaf.TheVariants.{Ended as EndedLeaf, Cut, Undecided, Open}
 use Rattle.kb_picture.specs.declared.path.Path.{Path}
 use Rattle.kb_report.specs.declared.report.Report.{Report}
 use Rattle.kb_report.specs.declared.kinds.LeafKind.{LeafKind}
 use Rattle.kb_report.specs.declared.kinds.LeafKind.TheVariants.{Ended as EndedKind, Cut as CutKind, Undecided as UndecidedKind, Open as OpenKind}
-use Rattle.kb_report.specs.Words.{init_name}
 use Rattle.kb_report.specs.Blocks.{path_lines}
 
 -- ---- the head
@@ -35,6 +35,10 @@ bounds_text bounds = codes " k " ++ (decimal bounds.k ++ (codes " array " ++ (de
 
 unfoldable pub limits_text : ℕ → ℕ → List ℕ
 limits_text paths budget = codes " paths " ++ (decimal paths ++ (codes " budget " ++ decimal budget))
+
+unfoldable pub init_name : Init → List ℕ
+init_name Lazy = codes "lazy"
+init_name Lazier = codes "lazier"
 
 unfoldable pub settings_line : Init → Bounds → ℕ → ℕ → List ℕ
 settings_line init bounds paths budget = codes "init " ++ (init_name init ++ (bounds_text bounds ++ limits_text paths budget))

@@ -1,17 +1,20 @@
 //! The block of a path is written, but for its leaf.
 ghost use Rattle.std.specs.Prelude.{◌≡◌, ◌++◌, ◌∷◌, [], map, OnOk};
 ghost use Rattle.kb_grammar.specs.Lines.{lines_text};
-ghost use Rattle.kb_report.specs.Blocks.{numbered_lines, path_line, decisions_text, further_decisions, see_line, loc_line, obj_line, picture_lines, let_line, when_line, path_lines};
+ghost use Rattle.kb_path_words.specs.Lines.{numbered_lines};
+ghost use Rattle.kb_report.specs.Blocks.{path_line, see_line, loc_line, obj_line, picture_lines, let_line, when_line, path_lines};
 
 use crate::NoMemory;
 use crate::leaves::write_leaf;
 use crate::naming::NamedWorld;
-use crate::text::Text;
-use crate::words::{write_exact, write_length, write_seen, write_slot, write_standing, write_term};
+use crate::slots::write_slot;
+use kb_path_words::{
+    Text, write_decisions, write_exact, write_length, write_seen, write_standing, write_term,
+};
 use kb_picture::{Origin, Path, PicLoc, PicObject, Picture, Seen, Term};
 
 /// The block of a path.
-#[tactic(auto, using(crate::proofs::TextLaws::lines_joined), unfolding(crate::specs::Blocks::path_lines))]
+#[tactic(auto, using(kb_path_words::proofs::TextLaws::lines_joined), unfolding(crate::specs::Blocks::path_lines))]
 pub(crate) fn write_path(
     text: &mut Text,
     world: &NamedWorld<'_>,
@@ -35,31 +38,7 @@ fn write_path_line(text: &mut Text, decisions: &[u32]) -> Result<(), NoMemory>
     text.end_line()
 }
 
-#[tactic(auto, unfolding(crate::specs::Blocks::decisions_text))]
-fn write_decisions(text: &mut Text, decisions: &[u32]) -> Result<(), NoMemory>
-    ensures { OnOk result (text.new ≡ text.old ++ decisions_text decisions.now) }
-{
-    match decisions {
-        [] => text.put("-"),
-        [first, others @ ..] => {
-            text.number(*first)?;
-            write_further(text, others)
-        }
-    }
-}
-
-#[tactic(auto, unfolding(crate::specs::Blocks::further_decisions))]
-fn write_further(text: &mut Text, decisions: &[u32]) -> Result<(), NoMemory>
-    ensures { OnOk result (text.new ≡ text.old ++ further_decisions decisions.now) }
-{
-    for decision in decisions {
-        text.put(".")?;
-        text.number(*decision)?;
-    }
-    Ok(())
-}
-
-#[tactic(auto, using(crate::proofs::TextLaws::lines_joined), unfolding(crate::specs::Blocks::picture_lines))]
+#[tactic(auto, using(kb_path_words::proofs::TextLaws::lines_joined), unfolding(crate::specs::Blocks::picture_lines))]
 fn write_picture(text: &mut Text, world: &NamedWorld<'_>, picture: &Picture) -> Result<(), NoMemory>
     ensures { OnOk result (text.new ≡ text.old ++ lines_text (picture_lines world.now picture.now)) }
 {

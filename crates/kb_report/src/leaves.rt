@@ -1,18 +1,19 @@
 //! The leaf of a path is written.
 ghost use Rattle.std.specs.Prelude.{◌≡◌, ◌++◌, ◌∷◌, [], map, OnOk};
 ghost use Rattle.kb_grammar.specs.Lines.{lines_text};
-ghost use Rattle.kb_report.specs.Words.{out_text, value_text};
-ghost use Rattle.kb_report.specs.Blocks.{numbered_lines, spaced, ending_line, set_line, new_line, arg_line, in_line, input_lines, leaf_line, further_lines, leaf_lines};
+ghost use Rattle.kb_path_words.specs.Words.{out_text, value_text};
+ghost use Rattle.kb_path_words.specs.Lines.{numbered_lines, spaced};
+ghost use Rattle.kb_report.specs.Blocks.{set_line, new_line, arg_line, in_line, input_lines, further_lines, leaf_lines};
 
 use crate::NoMemory;
 use crate::naming::NamedWorld;
-use crate::text::Text;
-use crate::words::{bound_name, write_exact, write_out, write_place, write_slot, write_value};
+use crate::slots::write_slot;
 use kb_heap::{Input, Object, Value};
-use kb_picture::{Ended, Leaf, Made, Out, PicObject, SymEnding, Write};
+use kb_path_words::{Text, write_exact, write_leaf_line, write_out, write_value};
+use kb_picture::{Ended, Leaf, Made, Out, PicObject, Write};
 
 /// The lines of a leaf.
-#[tactic(auto, using(crate::proofs::TextLaws::lines_joined), unfolding(crate::specs::Blocks::leaf_lines))]
+#[tactic(auto, using(kb_path_words::proofs::TextLaws::lines_joined), unfolding(crate::specs::Blocks::leaf_lines))]
 pub(crate) fn write_leaf(
     text: &mut Text,
     world: &NamedWorld<'_>,
@@ -24,46 +25,6 @@ pub(crate) fn write_leaf(
     write_leaf_line(text, leaf)?;
     text.end_line()?;
     write_further_lines(text, world, objects, leaf)
-}
-
-/// The first line of a leaf.
-#[tactic(auto, unfolding(crate::specs::Blocks::leaf_line))]
-fn write_leaf_line(text: &mut Text, leaf: &Leaf) -> Result<(), NoMemory>
-    ensures { OnOk result (text.new ≡ text.old ++ leaf_line leaf.now) }
-{
-    match leaf {
-        Leaf::Ended(ended) => write_ending(text, &ended.ending),
-        Leaf::Cut(bound, _) => {
-            text.put("cut ")?;
-            text.put(bound_name(*bound))
-        }
-        Leaf::Undecided(log) => {
-            text.put("undecided ")?;
-            text.count(log.entries.as_slice().len())
-        }
-        Leaf::Open => text.put("open"),
-    }
-}
-
-#[tactic(auto, unfolding(crate::specs::Blocks::ending_line))]
-fn write_ending(text: &mut Text, ending: &SymEnding) -> Result<(), NoMemory>
-    ensures { OnOk result (text.new ≡ text.old ++ ending_line ending.now) }
-{
-    match ending {
-        SymEnding::Returned(None) => text.put("returns"),
-        SymEnding::Returned(Some(value)) => {
-            text.put("returns ")?;
-            write_out(text, value)
-        }
-        SymEnding::Threw(value) => {
-            text.put("throws ")?;
-            write_out(text, value)
-        }
-        SymEnding::IllTyped(place) => {
-            text.put("illtyped ")?;
-            write_place(text, place)
-        }
-    }
 }
 
 #[tactic(auto, unfolding(crate::specs::Blocks::further_lines))]
@@ -84,7 +45,7 @@ fn write_further_lines(
 }
 
 // What an ended path wrote and made, and its input.
-#[tactic(auto, using(crate::proofs::TextLaws::lines_joined))]
+#[tactic(auto, using(kb_path_words::proofs::TextLaws::lines_joined))]
 fn write_ended(
     text: &mut Text,
     world: &NamedWorld<'_>,
@@ -160,7 +121,7 @@ fn write_outs(text: &mut Text, outs: &[Out]) -> Result<(), NoMemory>
     Ok(())
 }
 
-#[tactic(auto, using(crate::proofs::TextLaws::lines_joined), unfolding(crate::specs::Blocks::input_lines))]
+#[tactic(auto, using(kb_path_words::proofs::TextLaws::lines_joined), unfolding(crate::specs::Blocks::input_lines))]
 fn write_input(text: &mut Text, input: &Input) -> Result<(), NoMemory>
     ensures { OnOk result (text.new ≡ text.old ++ lines_text (input_lines input.now)) }
 {

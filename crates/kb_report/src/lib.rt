@@ -1,7 +1,8 @@
 //! The text of a report.
 //!
-//! `specs/` has the definitions: how the parts of a line are written (`Words`), the lines of a path's block (`Blocks`), and the
-//! whole (`Report`); what the table of fields of one name keeps (`Tables`); and the ranges of a report's numbers (`Ranges`).
+//! `specs/` has the definitions: how slots are written (`Slots`), the lines of a path's block (`Blocks`), and the whole
+//! (`Report`); what the table of fields of one name keeps (`Tables`); and the ranges of a report's numbers (`Ranges`). The other
+//! words of a line are those of kb_path_words.
 #![tactic(auto)]
 
 mod blocks;
@@ -10,10 +11,10 @@ mod leaves;
 mod naming;
 mod ranges;
 mod report;
-mod text;
-mod words;
+mod slots;
 
 pub use kb_rows::Row;
 pub use kinds::LeafKind;
+pub use ranges::tell_report;
 pub use report::{Report, report_text};
 pub use std::alloc::AllocError as NoMemory;

@@ -1,7 +1,7 @@
 //! A world whose fields are told by their names.
 ghost use Rattle.std.specs.Prelude.{◌≡◌, ◌||◌, ◌&&◌, List, ℕ, not, IfOk, OnOk};
 ghost use Rattle.std.specs.Str.{bytes_eq};
-ghost use Rattle.kb_report.specs.Words.{has_namesake};
+ghost use Rattle.kb_report.specs.Slots.{has_namesake};
 ghost use Rattle.kb_report.specs.Tables.{has_name, AreNamesOfMore, AreShared};
 
 use crate::NoMemory;

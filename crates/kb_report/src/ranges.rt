@@ -325,7 +325,7 @@ fn tell_bounds(bounds: &Bounds)
 }
 
 /// Each number of a report is in the range of its type. It does nothing else.
-pub(crate) fn tell_report(report: &Report)
+pub fn tell_report(report: &Report)
     ensures { ReportFits report.now }
 {
     tell_bounds(&report.bounds);

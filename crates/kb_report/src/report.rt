@@ -3,20 +3,18 @@ ghost use Rattle.std.specs.Prelude.{◌≡◌, ◌++◌, ◌∷◌, [], OnOk, If
 ghost use Rattle.std.specs.Fmt.{decimal};
 ghost use Rattle.std.specs.List.{flat_map};
 ghost use Rattle.kb_grammar.specs.Lines.{lines_text};
-ghost use Rattle.kb_report.specs.Words.{init_name};
 ghost use Rattle.kb_report.specs.Blocks.{path_lines};
 ghost use Rattle.kb_report.specs.Ranges.{ReportFits};
-ghost use Rattle.kb_report.specs.Report.{count_of, run_bounds_text, bounds_text, limits_text, settings_line, title_line, target_line, head_lines, kinds_text, total_line, report_text};
+ghost use Rattle.kb_report.specs.Report.{count_of, run_bounds_text, bounds_text, limits_text, init_name, settings_line, title_line, target_line, head_lines, kinds_text, total_line, report_text};
 
 use crate::NoMemory;
 use crate::blocks::write_path;
 use crate::kinds::{LeafKind, count_of};
 use crate::naming::NamedWorld;
 use crate::ranges::tell_report;
-use crate::text::Text;
-use crate::words::write_numbered;
 use kb_heap::{Bounds, RunBounds};
 use kb_names::Target;
+use kb_path_words::{Text, write_numbered};
 use kb_picture::{Init, Path};
 use kb_rows::Row;
 use kb_world::World;
@@ -37,7 +35,7 @@ pub struct Report {
 /// The text of a report on a method of the world. Refused only where memory runs out. What its paths name need not be there: a
 /// field that no class has is left out. It also tells that the report's numbers are in the ranges of their types, which is
 /// what the law of kb_report_laws asks of them.
-#[tactic(auto, using(crate::proofs::TextLaws::lines_joined), unfolding(crate::specs::Report::report_text, crate::specs::Report::report_lines))]
+#[tactic(auto, using(kb_path_words::proofs::TextLaws::lines_joined), unfolding(crate::specs::Report::report_text, crate::specs::Report::report_lines))]
 pub fn report_text(alloc: Global, world: &World, report: &Report) -> Result<Vec<u8>, NoMemory>
     ensures text { IfOk result (λ text. text.items ≡ report_text world.now report.now) }
     ensures fits { ReportFits report.now }
@@ -104,7 +102,7 @@ fn write_limits(text: &mut Text, paths: u32, budget: u32) -> Result<(), NoMemory
     write_numbered(text, " budget ", budget)
 }
 
-#[tactic(auto, unfolding(crate::specs::Words::init_name))]
+#[tactic(auto, unfolding(crate::specs::Report::init_name))]
 fn init_name(init: Init) -> &'static str
     ensures { result.now ≡ init_name init }
 {
@@ -124,7 +122,7 @@ fn write_run_bounds(text: &mut Text, run: &RunBounds) -> Result<(), NoMemory>
     write_numbered(text, " steps ", run.steps)
 }
 
-#[tactic(auto, using(crate::proofs::TextLaws::lines_joined))]
+#[tactic(auto, using(kb_path_words::proofs::TextLaws::lines_joined))]
 fn write_paths(text: &mut Text, world: &NamedWorld<'_>, paths: &[Path]) -> Result<(), NoMemory>
     ensures { OnOk result (text.new ≡ text.old ++ lines_text (flat_map (path_lines world.now) paths.now)) }
 {

@@ -31,8 +31,10 @@ use Rattle.kb_picture.specs.declared.picture.Origin.{Origin}
 use Rattle.kb_picture.specs.declared.picture.PicLoc.{PicLoc}
 use Rattle.kb_picture.specs.declared.picture.PicObject.{PicObject}
 use Rattle.kb_picture.specs.declared.picture.Seen.{Seen}
-use Rattle.kb_report.specs.Words.{exact_text, place_text, bound_name, slot_text, seen_text, standing_text, length_text, term_text, operand_text, second_text, out_text, value_text}
-use Rattle.kb_report.specs.Blocks.{spaced, further_decisions, decisions_text, path_line, see_line, loc_line, obj_line, let_line, when_line, ending_line, set_line, new_line, arg_line, in_line}
+use Rattle.kb_path_words.specs.Words.{exact_text, place_text, bound_name, seen_text, standing_text, length_text, term_text, operand_text, second_text, out_text, value_text}
+use Rattle.kb_report.specs.Slots.{slot_text}
+use Rattle.kb_path_words.specs.Lines.{spaced, further_decisions, decisions_text, ending_line}
+use Rattle.kb_report.specs.Blocks.{path_line, see_line, loc_line, obj_line, let_line, when_line, set_line, new_line, arg_line, in_line}
 use Rattle.kb_terms.specs.Op.{op_name}
 use Rattle.kb_report.specs.Ranges.{IsSmall, IsCount, SlotFits, IsLocInRange, LengthFits, ObjectFits, IsTermInRange, SecondFits, ConditionFits, WriteFits, OutFits, ValueFits, MadeFits, InputObjectFits, EndingFits, PlaceFits}
 use Rattle.kb_report_laws.proofs.Lacking.{digits_lack, count_lacks, target_lacks, lacks_is, space, line_feed, dot}

@@ -26,7 +26,8 @@ use Rattle.kb_picture.specs.declared.picture.Seen.{Seen}
 use Rattle.kb_picture.specs.declared.picture.Seen.TheVariants as seens
 use Rattle.kb_picture.specs.declared.picture.Standing.{Standing}
 use Rattle.kb_picture.specs.declared.picture.Standing.TheVariants as standings
-use Rattle.kb_report.specs.Words.{bound_name, init_name, seen_text, standing_text, operand_text, out_text, value_text}
+use Rattle.kb_path_words.specs.Words.{bound_name, seen_text, standing_text, operand_text, out_text, value_text}
+use Rattle.kb_report.specs.Report.{init_name}
 use Rattle.kb_report.specs.Ranges.{IsSeenInRange, IsStandingInRange, IsOperandInRange, OutFits, ValueFits}
 
 -- what is read of one text is one thing

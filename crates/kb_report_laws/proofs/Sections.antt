@@ -5,7 +5,7 @@ use Rattle.std.specs.Prelude.{slice_index}
 use Rattle.std.specs.List.{AllByRecursion}
 use Rattle.kb_grammar.specs.Lines.{Lacks, AreLines}
 use Rattle.kb_grammar.proofs.WordLaws.{Lacks-++, same_cut, not_lacking}
-use Rattle.kb_report.specs.Blocks.{numbered_lines, spaced}
+use Rattle.kb_path_words.specs.Lines.{numbered_lines, spaced}
 
 -- two numbers that are not one
 pub unlike : (x y : ℕ) → x ≢ y → x ≡ y → ⊥

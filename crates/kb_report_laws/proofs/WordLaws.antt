@@ -45,7 +45,8 @@ use Rattle.kb_picture.specs.declared.picture.Seen.{Seen}
 use Rattle.kb_picture.specs.declared.picture.Seen.TheVariants as seens
 use Rattle.kb_picture.specs.declared.picture.Standing.{Standing}
 use Rattle.kb_picture.specs.declared.picture.Standing.TheVariants as standings
-use Rattle.kb_report.specs.Words.{exact_text, place_text, fields_named, has_namesake, kind_text, field_text, field_of_type, field_of, slot_text, seen_text, standing_text, operand_text, second_text, term_text, out_text, value_text}
+use Rattle.kb_path_words.specs.Words.{exact_text, place_text, seen_text, standing_text, operand_text, second_text, term_text, out_text, value_text}
+use Rattle.kb_report.specs.Slots.{fields_named, has_namesake, kind_text, field_text, field_of_type, field_of, slot_text}
 use Rattle.kb_report.specs.Ranges.{IsSmall, OriginFits, IsSeenInRange, IsStandingInRange, IsOperandInRange, SecondFits, OutFits, ValueFits, PlaceFits, IsTermInRange}
 use Rattle.kb_report_laws.proofs.Lacking.{IsGap, digits_lack, signed_lacks, name_lacks, gap_in_name, type_lacks, target_lacks, above, are_high, high_lacks, space, dot, colon, bracket, bracket_end}
 use Rattle.kb_report_laws.proofs.NameLaws.{same_name, same_type, same_target, not_bracket}

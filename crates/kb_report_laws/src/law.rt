@@ -3,6 +3,7 @@ ghost use Rattle.std.specs.Prelude.{◌≡◌, IfOk};
 ghost use Rattle.std.specs.List.{AllByRecursion};
 ghost use Rattle.kb_link.specs.World.{World as PlainWorld};
 ghost use Rattle.kb_link.specs.Links.{IsLinked};
+ghost use Rattle.kb_report.specs.Ranges.{ReportFits};
 ghost use Rattle.kb_report.specs.Report.{report_text};
 ghost use Rattle.kb_report.specs.declared.report.Report.{Report as PlainReport};
 ghost use Rattle.kb_report_laws.specs.Example.{ExampleIsReport};
@@ -22,11 +23,13 @@ pub fn example_is_a_report()
     ensures { ExampleIsReport }
 {}
 
-/// The text of a report whose paths are well-formed, which no other report has. Refused only where memory runs out.
+/// The text of a report whose paths are well-formed, which no other report has. Refused only where memory runs out. It also tells
+/// that the report's numbers are in the ranges of their types.
 pub fn own_report_text(alloc: Global, world: &World, report: &Report) -> Result<Vec<u8>, NoMemory>
     requires linked { IsLinked world.now }
     requires paths { AllByRecursion (IsSound world.now) report.now.leaves }
     ensures text { IfOk result (λ text. text.items ≡ report_text world.now report.now) }
+    ensures fits { ReportFits report.now }
     ensures own { IfOk result (λ text. (other : PlainReport) → IsReport world.now other → report_text world.now other ≡ text.items → other ≡ report.now) }
 {
     reports_have_own_texts();

@@ -1,3 +1,4 @@
+pub mod FaultLaws
 pub mod NumberLaws
 pub mod OneOrder
 pub mod OrderLaws

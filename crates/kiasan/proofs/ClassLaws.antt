@@ -24,7 +24,7 @@ use Rattle.kb_link.specs.declared.linking.LinkRefusal.{LinkRefusal}
 use Rattle.kb_link.specs.declared.linking.LinkRefusal.TheVariants as links
 use Rattle.kb_link.specs.Links.{RefusesLink}
 use Rattle.kb_test_laws.specs.Texts.{IsOfBytes}
-use Rattle.kiasan.specs.declared.refusals.Refusal.{Refusal}
+use Rattle.kb_refusals.specs.declared.refusal.Refusal.{Refusal}
 use Rattle.kiasan.specs.declared.refusals.Stop.{Stop}
 use Rattle.kiasan.specs.Answers.{ClassRefuses, FileRefuses, RefusesClasses, WorldRefuses}
 use Rattle.kiasan.specs.CodeFaults.{CodeRefuses, MethodsRefuse, fault_of, methods_fault}

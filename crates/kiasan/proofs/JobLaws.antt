@@ -1,5 +1,5 @@
 -- How a job is answered.
-use Rattle.std.proofs.Common.{◌≡◌, List, [], ◌∷◌, ◌++◌, ℕ, true, false, Err, refl, sym, ◌∙◌, ap, subst, inl, inr, arith}
+use Rattle.std.proofs.Common.{◌≡◌, List, [], ◌∷◌, ◌++◌, ℕ, suc, true, false, Some, slice_get, Err, refl, sym, ◌∙◌, ap, subst, inl, inr, arith}
 use Rattle.std.specs.List.{AllByRecursion}
 use Rattle.kb_class.specs.declared.ids.MethodId.{MethodId}
 use Rattle.kb_drive.specs.Compared.{ComparesAsRuns}
@@ -19,7 +19,9 @@ use Rattle.kb_picture.specs.declared.choice.Init.TheVariants.{Lazy}
 use Rattle.kb_picture.specs.declared.path.Leaf.{Leaf}
 use Rattle.kb_picture.specs.declared.path.Leaf.TheVariants.{Ended as EndedLeaf, Cut, Undecided, Open}
 use Rattle.kb_picture.specs.declared.path.Path.{Path}
+use Rattle.kb_report.specs.Ranges.{ReportFits}
 use Rattle.kb_report.specs.declared.report.Report.{Report}
+use Rattle.kb_report_laws.specs.OneText.{IsSound}
 use Rattle.kb_names.specs.Targets.{IsTarget}
 use Rattle.kb_test_lines.specs.Lines.{IsRunBounds}
 use Rattle.kb_test.specs.Tests.{SpellsTests}
@@ -30,10 +32,10 @@ use Rattle.kb_words.specs.declared.orders.Job.{Job}
 use Rattle.kb_stepref.specs.HeapMethods.{is_heap_method}
 use Rattle.kb_stepref.specs.Laws.{AreInRange}
 use Rattle.kb_world.specs.Reach.{IsAccepted, Refuses}
-use Rattle.kiasan.specs.declared.refusals.Refusal.TheVariants.{Unbuilt}
+use Rattle.kb_refusals.specs.declared.refusal.Refusal.TheVariants.{Unbuilt}
 use Rattle.kiasan.specs.declared.refusals.Stop.{Stop}
 use Rattle.kiasan.specs.declared.refusals.Stop.TheVariants.{Refused, ReadFault, NoMemory}
-use Rattle.kiasan.specs.declared.status.Status.{Status}
+use Rattle.kb_refusals.specs.declared.status.Status.{Status}
 use Rattle.kiasan.specs.Answers.{ends, Carries, IsTestsTextOf, RepliesJob, TextOf}
 use Rattle.kiasan.specs.Exploring.{AreListed, HasHead, IsBuiltReport, IsCarried, IsReportOf, StatesTexts, path_tests, status_of, tests_of}
 use Rattle.kiasan.specs.Reach.{TargetRefuses}
@@ -73,7 +75,7 @@ unfolding RepliesJob
 job_ends IsTextOf world job report status text built is told = (
   built.reported.id,
   record { found = built.reported.found; accepted = built.accepted; built = built.built },
-  record { report = report; reported = built.reported; status_is = is; text_is = told },
+  record { report = report; reported = built.reported; ranges = built.ranges; status_is = is; text_is = told },
 )
 
 -- a method whose exploration is not built
@@ -82,14 +84,15 @@ pub unbuilt_target : (world : World) (target : Target) (id : MethodId) → IsTar
 unbuilt_target world target id found accepted not =
     inr (refl, record { id = id; found = found; accepted = accepted; none = λ built. let both : true ≡ false = sym built ∙ not in cc })
 
--- a report with the head of the job and the paths of its method
+-- a report with the head of the job and the paths of its method, whose numbers are in their ranges
 pub built_report : (world : World) (job : Job) (report : Report) (id : MethodId) (leaves : List Path) → HasHead job report → report.leaves ≡ leaves →
-    IsTargetOf world job.target id → IsAccepted world id → IsBuiltFor world id → AreListed world id job.bounds job.paths job.budget leaves →
+    IsTargetOf world job.target id → IsAccepted world id → IsBuiltFor world id → AreListed world id job.bounds job.paths job.budget leaves → ReportFits report →
     IsBuiltReport world job report
-built_report world job report id leaves head are found accepted built listed = record {
+built_report world job report id leaves head are found accepted built listed ranges = record {
   reported = record { head = head; id = id; found = found; listed = rw (head.bounds, head.paths, head.budget, are) listed };
   accepted = accepted;
   built = built;
+  ranges = ranges;
 }
 
 -- the state before the arguments are read is of the method
@@ -111,6 +114,17 @@ pub listed_of : (world : World) (state : State) (init : Init) (id : MethodId) (b
 listed_of world state init id bounds paths budget asked leaves e f covers compared seen =
     subst (λ (m : MethodId). AreListed world m bounds paths budget leaves) (is_start state init id e).1
     (subst (λ (b : ℕ). AreListed world state.method bounds paths b leaves) f (record { covers = covers; compared = compared; seen = seen }))
+
+-- ---- the report's text is its own
+
+all_of : {A : Type 0} (P : A → Type 0) (xs : List A) → ((i : ℕ) (x : A) → slice_get xs i ≡ Some x → P x) → AllByRecursion P xs
+all_of P [] each = tt
+all_of P (x ∷ xs) each = (each 0 x refl, all_of P xs (λ i y at. each (suc i) y at))
+
+-- the paths of a report are well-formed for its method
+pub paths_sound : (world : World) (job : Job) (report : Report) → IsBuiltReport world job report → AllByRecursion (IsSound world) report.leaves
+paths_sound world job report built =
+    all_of (IsSound world) report.leaves (λ i path at. record { method = built.reported.id; formed = built.reported.listed.covers.formed.each i path at })
 
 -- ---- the tests of a report end as they state
 

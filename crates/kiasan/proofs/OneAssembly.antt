@@ -1,9 +1,10 @@
 -- An assembly has one refusal, or it ends.
 use Rattle.std.proofs.Common.{◌≡◌, ◌≤◌, ℕ, List, length, sym, ◌∙◌, ap, arith, inl, inr}
 use Rattle.kb_asm_check.proofs.OneLaws.{one_number, no_refusal}
-use Rattle.kiasan.specs.declared.refusals.Refusal.{Refusal}
-use Rattle.kiasan.specs.declared.refusals.Refusal.TheVariants as refusals
-use Rattle.kiasan.specs.declared.status.Status.{Status}
+use Rattle.kb_refusals.specs.declared.refusal.Refusal.{Refusal}
+use Rattle.kb_refusals.specs.declared.refusal.Refusal.TheVariants as refusals
+use Rattle.kb_refusals.specs.declared.refusal.TextRefusal.TheVariants as texts
+use Rattle.kb_refusals.specs.declared.status.Status.{Status}
 use Rattle.kiasan.specs.Answers.{refuses, ends, AssemblyRefuses, EndsAssembly, RepliesAssembly, text_limit}
 use Rattle.kiasan.proofs.StageLaws.{HasOne}
 
@@ -11,7 +12,7 @@ assembly_refusal : (bytes : List ℕ) (r s : Refusal) → AssemblyRefuses bytes 
 assembly_refusal bytes r s (inl a) (inl b) = a.0 ∙ sym b.0
 assembly_refusal bytes r s (inl a) (inr b) = absurd (omega (arith, a.1, b.2))
 assembly_refusal bytes r s (inr a) (inl b) = absurd (omega (arith, b.1, a.2))
-assembly_refusal bytes r s (inr a) (inr b) = a.1 ∙ ap refusals.AssemblyLine (one_number bytes a.0 b.0 a.3 b.3) ∙ sym b.1
+assembly_refusal bytes r s (inr a) (inr b) = a.1 ∙ ap (λ (n : ℕ). refusals.Text (texts.AssemblyLine n)) (one_number bytes a.0 b.0 a.3 b.3) ∙ sym b.1
 
 assembly_apart : (bytes : List ℕ) (r : Refusal) (status : Status) (text : List ℕ) → AssemblyRefuses bytes r → EndsAssembly bytes status text → ⊥
 assembly_apart bytes r status text (inl a) end = let within : length bytes ≤ text_limit = end.within in omega (arith, a.1)

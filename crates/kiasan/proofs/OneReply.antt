@@ -28,8 +28,9 @@ use Rattle.kb_link.proofs.OneWorld.{one_refusal, refused_or_linked}
 use Rattle.kb_link.proofs.TargetLaws.{one_declared}
 use Rattle.kb_world.proofs.ReachLaws.{one_refusal as one_reach_refusal, refused_or_accepted}
 use Rattle.kiasan.specs.declared.answer.Contents.{Contents}
-use Rattle.kiasan.specs.declared.refusals.Refusal.{Refusal}
-use Rattle.kiasan.specs.declared.refusals.Refusal.TheVariants as refusals
+use Rattle.kb_refusals.specs.declared.refusal.Refusal.{Refusal}
+use Rattle.kb_refusals.specs.declared.refusal.Refusal.TheVariants as refusals
+use Rattle.kb_refusals.specs.declared.refusal.TextRefusal.TheVariants as texts
 use Rattle.kiasan.specs.declared.refusals.Stop.{Stop}
 use Rattle.kiasan.specs.declared.refusals.Stop.TheVariants.{Refused}
 use Rattle.kiasan.specs.declared.refusals.Stop.TheVariants as stops
@@ -37,7 +38,7 @@ use Rattle.kb_replay.specs.declared.checks.BadTest.{BadTest}
 use Rattle.kb_replay.specs.declared.checks.ReplayStop.TheVariants.{NoMemory}
 use Rattle.kb_replay.specs.Replays.{AreRunnable}
 use Rattle.kb_replay.proofs.OneAnswer.{one_bad_test, stopped_or_runnable, one_ids, one_replay}
-use Rattle.kiasan.specs.declared.status.Status.{Status}
+use Rattle.kb_refusals.specs.declared.status.Status.{Status}
 use Rattle.kb_words.specs.declared.orders.Job.{Job}
 use Rattle.kb_words.specs.declared.orders.Order.{Order}
 use Rattle.kb_words.specs.declared.orders.Order.TheVariants.{Explore, Tests, Diagrams, Replay, Assemble, Sample}
@@ -278,7 +279,7 @@ text_refusal : (literals : ℕ) (bytes : List ℕ) (r s : Refusal) → TextRefus
 text_refusal literals bytes r s (inl a) (inl b) = a.0 ∙ sym b.0
 text_refusal literals bytes r s (inl a) (inr b) = absurd (omega (arith, a.1, b.2))
 text_refusal literals bytes r s (inr a) (inl b) = absurd (omega (arith, b.1, a.2))
-text_refusal literals bytes r s (inr a) (inr b) = a.1 ∙ ap refusals.TestLine (one_line (IsTestsText literals) bytes a.0 b.0 a.3 b.3) ∙ sym b.1
+text_refusal literals bytes r s (inr a) (inr b) = a.1 ∙ ap (λ (n : ℕ). refusals.Text (texts.TestLine n)) (one_line (IsTestsText literals) bytes a.0 b.0 a.3 b.3) ∙ sym b.1
 
 text_apart : (literals : ℕ) (bytes : List ℕ) (r : Refusal) (tests : List Test) → TextRefuses literals bytes r → AreTestsOf literals bytes tests → ⊥
 text_apart literals bytes r tests (inl a) are = omega (arith, a.1, are.0)
@@ -334,7 +335,8 @@ order_one words (Tests job) ordered texts world given =
 order_one words (Replay name files) ordered (bytes ∷ []) world given = replay_one (SameEnd words) bytes world given (λ s u t v e f replay. (e, f))
 order_one words (Replay name files) ordered [] world given = λ one other p q. absurd p
 order_one words (Replay name files) ordered (bytes ∷ more ∷ texts) world given = λ one other p q. absurd p
-order_one words (Diagrams job) ordered texts world given = λ one other p q. absurd p
+order_one words (Diagrams job) ordered texts world given =
+    job_one (SameEnd words) _ world job given (λ s u t v replay. absurd (not_both words (Diagrams job) ordered (λ tests files e. cc) replay))
 order_one words (Assemble name) ordered (bytes ∷ []) world given =
     assembly_one (SameEnd words) bytes (λ s u t v replay. absurd (not_both words (Assemble name) ordered (λ tests files e. cc) replay))
 order_one words (Assemble name) ordered [] world given = λ one other p q. absurd p

@@ -1,12 +1,13 @@
 -- Stages: how their parts give a reply, and that a reply is one.
-use Rattle.std.proofs.Common.{◌≡◌, ℕ, List, Result, Ok, Err, subst, inl, inr}
+use Rattle.std.proofs.Common.{◌≡◌, ℕ, Bool, true, false, cond, List, Result, Ok, Err, refl, ap, subst, inl, inr}
 use Rattle.kiasan.specs.declared.refusals.Answer.{Answer}
-use Rattle.kiasan.specs.declared.refusals.Refusal.{Refusal}
+use Rattle.kb_refusals.specs.declared.refusal.Refusal.{Refusal}
 use Rattle.kiasan.specs.declared.refusals.Stop.{Stop}
 use Rattle.kiasan.specs.declared.refusals.Stop.TheVariants.{Refused, ReadFault, NoMemory}
-use Rattle.kiasan.specs.declared.status.Status.{Status}
+use Rattle.kb_refusals.specs.declared.status.Status.{Status}
 use Rattle.kiasan.specs.Answers.{Reply, refuses, ends, Stage, Carries}
-use Rattle.kiasan.specs.Refusals.{Gives}
+use Rattle.kb_refusals.specs.Refusals.{is_refusal}
+use Rattle.kiasan.specs.Refusals.{Gives, stop_of}
 
 -- ---- how a stage is carried out
 
@@ -31,6 +32,15 @@ pub gives_by : {A B : Type 0} (Fault Wider : Type 0) (Refuses More : Refusal →
 gives_by Fault Wider Refuses More Passes Also (Refused refusal) wider more given = more refusal given
 gives_by Fault Wider Refuses More Passes Also ReadFault wider more given = wider given
 gives_by Fault Wider Refuses More Passes Also NoMemory wider more given = tt
+
+-- what is told as a refusal, where it may be that memory ran out
+pub told_stops : {A : Type 0} (Fault : Type 0) (refusal : Refusal) (Refuses : Refusal → Type 0) (Passes : A → Type 0) →
+    (stop_of refusal ≡ Refused refusal → Refuses refusal) → Gives {A = A} Fault Refuses Passes (Err (stop_of refusal))
+told_stops {A} Fault refusal Refuses Passes is = go (is_refusal refusal) refl
+  where
+    go : (b : Bool) → is_refusal refusal ≡ b → Gives {A = A} Fault Refuses Passes (Err (cond b (Refused refusal) NoMemory))
+    go true e = is (ap (λ (b : Bool). cond b (Refused refusal) NoMemory) e)
+    go false e = tt
 
 pub nothing_wrong : ⊥ → (P : Type 0) → P
 nothing_wrong wrong P = absurd wrong

@@ -2,77 +2,56 @@
 use Rattle.std.proofs.Common.{◌≡◌, ℕ, List, [], ◌∷◌, Option, Result, Ok, Err, IfOk, refl, sym, ◌∙◌, ap, subst, inl, inr, nat_eq, Bool, true, false, cond}
 use Rattle.kb_outside.specs.Outside.{Rose, Grows, GrowsByPart}
 use Rattle.kb_link.specs.World.{World}
+use Rattle.kb_link.specs.declared.linking.LinkRefusal.{LinkRefusal}
+use Rattle.kb_link.specs.declared.linking.LinkRefusal.TheVariants as links
 use Rattle.kiasan.specs.declared.refusals.Answer.{Answer}
 use Rattle.kiasan.specs.declared.refusals.Fault.{Fault}
 use Rattle.kiasan.specs.declared.refusals.Fault.TheVariants as faults
 use Rattle.kiasan.specs.declared.refusals.Stop.{Stop}
 use Rattle.kiasan.specs.declared.refusals.Stop.TheVariants as stops
-use Rattle.kiasan.specs.declared.refusals.Refusal.{Refusal}
-use Rattle.kiasan.specs.declared.refusals.Refusal.TheVariants as refusals
+use Rattle.kb_refusals.specs.declared.refusal.Refusal.{Refusal}
+use Rattle.kb_refusals.specs.declared.refusal.Refusal.TheVariants as refusals
 use Rattle.kb_drive.specs.Counts.{is_partial}
 use Rattle.kb_picture.specs.declared.path.Path.{Path}
 use Rattle.kb_replay.specs.declared.replays.Replayed.{Replayed}
 use Rattle.kb_words.specs.declared.orders.Job.{Job}
 use Rattle.kb_words.specs.declared.orders.Order.{Order}
 use Rattle.kb_words.specs.declared.orders.Order.TheVariants.{Explore, Tests, Diagrams, Replay, Assemble, Sample}
-use Rattle.kiasan.specs.declared.status.Status.{Status}
-use Rattle.kiasan.specs.declared.status.Status.TheVariants.{Complete, Partial, Words, Class, Link, Outside, ReadFault, WriteFault, Memory, Text, Differs}
+use Rattle.kb_refusals.specs.declared.status.Status.{Status}
+use Rattle.kb_refusals.specs.declared.status.Status.TheVariants.{Complete, Partial, Words, Class, Link, Outside, ReadFault, WriteFault, Memory, Text, Differs}
 use Rattle.kiasan.specs.Answers.{Reply, refuses, ends, Carries, ComesTo, Replies, RepliesTo, RepliesOn, RepliesIn, RepliesJob, RepliesReplay, Answers, IsAnswer, IsOfReport, IsOfVerdicts, IsReplay, IsSameReply, EndsAs, EndsOrder, Owes, SomeUnsound, TextOf, WritesNothing, reply_status}
 use Rattle.kiasan.specs.Exploring.{status_of}
 use Rattle.kiasan.specs.Orders.{OrdersBuilt}
-use Rattle.kiasan.specs.Refusals.{refusal_status, refusal_line}
+use Rattle.kb_refusals.specs.Refusals.{link_status, refusal_status, refusal_line}
 use Rattle.kiasan.specs.Tests.{count_differs, replay_status}
 use Rattle.kiasan.proofs.OneReply.{one_reply}
 use Rattle.kiasan.proofs.WordsLaws.{one_order}
 
 -- ---- the statuses of answers
 
+link_answers : (found : LinkRefusal) → IsAnswer (link_status found)
+link_answers links.TooMany = tt
+link_answers (links.BadName file entry) = tt
+link_answers (links.BadDescriptor file entry) = tt
+link_answers (links.TwoMembers file entry) = tt
+link_answers (links.Twice name) = tt
+link_answers (links.Missing name) = tt
+link_answers (links.Circle name) = tt
+link_answers (links.BadSuper name) = tt
+link_answers (links.SplitPackage name method) = tt
+link_answers (links.NoMethod target) = tt
+link_answers (links.NoField target at) = tt
+link_answers (links.Outside target at what) = tt
+link_answers (links.Initialiser name) = tt
+link_answers links.NoMemory = tt
+
 pub refusal_answers : (refusal : Refusal) → IsAnswer (refusal_status refusal)
-refusal_answers (refusals.Magic file) = tt
-refusal_answers (refusals.Version file major) = tt
-refusal_answers (refusals.Short file at) = tt
-refusal_answers (refusals.Tag file entry tag) = tt
-refusal_answers (refusals.PoolIndex file at entry) = tt
-refusal_answers (refusals.PoolKind file at entry) = tt
-refusal_answers (refusals.CodeLength file at) = tt
-refusal_answers (refusals.Extra file at) = tt
-refusal_answers (refusals.TwoCodes file method) = tt
-refusal_answers (refusals.LongClass file) = tt
-refusal_answers (refusals.Opcode file method at op) = tt
-refusal_answers (refusals.CutInstr file method at) = tt
-refusal_answers (refusals.JumpTarget file method at to) = tt
-refusal_answers (refusals.Switch file method at) = tt
-refusal_answers (refusals.HandlerRange file method handler) = tt
-refusal_answers (refusals.TwoMembers file entry) = tt
-refusal_answers (refusals.BadName file entry) = tt
-refusal_answers (refusals.BadDescriptor file entry) = tt
-refusal_answers (refusals.Twice name) = tt
-refusal_answers (refusals.Missing name) = tt
-refusal_answers (refusals.Circle name) = tt
-refusal_answers (refusals.BadSuper name) = tt
-refusal_answers (refusals.SplitPackage name method) = tt
-refusal_answers (refusals.NoMethod target) = tt
-refusal_answers (refusals.NoField target at) = tt
-refusal_answers (refusals.OutsideOf target at what) = tt
-refusal_answers (refusals.Initialiser name) = tt
-refusal_answers refusals.TooMany = tt
+refusal_answers (refusals.Words fault) = tt
 refusal_answers refusals.Unbuilt = tt
-refusal_answers (refusals.AssemblyLine number) = tt
-refusal_answers (refusals.TestLine number) = tt
-refusal_answers (refusals.NoTestMethod number) = tt
-refusal_answers (refusals.IllTypedTest number) = tt
-refusal_answers refusals.LongText = tt
-refusal_answers refusals.NoCommand = tt
-refusal_answers (refusals.UnknownWord word) = tt
-refusal_answers (refusals.NoValue word) = tt
-refusal_answers (refusals.BadNumber word) = tt
-refusal_answers (refusals.OutOfRange word) = tt
-refusal_answers (refusals.RepeatedOption word) = tt
-refusal_answers (refusals.BadTarget word) = tt
-refusal_answers refusals.NoMethodGiven = tt
-refusal_answers refusals.NoTestsGiven = tt
-refusal_answers refusals.NoFiles = tt
-refusal_answers refusals.TooMuch = tt
+refusal_answers (refusals.Class file found) = tt
+refusal_answers (refusals.Code file method found) = tt
+refusal_answers (refusals.Link found) = link_answers found
+refusal_answers (refusals.Text found) = tt
 
 replay_answers : (verdicts : List Replayed) → IsAnswer (replay_status verdicts)
 replay_answers verdicts = go (nat_eq (count_differs verdicts) 0)
@@ -102,7 +81,7 @@ order_answers (Tests job) texts world status text h = job_answers _ world job st
 order_answers (Replay name files) (bytes ∷ []) world status text h = tests_answer bytes world status text h
 order_answers (Replay name files) [] world status text h = absurd h
 order_answers (Replay name files) (bytes ∷ other ∷ more) world status text h = absurd h
-order_answers (Diagrams job) texts world status text h = absurd h
+order_answers (Diagrams job) texts world status text h = job_answers _ world job status text h
 order_answers (Assemble name) (bytes ∷ []) world status text h = rw h.status_is tt
 order_answers (Assemble name) [] world status text h = absurd h
 order_answers (Assemble name) (bytes ∷ other ∷ more) world status text h = absurd h
@@ -167,7 +146,7 @@ order_status words (Tests job) ordered texts world status one text h same = job_
 order_status words (Replay name files) ordered (bytes ∷ []) world status one text h same = (same (name, files, ordered), tests_status bytes world status text h)
 order_status words (Replay name files) ordered [] world status one text h same = absurd h
 order_status words (Replay name files) ordered (bytes ∷ other ∷ more) world status one text h same = absurd h
-order_status words (Diagrams job) ordered texts world status one text h same = absurd h
+order_status words (Diagrams job) ordered texts world status one text h same = job_status _ world job status text h
 order_status words (Assemble name) ordered (bytes ∷ []) world status one text h same = rw h.status_is tt
 order_status words (Assemble name) ordered [] world status one text h same = absurd h
 order_status words (Assemble name) ordered (bytes ∷ other ∷ more) world status one text h same = absurd h

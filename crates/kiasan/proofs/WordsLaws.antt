@@ -1,5 +1,5 @@
 -- How words are answered.
-use Rattle.std.proofs.Common.{◌≡◌, ℕ, List, true, false, Result, Ok, Err, refl, sym, ◌∙◌, ap, inl, inr}
+use Rattle.std.proofs.Common.{◌≡◌, ◌⊎◌, ℕ, List, true, false, Result, Ok, Err, refl, sym, ◌∙◌, ap, inl, inr}
 use Rattle.kb_picture.specs.declared.choice.Init.{Init}
 use Rattle.kb_picture.specs.declared.choice.Init.TheVariants.{Lazy, Lazier}
 use Rattle.kb_words.specs.declared.orders.Order.{Order}
@@ -7,27 +7,22 @@ use Rattle.kb_words.specs.declared.orders.Order.TheVariants.{Explore, Tests, Dia
 use Rattle.kb_words.specs.declared.orders.WordFault.{WordFault}
 use Rattle.kb_words.specs.declared.orders.WordFault.TheVariants as faults
 use Rattle.kb_words.specs.Orders.{IsFaultOf, IsOrder, Orders}
+use Rattle.kb_words.proofs.FaultLaws.{fault_or_memory}
 use Rattle.kb_words.proofs.OneOrder.{orders_one}
-use Rattle.kiasan.specs.declared.refusals.Refusal.TheVariants.{Unbuilt}
+use Rattle.kb_refusals.specs.declared.refusal.Refusal.TheVariants.{Words, Unbuilt}
 use Rattle.kiasan.specs.Answers.{WordsRefuse}
 use Rattle.kiasan.specs.Orders.{IsBuiltOrder, OrdersBuilt, OrdersUnbuilt, is_built, is_lazy}
 use Rattle.kiasan.specs.Refusals.{Gives, word_refusal}
+use Rattle.kiasan.proofs.StageLaws.{told_stops}
 
 -- what the fault of words is refused as
 pub words_stop : {A : Type 0} (words : List (List ℕ)) (fault : WordFault) (Passes : A → Type 0) → IsFaultOf words fault →
     Gives {A = A} ⊥ (WordsRefuse words) Passes (Err (word_refusal fault))
-words_stop words faults.NoCommand Passes is = inl (faults.NoCommand, is, refl)
-words_stop words (faults.Unknown word) Passes is = inl (faults.Unknown word, is, refl)
-words_stop words (faults.NoValue word) Passes is = inl (faults.NoValue word, is, refl)
-words_stop words (faults.BadNumber word) Passes is = inl (faults.BadNumber word, is, refl)
-words_stop words (faults.OutOfRange word) Passes is = inl (faults.OutOfRange word, is, refl)
-words_stop words (faults.Repeated word) Passes is = inl (faults.Repeated word, is, refl)
-words_stop words (faults.BadTarget word) Passes is = inl (faults.BadTarget word, is, refl)
-words_stop words faults.NoMethod Passes is = inl (faults.NoMethod, is, refl)
-words_stop words faults.NoTests Passes is = inl (faults.NoTests, is, refl)
-words_stop words faults.NoFiles Passes is = inl (faults.NoFiles, is, refl)
-words_stop words faults.TooMuch Passes is = inl (faults.TooMuch, is, refl)
-words_stop words faults.NoMemory Passes is = tt
+words_stop {A} words fault Passes is = go (fault_or_memory words fault is)
+  where
+    go : ((fault ≡ faults.NoMemory) ⊎ Orders words (Err fault)) → Gives {A = A} ⊥ (WordsRefuse words) Passes (Err (word_refusal fault))
+    go (inl none) = rw none tt
+    go (inr ordered) = told_stops ⊥ (Words fault) (WordsRefuse words) Passes (λ e. inl (fault, ordered, e))
 
 -- the mode that is built for now is one alone
 lazy_is : (init : Init) → is_lazy init ≡ true → init ≡ Lazy
@@ -38,7 +33,7 @@ lazy_is Lazier built = cc
 pub built_order : (order : Order) → IsOrder order → is_built order ≡ true → IsBuiltOrder order
 built_order (Explore job) is built = record { numbers = is; lazy = lazy_is job.init built }
 built_order (Tests job) is built = record { numbers = is; lazy = lazy_is job.init built }
-built_order (Diagrams job) is built = cc
+built_order (Diagrams job) is built = record { numbers = is; lazy = lazy_is job.init built }
 built_order (Replay tests files) is built = tt
 built_order (Assemble text) is built = tt
 built_order (Sample blocks) is built = cc

@@ -22,8 +22,9 @@ use Rattle.kiasan.specs.declared.answer.Contents.{Contents}
 use Rattle.kiasan.specs.declared.refusals.Answer.{Answer}
 use Rattle.kiasan.specs.declared.refusals.Fault.{Fault}
 use Rattle.kiasan.specs.declared.refusals.Fault.TheVariants as faults
-use Rattle.kiasan.specs.declared.refusals.Refusal.{Refusal}
-use Rattle.kiasan.specs.declared.refusals.Refusal.TheVariants.{AssemblyLine, TestLine, LongText, Unbuilt}
+use Rattle.kb_refusals.specs.declared.refusal.Refusal.{Refusal}
+use Rattle.kb_refusals.specs.declared.refusal.Refusal.TheVariants.{Text as TextRefused, Unbuilt}
+use Rattle.kb_refusals.specs.declared.refusal.TextRefusal.TheVariants as texts
 use Rattle.kiasan.specs.declared.refusals.Stop.{Stop}
 use Rattle.kiasan.specs.declared.refusals.Stop.TheVariants.{Refused}
 use Rattle.kiasan.specs.declared.refusals.Stop.TheVariants as stops
@@ -34,13 +35,17 @@ use Rattle.kb_words.specs.declared.orders.Job.{Job}
 use Rattle.kb_words.specs.declared.orders.Order.{Order}
 use Rattle.kb_words.specs.declared.orders.Order.TheVariants.{Explore, Tests, Diagrams, Replay, Assemble, Sample}
 use Rattle.kb_words.specs.declared.orders.WordFault.{WordFault}
-use Rattle.kiasan.specs.declared.status.Status.{Status}
-use Rattle.kiasan.specs.declared.status.Status.TheVariants.{Complete, Partial, Words, Class, Link, Outside, ReadFault, WriteFault, Memory, Text, Differs}
+use Rattle.kb_refusals.specs.declared.status.Status.{Status}
+use Rattle.kb_refusals.specs.declared.status.Status.TheVariants.{Complete, Partial, Words, Class, Link, Outside, ReadFault, WriteFault, Memory, Text, Differs}
 use Rattle.kiasan.specs.CodeFaults.{MethodsRefuse}
 use Rattle.kb_words.specs.Orders.{Orders}
 use Rattle.kiasan.specs.Orders.{OrdersBuilt, OrdersUnbuilt, texts_of, classes_of, files_of}
-use Rattle.kiasan.specs.Refusals.{Gives, class_refusal, link_refusal, refusal_status, refusal_line, word_refusal}
+use Rattle.kb_refusals.specs.Refusals.{refusal_status, refusal_line}
+use Rattle.kiasan.specs.Refusals.{Gives, class_refusal, link_refusal, word_refusal}
+use Rattle.kb_diagram.specs.Diagram.{diagrams_text}
+use Rattle.kb_report.specs.Ranges.{ReportFits}
 use Rattle.kb_report.specs.Report.{report_text}
+use Rattle.kb_report_laws.specs.OneText.{IsReport}
 use Rattle.kiasan.specs.Reach.{TargetRefuses}
 use Rattle.kiasan.specs.Exploring.{IsReportOf, status_of, tests_of}
 use Rattle.kiasan.specs.Tests.{EndsAsStated, RefusesTests, literals_in, replay_status}
@@ -86,21 +91,32 @@ Carries Fault Replied result = Gives Fault (λ refusal. Replied (refuses refusal
 abbrev pub TextOf : Type 1
 TextOf = World → MethodId → Report → List ℕ → Type 0
 
--- the end of a job: there is a report of the world for it, and the text is that of the task on it and on its method
+-- The end of a job: there is a report of the world for it, whose numbers are in the ranges of their types, and the text is that of the
+-- task on it and on its method.
 pub record EndsJob (IsTextOf : TextOf) (world : World) (job : Job) (status : Status) (text : List ℕ) : Type 0 where
   pub report : Report
   pub reported : IsReportOf world job report
+  pub ranges : ReportFits report
   pub status_is : status ≡ status_of report.leaves
   pub text_is : IsTextOf world reported.id report text
 
+-- the text is that of the report, and no other report has it
+pub record IsOwnText (world : World) (report : Report) (text : List ℕ) : Type 0 where
+  pub text_is : text ≡ report_text world report
+  pub only : (other : Report) → IsReport world other → report_text world other ≡ text → other ≡ report
+
 -- the text of the command `explore`
 abbrev pub IsReportText : TextOf
-IsReportText world id report text = text ≡ report_text world report
+IsReportText world id report text = IsOwnText world report text
 
 -- The text of the command `tests`: that of the report's tests. Each ends as it states, where the machine runs the method.
 pub record IsTestsTextOf (world : World) (id : MethodId) (report : Report) (text : List ℕ) : Type 0 where
   pub spelled : SpellsTests (literals_in world) (tests_of world report) text
   pub end_as_stated : AllByRecursion (EndsAsStated world id) (tests_of world report)
+
+-- the text of the command `diagrams`: the diagrams of the report's paths, in order
+abbrev pub IsDiagramsText : TextOf
+IsDiagramsText world id report text = text ≡ diagrams_text world report.leaves
 
 -- the end of a replay: what the runs of the tests say, in order
 pub record EndsReplay (world : World) (tests : List Test) (status : Status) (text : List ℕ) : Type 0 where
@@ -127,8 +143,8 @@ text_limit = 67108864
 -- the bytes are no text of tests for a world of so many literals: they are too many, or no such text goes on at a line
 abbrev pub TextRefuses : ℕ → List ℕ → Refusal → Type 0
 TextRefuses literals bytes refusal =
-    ((refusal ≡ LongText) × (text_limit < length bytes))
-    ⊎ ((number : ℕ) × (refusal ≡ TestLine number) × (length bytes ≤ text_limit) × IsFirstBadLine (IsTestsText literals) bytes number)
+    ((refusal ≡ TextRefused texts.Long) × (text_limit < length bytes))
+    ⊎ ((number : ℕ) × (refusal ≡ TextRefused (texts.TestLine number)) × (length bytes ≤ text_limit) × IsFirstBadLine (IsTestsText literals) bytes number)
 
 abbrev pub AreTestsOf : ℕ → List ℕ → List Test → Type 0
 AreTestsOf literals bytes tests = (length bytes ≤ text_limit) × SpellsTests literals tests bytes
@@ -142,8 +158,8 @@ RepliesReplay bytes world =
 -- the bytes are no text of a class: they are too many, or this is the first line that does not fit
 abbrev pub AssemblyRefuses : List ℕ → Refusal → Type 0
 AssemblyRefuses bytes refusal =
-    ((refusal ≡ LongText) × (text_limit < length bytes))
-    ⊎ ((number : ℕ) × (refusal ≡ AssemblyLine number) × (length bytes ≤ text_limit) × IsFirstUnfit bytes number)
+    ((refusal ≡ TextRefused texts.Long) × (text_limit < length bytes))
+    ⊎ ((number : ℕ) × (refusal ≡ TextRefused (texts.AssemblyLine number)) × (length bytes ≤ text_limit) × IsFirstUnfit bytes number)
 
 -- the end of an assembly: the class file that the text is
 pub record EndsAssembly (bytes : List ℕ) (status : Status) (text : List ℕ) : Type 0 where
@@ -159,6 +175,7 @@ RepliesAssembly bytes (ends status text) = EndsAssembly bytes status text
 abbrev pub RepliesIn : Order → List (List ℕ) → World → Reply → Type 0
 RepliesIn (Explore job) texts world = RepliesJob IsReportText world job
 RepliesIn (Tests job) texts world = RepliesJob IsTestsTextOf world job
+RepliesIn (Diagrams job) texts world = RepliesJob IsDiagramsText world job
 RepliesIn (Replay name files) (bytes ∷ []) world = RepliesReplay bytes world
 RepliesIn (Assemble name) (bytes ∷ []) world = RepliesAssembly bytes
 RepliesIn _ texts world = λ reply. ⊥
@@ -304,7 +321,7 @@ IsOfVerdicts _ = ⊥
 abbrev pub EndsOrder : Order → Status → Status → Type 0
 EndsOrder (Explore job) one status = IsOfReport status
 EndsOrder (Tests job) one status = IsOfReport status
-EndsOrder (Diagrams job) one status = ⊥
+EndsOrder (Diagrams job) one status = IsOfReport status
 EndsOrder (Replay tests files) one status = (status ≡ one) × IsOfVerdicts status
 EndsOrder (Assemble text) one status = IsDone status
 EndsOrder (Sample blocks) one status = ⊥

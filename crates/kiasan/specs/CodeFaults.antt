@@ -4,7 +4,7 @@ use Rattle.kb_class.specs.Given.{handlers_of}
 use Rattle.kb_classfile.specs.declared.file.Method.{Method as ClassMethod}
 use Rattle.kb_code.specs.declared.refusal.CodeRefusal.{CodeRefusal}
 use Rattle.kb_code.specs.Answers.{first_fault}
-use Rattle.kiasan.specs.declared.refusals.Refusal.{Refusal}
+use Rattle.kb_refusals.specs.declared.refusal.Refusal.{Refusal}
 use Rattle.kiasan.specs.declared.refusals.Stop.TheVariants.{Refused}
 use Rattle.kiasan.specs.Refusals.{code_refusal}
 

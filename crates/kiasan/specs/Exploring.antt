@@ -16,13 +16,14 @@ use Rattle.kb_picture.specs.declared.path.Leaf.TheVariants.{Ended as EndedLeaf, 
 use Rattle.kb_picture.specs.declared.path.Path.{Path}
 use Rattle.kb_picture.specs.Endings.{ending_of, final_heap_of, stated_end}
 use Rattle.kb_picture.specs.WellFormed.{IsWellFormed}
+use Rattle.kb_report.specs.Ranges.{ReportFits}
 use Rattle.kb_report.specs.declared.report.Report.{Report}
 use Rattle.kb_test.specs.declared.test_case.Test.{Test}
 use Rattle.kb_test_laws.specs.Texts.{EndHasTexts}
 use Rattle.kb_words.specs.declared.orders.Job.{Job}
 use Rattle.kb_world.specs.Reach.{IsAccepted}
-use Rattle.kiasan.specs.declared.status.Status.{Status}
-use Rattle.kiasan.specs.declared.status.Status.TheVariants.{Complete, Partial}
+use Rattle.kb_refusals.specs.declared.status.Status.{Status}
+use Rattle.kb_refusals.specs.declared.status.Status.TheVariants.{Complete, Partial}
 use Rattle.kiasan.specs.Unbuilt.{IsBuiltFor}
 
 -- ---- reports
@@ -50,11 +51,12 @@ pub record IsReportOf (world : World) (job : Job) (report : Report) : Type 0 whe
   pub found : IsTargetOf world job.target id
   pub listed : AreListed world id report.bounds report.paths report.budget report.leaves
 
--- a report of a method whose exploration is built
+-- a report of a method whose exploration is built; its numbers are in the ranges of their types
 pub record IsBuiltReport (world : World) (job : Job) (report : Report) : Type 0 where
   pub reported : IsReportOf world job report
   pub accepted : IsAccepted world reported.id
   pub built : IsBuiltFor world reported.id
+  pub ranges : ReportFits report
 
 -- the path says nothing of the runs of its instances
 abbrev pub is_unsettled : Path → Bool

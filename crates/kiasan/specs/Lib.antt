@@ -5,8 +5,6 @@ pub mod Orders
 pub mod Ranges
 pub mod Reach
 pub mod Refusals
-pub mod StatusNumber
 pub mod Tests
-pub mod Texts
 pub mod Unbuilt
 pub mod Verdicts

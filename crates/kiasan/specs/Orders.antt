@@ -16,7 +16,7 @@ is_lazy Lazier = false
 abbrev pub is_built : Order → Bool
 is_built (Explore job) = is_lazy job.init
 is_built (Tests job) = is_lazy job.init
-is_built (Diagrams job) = false
+is_built (Diagrams job) = is_lazy job.init
 is_built (Replay tests files) = true
 is_built (Assemble text) = true
 is_built (Sample blocks) = false
@@ -38,7 +38,7 @@ pub record IsBuiltJob (job : Job) : Type 0 where
 abbrev pub IsBuiltOrder : Order → Type 0
 IsBuiltOrder (Explore job) = IsBuiltJob job
 IsBuiltOrder (Tests job) = IsBuiltJob job
-IsBuiltOrder (Diagrams job) = ⊥
+IsBuiltOrder (Diagrams job) = IsBuiltJob job
 IsBuiltOrder (Replay tests files) = Unit {0}
 IsBuiltOrder (Assemble text) = Unit {0}
 IsBuiltOrder (Sample blocks) = ⊥

@@ -4,8 +4,8 @@ use Rattle.kb_names.specs.declared.types.Target.{Target}
 use Rattle.kb_link.specs.declared.linking.LinkRefusal.{LinkRefusal}
 use Rattle.kb_link.specs.World.{World}
 use Rattle.kb_world.specs.Reach.{Refuses}
-use Rattle.kiasan.specs.declared.refusals.Refusal.{Refusal}
-use Rattle.kiasan.specs.declared.refusals.Refusal.TheVariants.{Unbuilt}
+use Rattle.kb_refusals.specs.declared.refusal.Refusal.{Refusal}
+use Rattle.kb_refusals.specs.declared.refusal.Refusal.TheVariants.{Unbuilt}
 use Rattle.kiasan.specs.declared.refusals.Stop.TheVariants.{Refused}
 use Rattle.kiasan.specs.Refusals.{link_refusal}
 use Rattle.kiasan.specs.Unbuilt.{IsUnbuilt}

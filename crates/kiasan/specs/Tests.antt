@@ -9,13 +9,14 @@ use Rattle.kb_replay.specs.declared.replays.Replayed.{Replayed}
 use Rattle.kb_replay.specs.declared.replays.Replayed.TheVariants.{Passes, Differs}
 use Rattle.kb_replay.specs.Replays.{StopsAt, run_in, stated}
 use Rattle.kb_test.specs.declared.test_case.Test.{Test}
-use Rattle.kiasan.specs.declared.refusals.Refusal.{Refusal}
-use Rattle.kiasan.specs.declared.refusals.Refusal.TheVariants.{NoTestMethod, IllTypedTest}
+use Rattle.kb_refusals.specs.declared.refusal.Refusal.{Refusal}
+use Rattle.kb_refusals.specs.declared.refusal.Refusal.TheVariants.{Text as TextRefused}
+use Rattle.kb_refusals.specs.declared.refusal.TextRefusal.TheVariants as texts
 use Rattle.kiasan.specs.declared.refusals.Stop.{Stop}
 use Rattle.kiasan.specs.declared.refusals.Stop.TheVariants.{Refused}
 use Rattle.kiasan.specs.declared.refusals.Stop.TheVariants as stops
-use Rattle.kiasan.specs.declared.status.Status.{Status}
-use Rattle.kiasan.specs.declared.status.Status.TheVariants as statuses
+use Rattle.kb_refusals.specs.declared.status.Status.{Status}
+use Rattle.kb_refusals.specs.declared.status.Status.TheVariants as statuses
 use Rattle.kiasan.specs.Refusals.{link_refusal}
 
 -- how many string literals a world has
@@ -26,8 +27,8 @@ literals_in world = length world.literals
 
 -- the refusal of the test of that number, from 0; what its method reaches is refused as for an exploration
 abbrev pub test_refusal : ℕ → ReplayStop → Stop
-test_refusal number TestMethod = Refused (NoTestMethod number)
-test_refusal number TestTypes = Refused (IllTypedTest number)
+test_refusal number TestMethod = Refused (TextRefused (texts.NoTestMethod number))
+test_refusal number TestTypes = Refused (TextRefused (texts.IllTypedTest number))
 test_refusal number (Reach refusal) = link_refusal refusal
 test_refusal number NoMemory = stops.NoMemory
 

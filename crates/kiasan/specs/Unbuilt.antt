@@ -1,20 +1,11 @@
 -- What is not built yet, and is refused by 50 until it is.
-use Rattle.std.specs.Prelude.{◌≡◌, true, List, [], ◌∷◌, ℕ, codes}
+use Rattle.std.specs.Prelude.{◌≡◌, true}
 use Rattle.kb_class.specs.declared.ids.MethodId.{MethodId}
 use Rattle.kb_names.specs.declared.types.Target.{Target}
 use Rattle.kb_link.specs.Targets.{IsTargetOf}
 use Rattle.kb_link.specs.World.{World}
 use Rattle.kb_stepref.specs.HeapMethods.{is_heap_method}
 use Rattle.kb_world.specs.Reach.{IsAccepted}
-use Rattle.kiasan.specs.declared.status.Status.{Status}
-use Rattle.kiasan.specs.declared.status.Status.TheVariants.{Outside}
-use Rattle.kiasan.specs.Texts.{line}
-
-abbrev pub unbuilt_status : Status
-unbuilt_status = Outside
-
-unfoldable pub unbuilt_line : List ℕ
-unbuilt_line = line (codes "refused 50" ∷ [])
 
 -- The exploration of a method is built where it takes ints, booleans and references, and its steps are of ints and on references alone,
 -- without handlers.

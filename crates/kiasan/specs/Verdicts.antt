@@ -5,7 +5,7 @@ use Rattle.kb_test.specs.declared.test_case.Test.{Test}
 use Rattle.kb_test.specs.Writing.{run_text}
 use Rattle.kb_replay.specs.declared.replays.Replayed.{Replayed}
 use Rattle.kb_replay.specs.declared.replays.Replayed.TheVariants.{Passes, Differs}
-use Rattle.kiasan.specs.Texts.{line}
+use Rattle.kb_refusals.specs.Texts.{line}
 use Rattle.kiasan.specs.Tests.{count_passes, count_differs}
 
 -- The lines on a test: whether it passes, and how its run ended and what heap it left where it does not.

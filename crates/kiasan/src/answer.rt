@@ -8,9 +8,9 @@ ghost use Rattle.kiasan.specs.Answers.{Answers, AreRead, Carries, IsAnswer, IsCo
 ghost use Rattle.kiasan.specs.Orders.{IsBuiltOrder, classes_of, files_of, texts_of};
 
 use crate::assembly::answer_assembly;
-use crate::classes::{link_classes, read_classes};
-use crate::methods::{answer_report, answer_tests};
-use crate::orders::{classes_of, read_order, texts_of};
+use crate::classes::{link_world, read_classes};
+use crate::methods::{answer_diagrams, answer_report, answer_tests};
+use crate::orders::{classes_of, read_built_order, texts_of};
 use crate::ranges::tell_files;
 use crate::refusals::{Answer, Fault, Stop, settle};
 use crate::replay::replay;
@@ -46,7 +46,7 @@ pub fn answer_words<S: Shelf>(
     ensures counted { IsErrOf result Fault.Read → Rose (S.faults shelf.old) (S.faults shelf.new) }
     ensures unsound { IsErrOf result Fault.Read → SomeUnsound (map string_bytes words.now) (S.sound shelf.old) }
 {
-    match carry_out(alloc, words, shelf) {
+    match reply_to_words(alloc, words, shelf) {
         Ok(answer) => Ok(answer),
         Err(stop) => settle(alloc, stop),
     }
@@ -54,10 +54,10 @@ pub fn answer_words<S: Shelf>(
 
 /// Does what the words order.
 #[tactic(auto, unfolding(crate::specs::Answers::Replies))]
-fn carry_out<S: Shelf>(alloc: Global, words: &[String], shelf: &mut S) -> Result<Answer, Stop>
+fn reply_to_words<S: Shelf>(alloc: Global, words: &[String], shelf: &mut S) -> Result<Answer, Stop>
     ensures { Carries (Rose (S.faults shelf.old) (S.faults shelf.new) × SomeUnsound (map string_bytes words.now) (S.sound shelf.old)) (Replies (map string_bytes words.now) (S.holds shelf.old)) result }
 {
-    let order = read_order(alloc, words)?;
+    let order = read_built_order(alloc, words)?;
     carry_out_order(alloc, order.get(), shelf)
 }
 
@@ -95,14 +95,14 @@ fn read_files<S: Shelf>(
 {
     let mut read = Row::new(alloc);
     for name in names {
-        let bytes = read_file(alloc, name.as_str(), limit, shelf)?;
+        let bytes = read_bytes(alloc, name.as_str(), limit, shelf)?;
         read.push(Row::from_vec(bytes))?;
     }
     Ok(read)
 }
 
 /// The bytes of a file, up to one more than the limit.
-fn read_file<S: Shelf>(
+fn read_bytes<S: Shelf>(
     alloc: Global,
     file: &str,
     limit: usize,
@@ -136,7 +136,7 @@ fn answer_on(alloc: Global, order: &Order, contents: &Contents) -> Result<Answer
     tell_files(classes);
     worlds_have_names();
     let given = read_classes(alloc, classes)?;
-    let world = link_classes(alloc, given)?;
+    let world = link_world(alloc, given)?;
     answer_in(alloc, order, contents.texts.as_slice(), world.get())
 }
 
@@ -151,8 +151,9 @@ fn answer_in(alloc: Global, order: &Order, texts: &[Row<u8>], world: &World) -> 
     match order {
         Order::Explore(job) => answer_report(alloc, world, job),
         Order::Tests(job) => answer_tests(alloc, world, job),
+        Order::Diagrams(job) => answer_diagrams(alloc, world, job),
         Order::Replay(..) => replay(alloc, world, texts[0].as_slice()),
         Order::Assemble(_) => answer_assembly(alloc, texts[0].as_slice()),
-        Order::Diagrams(_) | Order::Sample(_) => unreachable!(),
+        Order::Sample(_) => unreachable!(),
     }
 }

@@ -3,9 +3,9 @@
 ghost use Rattle.kiasan.specs.Answers.{Carries, RepliesAssembly};
 
 use crate::answer::TEXT_LIMIT;
-use crate::refusals::{Answer, Refusal, Stop};
-use crate::status::Status;
+use crate::refusals::{Answer, Stop};
 use kb_asm::{AsmRefusal, assemble};
+use kb_refusals::{Refusal, Status, TextRefusal};
 use std::alloc::Global;
 
 /// What the program answers to a text that is to be assembled, where these are its bytes.
@@ -13,14 +13,16 @@ pub fn answer_assembly(alloc: Global, bytes: &[u8]) -> Result<Answer, Stop>
     ensures { Carries ⊥ (RepliesAssembly bytes.now) result }
 {
     if bytes.len() > TEXT_LIMIT {
-        return Err(Stop::Refused(Refusal::LongText));
+        return Err(Stop::Refused(Refusal::Text(TextRefusal::Long)));
     }
     match assemble(alloc, bytes) {
         Ok(text) => Ok(Answer {
             status: Status::Complete,
             text,
         }),
-        Err(AsmRefusal::Line(number)) => Err(Stop::Refused(Refusal::AssemblyLine(number))),
+        Err(AsmRefusal::Line(number)) => {
+            Err(Stop::Refused(Refusal::Text(TextRefusal::AssemblyLine(number))))
+        }
         Err(AsmRefusal::NoMemory) => Err(Stop::NoMemory),
     }
 }

@@ -8,10 +8,11 @@ ghost use Rattle.kiasan.specs.Answers.{ClassRefuses, FileRefuses, RefusesClasses
 ghost use Rattle.kiasan.specs.CodeFaults.{CodeRefuses, MethodsRefuse};
 ghost use Rattle.kiasan.specs.Refusals.{Gives};
 
-use crate::refusals::{Stop, class_refusal, code_refusal};
+use crate::refusals::Stop;
 use kb_class::{GivenClass, handlers_of};
 use kb_classfile::{ClassFile, Method, read_class};
 use kb_code::{Listing, decode};
+use kb_refusals::Refusal;
 use kb_rows::{Held, Row};
 use kb_world::{World, link};
 use std::alloc::Global;
@@ -32,7 +33,7 @@ pub fn read_classes(alloc: Global, classes: &[Row<u8>]) -> Result<Vec<GivenClass
 fn read_one(alloc: Global, number: usize, bytes: &[u8]) -> Result<GivenClass, Stop>
     ensures { Gives ⊥ (ClassRefuses number bytes.now) (λ class. IsGivenBy bytes.now class) result }
 {
-    let file = read_file(alloc, number, bytes)?;
+    let file = read_class_file(alloc, number, bytes)?;
     let listings = list_methods(alloc, number, file.get().methods.as_slice())?;
     Ok(GivenClass {
         file: file.into_inner(),
@@ -42,12 +43,12 @@ fn read_one(alloc: Global, number: usize, bytes: &[u8]) -> Result<GivenClass, St
 
 /// The class file of that number.
 #[tactic(auto, using(crate::proofs::ClassLaws::class_stops))]
-fn read_file(alloc: Global, number: usize, bytes: &[u8]) -> Result<Held<ClassFile>, Stop>
+fn read_class_file(alloc: Global, number: usize, bytes: &[u8]) -> Result<Held<ClassFile>, Stop>
     ensures { Gives ⊥ (FileRefuses number bytes.now) (λ file. IsClassFile file bytes.now) result }
 {
     match read_class(alloc, bytes) {
         Ok(file) => Ok(Held::new(alloc, file)?),
-        Err(refusal) => Err(class_refusal(number, &refusal)),
+        Err(refusal) => Err(Stop::from(Refusal::Class(number, refusal))),
     }
 }
 
@@ -62,7 +63,7 @@ fn list_methods(
 {
     let mut listings = Vec::new(alloc);
     for method in methods {
-        let listing = listing_of(alloc, file, listings.len(), method)?;
+        let listing = list_method(alloc, file, listings.len(), method)?;
         listings.push(listing)?;
     }
     Ok(listings)
@@ -70,7 +71,7 @@ fn list_methods(
 
 /// The listing of a method's code, if it has code.
 #[tactic(auto, using(crate::proofs::ClassLaws::code_stops))]
-fn listing_of(
+fn list_method(
     alloc: Global,
     file: usize,
     number: usize,
@@ -86,13 +87,13 @@ fn listing_of(
     };
     match decode(alloc, code.bytes.as_slice(), handlers.as_slice()) {
         Ok(listing) => Ok(Some(listing)),
-        Err(refusal) => Err(code_refusal(file, number, &refusal)),
+        Err(refusal) => Err(Stop::from(Refusal::Code(file, number, refusal))),
     }
 }
 
 /// The world of classes.
 #[tactic(auto, using(crate::proofs::ClassLaws::link_stops))]
-pub fn link_classes(alloc: Global, given: Vec<GivenClass>) -> Result<Held<World>, Stop>
+pub fn link_world(alloc: Global, given: Vec<GivenClass>) -> Result<Held<World>, Stop>
     requires { AreGiven given.items }
     ensures { Gives ⊥ (WorldRefuses given.items) (Links given.items) result }
 {

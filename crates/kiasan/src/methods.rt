@@ -1,15 +1,17 @@
-//! What the program tells of the paths of a job's method: their report, or their tests.
+//! What the program tells of the paths of a job's method: their report, their tests, or their diagrams.
 
 ghost use Rattle.std.specs.Prelude.{◌≡◌, IfOk};
+ghost use Rattle.std.specs.List.{AllByRecursion};
 ghost use Rattle.kb_class.specs.declared.ids.MethodId.{MethodId};
+ghost use Rattle.kb_diagram.specs.Diagram.{diagrams_text};
 ghost use Rattle.kb_drive.specs.Covers.{EachPath};
 ghost use Rattle.kb_link.specs.Links.{IsLinked};
 ghost use Rattle.kb_names.specs.Targets.{IsTarget};
-ghost use Rattle.kb_report.specs.Report.{report_text};
+ghost use Rattle.kb_report_laws.specs.OneText.{IsSound};
 ghost use Rattle.kb_test_lines.specs.Lines.{IsRunBounds};
 ghost use Rattle.kb_test.specs.Tests.{SpellsTests};
 ghost use Rattle.kb_test_laws.specs.Texts.{NamesHaveTexts};
-ghost use Rattle.kiasan.specs.Answers.{Carries, IsReportText, IsTestsTextOf, RepliesJob};
+ghost use Rattle.kiasan.specs.Answers.{Carries, IsDiagramsText, IsOwnText, IsReportText, IsTestsTextOf, RepliesJob};
 ghost use Rattle.kiasan.specs.Exploring.{IsBuiltReport, IsCarried, is_unsettled, status_of, tests_of};
 ghost use Rattle.kiasan.specs.Orders.{IsBuiltJob};
 ghost use Rattle.kiasan.specs.Reach.{TargetRefuses};
@@ -18,11 +20,13 @@ ghost use Rattle.kiasan.specs.Tests.{literals_in};
 
 use crate::NoMemory;
 use crate::refusals::{Answer, Stop};
-use crate::status::Status;
 use crate::tests_text::tests_text;
 use crate::unbuilt::built_report;
+use kb_diagram::diagrams_text;
 use kb_picture::{Leaf, Path};
-use kb_report::{Report, report_text};
+use kb_refusals::Status;
+use kb_report::Report;
+use kb_report_laws::own_report_text;
 use kb_rows::Held;
 use kb_test_laws::runs_have_names;
 use kb_words::Job;
@@ -31,7 +35,8 @@ use std::alloc::Global;
 
 /// What the program answers where the report of a job is to be written.
 pub fn answer_report(alloc: Global, world: &World, job: &Job) -> Result<Answer, Stop>
-    requires { IsBuiltJob job.now }
+    requires linked { IsLinked world.now }
+    requires job { IsBuiltJob job.now }
     ensures { Carries ⊥ (RepliesJob IsReportText world.now job.now) result }
 {
     let report = explore_job(alloc, world, job)?;
@@ -41,10 +46,12 @@ pub fn answer_report(alloc: Global, world: &World, job: &Job) -> Result<Answer, 
 
 /// The answer that tells a report.
 fn report_answer(alloc: Global, world: &World, report: &Report) -> Result<Answer, NoMemory>
+    requires linked { IsLinked world.now }
+    requires paths { AllByRecursion (IsSound world.now) report.now.leaves }
     ensures status { IfOk result (λ answer. answer.status ≡ status_of report.now.leaves) }
-    ensures text { IfOk result (λ answer. answer.text.items ≡ report_text world.now report.now) }
+    ensures text { IfOk result (λ answer. IsOwnText world.now report.now answer.text.items) }
 {
-    let text = report_text(alloc, world, report)?;
+    let text = own_report_text(alloc, world, report)?;
     Ok(Answer {
         status: status_of(report.leaves.as_slice()),
         text,
@@ -75,6 +82,28 @@ fn tests_answer(alloc: Global, world: &World, report: &Report) -> Result<Answer,
     let text = tests_text(alloc, world, report)?;
     Ok(Answer {
         status: status_of(report.leaves.as_slice()),
+        text,
+    })
+}
+
+/// What the program answers where the diagrams of a job are to be written.
+pub fn answer_diagrams(alloc: Global, world: &World, job: &Job) -> Result<Answer, Stop>
+    requires { IsBuiltJob job.now }
+    ensures { Carries ⊥ (RepliesJob IsDiagramsText world.now job.now) result }
+{
+    let report = explore_job(alloc, world, job)?;
+    let answer = diagrams_answer(alloc, world, report.get().leaves.as_slice())?;
+    Ok(answer)
+}
+
+/// The answer that tells the diagrams of a report's paths.
+fn diagrams_answer(alloc: Global, world: &World, leaves: &[Path]) -> Result<Answer, NoMemory>
+    ensures status { IfOk result (λ answer. answer.status ≡ status_of leaves.now) }
+    ensures text { IfOk result (λ answer. answer.text.items ≡ diagrams_text world.now leaves.now) }
+{
+    let text = diagrams_text(alloc, world, leaves)?;
+    Ok(Answer {
+        status: status_of(leaves),
         text,
     })
 }

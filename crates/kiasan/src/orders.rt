@@ -5,8 +5,9 @@ ghost use Rattle.kiasan.specs.Answers.{WordsRefuse};
 ghost use Rattle.kiasan.specs.Orders.{IsBuiltOrder, OrdersBuilt, classes_of, is_built, is_lazy, texts_of};
 ghost use Rattle.kiasan.specs.Refusals.{Gives};
 
-use crate::refusals::{Refusal, Stop};
+use crate::refusals::Stop;
 use kb_picture::Init;
+use kb_refusals::Refusal;
 use kb_rows::Held;
 use kb_words::{Order, Word, WordFault, read_words};
 use std::alloc::Global;
@@ -14,7 +15,7 @@ use std::slice;
 
 /// What the words order, where it is built.
 #[tactic(auto, using(crate::proofs::WordsLaws::words_stop, crate::proofs::WordsLaws::not_built, crate::proofs::WordsLaws::built_order))]
-pub fn read_order(alloc: Global, words: &[String]) -> Result<Held<Order>, Stop>
+pub fn read_built_order(alloc: Global, words: &[String]) -> Result<Held<Order>, Stop>
     ensures order { Gives ⊥ (WordsRefuse (map string_bytes words.now)) (OrdersBuilt (map string_bytes words.now)) result }
     ensures built { IfOk result IsBuiltOrder }
 {
@@ -40,9 +41,9 @@ fn is_built(order: &Order) -> bool
     ensures { result ≡ is_built order.now }
 {
     match order {
-        Order::Explore(job) | Order::Tests(job) => is_lazy(job.init),
+        Order::Explore(job) | Order::Tests(job) | Order::Diagrams(job) => is_lazy(job.init),
         Order::Replay(..) | Order::Assemble(_) => true,
-        Order::Diagrams(_) | Order::Sample(_) => false,
+        Order::Sample(_) => false,
     }
 }
 

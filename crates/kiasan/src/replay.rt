@@ -7,10 +7,10 @@ ghost use Rattle.kiasan.specs.Refusals.{Gives};
 ghost use Rattle.kiasan.specs.Tests.{RefusesTests, passes, count_passes, count_differs, replay_status};
 
 use crate::answer::TEXT_LIMIT;
-use crate::refusals::{Answer, Refusal, Stop};
-use crate::status::Status;
+use crate::refusals::{Answer, Stop};
 use crate::verdicts::replay_text;
 use kb_class::MethodId;
+use kb_refusals::{Refusal, Status, TextRefusal};
 use kb_replay::{BadTest, ReplayStop, Replayed, check_tests, run_tests};
 use kb_rows::Row;
 use kb_test::{Test, read_tests};
@@ -24,8 +24,12 @@ impl From<BadTest> for Stop {
 
     fn from(bad: BadTest) -> Stop {
         match bad.stop {
-            ReplayStop::TestMethod => Stop::Refused(Refusal::NoTestMethod(bad.number)),
-            ReplayStop::TestTypes => Stop::Refused(Refusal::IllTypedTest(bad.number)),
+            ReplayStop::TestMethod => {
+                Stop::Refused(Refusal::Text(TextRefusal::NoTestMethod(bad.number)))
+            }
+            ReplayStop::TestTypes => {
+                Stop::Refused(Refusal::Text(TextRefusal::IllTypedTest(bad.number)))
+            }
             ReplayStop::Reach(refusal) => Stop::from(refusal),
             ReplayStop::NoMemory => Stop::NoMemory,
         }
@@ -56,7 +60,7 @@ fn read_text(alloc: Global, literals: u32, bytes: &[u8]) -> Result<Row<Test>, St
     ensures { Gives ⊥ (TextRefuses literals bytes.now) (AreTestsOf literals bytes.now) result }
 {
     if bytes.len() > TEXT_LIMIT {
-        return Err(Stop::Refused(Refusal::LongText));
+        return Err(Stop::Refused(Refusal::Text(TextRefusal::Long)));
     }
     Ok(read_tests(alloc, bytes, literals)?)
 }

@@ -5,8 +5,8 @@ ghost use Rattle.kiasan.specs.Answers.{AreTold, IsSameReply, Owes, Replies, Repl
 
 use crate::answer::answer_words;
 use crate::refusals::Fault;
-use crate::status::Status;
 use kb_outside::{Shelf, Sink, SinkFailed, send_all};
+use kb_refusals::Status;
 use std::alloc::Global;
 
 /// Does what the words after the program's name ask for: reads from the shelf, writes the whole text to `out`, and says

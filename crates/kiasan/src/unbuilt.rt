@@ -7,20 +7,16 @@ ghost use Rattle.kiasan.specs.Orders.{IsBuiltJob};
 ghost use Rattle.kiasan.specs.Reach.{TargetRefuses};
 ghost use Rattle.kiasan.specs.Refusals.{Gives};
 
-use crate::refusals::{Refusal, Stop};
+use crate::refusals::Stop;
 use crate::reports::report_of;
-use crate::status::Status;
 use kb_class::MethodId;
+use kb_refusals::Refusal;
 use kb_report::Report;
 use kb_rows::Held;
 use kb_stepref::is_heap_method;
 use kb_words::Job;
 use kb_world::World;
 use std::alloc::Global;
-
-pub const UNBUILT_STATUS: Status = Status::Outside;
-
-pub const UNBUILT_LINE: &str = "refused 50\n";
 
 /// The report of a job's method, where its exploration is built.
 #[tactic(auto, using(crate::proofs::JobLaws::unbuilt_target))]

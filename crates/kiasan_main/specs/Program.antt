@@ -1,8 +1,8 @@
 -- What the program owes for its words, and with which exit code it ends.
 use Rattle.std.specs.Prelude.{◌≡◌, ℕ, List, Option}
 use Rattle.kiasan.specs.Answers.{Owes}
-use Rattle.kiasan.specs.StatusNumber.{status_number}
-use Rattle.kiasan.specs.declared.status.Status.{Status}
+use Rattle.kb_refusals.specs.StatusNumber.{status_number}
+use Rattle.kb_refusals.specs.declared.status.Status.{Status}
 
 -- the exit code where a word is not UTF-8, which is no status
 abbrev pub not_utf8 : ℕ

@@ -2,8 +2,8 @@
 
 ghost use Rattle.std.specs.Prelude.{◌≡◌, map, string_bytes, IfOk, IsErr, IsErrOf};
 ghost use Rattle.std.specs.Process.{exit_status};
-ghost use Rattle.kiasan.specs.StatusNumber.{status_number};
-ghost use Rattle.kiasan.specs.declared.status.Status.{Status};
+ghost use Rattle.kb_refusals.specs.StatusNumber.{status_number};
+ghost use Rattle.kb_refusals.specs.declared.status.Status.{Status};
 ghost use Rattle.kb_outside.specs.declared.words.WordsStop.{WordsStop};
 ghost use Rattle.kiasan_main.specs.Program.{EndsWith, not_utf8};
 

@@ -1,5 +1,5 @@
-//! The texts of reports: rows of the file `rows` make reports, a line each, and have their texts written, so that each form of
-//! a line of a report stands in one of them.
+//! The texts of reports, and the diagrams of their paths: rows of the file `rows` make reports, a line each, and have both written,
+//! so that each form of a line stands in one of them.
 //!
 //! The gate runs it over the files of `data/` and compares what it writes with `stdout`, so that a row costs no proof. What is
 //! expected there is no output of this program: it was written by hand, after what each line is to say. The class files are made
@@ -8,6 +8,7 @@
 
 mod reports;
 
+use kb_diagram::diagram_text;
 use kb_load::{InWorlds, WorldRows};
 use kb_outside::{FileShelf, OutSink, Sink};
 use kb_path_lines::split;
@@ -38,6 +39,7 @@ impl WorldRows for ReportRows {
         match word.as_bytes() {
             b"report" => begin(alloc, rest, &mut self.report),
             b"text" => write_text(alloc, world, &self.report, out),
+            b"diagrams" => write_diagrams(alloc, world, &self.report, out),
             _ => add_row(alloc, word, rest, &mut self.report),
         }
     }
@@ -83,4 +85,20 @@ fn write_text<W: Sink>(
     };
     let text = kept(report_text(alloc, world, report.get()))?;
     send(out, text.as_slice())
+}
+
+fn write_diagrams<W: Sink>(
+    alloc: Global,
+    world: &World,
+    report: &Option<Held<Report>>,
+    out: &mut W,
+) -> RowResult<()> {
+    let Some(report) = report else {
+        return Err(RowStop::Malformed);
+    };
+    for path in report.get().leaves.as_slice() {
+        let text = kept(diagram_text(alloc, world, path))?;
+        send(out, text.as_slice())?;
+    }
+    Ok(())
 }

@@ -1,6 +1,7 @@
 use Rattle.std.proofs.Common.{◌≡◌, ◌++◌, drop}
 use Rattle.kb_grammar.specs.Lines.{lines_text}
-use Rattle.kb_report.specs.Blocks.{numbered_lines, obj_line}
+use Rattle.kb_path_words.specs.Lines.{numbered_lines}
+use Rattle.kb_report.specs.Blocks.{obj_line}
 use Rattle.kb_report.proofs.blocks.write_objects.Given as goal
 
 abbrev pub invariant-loop-number : goal.invariant-loop-number

@@ -3,8 +3,9 @@ use Rattle.std.proofs.lemmas.Result.{on_ok_weaker}
 use Rattle.kb_grammar.specs.Lines.{lines_text}
 use Rattle.kb_terms.specs.declared.listing.Term.{Term}
 use Rattle.kb_picture.specs.declared.picture.PicObject.{PicObject}
-use Rattle.kb_report.specs.Blocks.{numbered_lines, path_line, picture_lines, let_line, when_line, leaf_lines, path_lines}
-use Rattle.kb_report.proofs.TextLaws.{block_joined}
+use Rattle.kb_path_words.specs.Lines.{numbered_lines}
+use Rattle.kb_report.specs.Blocks.{path_line, picture_lines, let_line, when_line, leaf_lines, path_lines}
+use Rattle.kb_path_words.proofs.TextLaws.{block_joined}
 use Rattle.kb_report.proofs.blocks.write_path.Goals as goal
 
 pub returns : goal.returns

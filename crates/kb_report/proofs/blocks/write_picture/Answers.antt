@@ -5,8 +5,9 @@ use Rattle.kb_picture.specs.declared.picture.PicObject.{PicObject}
 use Rattle.kb_picture.specs.declared.picture.PicLoc.{PicLoc}
 use Rattle.kb_picture.specs.declared.picture.Origin.{Origin}
 use Rattle.kb_picture.specs.declared.picture.Seen.{Seen}
-use Rattle.kb_report.specs.Blocks.{numbered_lines, see_line, loc_line, obj_line, picture_lines}
-use Rattle.kb_report.proofs.TextLaws.{three_joined}
+use Rattle.kb_path_words.specs.Lines.{numbered_lines}
+use Rattle.kb_report.specs.Blocks.{see_line, loc_line, obj_line, picture_lines}
+use Rattle.kb_path_words.proofs.TextLaws.{three_joined}
 use Rattle.kb_report.proofs.blocks.write_picture.Goals as goal
 
 pub returns : goal.returns

@@ -3,8 +3,9 @@ use Rattle.std.proofs.lemmas.Result.{on_ok_weaker}
 use Rattle.kb_grammar.specs.Lines.{lines_text}
 use Rattle.kb_picture.specs.declared.path.Write.{Write}
 use Rattle.kb_picture.specs.declared.path.Made.{Made}
-use Rattle.kb_report.specs.Blocks.{numbered_lines, set_line, new_line, input_lines}
-use Rattle.kb_report.proofs.TextLaws.{three_joined}
+use Rattle.kb_path_words.specs.Lines.{numbered_lines}
+use Rattle.kb_report.specs.Blocks.{set_line, new_line, input_lines}
+use Rattle.kb_path_words.proofs.TextLaws.{three_joined}
 use Rattle.kb_report.proofs.leaves.write_ended.Goals as goal
 
 pub returns : goal.returns

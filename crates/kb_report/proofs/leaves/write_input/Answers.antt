@@ -3,8 +3,9 @@ use Rattle.std.proofs.lemmas.Result.{on_ok_weaker}
 use Rattle.kb_grammar.specs.Lines.{lines_text}
 use Rattle.kb_heap.specs.declared.heap.Value.{Value}
 use Rattle.kb_heap.specs.declared.heap.Object.{Object}
-use Rattle.kb_report.specs.Blocks.{numbered_lines, arg_line, in_line, input_lines}
-use Rattle.kb_report.proofs.TextLaws.{two_joined}
+use Rattle.kb_path_words.specs.Lines.{numbered_lines}
+use Rattle.kb_report.specs.Blocks.{arg_line, in_line, input_lines}
+use Rattle.kb_path_words.proofs.TextLaws.{two_joined}
 use Rattle.kb_report.proofs.leaves.write_input.Goals as goal
 
 pub returns : goal.returns

@@ -1,6 +1,6 @@
 use Rattle.std.proofs.Common.{◌≡◌, ◌++◌, drop}
-use Rattle.kb_report.specs.Blocks.{spaced}
-use Rattle.kb_report.specs.Words.{value_text}
+use Rattle.kb_path_words.specs.Lines.{spaced}
+use Rattle.kb_path_words.specs.Words.{value_text}
 use Rattle.kb_report.proofs.leaves.write_values.Given as goal
 
 abbrev pub invariant-loop-value : goal.invariant-loop-value

@@ -5,7 +5,7 @@ use Rattle.kb_link.specs.World.{World}
 use Rattle.kb_picture.specs.declared.path.Path.{Path}
 use Rattle.kb_report.specs.Blocks.{path_lines}
 use Rattle.kb_report.specs.Report.{head_lines, total_line, report_lines, report_text}
-use Rattle.kb_report.proofs.TextLaws.{three_joined}
+use Rattle.kb_path_words.proofs.TextLaws.{three_joined}
 use Rattle.kb_report.proofs.report.report_text.Goals as goal
 
 pub returns-clause-text : goal.returns-clause-text

@@ -3,7 +3,7 @@ use Rattle.std.specs.Fmt.{decimal}
 use Rattle.std.proofs.lemmas.Result.{on_ok_weaker}
 use Rattle.kb_report.specs.declared.kinds.LeafKind.TheVariants.{Ended, Cut, Undecided, Open}
 use Rattle.kb_report.specs.Report.{count_of, kinds_text}
-use Rattle.kb_report.proofs.TextLaws.{counts_joined}
+use Rattle.kb_path_words.proofs.TextLaws.{counts_joined}
 use Rattle.kb_report.proofs.report.write_kinds.Goals as goal
 
 pub returns : goal.returns

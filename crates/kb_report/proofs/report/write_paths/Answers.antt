@@ -1,5 +1,5 @@
 use Rattle.kb_report.specs.Blocks.{path_lines}
-use Rattle.kb_report.proofs.TextLaws.{next_lines}
+use Rattle.kb_path_words.proofs.TextLaws.{next_lines}
 use Rattle.kb_report.proofs.report.write_paths.Goals as goal
 
 pub loop-path-preserved : goal.loop-path-preserved

@@ -11,8 +11,8 @@ use Rattle.kiasan.proofs.AnswerLaws.{classes_stop, world_stops, world_goes}
 use Rattle.kiasan.proofs.ClassLaws.{are_of_bytes}
 use Rattle.kiasan.proofs.answer.answer_on.Goals as goal
 
-pub link_classes-requires : goal.link_classes-requires
-link_classes-requires c = are_given _ c.in_ok-given.given.items c.in_ok-given.ensures
+pub link_world-requires : goal.link_world-requires
+link_world-requires c = are_given _ c.in_ok-given.given.items c.in_ok-given.ensures
 
 pub answer_in-requires-clause-linked : goal.answer_in-requires-clause-linked
 answer_in-requires-clause-linked c = rw c.get.ensures c.in_ok-world.ensures.linked
