@@ -147,7 +147,7 @@ def main():
     options.add_argument("--program", type=Path, help="a built program, whose output the rows are")
     program = options.parse_args().program
     write_class_files()
-    table = (DATA / "rows").read_text().splitlines()
+    table = [row for row in (DATA / "rows").read_text().splitlines() if not row.startswith("#")]
     before = {words: (lines, status) for words, lines, status in rows_of((CRATE / "stdout").read_text())}
     if program:
         rows = {words: of_program(program.resolve(), words) for words in table if not words.startswith("replay ")}
