@@ -22,6 +22,8 @@ use Rattle.kb_picture.specs.declared.path.Path.{Path}
 use Rattle.kb_report.specs.Ranges.{ReportFits}
 use Rattle.kb_report.specs.declared.report.Report.{Report}
 use Rattle.kb_report_laws.specs.OneText.{IsSound}
+use Rattle.kb_report_tests.specs.Tests.{IsCarried, StatesTexts, literals_in, path_tests, tests_of}
+use Rattle.kb_report_tests.proofs.TestTexts.{path_head, path_tail, tests_on}
 use Rattle.kb_names.specs.Targets.{IsTarget}
 use Rattle.kb_test_lines.specs.Lines.{IsRunBounds}
 use Rattle.kb_test.specs.Tests.{SpellsTests}
@@ -37,12 +39,11 @@ use Rattle.kiasan.specs.declared.refusals.Stop.{Stop}
 use Rattle.kiasan.specs.declared.refusals.Stop.TheVariants.{Refused, ReadFault, NoMemory}
 use Rattle.kb_refusals.specs.declared.status.Status.{Status}
 use Rattle.kiasan.specs.Answers.{ends, Carries, IsTestsTextOf, RepliesJob, TextOf}
-use Rattle.kiasan.specs.Exploring.{AreListed, HasHead, IsBuiltReport, IsCarried, IsReportOf, StatesTexts, path_tests, status_of, tests_of}
+use Rattle.kiasan.specs.Exploring.{AreListed, HasHead, IsBuiltReport, IsReportOf, status_of}
 use Rattle.kiasan.specs.Reach.{TargetRefuses}
 use Rattle.kiasan.specs.Refusals.{Gives, link_refusal}
-use Rattle.kiasan.specs.Tests.{EndsAsStated, literals_in}
+use Rattle.kiasan.specs.Tests.{EndsAsStated}
 use Rattle.kiasan.specs.Unbuilt.{IsBuiltFor}
-use Rattle.kiasan.proofs.TestTexts.{path_head, path_tail, tests_on}
 
 -- what the world says of a target that it does not reach
 pub reach_stops : {A : Type 0} (world : World) (target : Target) (found : LinkRefusal) (Passes : A → Type 0) → Refuses world target found →
@@ -128,7 +129,7 @@ paths_sound world job report built =
 
 -- ---- the tests of a report end as they state
 
-both_all : {A : Type 0} (P : A → Type 0) (xs ys : List A) → AllByRecursion P xs → AllByRecursion P ys → AllByRecursion P (xs ++ ys)
+pub both_all : {A : Type 0} (P : A → Type 0) (xs ys : List A) → AllByRecursion P xs → AllByRecursion P ys → AllByRecursion P (xs ++ ys)
 both_all P [] ys front back = back
 both_all P (x ∷ xs) ys front back = (front.0, both_all P xs ys front.1 back)
 

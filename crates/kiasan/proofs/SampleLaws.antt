@@ -1,0 +1,165 @@
+-- How a sample is answered: its target has that text, its job is one that is built, and each of its tests passes.
+use Rattle.std.proofs.Common.{◌≡◌, ℕ, ◌*◌, ◌<◌, ◌≤◌, List, [], ◌∷◌, length, codes, Err, refl, sym, ◌∙◌, ap, subst, arith}
+use Rattle.std.specs.List.{AllByRecursion}
+use Rattle.kb_class.specs.declared.ids.MethodId.{MethodId}
+use Rattle.kb_drive.specs.Covers.{CarriesInstance, EachPath, StatesRuns, input_carried}
+use Rattle.kb_link.specs.Links.{IsLinked}
+use Rattle.kb_link.specs.Targets.{IsTargetOf}
+use Rattle.kb_link.specs.World.{World}
+use Rattle.kb_names.specs.Descriptors.{IsType}
+use Rattle.kb_names.specs.Targets.{IsTarget, SpellsTarget}
+use Rattle.kb_names.specs.declared.class_names.Spelling.TheVariants.{Escaped}
+use Rattle.kb_names.specs.declared.types.JType.TheVariants.{Int}
+use Rattle.kb_names.specs.declared.types.Target.{Target}
+use Rattle.kb_picture.specs.declared.path.Leaf.{Leaf}
+use Rattle.kb_picture.specs.declared.path.Leaf.TheVariants.{Ended as EndedLeaf, Cut, Undecided, Open}
+use Rattle.kb_picture.specs.declared.path.Path.{Path}
+use Rattle.kb_replay.specs.declared.replays.Replayed.{Replayed}
+use Rattle.kb_replay.specs.declared.replays.Replayed.TheVariants.{Passes}
+use Rattle.kb_replay.specs.Replays.{AreReplayed, AreRunnable}
+use Rattle.kb_replay.proofs.OneAnswer.{one_replay}
+use Rattle.kb_report.specs.declared.report.Report.{Report}
+use Rattle.kb_report_tests.specs.Tests.{path_tests, tests_of}
+use Rattle.kb_report_tests.proofs.TestTexts.{path_head, path_tail, tests_on}
+use Rattle.kb_test.specs.declared.reading.TestRefusal.{TestRefusal}
+use Rattle.kb_test.specs.declared.reading.TestRefusal.TheVariants as texts
+use Rattle.kb_test.specs.declared.test_case.Test.{Test}
+use Rattle.kb_test.specs.Refusals.{ReadsTests}
+use Rattle.kb_words.specs.declared.orders.Job.{Job}
+use Rattle.kb_words.specs.Orders.{AreBounds, IsJob, default_bounds}
+use Rattle.kb_world.specs.Reach.{IsAccepted}
+use Rattle.kiasan.specs.declared.refusals.Stop.{Stop}
+use Rattle.kiasan.specs.declared.refusals.Stop.TheVariants.{Refused, ReadFault, NoMemory}
+use Rattle.kiasan.specs.Answers.{RefusesNothing}
+use Rattle.kiasan.specs.Exploring.{IsBuiltReport}
+use Rattle.kiasan.specs.Orders.{IsBuiltJob}
+use Rattle.kiasan.specs.Refusals.{Gives, tests_refusal}
+use Rattle.kiasan.specs.Samples.{sample_job, sample_target}
+use Rattle.kiasan.specs.Tests.{RefusesTests, RunsAsStated, count_passes}
+use Rattle.kiasan.proofs.JobLaws.{both_all}
+use Rattle.kiasan.proofs.OneReply.{tests_apart}
+
+-- ---- what is explored
+
+is_int : IsType Escaped Int
+is_int = let none : 0 ≤ 255 = omega arith in record { base = tt; dims = none }
+
+not_empty : (byte : ℕ) (bytes : List ℕ) → byte ∷ bytes ≡ [] → ⊥
+not_empty byte bytes e = cc
+
+target_is : IsTarget sample_target
+target_is =
+    let a : 97 < 256 = omega arith in
+    let e : 101 < 256 = omega arith in
+    let l : 108 < 256 = omega arith in
+    let m : 109 < 256 = omega arith in
+    let n : 110 < 256 = omega arith in
+    let p : 112 < 256 = omega arith in
+    let r : 114 < 256 = omega arith in
+    let s : 83 < 256 = omega arith in
+    let u : 117 < 256 = omega arith in
+    record {
+      class = (not_empty 83 (codes "ample"), (s, (a, (m, (p, (l, (e, tt)))))));
+      name = (r, (u, (n, tt)));
+      kind = record { params = (is_int, (is_int, (is_int, (is_int, tt)))); result = is_int };
+    }
+
+-- the text is that of the target
+pub sample_spelled : SpellsTarget sample_target (codes "Sample.run(IIII)I")
+sample_spelled = (target_is, refl)
+
+sample_bounds : AreBounds default_bounds
+sample_bounds =
+    let followed : 3 ≤ 16 = omega arith in
+    let alloc : 16 ≤ 1024 = omega arith in
+    let loops : 10 ≤ 1000 = omega arith in
+    let some_depth : 1 ≤ 16 = omega arith in
+    let depth : 16 ≤ 256 = omega arith in
+    let some_steps : 1 ≤ 2000 = omega arith in
+    let steps : 2000 ≤ 100000 = omega arith in
+    record { k = followed; array = followed; alloc = alloc; loops = loops; some_depth = some_depth; depth = depth; some_steps = some_steps; steps = steps }
+
+-- the job's numbers lie in their ranges
+pub sample_built : IsBuiltJob sample_job
+sample_built =
+    let some_paths : 1 ≤ 100 = omega arith in
+    let paths : 100 ≤ 100000 = omega arith in
+    let some_budget : 1 ≤ 20000 = omega arith in
+    let budget : 20000 ≤ 100000 = omega arith in
+    let derived : 100 * 20000 ≤ 2000000 = omega arith in
+    let numbers : IsJob sample_job =
+    record { target = target_is; bounds = sample_bounds; some_paths = some_paths; paths = paths; some_budget = some_budget; budget = budget; derived = derived } in
+    record { numbers = numbers; lazy = refl }
+
+-- ---- tests that are written are read
+
+pub written_read : {A : Type 0} (Passes : A → Type 0) (refusal : TestRefusal) (tests : List Test) (stop : Stop) → ReadsTests (Err refusal) tests → stop ≡ tests_refusal refusal →
+    Gives {A = A} ⊥ RefusesNothing Passes (Err stop)
+written_read Passes (texts.TestLine number) tests stop read is = absurd read
+written_read Passes texts.NoMemory tests stop read is = rw is tt
+
+-- ---- each test of a report may be run, and ends as it states
+
+path_runs : (world : World) (id : MethodId) (report : Report) → IsTargetOf world report.target id → IsAccepted world id → (path : Path) → StatesRuns world id report.bounds path →
+    CarriesInstance world id path → AllByRecursion (RunsAsStated world id) (path_tests world report path path.leaf)
+path_runs world id report found accepted path states carries = go path.leaf refl
+  where
+    go : (leaf : Leaf) → path.leaf ≡ leaf → AllByRecursion (RunsAsStated world id) (path_tests world report path leaf)
+    go (EndedLeaf ended) e =
+        let carried = carries ended.input (ap input_carried e) in
+        ((record { fit = record { found = found; correct = carried.0 }; accepted = accepted }, states ended ended.input e carried.0 carried.1), tt)
+    go (Cut bound input) e = tt
+    go (Undecided log) e = tt
+    go Open e = tt
+
+paths_run : (world : World) (id : MethodId) (report : Report) → IsTargetOf world report.target id → IsAccepted world id → (paths : List Path) →
+    EachPath (StatesRuns world id report.bounds) paths → EachPath (CarriesInstance world id) paths → AllByRecursion (RunsAsStated world id) (tests_on world report paths)
+paths_run world id report found accepted [] states carry = tt
+paths_run world id report found accepted (path ∷ paths) states carry =
+    both_all (RunsAsStated world id) (path_tests world report path path.leaf) (tests_on world report paths)
+    (path_runs world id report found accepted path (path_head (StatesRuns world id report.bounds) path paths states) (path_head (CarriesInstance world id) path paths carry))
+    (paths_run world id report found accepted paths (path_tail (StatesRuns world id report.bounds) path paths states) (path_tail (CarriesInstance world id) path paths carry))
+
+pub report_runs : (world : World) (job : Job) (report : Report) (built : IsBuiltReport world job report) → AllByRecursion (RunsAsStated world built.reported.id) (tests_of world report)
+report_runs world job report built =
+    let id = built.reported.id in
+    let covers = built.reported.listed.covers in
+    let found : IsTargetOf world report.target id = subst (λ (target : Target). IsTargetOf world target id) (sym built.reported.head.target) built.reported.found in
+    paths_run world id report found built.accepted report.leaves covers.endings covers.carried
+
+-- ---- tests that end as they state pass
+
+-- the method of each test
+same_methods : MethodId → List Test → List MethodId
+same_methods id [] = []
+same_methods id (test ∷ tests) = id ∷ same_methods id tests
+
+runnable : (world : World) (id : MethodId) (tests : List Test) → AllByRecursion (RunsAsStated world id) tests → AreRunnable world tests (same_methods id tests)
+runnable world id [] runs = tt
+runnable world id (test ∷ tests) runs = (runs.0.0, runnable world id tests runs.1)
+
+-- none of them is refused
+pub none_refused : {A B : Type 0} (Fine : A → Type 0) (Passing : B → Type 0) (world : World) → IsLinked world → (id : MethodId) (tests : List Test) →
+    AllByRecursion (RunsAsStated world id) tests → (stop : Stop) → Gives {A = A} ⊥ (RefusesTests world tests) Fine (Err stop) → Gives {A = B} ⊥ RefusesNothing Passing (Err stop)
+none_refused Fine Passing world linked id tests runs (Refused refusal) refuses =
+    absurd (tests_apart world linked tests refusal (same_methods id tests) refuses (runnable world id tests runs))
+none_refused Fine Passing world linked id tests runs ReadFault wrong = wrong
+none_refused Fine Passing world linked id tests runs NoMemory none = tt
+
+all_passes : List Test → List Replayed
+all_passes [] = []
+all_passes (test ∷ tests) = Passes ∷ all_passes tests
+
+passing : (world : World) (id : MethodId) (tests : List Test) → AllByRecursion (RunsAsStated world id) tests → AreReplayed world tests (all_passes tests)
+passing world id [] runs = tt
+passing world id (test ∷ tests) runs = ((id, runs.0.0, runs.0.1), passing world id tests runs.1)
+
+count_all : (tests : List Test) → count_passes (all_passes tests) ≡ length tests
+count_all [] = refl
+count_all (test ∷ tests) = omega (arith, count_all tests)
+
+-- their verdicts are that each passes
+pub each_passes : (world : World) → IsLinked world → (id : MethodId) (tests : List Test) → AllByRecursion (RunsAsStated world id) tests → (verdicts : List Replayed) →
+    AreReplayed world tests verdicts → count_passes verdicts ≡ length tests
+each_passes world linked id tests runs verdicts are =
+    ap (λ (vs : List Replayed). count_passes vs) (one_replay world linked tests verdicts (all_passes tests) are (passing world id tests runs)) ∙ count_all tests

@@ -1,0 +1,9 @@
+use Rattle.kiasan.specs.Samples.{sample_target}
+use Rattle.kiasan.proofs.SampleLaws.{sample_spelled}
+use Rattle.kiasan.proofs.sample.sample_target.Goals as goal
+
+pub returns-in-Ok : goal.returns-in-Ok
+returns-in-Ok c = c.in-Ok.ensures.only sample_target sample_spelled
+
+pub unreachable-requires : goal.unreachable-requires
+unreachable-requires c = c.in-BadTarget.ensures.only sample_target sample_spelled
