@@ -1,16 +1,19 @@
--- The text of tests, path by path.
+-- The tests of paths, and their text, path by path.
 use Rattle.std.proofs.Common.{◌≡◌, ℕ, suc, ◌<◌, ◌≤◌, ◌-◌, List, [], ◌∷◌, ◌++◌, length, take, drop, get_or, refl, sym, ◌∙◌, ap, subst, arith, append_assoc, append-nil}
 use Rattle.std.proofs.lemmas.List.{take_all}
-use Rattle.std.specs.List.{flat_map}
+use Rattle.std.specs.List.{AllByRecursion, flat_map}
 use Rattle.kb_drive.specs.Covers.{EachPath}
 use Rattle.kb_link.specs.World.{World}
+use Rattle.kb_picture.specs.declared.path.Ended.{Ended}
+use Rattle.kb_picture.specs.declared.path.Leaf.{Leaf}
+use Rattle.kb_picture.specs.declared.path.Leaf.TheVariants.{Ended as EndedLeaf, Cut, Undecided, Open}
 use Rattle.kb_picture.specs.declared.path.Path.{Path}
 use Rattle.kb_report.specs.declared.report.Report.{Report}
 use Rattle.kb_test.specs.declared.test_case.Test.{Test}
 use Rattle.kb_test.specs.Refusals.{Appends}
 use Rattle.kb_test.specs.Tests.{SpellsTests}
 use Rattle.kb_test.proofs.TextLaws.{joined, no_tests}
-use Rattle.kb_report_tests.specs.Tests.{path_tests}
+use Rattle.kb_report_tests.specs.Tests.{path_tests, test_of}
 
 -- the tests of some paths of a report
 abbrev pub tests_on : World → Report → List Path → List Test
@@ -33,6 +36,32 @@ others_hold P [] some each = absurd (omega (arith, some))
 others_hold P (x ∷ others) some each =
     let long : length others ≤ length (x ∷ others) - 1 = omega arith in
     subst (EachPath P) (sym (take_all (length (x ∷ others) - 1) others long)) (path_tail P x others each)
+
+-- ---- what holds of each test
+
+-- it holds of the test of a path that has ended
+abbrev pub TestHolds : (Test → Type 0) → World → Report → Path → Type 0
+TestHolds P world report path = (ended : Ended) → path.leaf ≡ EndedLeaf ended → P (test_of world report path ended)
+
+path_all : (P : Test → Type 0) (world : World) (report : Report) (path : Path) → TestHolds P world report path → AllByRecursion P (path_tests world report path path.leaf)
+path_all P world report path holds = go path.leaf refl
+  where
+    go : (leaf : Leaf) → path.leaf ≡ leaf → AllByRecursion P (path_tests world report path leaf)
+    go (EndedLeaf ended) e = (holds ended e, tt)
+    go (Cut bound input) e = tt
+    go (Undecided log) e = tt
+    go Open e = tt
+
+both_all : {A : Type 0} (P : A → Type 0) (xs ys : List A) → AllByRecursion P xs → AllByRecursion P ys → AllByRecursion P (xs ++ ys)
+both_all P [] ys front back = back
+both_all P (x ∷ xs) ys front back = (front.0, both_all P xs ys front.1 back)
+
+-- and so of all tests, where it holds of each path's
+pub tests_all : (P : Test → Type 0) (world : World) (report : Report) (paths : List Path) → EachPath (TestHolds P world report) paths → AllByRecursion P (tests_on world report paths)
+tests_all P world report [] each = tt
+tests_all P world report (path ∷ paths) each =
+    both_all P (path_tests world report path path.leaf) (tests_on world report paths) (path_all P world report path (path_head (TestHolds P world report) path paths each))
+    (tests_all P world report paths (path_tail (TestHolds P world report) path paths each))
 
 -- ---- the text of tests
 

@@ -2,7 +2,7 @@
 use Rattle.std.proofs.Common.{◌≡◌, ℕ, ◌*◌, ◌<◌, ◌≤◌, List, [], ◌∷◌, length, codes, Err, refl, sym, ◌∙◌, ap, subst, arith}
 use Rattle.std.specs.List.{AllByRecursion}
 use Rattle.kb_class.specs.declared.ids.MethodId.{MethodId}
-use Rattle.kb_drive.specs.Covers.{CarriesInstance, EachPath, StatesRuns, input_carried}
+use Rattle.kb_drive.specs.Covers.{input_carried}
 use Rattle.kb_link.specs.Links.{IsLinked}
 use Rattle.kb_link.specs.Targets.{IsTargetOf}
 use Rattle.kb_link.specs.World.{World}
@@ -11,23 +11,19 @@ use Rattle.kb_names.specs.Targets.{IsTarget, SpellsTarget}
 use Rattle.kb_names.specs.declared.class_names.Spelling.TheVariants.{Escaped}
 use Rattle.kb_names.specs.declared.types.JType.TheVariants.{Int}
 use Rattle.kb_names.specs.declared.types.Target.{Target}
-use Rattle.kb_picture.specs.declared.path.Leaf.{Leaf}
-use Rattle.kb_picture.specs.declared.path.Leaf.TheVariants.{Ended as EndedLeaf, Cut, Undecided, Open}
-use Rattle.kb_picture.specs.declared.path.Path.{Path}
 use Rattle.kb_replay.specs.declared.replays.Replayed.{Replayed}
 use Rattle.kb_replay.specs.declared.replays.Replayed.TheVariants.{Passes}
 use Rattle.kb_replay.specs.Replays.{AreReplayed, AreRunnable}
 use Rattle.kb_replay.proofs.OneAnswer.{one_replay}
 use Rattle.kb_report.specs.declared.report.Report.{Report}
-use Rattle.kb_report_tests.specs.Tests.{path_tests, tests_of}
-use Rattle.kb_report_tests.proofs.TestTexts.{path_head, path_tail, tests_on}
+use Rattle.kb_report_tests.specs.Tests.{tests_of}
+use Rattle.kb_report_tests.proofs.TestTexts.{tests_all}
 use Rattle.kb_test.specs.declared.reading.TestRefusal.{TestRefusal}
 use Rattle.kb_test.specs.declared.reading.TestRefusal.TheVariants as texts
 use Rattle.kb_test.specs.declared.test_case.Test.{Test}
 use Rattle.kb_test.specs.Refusals.{ReadsTests}
 use Rattle.kb_words.specs.declared.orders.Job.{Job}
 use Rattle.kb_words.specs.Orders.{AreBounds, IsJob, default_bounds}
-use Rattle.kb_world.specs.Reach.{IsAccepted}
 use Rattle.kiasan.specs.declared.refusals.Stop.{Stop}
 use Rattle.kiasan.specs.declared.refusals.Stop.TheVariants.{Refused, ReadFault, NoMemory}
 use Rattle.kiasan.specs.Answers.{RefusesNothing}
@@ -36,7 +32,7 @@ use Rattle.kiasan.specs.Orders.{IsBuiltJob}
 use Rattle.kiasan.specs.Refusals.{Gives, tests_refusal}
 use Rattle.kiasan.specs.Samples.{sample_job, sample_target}
 use Rattle.kiasan.specs.Tests.{RefusesTests, RunsAsStated, count_passes}
-use Rattle.kiasan.proofs.JobLaws.{both_all}
+use Rattle.kiasan.proofs.JobLaws.{test_ends}
 use Rattle.kiasan.proofs.OneReply.{tests_apart}
 
 -- ---- what is explored
@@ -100,32 +96,15 @@ written_read Passes texts.NoMemory tests stop read is = rw is tt
 
 -- ---- each test of a report may be run, and ends as it states
 
-path_runs : (world : World) (id : MethodId) (report : Report) → IsTargetOf world report.target id → IsAccepted world id → (path : Path) → StatesRuns world id report.bounds path →
-    CarriesInstance world id path → AllByRecursion (RunsAsStated world id) (path_tests world report path path.leaf)
-path_runs world id report found accepted path states carries = go path.leaf refl
-  where
-    go : (leaf : Leaf) → path.leaf ≡ leaf → AllByRecursion (RunsAsStated world id) (path_tests world report path leaf)
-    go (EndedLeaf ended) e =
-        let carried = carries ended.input (ap input_carried e) in
-        ((record { fit = record { found = found; correct = carried.0 }; accepted = accepted }, states ended ended.input e carried.0 carried.1), tt)
-    go (Cut bound input) e = tt
-    go (Undecided log) e = tt
-    go Open e = tt
-
-paths_run : (world : World) (id : MethodId) (report : Report) → IsTargetOf world report.target id → IsAccepted world id → (paths : List Path) →
-    EachPath (StatesRuns world id report.bounds) paths → EachPath (CarriesInstance world id) paths → AllByRecursion (RunsAsStated world id) (tests_on world report paths)
-paths_run world id report found accepted [] states carry = tt
-paths_run world id report found accepted (path ∷ paths) states carry =
-    both_all (RunsAsStated world id) (path_tests world report path path.leaf) (tests_on world report paths)
-    (path_runs world id report found accepted path (path_head (StatesRuns world id report.bounds) path paths states) (path_head (CarriesInstance world id) path paths carry))
-    (paths_run world id report found accepted paths (path_tail (StatesRuns world id report.bounds) path paths states) (path_tail (CarriesInstance world id) path paths carry))
-
 pub report_runs : (world : World) (job : Job) (report : Report) (built : IsBuiltReport world job report) → AllByRecursion (RunsAsStated world built.reported.id) (tests_of world report)
 report_runs world job report built =
     let id = built.reported.id in
     let covers = built.reported.listed.covers in
     let found : IsTargetOf world report.target id = subst (λ (target : Target). IsTargetOf world target id) (sym built.reported.head.target) built.reported.found in
-    paths_run world id report found built.accepted report.leaves covers.endings covers.carried
+    tests_all (RunsAsStated world id) world report report.leaves
+    (λ i path at ended leaf.
+    let carried = covers.carried i path at ended.input (ap input_carried leaf) in
+    (record { fit = record { found = found; correct = carried.0 }; accepted = built.accepted }, test_ends world report id covers i path at ended leaf))
 
 -- ---- tests that end as they state pass
 
