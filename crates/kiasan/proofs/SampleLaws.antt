@@ -16,12 +16,13 @@ use Rattle.kb_replay.specs.declared.replays.Replayed.TheVariants.{Passes}
 use Rattle.kb_replay.specs.Replays.{AreReplayed, AreRunnable}
 use Rattle.kb_replay.proofs.OneAnswer.{one_replay}
 use Rattle.kb_report.specs.declared.report.Report.{Report}
-use Rattle.kb_report_tests.specs.Tests.{tests_of}
+use Rattle.kb_report_tests.specs.Tests.{literals_in, tests_of}
 use Rattle.kb_report_tests.proofs.TestTexts.{tests_all}
 use Rattle.kb_test.specs.declared.reading.TestRefusal.{TestRefusal}
 use Rattle.kb_test.specs.declared.reading.TestRefusal.TheVariants as texts
 use Rattle.kb_test.specs.declared.test_case.Test.{Test}
 use Rattle.kb_test.specs.Refusals.{ReadsTests}
+use Rattle.kb_test.specs.Tests.{SpellsTests}
 use Rattle.kb_words.specs.declared.orders.Job.{Job}
 use Rattle.kb_words.specs.Orders.{AreBounds, IsJob, default_bounds}
 use Rattle.kiasan.specs.declared.refusals.Stop.{Stop}
@@ -89,10 +90,15 @@ sample_built =
 
 -- ---- tests that are written are read
 
-pub written_read : {A : Type 0} (Passes : A → Type 0) (refusal : TestRefusal) (tests : List Test) (stop : Stop) → ReadsTests (Err refusal) tests → stop ≡ tests_refusal refusal →
-    Gives {A = A} ⊥ RefusesNothing Passes (Err stop)
-written_read Passes (texts.TestLine number) tests stop read is = absurd read
-written_read Passes texts.NoMemory tests stop read is = rw is tt
+-- the text that is read is the one that was written
+pub spelled_as : (world : World) (tests : List Test) (written text : List ℕ) (literals : ℕ) → literals ≡ literals_in world → text ≡ written →
+    SpellsTests (literals_in world) tests written → SpellsTests literals tests text
+spelled_as world tests written text literals many is spelled = rw (many, is) spelled
+
+pub written_read : {A : Type 0} (Fine : A → Type 0) (refusal : TestRefusal) (tests : List Test) (stop : Stop) → ReadsTests (Err refusal) tests → stop ≡ tests_refusal refusal →
+    Gives {A = A} ⊥ RefusesNothing Fine (Err stop)
+written_read Fine (texts.TestLine number) tests stop read is = absurd read
+written_read Fine texts.NoMemory tests stop read is = rw is tt
 
 -- ---- each test of a report may be run, and ends as it states
 
@@ -109,7 +115,7 @@ report_runs world job report built =
 -- ---- tests that end as they state pass
 
 -- the method of each test
-same_methods : MethodId → List Test → List MethodId
+abbrev same_methods : MethodId → List Test → List MethodId
 same_methods id [] = []
 same_methods id (test ∷ tests) = id ∷ same_methods id tests
 
@@ -125,7 +131,7 @@ none_refused Fine Passing world linked id tests runs (Refused refusal) refuses =
 none_refused Fine Passing world linked id tests runs ReadFault wrong = wrong
 none_refused Fine Passing world linked id tests runs NoMemory none = tt
 
-all_passes : List Test → List Replayed
+abbrev all_passes : List Test → List Replayed
 all_passes [] = []
 all_passes (test ∷ tests) = Passes ∷ all_passes tests
 

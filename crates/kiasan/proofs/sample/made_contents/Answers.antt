@@ -16,12 +16,12 @@ returns-in_err-class c =
     (gives_by {A = Vec ℕ Global} {B = Contents} ⊥ ⊥ (LineRefuses (sample_text c.args.blocks)) (LineRefuses (sample_text c.args.blocks))
     (λ (bytes : Vec ℕ Global). IsAssembled (sample_text c.args.blocks) bytes.items) (IsMade c.args.blocks) c.in_err-class.field-0.0 (λ wrong. wrong) (λ refusal refuses. refuses)
     (subst (λ (text : List ℕ). Gives {A = Vec ℕ Global} ⊥ (LineRefuses text) (λ bytes. IsAssembled text bytes.items) (Err c.in_err-class.field-0.0))
-    (c.as_bytes.ensures ∙ c.in_ok-text.ensures) c.in_err-class.ensures))
+    (c.as_bytes.ensures.value ∙ c.in_ok-text.ensures) c.in_err-class.ensures))
 
 pub returns : goal.returns
 returns c = record {
   bytes = c.in_ok-class.class.items;
-  assembled = subst (λ (text : List ℕ). IsAssembled text c.in_ok-class.class.items) (c.as_bytes.ensures ∙ c.in_ok-text.ensures) c.in_ok-class.ensures;
+  assembled = subst (λ (text : List ℕ). IsAssembled text c.in_ok-class.class.items) (c.as_bytes.ensures.value ∙ c.in_ok-text.ensures) c.in_ok-class.ensures;
   texts_are = c.new.ensures;
   classes_are = c.in_ok-classes.ensures;
 }

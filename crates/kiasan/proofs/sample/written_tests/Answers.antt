@@ -1,8 +1,9 @@
 use Rattle.std.proofs.lemmas.Result.{err_from_is_err_and}
 use Rattle.kb_report_tests.specs.Tests.{tests_of}
+use Rattle.kb_test.specs.Tests.{SpellsTests}
 use Rattle.kiasan.specs.Samples.{sample_job}
 use Rattle.kiasan.proofs.JobLaws.{bounds_written, paths_carry, target_written}
-use Rattle.kiasan.proofs.SampleLaws.{sample_built, written_read}
+use Rattle.kiasan.proofs.SampleLaws.{sample_built, spelled_as, written_read}
 use Rattle.kiasan.proofs.sample.written_tests.Goals as goal
 
 pub tests_text-requires-clause-target : goal.tests_text-requires-clause-target
@@ -20,7 +21,15 @@ tests_text-requires-clause-carried c = (
 pub returns-in_err-tests : goal.returns-in_err-tests
 returns-in_err-tests c =
     let p = err_from_is_err_and c.from_residual-in_err-tests.result c.from_residual-in_err-tests.ensures.1 in
-    rw p.1 (written_read _ c.in_err-tests.field-0.0 (tests_of c.args.world.now c.args.report.now) _ (c.in_err-tests.ensures.only (tests_of c.args.world.now c.args.report.now) (rw (c.literals.ensures, c.as_slice.ensures) c.in_ok-text.ensures)) p.2)
+    let world = c.args.world.now in
+    let tests = tests_of world c.args.report.now in
+    let spelled : SpellsTests c.literals.result tests c.as_slice.result.now =
+    spelled_as world tests c.in_ok-text.text.items c.as_slice.result.now c.literals.result c.literals.ensures c.as_slice.ensures c.in_ok-text.ensures in
+    rw p.1 (written_read _ c.in_err-tests.field-0.0 tests _ (c.in_err-tests.ensures.only tests spelled) p.2)
 
 pub returns : goal.returns
-returns c = c.in_ok-tests.ensures.only (tests_of c.args.world.now c.args.report.now) (rw (c.literals.ensures, c.as_slice.ensures) c.in_ok-text.ensures)
+returns c =
+    let world = c.args.world.now in
+    let tests = tests_of world c.args.report.now in
+    c.in_ok-tests.ensures.only tests
+    (spelled_as world tests c.in_ok-text.text.items c.as_slice.result.now c.literals.result c.literals.ensures c.as_slice.ensures c.in_ok-text.ensures)
