@@ -11,6 +11,7 @@ use Rattle.kb_names.specs.Targets.{IsTarget, SpellsTarget}
 use Rattle.kb_names.specs.declared.class_names.Spelling.TheVariants.{Escaped}
 use Rattle.kb_names.specs.declared.types.JType.TheVariants.{Int}
 use Rattle.kb_names.specs.declared.types.Target.{Target}
+use Rattle.kb_picture.specs.declared.path.Path.{Path}
 use Rattle.kb_replay.specs.declared.replays.Replayed.{Replayed}
 use Rattle.kb_replay.specs.declared.replays.Replayed.TheVariants.{Passes}
 use Rattle.kb_replay.specs.Replays.{AreReplayed, AreRunnable}
@@ -31,7 +32,7 @@ use Rattle.kiasan.specs.Answers.{RefusesNothing}
 use Rattle.kiasan.specs.Exploring.{IsBuiltReport}
 use Rattle.kiasan.specs.Orders.{IsBuiltJob}
 use Rattle.kiasan.specs.Refusals.{Gives, tests_refusal}
-use Rattle.kiasan.specs.Samples.{sample_job, sample_target}
+use Rattle.kiasan.specs.Samples.{sample_job, sample_line, sample_target}
 use Rattle.kiasan.specs.Tests.{RefusesTests, RunsAsStated, count_passes}
 use Rattle.kiasan.proofs.JobLaws.{test_ends}
 use Rattle.kiasan.proofs.OneReply.{tests_apart}
@@ -148,3 +149,8 @@ pub each_passes : (world : World) → IsLinked world → (id : MethodId) (tests 
     AreReplayed world tests verdicts → count_passes verdicts ≡ length tests
 each_passes world linked id tests runs verdicts are =
     ap (λ (vs : List Replayed). count_passes vs) (one_replay world linked tests verdicts (all_passes tests) are (passing world id tests runs)) ∙ count_all tests
+
+-- the line is told by equal parts
+pub line_as : (blocks : ℕ) (paths leaves : List Path) (tests count : ℕ) (replayed verdicts : List Replayed) → paths ≡ leaves → tests ≡ count → replayed ≡ verdicts →
+    sample_line blocks paths tests (count_passes replayed) ≡ sample_line blocks leaves count (count_passes verdicts)
+line_as blocks paths leaves tests count replayed verdicts e f g = rw (e, f, g) refl

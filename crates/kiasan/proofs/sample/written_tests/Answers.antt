@@ -1,5 +1,7 @@
+use Rattle.std.proofs.Common.{◌≡◌, List}
 use Rattle.std.proofs.lemmas.Result.{err_from_is_err_and}
 use Rattle.kb_report_tests.specs.Tests.{tests_of}
+use Rattle.kb_test.specs.declared.test_case.Test.{Test}
 use Rattle.kb_test.specs.Tests.{SpellsTests}
 use Rattle.kiasan.specs.Samples.{sample_job}
 use Rattle.kiasan.proofs.JobLaws.{bounds_written, paths_carry, target_written}
@@ -24,12 +26,12 @@ returns-in_err-tests c =
     let world = c.args.world.now in
     let tests = tests_of world c.args.report.now in
     let spelled : SpellsTests c.literals.result tests c.as_slice.result.now =
-    spelled_as world tests c.in_ok-text.text.items c.as_slice.result.now c.literals.result c.literals.ensures c.as_slice.ensures c.in_ok-text.ensures in
-    rw p.1 (written_read _ c.in_err-tests.field-0.0 tests _ (c.in_err-tests.ensures.only tests spelled) p.2)
+    spelled_as world tests c.in_ok-text.text.items c.as_slice.result.now c.literals.result c.literals.ensures c.as_slice.ensures.value c.in_ok-text.ensures in
+    rw p.1 (written_read {A = List Test} (λ (read : List Test). read ≡ tests) c.in_err-tests.field-0.0 tests _ (c.in_err-tests.ensures.only tests spelled) p.2)
 
 pub returns : goal.returns
 returns c =
     let world = c.args.world.now in
     let tests = tests_of world c.args.report.now in
     c.in_ok-tests.ensures.only tests
-    (spelled_as world tests c.in_ok-text.text.items c.as_slice.result.now c.literals.result c.literals.ensures c.as_slice.ensures c.in_ok-text.ensures)
+    (spelled_as world tests c.in_ok-text.text.items c.as_slice.result.now c.literals.result c.literals.ensures c.as_slice.ensures.value c.in_ok-text.ensures)
