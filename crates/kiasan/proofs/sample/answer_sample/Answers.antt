@@ -1,4 +1,4 @@
-use Rattle.std.proofs.Common.{Err, sym, subst, ap, ◌∙◌}
+use Rattle.std.proofs.Common.{◌≡◌, Err, sym, subst, ap, ◌∙◌}
 use Rattle.std.proofs.lemmas.Result.{err_from_is_err_and}
 use Rattle.kb_report.specs.declared.report.Report.{Report}
 use Rattle.kb_words.specs.declared.orders.Job.{Job}
@@ -34,7 +34,8 @@ pub returns-in_err-answer : goal.returns-in_err-answer
 returns-in_err-answer c =
     let p = err_from_is_err_and c.from_residual-in_err-answer.result c.from_residual-in_err-answer.ensures.1 in
     rw (p.1, p.2)
-    (gives_by {A = Answer} {B = Answer} ⊥ ⊥ RefusesNothing (λ (refusal : Refusal). RepliesJob (IsSampleText c.args.blocks) c.args.world.now sample_job (refuses refusal)) _
+    (gives_by {A = Answer} {B = Answer} ⊥ ⊥ RefusesNothing (λ (refusal : Refusal). RepliesJob (IsSampleText c.args.blocks) c.args.world.now sample_job (refuses refusal))
+    (λ (answer : Answer). (answer.status ≡ status_of c.get-2.result.now.leaves) × IsSampleLine c.args.blocks c.args.world.now c.get-2.result.now answer.text.items)
     (λ (answer : Answer). RepliesJob (IsSampleText c.args.blocks) c.args.world.now sample_job (ends answer.status answer.text.items)) c.in_err-answer.field-0.0
     (λ wrong. wrong) (λ refusal wrong. absurd wrong) c.in_err-answer.ensures)
 
