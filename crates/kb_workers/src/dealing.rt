@@ -61,6 +61,7 @@ fn empty_hands<T: Drop>(
 
 // Deals the piece that stands before those that are dealt: who would have the next piece behind them all has it in front of
 // the others, and is then the first.
+#[tactic(auto, using(crate::proofs::TurnLaws::dealt_before, crate::proofs::TurnLaws::some_hand))]
 fn deal_last<T: Drop>(
     hands: &mut Queue<Queue<Numbered<T>>>,
     piece: Numbered<T>,

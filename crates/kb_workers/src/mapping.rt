@@ -1,6 +1,6 @@
 //! The work on all pieces, by threads.
 
-ghost use Rattle.std.specs.Prelude.{◌≤◌, All, Ok, IfOk};
+ghost use Rattle.std.specs.Prelude.{◌≡◌, ℕ, ◌<◌, ◌≤◌, length, vec_len, slice_index_or, All, Ok, IfOk};
 ghost use Rattle.kb_workers.specs.Mapped.{AreMapped};
 
 use crate::NoMemory;
@@ -15,7 +15,6 @@ use std::thread::Threads;
 /// What the work answers for each piece, in the order of the pieces, by so many workers. Worker w, from 0, does the pieces w,
 /// w + workers and so on in rising order; where no thread can be had, one worker goes after another. A piece that lacks
 /// memory makes the whole lack it.
-#[tactic(auto, using(crate::proofs::TurnLaws::dealt_accepted, crate::proofs::TurnLaws::merged_mapped))]
 pub fn map_in_order<
     H: Threads + Sync,
     T: Send + Drop,
@@ -40,8 +39,7 @@ pub fn map_in_order<
     merge(alloc, lists, count)
 }
 
-// What each hand comes to, each by a thread of its own where one can be had.
-#[tactic(auto, using(crate::proofs::MappedLaws::mapped_by_place, crate::proofs::MappedLaws::mapped_lists))]
+// What each hand comes to.
 fn all_worked<
     H: Threads + Sync,
     T: Send + Drop,
@@ -58,15 +56,36 @@ fn all_worked<
     requires { All (λ hand. All (λ piece. F.pre work.now piece) hand) hands }
     ensures { IfOk result (λ lists. AreMapped (AreMapped (λ piece answer. F.post work.now piece (Ok answer))) hands lists) }
 {
-    let done = thread::map_vec(
+    let done = each_worked(rt, alloc, hands.into_vec(), gate, work)?;
+    gathered(alloc, done)
+}
+
+// What each hand comes to, each by a thread of its own where one can be had.
+fn each_worked<
+    H: Threads + Sync,
+    T: Send + Drop,
+    R: Send + Drop,
+    G: Gate + Sync,
+    F: Fn(T) -> Result<R, NoMemory> + Sync,
+>(
+    rt: &H,
+    alloc: Global,
+    hands: Vec<Queue<Numbered<T>>>,
+    gate: &G,
+    work: &F,
+) -> Result<Vec<Result<Queue<R>, NoMemory>>, NoMemory>
+    requires { All (λ hand. All (λ piece. F.pre work.now piece) hand) hands.items }
+    ensures len { IfOk result (λ done. vec_len done ≡ vec_len hands) }
+    ensures each { IfOk result (λ done. (i : ℕ) (d : _) (e : _) → i < length hands.items → IfOk (slice_index_or done.items i e) (AreMapped (λ piece answer. F.post work.now piece (Ok answer)) (slice_index_or hands.items i d))) }
+{
+    thread::map_vec(
         rt,
-        hands.into_vec(),
+        hands,
         &|hand: Queue<Numbered<T>>| -> Result<Queue<R>, NoMemory>
             requires { All (λ piece. F.pre work.now piece) hand }
             ensures { IfOk result (λ answers. AreMapped (λ piece answer. F.post work.entry.now piece (Ok answer)) hand answers) }
         { work_through(alloc, hand, gate, work) },
-    )?;
-    gathered(alloc, done)
+    )
 }
 
 // What the work answers for each piece of a hand, in their order.

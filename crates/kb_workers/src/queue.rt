@@ -1,6 +1,6 @@
 //! A list that grows and shrinks at both ends.
 
-ghost use Rattle.std.specs.Prelude.{◌≡◌, [], ◌∷◌, ◌++◌, option_to_list, OnOk};
+ghost use Rattle.std.specs.Prelude.{◌≡◌, [], ◌∷◌, ◌++◌, IfNone, IfSome, OnOk};
 
 use crate::NoMemory;
 use std::alloc::Global;
@@ -33,14 +33,16 @@ impl<T> Queue<T> {
 
     /// Takes the first item, if there is one.
     pub fn pop_front(&mut self) -> Option<T>
-        ensures { self.old ≡ option_to_list result ++ self.new }
+        ensures some { IfSome result (λ item. self.old ≡ item ∷ self.new) }
+        ensures none { IfNone result (self.old ≡ []) }
     {
         self.inner.pop_front()
     }
 
     /// Takes the last item, if there is one.
     pub fn pop_back(&mut self) -> Option<T>
-        ensures { self.old ≡ self.new ++ option_to_list result }
+        ensures some { IfSome result (λ item. self.old ≡ self.new ++ item ∷ []) }
+        ensures none { IfNone result (self.old ≡ []) }
     {
         self.inner.pop_back()
     }
