@@ -1,4 +1,5 @@
 mod Marks
+mod Outcomes
 mod Runnable
 pub mod OneAnswer
 pub mod RunEnds
