@@ -94,8 +94,8 @@ module _ {T R : Type 0} (work : T → R → Type 0) where
       apart goes_on ((answer ∷ answers) ∷ lists) m = (
         m.0.0,
         goes_on (lists ++ answers ∷ [])
-        (subst (λ (hands : List (List T)). AreMapped (AreMapped work) hands (lists ++ answers ∷ [])) (sym (last_apart others pieces))
-        (mapped_more (AreMapped work) (strides_from others others zero pieces) lists (stride others others pieces) answers m.1 m.0.1)),
+            (subst (λ (hands : List (List T)). AreMapped (AreMapped work) hands (lists ++ answers ∷ [])) (sym (last_apart others pieces))
+            (mapped_more (AreMapped work) (strides_from others others zero pieces) lists (stride others others pieces) answers m.1 m.0.1)),
       )
 
   pub merged_mapped : (others : ℕ) (pieces : List T) (hands : List (List T)) (lists : List (List R)) (count : ℕ) (all : List R) → hands ≡ strides others pieces → count ≡ length pieces

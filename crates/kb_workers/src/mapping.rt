@@ -21,13 +21,7 @@ pub fn map_in_order<
     R: Send + Drop,
     G: Gate + Sync,
     F: Fn(T) -> Result<R, NoMemory> + Sync,
->(
-    rt: &H,
-    pieces: Vec<T>,
-    workers: usize,
-    gate: &G,
-    work: &F,
-) -> Result<Vec<R>, NoMemory>
+>(rt: &H, pieces: Vec<T>, workers: usize, gate: &G, work: &F) -> Result<Vec<R>, NoMemory>
     requires workers { (1 ≤ workers) × (workers ≤ 64) }
     requires work { All (λ piece. F.pre work.now piece) pieces.items }
     ensures { IfOk result (λ answers. AreMapped (λ piece answer. F.post work.now piece (Ok answer)) pieces.items answers.items) }

@@ -49,9 +49,10 @@ pub fn answer_words<R: AllocGlobal + Threads + Sync, S: Shelf, G: Gate + Sync>(
     ensures counted { IsErrOf result Fault.Read → Rose (S.faults shelf.old) (S.faults shelf.new) }
     ensures unsound { IsErrOf result Fault.Read → SomeUnsound (map string_bytes words.now) (S.sound shelf.old) }
 {
+    let alloc = rt.alloc();
     match reply_to_words(rt, words, shelf, gate) {
         Ok(answer) => Ok(answer),
-        Err(stop) => settle(rt.alloc(), stop),
+        Err(stop) => settle(alloc, stop),
     }
 }
 

@@ -8,8 +8,8 @@ pub returns-clause-each : goal.returns-clause-each
 returns-clause-each g c =
     if_ok _ _ c.map_vec.result
     (λ done gives i d e lt.
-        let one = (gives i e lt).1 in
-        subst
-        (λ (hand : List g.row.T.Denot). IfOk (slice_index_or done.items i e) (AreMapped (λ (piece : g.row.T.Denot) (answer : g.row.R.Denot). g.F.Fn.post c.args.work.now (piece, tt) (Ok answer)) hand))
-        (sym (one.job_is d)) one.call.met)
+    let one = (gives i e lt).1 in
+    subst
+    (λ (hand : List g.row.T.Denot). IfOk (slice_index_or done.items i e) (AreMapped (λ (piece : g.row.T.Denot) (answer : g.row.R.Denot). g.F.Fn.post c.args.work.now (piece, tt) (Ok answer)) hand))
+    (sym (one.job_is d)) one.call.met)
     c.map_vec.ensures.each

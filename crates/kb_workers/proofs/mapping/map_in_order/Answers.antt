@@ -12,6 +12,6 @@ returns g c =
     let counted : c.len-count.result ≡ length c.args.pieces.items = omega (arith, c.len-count.ensures) in
     if_ok _ _ c.merge.result
     (λ all same.
-        merged_mapped (λ (piece : g.row.T.Denot) (answer : g.row.R.Denot). g.F.Fn.post c.args.work.now (piece, tt) (Ok answer)) (c.args.workers - 1) c.args.pieces.items c.in_ok-hands.hands c.in_ok-lists.lists
-        c.len-count.result all.items c.in_ok-hands.ensures counted c.in_ok-lists.ensures same)
+    merged_mapped (λ (piece : g.row.T.Denot) (answer : g.row.R.Denot). g.F.Fn.post c.args.work.now (piece, tt) (Ok answer)) (c.args.workers - 1) c.args.pieces.items c.in_ok-hands.hands c.in_ok-lists.lists
+    c.len-count.result all.items c.in_ok-hands.ensures counted c.in_ok-lists.ensures same)
     c.merge.ensures
