@@ -3,3 +3,4 @@ mod Outcomes
 mod Runnable
 pub mod OneAnswer
 pub mod RunEnds
+mod Threads

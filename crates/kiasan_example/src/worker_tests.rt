@@ -74,6 +74,7 @@ end
 
 /// A gate at which the pieces 0 and 1 wait until each has seen that the other has begun, or has looked for it so often. One
 /// thread that does both, in whatever order, never sees the one that is to come.
+#[derive(Drop)]
 struct Meeting {
     first: AtomicU64,
     second: AtomicU64,
@@ -164,26 +165,34 @@ fn assembled<R: AllocGlobal + Threads + Sync>(rt: &R) -> Result<Vec<u8>, AllocEr
         return Err(AllocError);
     };
     let words = words_of(alloc, ASSEMBLE_NODE)?;
-    kiasan_gated(rt, words.as_slice(), &mut shelf, &mut sink, &OpenGate);
+    let status = kiasan_gated(rt, words.as_slice(), &mut shelf, &mut sink, &OpenGate);
+    if status != Status::Complete {
+        return Err(AllocError);
+    }
     sink.bytes().to_vec(alloc)
 }
 
 #[test]
 fn each_answer_stands_in_the_place_of_its_piece(rt: HostRuntime) -> Result<(), Fail> {
     for count in [0, 1, 63, 64, 65, 1_000] {
-        assert!(rt; are_in_place(&rt, count)?, "{count} pieces");
+        let placed = are_in_place(&rt, count)?;
+        assert!(rt; placed, "{count} pieces");
     }
     Ok(())
 }
 
 /// Whether numbers that are answered as they are stand in their places, whoever does it.
 fn are_in_place<R: AllocGlobal + Threads + Sync>(rt: &R, count: u64) -> Result<bool, AllocError> {
-    Ok(
-        are_answered(rt, count, 1)?
-            && are_answered(rt, count, 2)?
-            && are_answered(rt, count, 7)?
-            && are_answered(rt, count, 64)?,
-    )
+    if !are_answered(rt, count, 1)? {
+        return Ok(false);
+    }
+    if !are_answered(rt, count, 2)? {
+        return Ok(false);
+    }
+    if !are_answered(rt, count, 7)? {
+        return Ok(false);
+    }
+    are_answered(rt, count, 64)
 }
 
 fn are_answered<R: AllocGlobal + Threads + Sync>(
