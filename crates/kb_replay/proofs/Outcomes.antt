@@ -12,6 +12,13 @@ use Rattle.kb_workers.specs.Mapped.{AreMapped}
 use Rattle.kb_replay.specs.Replays.{AreReplayed, AreRunnable, IsRunnable}
 use Rattle.kb_replay.specs.Outcomes.{IsOutcome, test_of, method_of, test_with, verdict_of}
 
+-- what may be answered for each piece may be so by a wider promise too
+pub mapped_wider : {T R : Type 0} (P Q : T → R → Type 0) (pieces : List T) (answers : List R) → ((piece : T) (answer : R) → P piece answer → Q piece answer) → AreMapped P pieces answers → AreMapped Q pieces answers
+mapped_wider P Q [] [] wider are = tt
+mapped_wider P Q [] (answer ∷ answers) wider are = absurd are
+mapped_wider P Q (piece ∷ pieces) [] wider are = absurd are
+mapped_wider P Q (piece ∷ pieces) (answer ∷ answers) wider are = (wider piece answer are.0, mapped_wider P Q pieces answers wider are.1)
+
 module _ (world : World) where
   each_runnable : (assigned : List Assigned) → AreRunnable world (map test_of assigned) (map method_of assigned) → All (λ (one : Assigned). IsRunnable world one.test one.id) assigned
   each_runnable [] are = All-nil _
