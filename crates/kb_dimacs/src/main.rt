@@ -7,7 +7,7 @@ use std::io;
 use std::process::ExitCode;
 
 /// Calls `run` on the words of the command line and the standard input, over the standard output. Where there are no words
-/// nothing is read or written.
+/// nothing is written.
 fn main(rt: HostRuntime) -> ExitCode {
     let words = match command_words(&rt) {
         Ok(words) => words,
