@@ -1,8 +1,8 @@
 //! Shelves and sinks over files of the system and in memory, and readers and writers that fail.
 
 use crate::{
-    FileShelf, MemoryShelf, MemorySink, OutSink, Shelf, ShelfStop, Sink, SinkFailed, WordsStop,
-    command_words, read_up_to, send_all,
+    FileShelf, MemoryShelf, MemorySink, OutSink, Shelf, ShelfStop, Sink, SinkFailed, Watched,
+    WordsStop, command_words, read_up_to, send_all,
 };
 use std::alloc::{AllocError, Global};
 use std::env::{Env, FillError};
@@ -214,12 +214,12 @@ fn short_blocks_are_read_and_an_error_in_the_middle_refuses(rt: HostRuntime) -> 
         (5000, 143, Err(ShelfStop::Failed)),
     ];
     for (limit, fails, want) in cases {
-        let mut blocks = Blocks {
+        let mut blocks = Watched::new(Blocks {
             rest: text.as_slice(),
             most: 7,
             fails,
             calls: 0,
-        };
+        });
         let mut into = b"<".to_vec(alloc)?;
         let read = read_up_to(&mut blocks, limit, &mut into);
         assert_eq!(rt;
@@ -329,7 +329,7 @@ fn words_are_those_after_the_name(rt: HostRuntime) -> Result<(), Fail> {
     let line = CommandLine {
         word: "größe".as_bytes(),
     };
-    match command_words(&(line, rt.alloc())) {
+    match command_words(rt.alloc(), env::args(&(line, rt.alloc()))) {
         Ok(words) => {
             assert_eq!(rt; words.len(), 1);
             assert_eq!(rt; words[0].as_str(), "größe");
@@ -344,7 +344,7 @@ fn a_word_that_is_not_utf8_is_told(rt: HostRuntime) -> Result<(), Fail> {
     let line = CommandLine {
         word: b"gr\xf6\xdfe".as_slice(),
     };
-    match command_words(&(line, rt.alloc())) {
+    match command_words(rt.alloc(), env::args(&(line, rt.alloc()))) {
         Ok(_) => assert!(rt; false, "the word is not UTF-8"),
         Err(stop) => {
             assert_eq!(rt; stop, WordsStop::NotUtf8);
