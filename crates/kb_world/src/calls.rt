@@ -4,7 +4,6 @@ ghost use Rattle.std.specs.List.{list_any};
 ghost use Rattle.kb_class.specs.Platform.{object_name};
 ghost use Rattle.kb_link.specs.World.{methods_in, number_in};
 ghost use Rattle.kb_link.specs.Links.{IsLinked};
-ghost use Rattle.kb_link.specs.Slots.{is_static};
 ghost use Rattle.kb_world.specs.Lookup.{class_number, class_of, resolved_method};
 ghost use Rattle.kb_world.specs.declared.calls.Call.TheVariants as calls;
 ghost use Rattle.kb_world.specs.Faults.{kind_left_out, told};
@@ -16,8 +15,7 @@ use crate::faults::Fault;
 use crate::methods::{OBJECT, is_open};
 use crate::resolved::Resolved;
 use crate::world::World;
-use kb_class::{ClassId, MemberKind, MethodId, MethodInfo, ReferenceKind};
-use kb_classfile::STATIC;
+use kb_class::{ClassId, MemberKind, MethodId, MethodInfo, ReferenceKind, is_static};
 use kb_link::What;
 use kb_names::ExactType;
 
@@ -134,7 +132,7 @@ impl World {
         match call {
             Call::Virtual | Call::Interface => is_open(method),
             Call::Special => self.is_for_special(class, entry, method),
-            Call::Static => is_static(method),
+            Call::Static => is_static(method.access),
         }
     }
 
@@ -143,11 +141,11 @@ impl World {
         requires { class.0 < length self.now.classes }
         ensures { result ≡ is_for self.now class.0 calls.Special entry method.now }
     {
-        if is_static(method) {
+        if is_static(method.access) {
             return false;
         }
         match self.select_special(class, entry) {
-            Some(selected) => !is_static(self.method_of(selected)),
+            Some(selected) => !is_static(self.method_of(selected).access),
             None => true,
         }
     }
@@ -295,11 +293,4 @@ pub(crate) fn takes(call: Call, what: ReferenceKind) -> bool
         (Call::Special | Call::Static, ReferenceKind::InterfaceMethod) => true,
         _ => false,
     }
-}
-
-/// Whether the method is static.
-pub(crate) fn is_static(method: &MethodInfo) -> bool
-    ensures { result ≡ is_static method.now.access }
-{
-    method.access & STATIC != 0
 }

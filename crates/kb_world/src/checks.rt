@@ -8,10 +8,10 @@ ghost use Rattle.kb_world.specs.Calls.{fault_of};
 ghost use Rattle.kb_world.specs.Reach.{static_fault, fault_of_target};
 ghost use Rattle.kb_world.specs.Walks.{Tells};
 
-use crate::calls::{Call, is_static};
+use crate::calls::Call;
 use crate::faults::{Fault, has_left_out, primitive_fault};
 use crate::world::World;
-use kb_class::{ClassId, MethodId, MethodInfo};
+use kb_class::{ClassId, MethodId, MethodInfo, is_static};
 use kb_code::Instr;
 use kb_link::{LinkRefusal, What};
 use kb_names::{Name, NoMemory, Target};
@@ -38,7 +38,7 @@ impl World {
         requires { method.now.class.0 < length self.now.classes }
         ensures { option_map told result ≡ static_fault self.now method.now }
     {
-        if !is_static(method) {
+        if !is_static(method.access) {
             return None;
         }
         self.initialiser_fault(method.class)
