@@ -32,6 +32,14 @@ typed_by texts types kind first path (Some number) is = (first, path, sym is)
 
 -- ---- one descriptor
 
+-- the number that is told by a type's parts is that of its descriptor
+pub typed_spelled : (texts : List (List ℕ)) (types : Types) (kind : MethodType) (number : ℕ) → AreEnds texts types → IsTyped texts types kind number
+    → HasTextAt texts number (SpellsKind (kinds.Method kind))
+typed_spelled texts types kind number are is =
+    let end = are.each_end is.0 number is.2 in
+    let same : end.0 ≡ kind = same_kind texts types.parts end.0 kind is.0 end.1 is.1 in
+    subst (λ (k : MethodType). HasTextAt texts number (SpellsKind (kinds.Method k))) same end.2
+
 module _ (texts : List (List ℕ)) where
   -- one number is that of one type
   same_spelled : (number : ℕ) (one other : MethodType) → HasTextAt texts number (SpellsKind (kinds.Method one)) → HasTextAt texts number (SpellsKind (kinds.Method other)) → one ≡ other
