@@ -40,7 +40,7 @@ pub(crate) fn set_of(alloc: Global, texts: Vec<Row<u8>>) -> Result<TextSet, NoMe
     }
 }
 
-// The texts of the string constants, in the order of mention.
+// The texts of the string constants, class by class.
 fn texts_of(alloc: Global, classes: &[LoadedClass]) -> Result<Vec<Row<u8>>, NoMemory>
     ensures { IfOk result (λ texts. AddsTexts [] texts.items (AnyOf HasLiteral classes.now)) }
 {

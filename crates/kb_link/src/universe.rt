@@ -313,8 +313,8 @@ fn element_type(alloc: Global, classes: &Classes, text: &[u8]) -> Result<JType, 
     }
 }
 
-// The name of these bytes: that of the class of the name, where there is one, shared with it.
-fn shared_name(alloc: Global, classes: &Classes, name: &[u8]) -> Result<Name, NoMemory>
+/// The name of these bytes: that of the class of the name, where there is one, shared with it.
+pub(crate) fn shared_name(alloc: Global, classes: &Classes, name: &[u8]) -> Result<Name, NoMemory>
     ensures { IfOk result (λ told. told ≡ name.now) }
 {
     match classes.number_of(name) {
