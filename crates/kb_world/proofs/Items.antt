@@ -76,7 +76,7 @@ if_err (Err error) P Q f p = f error p
 
 -- the fault of a use of its entry is that of the instruction
 pub use_stops : (world : World) (number class : ℕ) (item : ℕ × Instr) (told : Use × ℕ) (refusal : LinkRefusal) → Some told ≡ use_of item.1
-    → StopsAt world (IsFaultOfUse world number item.0 (record { class = class; entry = told.1; what = told.0 })) refusal → StopsAt world (IsFaultAt world number class item) refusal
+    → StopsAt world (IsFaultOfUse world number item.0 (record { class = class; entry = told.1; usage = told.0 })) refusal → StopsAt world (IsFaultAt world number class item) refusal
 use_stops world number class item told refusal is =
-    stops_as world (IsFaultOfUse world number item.0 (record { class = class; entry = told.1; what = told.0 })) (IsFaultAt world number class item) refusal
+    stops_as world (IsFaultOfUse world number item.0 (record { class = class; entry = told.1; usage = told.0 })) (IsFaultAt world number class item) refusal
     (λ method place fault stops. (stops.0, stops.1, (use_is world class item.1 told is).0 ∙ stops.2))
