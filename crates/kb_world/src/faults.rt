@@ -1,10 +1,11 @@
 //! What is wrong with an instruction that is no call.
-ghost use Rattle.std.specs.Prelude.{◌≡◌, ◌<◌, length, nat_le, option_map};
+ghost use Rattle.std.specs.Prelude.{◌≡◌, ◌<◌, Some, length, nat_le, option_map};
 ghost use Rattle.std.specs.List.{list_any};
 ghost use Rattle.std.specs.Option.{option_copied};
 ghost use Rattle.kb_names.specs.Types.{shape_of};
+ghost use Rattle.kb_names.specs.declared.types.ExactType.TheVariants as exact;
 ghost use Rattle.kb_world.specs.Lookup.{resolved_field_class, resolved_field};
-ghost use Rattle.kb_world.specs.Faults.{plain_fault, is_left_out, has_left_out, class_in_type, missing_class, entry_at, constant_fault, fault_of_slot, field_fault, cast_fault, fault_of_initialiser, fault_of_object, fault_of_new_type, new_fault, is_deepest, array_fault, component_of_code, primitive_fault};
+ghost use Rattle.kb_world.specs.Faults.{plain_fault, is_left_out, has_left_out, class_in_type, missing_class, entry_at, constant_fault, fault_of_slot, field_fault, cast_fault, fault_of_initialiser, fault_of_object, fault_of_new, new_fault, is_deepest, array_fault, component_of_code, primitive_fault};
 
 use crate::world::World;
 use kb_class::{ClassId, ReferenceKind};
@@ -102,25 +103,32 @@ impl World {
         requires { class.0 < length self.now.classes }
         ensures { option_map plain_fault result ≡ new_fault self.now class.0 entry }
     {
-        let Some(of) = self.type_entry(class, entry) else {
-            return Some(Fault::Outside(What::Operand));
-        };
-        match self.missing_class(of) {
-            Some(fault) => Some(fault),
-            None => self.new_type_fault(of),
+        match self.type_entry(class, entry) {
+            Some(of) => self.new_type_fault(of),
+            None => Some(Fault::Outside(What::Operand)),
         }
     }
 
     // What is wrong with making an object of the type.
-    fn new_type_fault(&self, of: &ExactType) -> Option<Fault<'_>>
-        ensures { option_map plain_fault result ≡ fault_of_new_type self.now of.now }
+    fn new_type_fault<'a>(&'a self, of: &'a ExactType) -> Option<Fault<'a>>
+        ensures { option_map plain_fault result ≡ fault_of_new self.now (Some of.now) }
     {
         match of {
-            ExactType::Class(name) => {
-                let class = self.class_named(name)?;
-                self.object_fault(class)
-            }
-            ExactType::Array(_) => Some(Fault::Outside(What::Kind)),
+            ExactType::Class(name) => self.new_class_fault(name),
+            ExactType::Array(_) => match self.missing_class(of) {
+                Some(fault) => Some(fault),
+                None => Some(Fault::Outside(What::Kind)),
+            },
+        }
+    }
+
+    // What is wrong with making an object of the class of that name, which is looked up once.
+    fn new_class_fault<'a>(&'a self, name: &'a Name) -> Option<Fault<'a>>
+        ensures { option_map plain_fault result ≡ fault_of_new self.now (Some (exact.Class name.now)) }
+    {
+        match self.class_named(name) {
+            Some(class) => self.object_fault(class),
+            None => Some(Fault::Missing(name)),
         }
     }
 
