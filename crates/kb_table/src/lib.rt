@@ -10,4 +10,4 @@ mod words;
 pub use faults::{RowResult, RowStop, kept};
 pub use files::{read_file, read_files, read_table};
 pub use rows::{Rows, send, write_rows};
-pub use words::{read_int, read_number, read_words};
+pub use words::{read_int, read_number, read_numbers, read_words};
