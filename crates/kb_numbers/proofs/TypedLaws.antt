@@ -1,6 +1,5 @@
 -- The number of a type's descriptor is told by the type's first part, also while types are added.
 use Rattle.std.proofs.Common.{◌≡◌, ℕ, Bool, true, false, true≢false, cond, ◌==◌, is_some, List, Option, Some, None, IfSome, refl, sym, ap, subst, ◌∙◌}
-use Rattle.std.specs.HashMap.{HashMap}
 use Rattle.std.proofs.lemmas.Bool.Decides.{Decides-eqb}
 use Rattle.std.proofs.lemmas.Option.{same_Some}
 use Rattle.kb_names.specs.declared.types.MethodType.{MethodType}
@@ -8,11 +7,10 @@ use Rattle.kb_class.specs.Loading.{SpellsKind}
 use Rattle.kb_class.specs.declared.members.MemberKind.TheVariants as kinds
 use Rattle.kb_class.proofs.Spellings.{one_kind}
 use Rattle.kb_texts.specs.Texts.{AreDistinct, Keeps}
-use Rattle.kb_numbers.specs.declared.parts.Part.{Part}
 use Rattle.kb_numbers.specs.declared.types.Types.{Types}
 use Rattle.kb_numbers.specs.Typed.{AreEnds, IsTyped, KeepsTypes, told_in}
 use Rattle.kb_numbers.specs.Types.{HasTextAt, IsTypePath}
-use Rattle.kb_numbers.proofs.NumberLaws.{keeps_self, method_type, one_text, text_on}
+use Rattle.kb_numbers.proofs.NumberLaws.{method_type, one_text, text_on}
 use Rattle.kb_numbers.proofs.TypeLaws.{path_on, same_kind}
 
 pub stays_self : (types : Types) → KeepsTypes types types
