@@ -15,7 +15,7 @@ use Rattle.kb_link.specs.declared.linking.LinkRefusal.TheVariants as refusals
 use Rattle.kb_link.specs.Rules.{name_of, HaveDifferentNames, IsGivenTwice}
 use Rattle.kb_link.specs.Links.{RefusesClasses}
 use Rattle.kb_link.specs.Tables.{HasNames, StopsAtAgain, IsRefusalOf}
-use Rattle.kb_link.proofs.Places.{get_kept, get_last, get_pushed}
+use Rattle.kb_link.proofs.Places.{get_pushed}
 
 -- ---- the number of a name
 

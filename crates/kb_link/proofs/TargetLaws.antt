@@ -1,11 +1,11 @@
 -- The methods that targets name.
-use Rattle.std.proofs.Common.{◌≡◌, ℕ, Bool, true, false, true≢false, is_some, IsSome, IfSome, IfNone, List, Option, Some, None, slice_get, map, refl, sym, ap, subst, ◌∙◌}
+use Rattle.std.proofs.Common.{◌≡◌, ℕ, true, false, true≢false, is_some, IsSome, IfSome, IfNone, List, Option, Some, None, slice_get, map, sym, ap, subst, ◌∙◌}
 use Rattle.std.proofs.lemmas.Option.{same_Some, none-some, slice_get-map}
 use Rattle.kb_names.specs.declared.types.Target.{Target}
 use Rattle.kb_class.specs.Class.{Class}
 use Rattle.kb_class.specs.declared.ids.MethodId.{MethodId}
 use Rattle.kb_class.specs.declared.members.MethodInfo.{MethodInfo}
-use Rattle.kb_link.specs.World.{World, number_in, methods_in, method_at}
+use Rattle.kb_link.specs.World.{World, number_in, method_at}
 use Rattle.kb_link.specs.Rules.{HaveDifferentNames, HaveOwnMethods, name_of}
 use Rattle.kb_link.specs.Tables.{IsNumberOf}
 use Rattle.kb_link.specs.Targets.{Declares, IsTargetOf}

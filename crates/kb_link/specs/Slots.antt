@@ -1,6 +1,6 @@
 -- The slots of an object of a class (JVMS 8 sections 4.5 and 2.7): its instance fields, those of the superclass first, each
 -- class's in the order of its file. Fields of other types than boolean, int, classes and arrays have none (own rule).
-use Rattle.std.specs.Prelude.{ℕ, zero, suc, Bool, true, false, ◌&&◌, not, List, [], ◌∷◌, map, filter, reverse, slice_get, slice_index_or, Option, Some, None}
+use Rattle.std.specs.Prelude.{ℕ, suc, Bool, true, false, ◌&&◌, not, List, [], ◌∷◌, map, filter, reverse, slice_get, slice_index_or, Option, Some, None}
 use Rattle.std.specs.List.{flat_map}
 use Rattle.kb_names.specs.declared.types.JType.{JType}
 use Rattle.kb_names.specs.declared.types.JType.TheVariants as types

@@ -1,6 +1,5 @@
 //! Classes by their numbers and by their names.
 ghost use Rattle.std.specs.Prelude.{◌≡◌, ◌<◌, ◌^◌, IfOk, OnOk, IfErr, Some, length, slice_get};
-ghost use Rattle.std.specs.Option.{option_copied};
 ghost use Rattle.kb_link.specs.World.{number_in};
 ghost use Rattle.kb_link.specs.Rules.{HaveDifferentNames};
 ghost use Rattle.kb_link.specs.Links.{RefusesClasses};
@@ -25,7 +24,7 @@ pub(crate) struct Classes {
 }
 
 impl Model for Classes {
-    ghost use Rattle.std.specs.Prelude.{List, ℕ, ◌≡◌};
+    ghost use Rattle.std.specs.Prelude.{List, ◌≡◌};
     ghost use Rattle.kb_class.specs.Class.{Class};
 
     ghost Value = { List Class };

@@ -1,5 +1,5 @@
 //! Classes that are initialised by code.
-ghost use Rattle.std.specs.Prelude.{◌≡◌, map, slice_get, unwrap_or, false, IfOk};
+ghost use Rattle.std.specs.Prelude.{◌≡◌, map, false, IfOk};
 ghost use Rattle.std.specs.List.{list_any};
 ghost use Rattle.kb_link.specs.Initialisers.{is_initialiser, declares_initialiser, has_initialiser, is_marked};
 

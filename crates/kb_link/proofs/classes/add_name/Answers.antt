@@ -1,4 +1,4 @@
-use Rattle.std.proofs.Common.{◌≡◌, ℕ, List, Bool, true, false, Option, Some, None, is_some, refl, sym, ap, subst, ◌∙◌}
+use Rattle.std.proofs.Common.{◌≡◌, ℕ, List, true, false, Option, Some, None, is_some, refl, sym, ap, subst, ◌∙◌}
 use Rattle.kb_link.specs.World.{number_in}
 use Rattle.kb_link.specs.declared.linking.LinkRefusal.TheVariants as refusals
 use Rattle.kb_link.specs.Tables.{IsRefusalOf}

@@ -1,9 +1,8 @@
-use Rattle.std.proofs.Common.{◌≡◌, ◌++◌, ◌∷◌, ◌+◌, ◌≤◌, ◌<◌, [], List, ℕ, length, sym, ap, ◌∙◌, subst, append_assoc, arith}
+use Rattle.std.proofs.Common.{◌≡◌, ◌++◌, ◌∷◌, ◌+◌, [], List, ℕ, length, sym, ap, ◌∙◌, subst, append_assoc, arith}
 use Rattle.std.specs.List.{AllByRecursion}
-use Rattle.std.proofs.lemmas.List.{length-append, append-nil}
+use Rattle.std.proofs.lemmas.List.{length-append}
 use Rattle.kb_class.specs.declared.given.GivenClass.{GivenClass}
 use Rattle.kb_class.specs.Given.{IsGiven}
-use Rattle.kb_class.specs.Class.{Class}
 use Rattle.kb_link.specs.Links.{KeepsFormat, AreClassesOf}
 use Rattle.kb_class.specs.Loading.{IsClassOf}
 use Rattle.kb_link.proofs.Loaded.{loads_all, no_items, classes_many, classes_pushed, all_middle}

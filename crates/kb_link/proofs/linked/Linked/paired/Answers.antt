@@ -1,14 +1,10 @@
-use Rattle.std.proofs.Common.{◌≡◌, ℕ, List, Some, None, sym, ap, subst, ◌∙◌}
+use Rattle.std.proofs.Common.{◌≡◌, ℕ, List, Some, sym, ap, subst, ◌∙◌}
 use Rattle.std.proofs.lemmas.Option.{same_Some, none-some}
-use Rattle.kb_names.specs.declared.types.MethodType.{MethodType}
 use Rattle.kb_class.specs.Class.{Class}
-use Rattle.kb_class.specs.declared.ids.MethodId.{MethodId}
-use Rattle.kb_numbers.specs.declared.numbering.Numbers.{Numbers}
 use Rattle.kb_numbers.specs.declared.pairs.Pair.{Pair}
 use Rattle.kb_numbers.specs.Members.{method_number}
 use Rattle.kb_numbers.specs.Numbers.{AreNumbered}
 use Rattle.kb_link.specs.World.{World}
-use Rattle.kb_link.specs.Links.{IsLinked}
 use Rattle.kb_link.specs.Tables.{IsNumberOf}
 use Rattle.kb_link.proofs.ByNumbers.{number_by_pair, pair_of_number}
 use Rattle.kb_link.proofs.linked.Linked.paired.Goals as goal
