@@ -1,6 +1,6 @@
 -- Entries that are looked at once: what they mention stays found.
-use Rattle.std.proofs.Common.{◌≡◌, ◌↔◌, ℕ, zero, suc, ◌⊎◌, inl, inr, Bool, true, false, true≢false, ◌==◌, ◌||◌, List, [], ◌∷◌, ◌++◌, length, fold, Option, Some, None, slice_get, refl, sym, ap, subst, ◌∙◌}
-use Rattle.std.specs.List.{AllByRecursion, list_any}
+use Rattle.std.proofs.Common.{◌≡◌, ◌↔◌, ℕ, ◌⊎◌, inl, inr, Bool, true, false, true≢false, ◌==◌, ◌||◌, List, [], ◌∷◌, ◌++◌, length, fold, Some, None, slice_get, refl, sym, ap, subst, ◌∙◌}
+use Rattle.std.specs.List.{list_any}
 use Rattle.kb_class.specs.Naming.{Has}
 use Rattle.kb_link.proofs.Places.{get_last}
 use Rattle.kb_link.specs.declared.linking.LinkRefusal.{LinkRefusal}
@@ -11,7 +11,7 @@ use Rattle.kb_world.specs.Found.{FoundMethods}
 use Rattle.kb_world.specs.Reach.{with_new}
 use Rattle.kb_world.specs.Walks.{with_all, StopsAt, AreFound, IsSettled, AreSettled}
 use Rattle.kb_world.specs.declared.looked.Asked.{Asked}
-use Rattle.kb_world.proofs.Marking.{any_pushed, any_there}
+use Rattle.kb_world.proofs.Marking.{any_there}
 use Rattle.kb_world.proofs.Reaching.{all_front}
 
 -- ---- one number

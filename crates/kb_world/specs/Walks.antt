@@ -1,5 +1,5 @@
 -- The walk over the methods that are reached, and what it tells.
-use Rattle.std.specs.Prelude.{◌≡◌, ◌⊎◌, ℕ, Bool, true, ◌==◌, List, fold, Some, None}
+use Rattle.std.specs.Prelude.{◌≡◌, ◌⊎◌, ℕ, true, ◌==◌, List, fold, Some, None}
 use Rattle.std.specs.List.{AllByRecursion, list_any}
 use Rattle.kb_class.specs.Naming.{Has}
 use Rattle.kb_code.specs.declared.instruction.Instr.{Instr}
