@@ -4,9 +4,10 @@ ghost use Rattle.std.specs.Prelude.{◌≡◌, Some};
 ghost use Rattle.kb_picture.specs.Places.{places_of};
 
 use crate::asked::Asked;
-use crate::texts::add;
+use crate::texts::{add, add_number};
 use kb_fits::fits_types;
 use kb_heap::{Ending, Heap, Input, RunBounds};
+use kb_load::reached;
 use kb_machine::run;
 use kb_names::Target;
 use kb_picture::{Leaf, Path, PlaceLists, ending_at, is_instance, places};
@@ -61,16 +62,16 @@ fn add_judged(
 /// As in `places o0=i0 l0=i0`.
 fn add_places(alloc: Global, lists: &PlaceLists, text: &mut Vec<u8>) -> RowResult<()> {
     add(b"places", text)?;
-    add_each(alloc, "o", lists.objects.as_slice(), text)?;
-    add_each(alloc, "l", lists.locs.as_slice(), text)?;
+    add_each(alloc, " o", lists.objects.as_slice(), text)?;
+    add_each(alloc, " l", lists.locs.as_slice(), text)?;
     add(b"\n", text)
 }
 
 fn add_each(alloc: Global, letter: &str, places: &[u32], text: &mut Vec<u8>) -> RowResult<()> {
     let mut number: u32 = 0;
     for place in places {
-        let piece = format!(in alloc; " {letter}{number}=i{place}")?;
-        add(piece.as_bytes(), text)?;
+        add_number(alloc, letter, i64::from(number), text)?;
+        add_number(alloc, "=i", i64::from(*place), text)?;
         number = number.saturating_add(1);
     }
     Ok(())
@@ -136,7 +137,7 @@ fn add_compared(
     stated: &(Ending, Heap),
     text: &mut Vec<u8>,
 ) -> RowResult<()> {
-    let Ok(method) = world.reach(alloc, target) else {
+    let Some(method) = reached(alloc, world, target) else {
         return Err(RowStop::Malformed);
     };
     if !fits_types(world, method, input) {
