@@ -117,6 +117,16 @@ command_named word =
     else if bytes_eq word (codes "sample") then Some commands.Sample
     else None
 
+-- the order to explore a job
+abbrev pub explored : Command → Job → Order
+explored commands.Tests job = orders.Tests job
+explored commands.Diagrams job = orders.Diagrams job
+explored command job = orders.Explore job
+
+-- the order of a command that explores with the words behind it
+abbrev pub exploration_of : Option Target → Command → List (List ℕ) → Result Order WordFault
+exploration_of target command words = job_of target command words >>= (λ job. Ok (explored command job))
+
 -- the order of a command with the words behind it
 abbrev pub order_by : Option Target → Command → List (List ℕ) → Result Order WordFault
 order_by target commands.Explore words = job_of target commands.Explore words >>= (λ job. Ok (orders.Explore job))

@@ -5,7 +5,7 @@ ghost use Rattle.kb_words.specs.declared.orders.Order.{Order as Ordered};
 ghost use Rattle.kb_words.specs.declared.orders.WordFault.{WordFault as Fault};
 ghost use Rattle.kb_words.specs.Options.{range_of};
 ghost use Rattle.kb_words.specs.Settings.{Gives};
-ghost use Rattle.kb_words.specs.Orders.{AreBounds, AreOrdered, IsJob, IsOrder, IsTargetIn, Orders, assembly_of, bounds_given, command_named, if_enough, init_given, job_from, job_of, job_on, job_with, number_given, order_by, order_of, replay_from, replay_of, sample_at, sample_of};
+ghost use Rattle.kb_words.specs.Orders.{AreBounds, AreOrdered, IsJob, IsOrder, IsTargetIn, Orders, assembly_of, bounds_given, command_named, exploration_of, explored, if_enough, init_given, job_from, job_of, job_on, job_with, number_given, order_by, order_of, replay_from, replay_of, sample_at, sample_of};
 
 use crate::options::{OptionName, Range, init_named, is_number, number_within, range_of};
 use crate::settings::{Setting, files_of, method_word, read_settings, value_given};
@@ -174,12 +174,40 @@ fn read_order(
     ensures ranges { IfOk result IsOrder }
 {
     match command {
-        Command::Explore => Ok(Order::Explore(read_job(alloc, target, command, words)?)),
-        Command::Tests => Ok(Order::Tests(read_job(alloc, target, command, words)?)),
-        Command::Diagrams => Ok(Order::Diagrams(read_job(alloc, target, command, words)?)),
         Command::Replay => read_replay(alloc, words),
         Command::Assemble => read_assembly(alloc, words),
         Command::Sample => read_sample(words),
+        Command::Explore | Command::Tests | Command::Diagrams => {
+            read_exploration(alloc, target, command, words)
+        }
+    }
+}
+
+/// The order of a command that explores with the words behind it.
+fn read_exploration(
+    alloc: Global,
+    target: Option<Target>,
+    command: Command,
+    words: &[String],
+) -> Result<Order, WordFault>
+    requires { IfSome target IsTarget }
+    ensures order { Gives (λ order. order) result (exploration_of target command (map string_bytes words.now)) }
+    ensures ranges { IfOk result IsOrder }
+{
+    let job = read_job(alloc, target, command, words)?;
+    Ok(explored(command, job))
+}
+
+/// The order to explore a job.
+fn explored(command: Command, job: Job) -> Order
+    requires { IsJob job }
+    ensures order { result ≡ explored command job }
+    ensures ranges { IsOrder result }
+{
+    match command {
+        Command::Tests => Order::Tests(job),
+        Command::Diagrams => Order::Diagrams(job),
+        _ => Order::Explore(job),
     }
 }
 
