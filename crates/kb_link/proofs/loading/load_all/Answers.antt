@@ -38,7 +38,7 @@ loop-class-preserved c =
     let whole : (done ++ c.in-Some.class ∷ []) ++ rest ≡ c.args.given.items = append_assoc done (c.in-Some.class ∷ []) rest ∙ ap (λ (gs : List GivenClass). done ++ gs) (sym c.in-Some.ensures.steps.0) ∙ c.loop-class.invariant.1 in (
       done ++ c.in-Some.class ∷ [],
       whole,
-      subst (AreClassesOf 0 (done ++ c.in-Some.class ∷ [])) (sym c.in-Ok.ensures.items)
+      subst (AreClassesOf 0 (done ++ c.in-Some.class ∷ [])) (sym c.in_ok-push.ensures.items)
           (classes_pushed 0 done classes c.in-Some.class c.in_ok-load.field-0 c.loop-class.invariant.2 (subst (λ (n : ℕ). IsClassOf n c.in-Some.class c.in_ok-load.field-0) len c.in_ok-load.ensures)),
     )
 
