@@ -51,9 +51,7 @@ fn parents_of(alloc: Global, classes: &Classes) -> Result<Vec<Option<u32>>, NoMe
 {
     let mut parents = Vec::new(alloc);
     for class in classes.as_slice() {
-        let Ok(()) = parents.push(parent_of(classes, class)) else {
-            return Err(NoMemory);
-        };
+        parents.push(parent_of(classes, class))?;
     }
     Ok(parents)
 }

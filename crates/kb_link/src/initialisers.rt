@@ -20,9 +20,7 @@ pub(crate) fn initialised_of(
     let own = declaring_of(alloc, classes.as_slice())?;
     let mut marks = Vec::new(alloc);
     for chain in chains {
-        let Ok(()) = marks.push(is_any_marked(own.as_slice(), chain.as_slice())) else {
-            return Err(NoMemory);
-        };
+        marks.push(is_any_marked(own.as_slice(), chain.as_slice()))?;
     }
     Ok(marks)
 }
@@ -33,9 +31,7 @@ fn declaring_of(alloc: Global, classes: &[LoadedClass]) -> Result<Vec<bool>, NoM
 {
     let mut own = Vec::new(alloc);
     for class in classes {
-        let Ok(()) = own.push(has_initialiser_among(class.methods())) else {
-            return Err(NoMemory);
-        };
+        own.push(has_initialiser_among(class.methods()))?;
     }
     Ok(own)
 }

@@ -88,8 +88,6 @@ pub(crate) fn push_text(
 ) -> Result<(), NoMemory>
     ensures { OnOk result (texts.new.items ≡ texts.old.items ++ text.now ∷ []) }
 {
-    let Ok(copy) = text.to_vec(alloc) else {
-        return Err(NoMemory);
-    };
+    let copy = text.to_vec(alloc)?;
     push_row(Row::from_vec(copy), texts)
 }

@@ -31,9 +31,7 @@ pub(crate) fn slots_of(
     let mut slots = Vec::new(alloc);
     for chain in chains {
         let own = slots_along(alloc, classes.as_slice(), chain.as_slice())?;
-        let Ok(()) = slots.push(own) else {
-            return Err(NoMemory);
-        };
+        slots.push(own)?;
     }
     Ok(slots)
 }
