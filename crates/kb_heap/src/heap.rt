@@ -55,9 +55,7 @@ impl Object {
     pub fn copied(&self, alloc: Global) -> Result<Object, NoMemory>
         ensures { IfOk result (λ copy. copy ≡ self.now) }
     {
-        let Ok(kind) = self.kind.copied(alloc) else {
-            return Err(NoMemory);
-        };
+        let kind = self.kind.copied(alloc)?;
         let values = copied_values(alloc, self.values.as_slice())?;
         Ok(Object { kind, values })
     }
