@@ -4,7 +4,7 @@ ghost use Rattle.std.specs.Prelude.{◌≡◌, Some};
 ghost use Rattle.kb_picture.specs.Places.{places_of};
 
 use crate::asked::Asked;
-use crate::texts::{add, add_number};
+use crate::texts::add;
 use kb_fits::fits_types;
 use kb_heap::{Ending, Heap, Input, RunBounds};
 use kb_load::reached;
@@ -12,7 +12,7 @@ use kb_machine::run;
 use kb_names::Target;
 use kb_picture::{Leaf, Path, PlaceLists, ending_at, is_instance, places};
 use kb_rows::Held;
-use kb_table::{RowResult, RowStop, kept};
+use kb_table::{RowResult, RowStop, append_number, kept};
 use kb_test::write_run;
 use kb_world::World;
 use std::alloc::Global;
@@ -70,8 +70,8 @@ fn add_places(alloc: Global, lists: &PlaceLists, text: &mut Vec<u8>) -> RowResul
 fn add_each(alloc: Global, letter: &str, places: &[u32], text: &mut Vec<u8>) -> RowResult<()> {
     let mut number: u32 = 0;
     for place in places {
-        add_number(alloc, letter, i64::from(number), text)?;
-        add_number(alloc, "=i", i64::from(*place), text)?;
+        append_number(alloc, letter, i64::from(number), text)?;
+        append_number(alloc, "=i", i64::from(*place), text)?;
         number = number.saturating_add(1);
     }
     Ok(())

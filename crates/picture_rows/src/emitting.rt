@@ -2,12 +2,12 @@
 
 use crate::asked::{Asked, held_input};
 use crate::choosing::add_exact;
-use crate::texts::{add, add_number};
+use crate::texts::add;
 use kb_heap::{Input, Object, Value};
 use kb_input::input_of;
 use kb_load::reached;
 use kb_rows::Held;
-use kb_table::{RowResult, RowStop, read_int};
+use kb_table::{RowResult, RowStop, append_number, read_int};
 use kb_world::World;
 use std::alloc::Global;
 
@@ -60,7 +60,7 @@ fn add_input(alloc: Global, input: &Input, text: &mut Vec<u8>) -> RowResult<()> 
 fn add_objects(alloc: Global, objects: &[Object], text: &mut Vec<u8>) -> RowResult<()> {
     let mut number: i64 = 0;
     for object in objects {
-        add_number(alloc, "in i", number, text)?;
+        append_number(alloc, "in i", number, text)?;
         add_object(alloc, object, text)?;
         number = number.saturating_add(1);
     }
@@ -83,8 +83,8 @@ fn add_values(alloc: Global, values: &[Value], text: &mut Vec<u8>) -> RowResult<
 
 fn add_value(alloc: Global, value: &Value, text: &mut Vec<u8>) -> RowResult<()> {
     match value {
-        Value::Int(number) => add_number(alloc, " ", i64::from(*number), text),
+        Value::Int(number) => append_number(alloc, " ", i64::from(*number), text),
         Value::Null => add(b" null", text),
-        Value::Ref(object) => add_number(alloc, " i", i64::from(*object), text),
+        Value::Ref(object) => append_number(alloc, " i", i64::from(*object), text),
     }
 }
