@@ -10,7 +10,7 @@ pub(crate) struct NameText<'a> {
     pub(crate) bytes: &'a [u8],
 }
 
-impl PartialEq for NameText<'_> {
+impl<'a> PartialEq for NameText<'a> {
     ghost use Rattle.std.specs.Str.{bytes_eq};
     ghost use Rattle.std.specs.Cmp.{on_per, partial_equiv_from_equiv};
     ghost use Rattle.std.proofs.lemmas.Cmp.{nat_list_eq_equiv};
@@ -19,19 +19,19 @@ impl PartialEq for NameText<'_> {
 
     ghost laws = { on_per (λ x. x.bytes.now) (partial_equiv_from_equiv nat_list_eq_equiv) };
 
-    fn eq(&self, other: &NameText<'_>) -> bool {
+    fn eq(&self, other: &NameText<'a>) -> bool {
         self.bytes == other.bytes
     }
 }
 
-impl Eq for NameText<'_> {
+impl<'a> Eq for NameText<'a> {
     ghost use Rattle.std.specs.Cmp.{on_equiv};
     ghost use Rattle.std.proofs.lemmas.Cmp.{nat_list_eq_equiv};
 
     ghost laws = { on_equiv (λ x. x.bytes.now) nat_list_eq_equiv };
 }
 
-impl Hash for NameText<'_> {
+impl<'a> Hash for NameText<'a> {
     ghost use Rattle.std.specs.Prelude.{ℕ, List, [], ◌∷◌};
     ghost use Rattle.std.proofs.Common.{ap};
     ghost use Rattle.std.proofs.lemmas.Slice.Eq.{bytes_eq-Decides};
@@ -45,7 +45,7 @@ impl Hash for NameText<'_> {
     }
 }
 
-impl Equivalent<Name> for NameText<'_> {
+impl<'a> Equivalent<Name> for NameText<'a> {
     ghost use Rattle.std.specs.Prelude.{ℕ, List, [], ◌∷◌};
     ghost use Rattle.std.specs.Str.{bytes_eq};
     ghost use Rattle.std.proofs.Common.{ap};
