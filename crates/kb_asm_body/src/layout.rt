@@ -14,7 +14,7 @@ use kb_writer::padding_behind;
 use std::alloc::Global;
 use std::collections::HashMap;
 
-/// The bytes of code from which on a body is want of memory: all distances in what is shorter have four bytes.
+/// The bytes of code from which on a body counts as out of memory: all distances in what is shorter have four bytes.
 const TOO_LONG: usize = 0x4000_0000;
 
 /// Where the labels of a body lead, and how long its code is.

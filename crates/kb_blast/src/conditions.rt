@@ -26,7 +26,8 @@ pub struct Blasted {
 }
 
 /// The formula of conditions on comparisons, each a term with its stated truth. The terms below may have every
-/// operation. It looks at no term of the pool but those at and below the conditions' terms. Refused for want of memory, and where the formula would need more than 2^31 - 1 variables.
+/// operation. It looks at no term of the pool but those at and below the conditions' terms. Refused where memory runs out, and
+/// where the formula would need more than 2^31 - 1 variables.
 pub fn blast(alloc: Global, pool: &Pool, when: &[(TermId, bool)]) -> Result<Blasted, NoMemory>
     requires { AreConditions pool.now when.now }
     ensures formula { IfOk result (λ b. b.formula ≡ formula_of (query_of pool.now when.now)) }

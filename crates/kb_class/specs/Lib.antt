@@ -1,6 +1,7 @@
 pub mod Class
 pub mod Given
 pub mod Loading
+pub mod Members
 pub mod Naming
 pub mod Loaded
 pub mod References

@@ -14,9 +14,7 @@ pub fn handlers_of(alloc: Global, code: &Code) -> Result<Vec<Handler>, NoMemory>
 {
     let mut handlers = Vec::new(alloc);
     for row in code.handlers.as_slice() {
-        let Ok(()) = handlers.push(handler_of(row)) else {
-            return Err(NoMemory);
-        };
+        handlers.push(handler_of(row))?;
     }
     Ok(handlers)
 }

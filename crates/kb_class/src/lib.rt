@@ -22,4 +22,4 @@ pub use handlers::handlers_of;
 pub use ids::{ClassId, MethodId};
 pub use laws::{code_is_whole, one_class_of};
 pub use loaded::{LoadedClass, PLATFORM_CLASSES};
-pub use members::{FieldInfo, MemberKind, MethodCode, MethodInfo};
+pub use members::{FieldInfo, MemberKind, MethodCode, MethodInfo, is_static};

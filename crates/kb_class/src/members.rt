@@ -1,5 +1,9 @@
 //! Fields and methods, in plain terms.
+ghost use Rattle.std.specs.Prelude.{◌≡◌};
+ghost use Rattle.kb_class.specs.Members.{is_static};
+
 use crate::ids::ClassId;
+use kb_classfile::STATIC;
 use kb_code::{Handler, Listing};
 use kb_names::{JType, MethodType, Name, Row};
 
@@ -37,4 +41,11 @@ pub struct MethodInfo {
     pub name: Name,
     pub kind: MethodType,
     pub code: Option<MethodCode>,
+}
+
+/// Whether these are the access flags of a static field or method.
+pub fn is_static(access: u16) -> bool
+    ensures { result ≡ is_static access }
+{
+    access & STATIC != 0
 }

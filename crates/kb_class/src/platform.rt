@@ -3,7 +3,7 @@
 ghost use Rattle.std.specs.Prelude.{◌≡◌, ◌<◌, ◌∷◌, [], Some, None, IfOk, map, slice_get};
 ghost use Rattle.std.specs.List.{AllZip};
 ghost use Rattle.kb_names.specs.declared.types.JType.TheVariants as types;
-ghost use Rattle.kb_class.specs.Platform.{IsPlatformMethod, constructor, constructor_of_text, equals, object_name};
+ghost use Rattle.kb_class.specs.Platform.{IsPlatformMethod, constructor, constructor_of_text, equals};
 ghost use Rattle.kb_class.specs.PlatformRows.{superclass_name, kind_access, kind_parent, kind_interfaces, kind_methods, platform_names, platform_kinds, method_kind};
 
 use crate::ids::ClassId;

@@ -3,7 +3,6 @@
 ghost use Rattle.std.specs.Prelude.{◌≡◌, ◌↔◌, ◌++◌, ℕ, List, None, IfOk, OnOk, IsTrue, IsSome, map, length, replicate, option_map, option_to_list, filter_map};
 ghost use Rattle.std.specs.List.{AllByRecursion};
 ghost use Rattle.kb_classfile.specs.Pool.{utf8_of, name_index_of};
-ghost use Rattle.kb_class.specs.Loading.{HasText};
 ghost use Rattle.kb_class.specs.Loaded.{told_at};
 ghost use Rattle.kb_class.specs.Tables.{type_numbers, field_name_index, method_name_index, name_numbers, kind_index_of, kind_numbers, field_index, method_index, literal_index_of, literal_numbers, IsSpelled, IsTable, Puts};
 

@@ -57,7 +57,7 @@ fn listing_of(alloc: Global, code: &[u8], handlers: &[Handler]) -> Result<Listin
 ///
 /// All instructions are read first. Then the targets are looked at, in the order of the code, and then the handlers. Memory is
 /// taken in proportion to the code, whatever the switches in it say of themselves. Code or a handler table of 2 ^ 32 entries or
-/// more is refused as want of memory.
+/// more counts as out of memory.
 ///
 /// Source: JVMS 8 sections 4.7.3 and 6.5.
 pub fn decode(alloc: Global, code: &[u8], handlers: &[Handler]) -> Result<Listing, CodeRefusal>

@@ -66,11 +66,11 @@ AnswersWords words input status text =
     (((request : Request) → AsksFor words request → ⊥) × (status ≡ Refused) × (text ≡ usage_text))
     ⊎ ((request : Request) × AsksFor words request × AnswersInput request input status text)
 
--- want of memory
+-- memory ran out
 abbrev pub IsWant : Status → List ℕ → Type 0
 IsWant status text = (status ≡ Memory) × (text ≡ memory_text)
 
--- what the program says of its words and its input; want of memory may always be said
+-- what the program says of its words and its input; that memory ran out may always be said
 abbrev pub SaysOf : List (List ℕ) → List ℕ → Status → List ℕ → Type 0
 SaysOf words input status text = AnswersWords words input status text ⊎ IsWant status text
 

@@ -122,9 +122,7 @@ fn add_zeros(values: &mut Vec<i32>, count: usize) -> Result<(), NoMemory>
     ensures { OnOk result (values.new.items ≡ followed_by_zeros count values.old.items) }
 {
     if values.len() < count {
-        let Ok(()) = values.resize(count, 0) else {
-            return Err(NoMemory);
-        };
+        values.resize(count, 0)?;
     }
     Ok(())
 }

@@ -4,18 +4,15 @@ ghost use Rattle.std.specs.Prelude.{◌≡◌, ◌↔◌, ◌<◌, ◌^◌, IsTr
 ghost use Rattle.std.specs.List.{AllByRecursion};
 ghost use Rattle.kb_names.specs.declared.types.JType.{JType};
 ghost use Rattle.kb_names.specs.declared.types.JType.TheVariants as types;
+ghost use Rattle.kb_class.specs.Members.{is_static};
 ghost use Rattle.kb_heap.specs.Heap.{object_at};
-ghost use Rattle.kb_link.specs.Slots.{is_static};
 ghost use Rattle.kb_semantics.specs.Inputs.{HasReceiver, HasValuesOf, IsInputObject, IsTypeCorrect, argument_types};
 ghost use Rattle.kb_semantics.specs.Values.{AreValuesOf, IsObjectOf, IsValueOf};
 
-use kb_class::{MethodId, MethodInfo};
+use kb_class::{MethodId, MethodInfo, is_static};
 use kb_heap::{Heap, Input, Object, Value};
 use kb_names::{ExactType, JType};
 use kb_world::{FieldSlot, World};
-
-/// ACC_STATIC (JVMS 8 table 4.6-A).
-const STATIC: u16 = 0x0008;
 
 // What has a type: a slot, or the type itself.
 trait Typed {
@@ -63,16 +60,10 @@ pub fn fits_types(world: &World, target: MethodId, input: &Input) -> bool
     are_arguments(world, heap, method, args)
 }
 
-fn is_static(method: &MethodInfo) -> bool
-    ensures { result ≡ is_static method.now.access }
-{
-    method.access & STATIC != 0
-}
-
 fn has_receiver(method: &MethodInfo, args: &[Value]) -> bool
     ensures { IsTrue result ↔ HasReceiver (is_static method.now.access) args.now }
 {
-    if is_static(method) {
+    if is_static(method.access) {
         return true;
     }
     match args {
@@ -86,7 +77,7 @@ fn are_arguments(world: &World, heap: &Heap, method: &MethodInfo, args: &[Value]
     ensures { IsTrue result ↔ AreValuesOf world.now heap.now (argument_types world.now method.now) args.now }
 {
     let params = method.kind.params.as_slice();
-    if is_static(method) {
+    if is_static(method.access) {
         return are_values_of(world, heap, params, args);
     }
     let [receiver, others @ ..] = args else {

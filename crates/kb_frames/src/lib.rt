@@ -24,7 +24,7 @@ pub use code::{Found, declaring_class, instruction_at};
 pub use laws::{
     endings_mean_their_states, paths_are_well_formed, paths_mean_their_states, states_begin,
 };
-pub use next::{is_int_instruction, is_reference, is_static, variable_kind};
+pub use next::{is_int_instruction, is_reference, variable_kind};
 pub use path::PathStop;
 pub use state::{SymState, start};
 pub use std::alloc::AllocError as NoMemory;

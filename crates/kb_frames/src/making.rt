@@ -8,7 +8,7 @@ ghost use Rattle.kb_frames.specs.Making.{default_sym, new_sym_object, with_made}
 use crate::NoMemory;
 use crate::state::{SymObject, SymState};
 use crate::value::SymValue;
-use kb_names::{ExactType, JType, Name};
+use kb_names::{ExactType, JType};
 use kb_rows::Row;
 use kb_terms::TermId;
 use kb_world::{FieldSlot, World};
@@ -40,7 +40,7 @@ impl SymState {
     }
 }
 
-// A new object of the class.
+// A new object of the class, whose name it shares.
 fn new_object(
     alloc: Global,
     world: &World,
@@ -49,7 +49,7 @@ fn new_object(
 ) -> Result<SymObject, NoMemory>
     ensures { IfOk result (λ object. object ≡ new_sym_object world.now class.now zero) }
 {
-    let name = Name::from_slice(alloc, class)?;
+    let name = world.shared_name(alloc, class)?;
     let values = default_values(alloc, world.slots_named(&name), zero)?;
     Ok(SymObject {
         kind: ExactType::Class(name),

@@ -1,6 +1,5 @@
 //! What a state comes to next.
 ghost use Rattle.std.specs.Prelude.{◌≡◌, Some, IfOk, option_map, slice_get};
-ghost use Rattle.kb_link.specs.Slots.{is_static};
 ghost use Rattle.kb_semantics.specs.Config.{class_number};
 ghost use Rattle.kb_semantics.specs.Inputs.{argument_types};
 ghost use Rattle.kb_picture.specs.Queries.{kind_for};
@@ -9,15 +8,12 @@ ghost use Rattle.kb_frames.specs.Next.{type_of, kind_of, is_reference, argument_
 use crate::NoMemory;
 use crate::code::{declaring_class, instruction_at};
 use crate::state::{Stage, SymState};
-use kb_class::{MethodId, MethodInfo};
+use kb_class::{MethodId, MethodInfo, is_static};
 use kb_code::Instr;
 use kb_names::{JType, Name};
 use kb_terms::VarKind;
 use kb_world::World;
 use std::alloc::Global;
-
-/// ACC_STATIC (JVMS 8 table 4.6-A).
-const STATIC: u16 = 0x0008;
 
 /// An argument that is to be read.
 #[derive(Clone, Copy)]
@@ -105,7 +101,7 @@ fn argument_at<'w>(_world: &World, info: &'w MethodInfo, number: usize) -> Optio
     ensures { option_map (type_of _world.now info.now.class.0) result ≡ slice_get (argument_types _world.now info.now) number }
 {
     let params = info.kind.params.as_slice();
-    if is_static(info) {
+    if is_static(info.access) {
         return match params.get(number) {
             Some(kind) => Some(Argument::Typed(kind)),
             None => None,
@@ -118,13 +114,6 @@ fn argument_at<'w>(_world: &World, info: &'w MethodInfo, number: usize) -> Optio
         Some(kind) => Some(Argument::Typed(kind)),
         None => None,
     }
-}
-
-/// Whether the method is static (JVMS 8 section 4.6).
-pub fn is_static(info: &MethodInfo) -> bool
-    ensures { result ≡ is_static info.now.access }
-{
-    info.access & STATIC != 0
 }
 
 /// Whether the type is one of references (JVMS 8 section 2.4).

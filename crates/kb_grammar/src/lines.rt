@@ -11,7 +11,7 @@ pub enum LineRefusal<S> {
     /// The first line, from 1, at which no text of the format goes on. A line that is cut short, and one that is
     /// missing at the end, count as lines.
     BadLine(usize),
-    /// What the reader of a line stopped for, as want of memory.
+    /// What the reader of a line stopped for, as memory that ran out.
     Stopped(S),
 }
 

@@ -55,9 +55,7 @@ impl Object {
     pub fn copied(&self, alloc: Global) -> Result<Object, NoMemory>
         ensures { IfOk result (λ copy. copy ≡ self.now) }
     {
-        let Ok(kind) = self.kind.copied(alloc) else {
-            return Err(NoMemory);
-        };
+        let kind = self.kind.copied(alloc)?;
         let values = copied_values(alloc, self.values.as_slice())?;
         Ok(Object { kind, values })
     }
@@ -138,8 +136,8 @@ impl Heap {
         object.values.set(slot as usize, value);
     }
 
-    /// Adds an object and gives its number, which is how many there were. Want of memory hands it back; more
-    /// objects than a `u32` can number are want of memory too.
+    /// Adds an object and gives its number, which is how many there were. Where memory runs out it is handed
+    /// back; more objects than a `u32` can number count as out of memory too.
     pub fn add(&mut self, object: Object) -> Result<u32, HeapFull>
         ensures added { IfOk result (λ number. (number ≡ length self.old.objects) × (self.new ≡ with_object self.old object)) }
         ensures full { IfErr result (λ full. (full.object ≡ object) × (self.new ≡ self.old)) }

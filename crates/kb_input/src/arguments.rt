@@ -2,23 +2,19 @@
 ghost use Rattle.std.specs.Prelude.{◌≡◌, [], ◌++◌, map, IfOk, OnOk};
 ghost use Rattle.std.specs.Option.{option_copied};
 ghost use Rattle.kb_class.specs.declared.ids.MethodId.{MethodId as PlainId};
-ghost use Rattle.kb_link.specs.Slots.{is_static};
 ghost use Rattle.kb_semantics.specs.Inputs.{argument_types};
 ghost use Rattle.kb_semantics.specs.Values.{default_of};
 ghost use Rattle.kb_picture.specs.Queries.{slot_of_class, component_of, type_of_slot};
 ghost use Rattle.kb_input.specs.Emitted.{arguments_of};
 
 use crate::NoMemory;
-use kb_class::{MethodId, MethodInfo};
+use kb_class::{MethodId, MethodInfo, is_static};
 use kb_heap::Value;
 use kb_names::{ExactType, JType, Name};
 use kb_picture::{Origin, PicObject};
 use kb_rows::Row;
 use kb_world::World;
 use std::alloc::Global;
-
-/// ACC_STATIC (JVMS 8 table 4.6-A).
-const STATIC: u16 = 0x0008;
 
 /// The types of the method's arguments, a receiver's class before those of the parameters.
 pub(crate) fn argument_types(
@@ -39,7 +35,7 @@ fn types_of(alloc: Global, world: &World, method: &MethodInfo) -> Result<Row<JTy
 {
     let params = method.kind.params.as_slice();
     let mut types = Row::new(alloc);
-    if is_static(method) {
+    if is_static(method.access) {
         push_copies(alloc, params, &mut types)?;
         return Ok(types);
     }
@@ -47,12 +43,6 @@ fn types_of(alloc: Global, world: &World, method: &MethodInfo) -> Result<Row<JTy
     types.push(JType::Class(class))?;
     push_copies(alloc, params, &mut types)?;
     Ok(types)
-}
-
-fn is_static(method: &MethodInfo) -> bool
-    ensures { result ≡ is_static method.now.access }
-{
-    method.access & STATIC != 0
 }
 
 fn push_copies(alloc: Global, params: &[JType], types: &mut Row<JType>) -> Result<(), NoMemory>

@@ -8,6 +8,7 @@ use Rattle.kb_class.proofs.Lists.{has_none, has_cases}
 use Rattle.kb_class.specs.Naming.{Has}
 use Rattle.kb_class.specs.declared.ids.MethodId.{MethodId}
 use Rattle.kb_class.specs.declared.members.MethodInfo.{MethodInfo}
+use Rattle.kb_class.specs.Members.{is_static}
 use Rattle.kb_heap.specs.declared.heap.Value.{Value}
 use Rattle.kb_heap.specs.declared.heap.Value.TheVariants.{Int as IntValue, Null as NullValue, Ref}
 use Rattle.kb_heap.specs.declared.heap.Object.{Object}
@@ -15,7 +16,6 @@ use Rattle.kb_heap.specs.declared.heap.Heap.{Heap}
 use Rattle.kb_heap.specs.declared.heap.Input.{Input}
 use Rattle.kb_heap.specs.Heap.{object_at}
 use Rattle.kb_link.specs.Links.{IsLinked}
-use Rattle.kb_link.specs.Slots.{is_static}
 use Rattle.kb_link.specs.Subtypes.{fits}
 use Rattle.kb_link.specs.World.{World}
 use Rattle.kb_names.specs.declared.types.ExactType.{ExactType}

@@ -1,7 +1,6 @@
 -- The numbers of superclasses and interfaces, and chains that are walked up.
 use Rattle.std.proofs.Common.{◌≡◌, ℕ, inl, inr, zero, suc, ◌+◌, ◌<◌, ◌==◌, ◌↔◌, Bool, true, false, List, [], ◌∷◌, ◌++◌, length, map, Option, Some, None, slice_get, slice_index_or, refl, sym, ap, subst, ◌∙◌, arith}
 use Rattle.std.specs.Option.{option_and_then}
-use Rattle.std.specs.List.{list_any}
 use Rattle.std.proofs.lemmas.List.{length-append}
 use Rattle.std.proofs.lemmas.Bool.{eq-eqb, ne_eqb, cases_eq}
 use Rattle.std.proofs.lemmas.Option.{same_Some, none-some}
@@ -10,10 +9,8 @@ use Rattle.kb_order.proofs.RankLaws.{rank_falls}
 use Rattle.kb_class.specs.Class.{Class}
 use Rattle.kb_link.specs.World.{number_in, parent_in}
 use Rattle.kb_link.specs.Subtypes.{parent_names, super_names, with_number, numbers_of, direct_supers, is_super, AreChains, IsChain}
-use Rattle.kb_link.specs.Rules.{IsNoneSuch, IsMissing}
 use Rattle.kb_link.specs.ChainWalks.{parent_at, walk, AreWalks}
 use Rattle.kb_link.proofs.Named.{number_inside}
-use Rattle.kb_link.proofs.Places.{get_last}
 
 -- ---- numbers of names
 

@@ -10,10 +10,11 @@ use Rattle.kb_class.specs.declared.members.MemberKind.TheVariants as kinds
 use Rattle.kb_numbers.specs.declared.numbering.Numbers.{Numbers}
 use Rattle.kb_numbers.specs.declared.pairs.Pair.{Pair}
 use Rattle.kb_numbers.specs.Members.{MemberNumbers, method_pairs, method_place, method_number, methods_at, own_methods}
-use Rattle.kb_numbers.specs.Numbers.{StandsFor, IsMethodPair, AreNumbered}
+use Rattle.kb_numbers.specs.Numbers.{StandsFor, IsMethodPair, IsPairOf, AreNumbered}
 use Rattle.kb_numbers.specs.Pairs.{first_place}
 use Rattle.kb_numbers.specs.Typed.{IsTyped, IsTypedMethod}
-use Rattle.kb_numbers.proofs.MemberLaws.{numbered_long, own_numbers, method_here, method_at_place, no_method_here, number_by_place, pairs_beside}
+use Rattle.kb_numbers.proofs.MemberLaws.{numbered_long, own_numbers, method_here, no_method_here, number_by_place, pairs_beside}
+use Rattle.kb_numbers.proofs.TypedLaws.{typed_spelled}
 use Rattle.kb_numbers.proofs.ZipLaws.{zip_there}
 use Rattle.kb_link.specs.Members.{declared_method}
 use Rattle.kb_link.specs.Rules.{HaveOwnMethods}
@@ -95,37 +96,11 @@ module _ (classes : List Class) (numbers : Numbers) (are : AreNumbered classes n
         declared_told classes own number name kind (method_number numbers.classes.items number pair) (some_told (method_number numbers.classes.items number pair) refl)
         (none_told (method_number numbers.classes.items number pair) refl)
 
-  -- a method that has a number by some pair
-  pub number_there : (number : ℕ) (pair : Pair) (id : ℕ) → method_number numbers.classes.items number pair ≡ Some id
-      → (name : List ℕ) × (kind : MethodType) × IsNumberOf classes number name kind id
-  number_there number pair id e =
-      elim (slice_get_cases classes number).1 [
-        | inl h ↦ found h.0 h.2
-        | inr h ↦ absurd (none-some id (sym (no_class number pair h.1 h.0) ∙ e))
-      ]
-    where
-      found : (class : Class) → slice_get classes number ≡ Some class → (name : List ℕ) × (kind : MethodType) × IsNumberOf classes number name kind id
-      found class at = go (method_place numbers.classes.items number pair) refl
-        where
-          by : method_number numbers.classes.items number pair ≡ option_map (λ (place : ℕ). methods_before classes number + place) (method_place numbers.classes.items number pair)
-          by = number_by_place classes numbers are number class at pair
-
-          go : (o : Option ℕ) → method_place numbers.classes.items number pair ≡ o → (name : List ℕ) × (kind : MethodType) × IsNumberOf classes number name kind id
-          go None f = absurd (none-some id (sym (by ∙ ap (λ (o : Option ℕ). option_map (λ (place : ℕ). methods_before classes number + place) o) f) ∙ e))
-          go (Some place) f =
-              let same : methods_before classes number + place ≡ id =
-              same_Some (methods_before classes number + place) id (sym (by ∙ ap (λ (o : Option ℕ). option_map (λ (place : ℕ). methods_before classes number + place) o) f) ∙ e) in
-              let method = method_at_place classes numbers are number class at pair place f in (
-                method.0.name,
-                method.0.kind,
-                record {
-                  declaring = class;
-                  class_is = at;
-                  place = place;
-                  stands = record { method = method.0; there = method.1; named = refl; typed = refl };
-                  there = subst (λ (n : ℕ). slice_get (methods_in classes) n ≡ Some method.0) same (number_of_place classes number place class method.0 at method.1);
-                },
-              )
+  -- the method that has a number by the pair of a name and a type
+  pub number_by_pair : (number : ℕ) (pair : Pair) (name : List ℕ) (kind : MethodType) (id : ℕ) → IsPairOf numbers name kind pair → method_number numbers.classes.items number pair ≡ Some id
+      → IsNumberOf classes number name kind id
+  number_by_pair number pair name kind id is e =
+      some_told number pair name kind (record { named = is.0; typed = typed_spelled numbers.texts numbers.types kind pair.kind are.ends is.1 }) (Some id) e
 
   -- the pair of a method that a class declares
   pub pair_of_number : (number : ℕ) (name : List ℕ) (kind : MethodType) (id : ℕ) → IsNumberOf classes number name kind id

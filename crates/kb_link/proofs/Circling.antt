@@ -1,5 +1,5 @@
 -- The first class on a circle.
-use Rattle.std.proofs.Common.{◌≡◌, ℕ, zero, suc, ◌<◌, ◌⊎◌, inl, inr, true, List, [], ◌∷◌, length, map, slice_index_or, refl, sym, ap, subst, arith}
+use Rattle.std.proofs.Common.{◌≡◌, ℕ, zero, suc, ◌<◌, inl, inr, true, List, [], ◌∷◌, length, map, slice_index_or, refl, sym, ap, subst, arith}
 use Rattle.kb_order.specs.Order.{stands, StandsOnCircle}
 use Rattle.kb_class.specs.Class.{Class}
 use Rattle.kb_link.specs.declared.linking.LinkRefusal.{LinkRefusal}

@@ -1,11 +1,11 @@
 -- Walks over the superclass and the interfaces of a class, and over those of all classes.
-use Rattle.std.proofs.Common.{◌≡◌, ℕ, zero, suc, ◌+◌, ◌≤◌, inl, inr, List, [], ◌∷◌, ◌++◌, length, map, take, drop, Option, Some, None, slice_get, refl, sym, ap, subst, ◌∙◌, append_assoc, arith}
+use Rattle.std.proofs.Common.{◌≡◌, ℕ, zero, suc, ◌+◌, ◌≤◌, inl, inr, List, [], ◌∷◌, ◌++◌, length, take, drop, Some, slice_get, refl, sym, ap, subst, ◌∙◌, arith}
 use Rattle.std.proofs.lemmas.Option.{same_Some}
 use Rattle.kb_class.specs.Class.{Class}
 use Rattle.kb_link.specs.declared.linking.LinkRefusal.{LinkRefusal}
 use Rattle.kb_link.specs.declared.linking.LinkRefusal.TheVariants as refusals
 use Rattle.kb_link.specs.Subtypes.{Claim}
-use Rattle.kb_link.specs.Rules.{IsFirst, IsNoneSuch, IsMissing, IsBad, HaveDifferentNames}
+use Rattle.kb_link.specs.Rules.{IsFirst, IsMissing, IsBad, HaveDifferentNames}
 use Rattle.kb_link.specs.Links.{RefusesClasses}
 use Rattle.kb_link.specs.Tables.{IsRefusalOf, StopsAtMissing, StopsAtBad}
 

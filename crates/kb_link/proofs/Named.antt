@@ -3,8 +3,6 @@ use Rattle.std.proofs.Common.{◌≡◌, ◌≢◌, ℕ, zero, suc, ◌<◌, ◌
 use Rattle.std.specs.List.{list_any, position_or_len}
 use Rattle.indexmap.specs.IndexSet.{IndexSet, insert_key}
 use Rattle.std.specs.Str.{bytes_eq}
-use Rattle.std.specs.declared.vec.Vec.{Vec}
-use Rattle.std.specs.declared.alloc.Global.{Global}
 use Rattle.std.specs.Option.{option_map}
 use Rattle.std.proofs.lemmas.List.{map-append, length-append}
 use Rattle.std.proofs.lemmas.Option.{same_Some, none-some}
@@ -17,7 +15,7 @@ use Rattle.kb_link.specs.declared.linking.LinkRefusal.TheVariants as refusals
 use Rattle.kb_link.specs.Rules.{name_of, HaveDifferentNames, IsGivenTwice}
 use Rattle.kb_link.specs.Links.{RefusesClasses}
 use Rattle.kb_link.specs.Tables.{HasNames, StopsAtAgain, IsRefusalOf}
-use Rattle.kb_link.proofs.Places.{get_kept, get_last, get_pushed}
+use Rattle.kb_link.proofs.Places.{get_pushed}
 
 -- ---- the number of a name
 
@@ -143,56 +141,52 @@ module _ {X : Type 0} (p : X → Bool) where
           absurd (true≢false (sym ((Decides-ltb (position_or_len p xs) (length xs)).1 inside) ∙ past))
 
 -- the place of a name is the number of its class
-pub place_of_name : (keys : List (Vec ℕ Global)) (classes : List Class) (name : List ℕ) → map (λ (key : Vec ℕ Global). key.items) keys ≡ map name_of classes
-    → position (λ (key : Vec ℕ Global). bytes_eq name key.items) keys ≡ number_in classes name
+pub place_of_name : (keys : List (List ℕ)) (classes : List Class) (name : List ℕ) → keys ≡ map name_of classes → position (bytes_eq name) keys ≡ number_in classes name
 place_of_name [] [] name same = refl
 place_of_name [] (class ∷ classes) name same = absurd cc
 place_of_name (key ∷ keys) [] name same = absurd cc
-place_of_name (key ∷ keys) (class ∷ classes) name same = go (place_of_name keys classes name cc) (bytes_eq name key.items) refl where
-  head : key.items ≡ class.name
+place_of_name (key ∷ keys) (class ∷ classes) name same = go (place_of_name keys classes name cc) (bytes_eq name key) refl where
+  head : key ≡ class.name
   head = cc
 
-  go : position (λ (k : Vec ℕ Global). bytes_eq name k.items) keys ≡ number_in classes name → (b : Bool) → bytes_eq name key.items ≡ b
-      → position (λ (k : Vec ℕ Global). bytes_eq name k.items) (key ∷ keys) ≡ number_in (class ∷ classes) name
+  go : position (bytes_eq name) keys ≡ number_in classes name → (b : Bool) → bytes_eq name key ≡ b → position (bytes_eq name) (key ∷ keys) ≡ number_in (class ∷ classes) name
   go later true e =
       let here : bytes_eq name class.name ≡ true = subst (λ (n : List ℕ). bytes_eq name n ≡ true) head e in
       let first : number_in (class ∷ classes) name ≡ Some 0 = (rw here refl) in
-      first_of (λ (k : Vec ℕ Global). bytes_eq name k.items) key keys e ∙ sym first
+      first_of (bytes_eq name) key keys e ∙ sym first
   go later false e =
       let other : bytes_eq name class.name ≡ false = subst (λ (n : List ℕ). bytes_eq name n ≡ false) head e in
-      behind_of (λ (k : Vec ℕ Global). bytes_eq name k.items) key keys e ∙ ap (option_map suc) later ∙ sym (number_behind class classes name other)
+      behind_of (bytes_eq name) key keys e ∙ ap (option_map suc) later ∙ sym (number_behind class classes name other)
 
-pub names_pushed : {S : Type 0} (old new : IndexSet (Vec ℕ Global) S) (key : Vec ℕ Global) (classes : List Class) (class : Class)
-    → key.items ≡ class.name → number_in classes class.name ≡ None
-    → new.keys ≡ insert_key (λ (x y : Vec ℕ Global). bytes_eq x.items y.items) old.keys key
+pub names_pushed : {S : Type 0} (old new : IndexSet (List ℕ) S) (key : List ℕ) (classes : List Class) (class : Class)
+    → key ≡ class.name → number_in classes class.name ≡ None
+    → new.keys ≡ insert_key bytes_eq old.keys key
     → length classes + 1 < 2 ^ 32 → HasNames old classes → HasNames new (classes ++ class ∷ [])
 names_pushed old new key classes class keyed fresh inserted few has =
     record {
       each =
-          ap (map (λ (k : Vec ℕ Global). k.items)) (inserted ∙ ap (λ (b : Bool). cond b old.keys (old.keys ++ key ∷ [])) absent)
-          ∙ map-append (λ (k : Vec ℕ Global). k.items) old.keys (key ∷ [])
-          ∙ ap (λ (ns : List (List ℕ)). ns ++ key.items ∷ []) has.each
+          inserted
+          ∙ ap (λ (b : Bool). cond b old.keys (old.keys ++ key ∷ [])) absent
+          ∙ ap (λ (ns : List (List ℕ)). ns ++ key ∷ []) has.each
           ∙ ap (λ (n : List ℕ). map name_of classes ++ n ∷ []) keyed
           ∙ sym (map-append name_of classes (class ∷ []));
       few = (let longer : length (classes ++ class ∷ []) ≡ length classes + 1 = length-append classes (class ∷ []) in omega (arith, longer, few));
     }
   where
-    absent_in : (keys : List (Vec ℕ Global)) (cs : List Class) → map (λ (k : Vec ℕ Global). k.items) keys ≡ map name_of cs → number_in cs class.name ≡ None
-        → list_any (λ (k : Vec ℕ Global). bytes_eq key.items k.items) keys ≡ false
+    absent_in : (keys : List (List ℕ)) (cs : List Class) → keys ≡ map name_of cs → number_in cs class.name ≡ None → list_any (bytes_eq key) keys ≡ false
     absent_in [] cs same none = refl
     absent_in (k ∷ keys) [] same none = absurd cc
     absent_in (k ∷ keys) (c ∷ cs) same none = go (absent_in keys cs cc) (bytes_eq class.name c.name) refl where
-      go : (number_in cs class.name ≡ None → list_any (λ (j : Vec ℕ Global). bytes_eq key.items j.items) keys ≡ false) → (b : Bool) → bytes_eq class.name c.name ≡ b
-          → list_any (λ (j : Vec ℕ Global). bytes_eq key.items j.items) (k ∷ keys) ≡ false
+      go : (number_in cs class.name ≡ None → list_any (bytes_eq key) keys ≡ false) → (b : Bool) → bytes_eq class.name c.name ≡ b → list_any (bytes_eq key) (k ∷ keys) ≡ false
       go later true e =
           let first : number_in (c ∷ cs) class.name ≡ Some 0 = (rw e refl) in
           absurd (none-some 0 (sym none ∙ first))
       go later false e =
-          let head : k.items ≡ c.name = cc in
-          let other : bytes_eq key.items k.items ≡ false = subst (λ (n : List ℕ). bytes_eq n k.items ≡ false) (sym keyed) (subst (λ (n : List ℕ). bytes_eq class.name n ≡ false) (sym head) e) in
+          let head : k ≡ c.name = cc in
+          let other : bytes_eq key k ≡ false = subst (λ (n : List ℕ). bytes_eq n k ≡ false) (sym keyed) (subst (λ (n : List ℕ). bytes_eq class.name n ≡ false) (sym head) e) in
           (rw other (later (none_behind c cs class.name e none)))
 
-    absent : list_any (λ (k : Vec ℕ Global). bytes_eq key.items k.items) old.keys ≡ false
+    absent : list_any (bytes_eq key) old.keys ≡ false
     absent = absent_in old.keys classes has.each fresh
 
 -- ---- different names

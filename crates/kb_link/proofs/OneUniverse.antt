@@ -1,17 +1,16 @@
 -- Class files have one world: what is said of the parts of a world beside its classes and chains tells them in whole.
-use Rattle.std.proofs.Common.{◌≡◌, ◌↔◌, ◌⊎◌, inl, inr, ℕ, zero, suc, ◌<◌, Bool, true, false, true≢false, List, [], ◌∷◌, ◌++◌, length, map, Some, slice_get, slice_index_or, refl, sym, ap, subst, ◌∙◌, arith}
+use Rattle.std.proofs.Common.{◌≡◌, ◌⊎◌, inl, inr, ℕ, zero, suc, ◌<◌, Bool, true, false, List, [], ◌∷◌, ◌++◌, length, map, Some, slice_get, slice_index_or, refl, sym, ap, subst, ◌∙◌, arith}
 use Rattle.std.proofs.lemmas.Option.{same_Some}
 use Rattle.kb_names.specs.declared.types.ExactType.{ExactType}
 use Rattle.kb_names.specs.declared.types.ExactType.TheVariants as exact
 use Rattle.kb_names.specs.declared.types.JType.{JType}
-use Rattle.kb_order.specs.Order.{IsAbove}
 use Rattle.kb_order.specs.Texts.{IsBefore, IsRising}
 use Rattle.kb_order.proofs.TextLaws.{before_itself, before_chain}
 use Rattle.kb_class.specs.declared.given.GivenClass.{GivenClass}
 use Rattle.kb_class.specs.Class.{Class}
 use Rattle.kb_class.specs.Naming.{Has}
-use Rattle.kb_link.specs.Links.{IsLinked, Links}
-use Rattle.kb_link.specs.Subtypes.{direct_supers, is_super, AreSupers}
+use Rattle.kb_link.specs.Links.{Links}
+use Rattle.kb_link.specs.Subtypes.{is_super, AreSupers}
 use Rattle.kb_link.specs.Universe.{given_types, array_text, AreArrays, AreLiterals, AreNamedPlatform, IsUniverse}
 use Rattle.kb_link.specs.World.{World}
 use Rattle.kb_link.proofs.OneWorld.{worlds_classes, worlds_chains}

@@ -3,12 +3,11 @@ use Rattle.std.proofs.Common.{◌≡◌, ◌⊎◌, inl, inr, ℕ, zero, suc, �
 use Rattle.std.specs.List.{AllByRecursion, AllZip}
 use Rattle.std.proofs.lemmas.Bool.{cases_order}
 use Rattle.std.proofs.lemmas.Option.{same_Some}
-use Rattle.kb_format.specs.Faults.{IsFirstFault, Tells}
+use Rattle.kb_format.specs.Faults.{IsFirstFault}
 use Rattle.kb_format.specs.declared.fault.FormatFault.{FormatFault}
 use Rattle.kb_format.specs.declared.fault.FormatFault.TheVariants as faults
 use Rattle.kb_format.proofs.FaultLaws.{one_answer}
 use Rattle.kb_class.specs.declared.given.GivenClass.{GivenClass}
-use Rattle.kb_class.specs.declared.ids.ClassId.{ClassId}
 use Rattle.kb_class.specs.declared.members.MethodInfo.{MethodInfo}
 use Rattle.kb_class.specs.Class.{Class}
 use Rattle.kb_class.specs.Platform.{PlatformClass, PlatformMethod, IsPlatform, IsPlatformMethod, platform_table}
@@ -16,7 +15,7 @@ use Rattle.kb_class.proofs.OneClass.{one_class_is}
 use Rattle.kb_link.specs.declared.linking.LinkRefusal.{LinkRefusal}
 use Rattle.kb_link.specs.declared.linking.LinkRefusal.TheVariants as refusals
 use Rattle.kb_link.specs.Links.{most_classes, KeepsFormat, Loads, AreClassesOf, ArePlatform, IsLinked, Links, BreaksFormat, RefusesClasses, RefusesLoaded, RefusesLink}
-use Rattle.kb_link.specs.Rules.{IsFirst, IsNoneSuch, name_of, HaveDifferentNames, IsGivenTwice, all_super_names, IsMissing, HaveSupers, IsOnCircle, IsFirstClassOnCircle, HaveNoCircle, all_claims, IsBad, HaveGoodSupers, IsFirstBad}
+use Rattle.kb_link.specs.Rules.{IsFirst, IsNoneSuch, name_of, HaveDifferentNames, IsGivenTwice, all_super_names, IsMissing, HaveSupers, IsFirstClassOnCircle, HaveNoCircle, all_claims, IsBad, HaveGoodSupers, IsFirstBad}
 use Rattle.kb_link.specs.Split.{Placed, placed_from, IsSplit, HaveNoSplit, IsFirstSplit}
 use Rattle.kb_link.specs.Subtypes.{Claim, IsChain, AreChains}
 use Rattle.kb_link.specs.Tables.{refusal_of}

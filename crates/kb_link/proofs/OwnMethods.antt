@@ -1,13 +1,12 @@
 -- The members of loaded classes: each method has the number of its class, and no class declares two fields or two methods of
 -- one name and type.
-use Rattle.std.proofs.Common.{◌≡◌, ◌≢◌, ℕ, zero, suc, ◌+◌, ◌⊎◌, inl, inr, List, [], ◌∷◌, ◌++◌, length, map, Option, Some, None, is_some, slice_get, refl, sym, ap, subst, ◌∙◌, arith}
+use Rattle.std.proofs.Common.{◌≡◌, ◌≢◌, ℕ, zero, suc, ◌+◌, inl, inr, List, [], ◌∷◌, length, map, Option, Some, None, is_some, slice_get, refl, sym, ap, subst, ◌∙◌, arith}
 use Rattle.std.specs.List.{AllByRecursion, AllZip}
 use Rattle.std.proofs.lemmas.Option.{same_Some, none-some, slice_get-map}
 use Rattle.kb_names.specs.declared.types.MethodType.{MethodType}
 use Rattle.kb_names.specs.declared.class_names.Spelling.TheVariants.{Raw}
 use Rattle.kb_names.specs.Descriptors.{method_text, type_text}
 use Rattle.kb_classfile.specs.declared.file.ClassFile.{ClassFile}
-use Rattle.kb_classfile.specs.declared.file.Field.{Field}
 use Rattle.kb_classfile.specs.declared.file.Method.{Method as ClassMethod}
 use Rattle.kb_classfile.specs.Pool.{utf8_of}
 use Rattle.kb_code.specs.declared.listing.Listing.{Listing}
@@ -17,10 +16,10 @@ use Rattle.kb_class.specs.declared.members.FieldInfo.{FieldInfo}
 use Rattle.kb_class.specs.declared.members.MethodInfo.{MethodInfo}
 use Rattle.kb_class.specs.Class.{Class}
 use Rattle.kb_class.specs.Naming.{Has}
-use Rattle.kb_class.specs.Loading.{IsFieldOf, IsMethodOf, AreMethodsOf, IsClassOf}
+use Rattle.kb_class.specs.Loading.{IsFieldOf, AreMethodsOf, IsClassOf}
 use Rattle.kb_class.specs.Platform.{PlatformMethod, PlatformClass, IsPlatformMethod, IsPlatform, platform_table, constructor, constructor_of_text, equals}
 use Rattle.kb_link.specs.Rules.{HaveDifferentFields, HaveOwnMethods}
-use Rattle.kb_link.specs.Links.{AreLoaded, HasFile, HavePlatform, KeepsFormat, Loads, AreClassesOf, ArePlatform}
+use Rattle.kb_link.specs.Links.{AreLoaded, HasFile, KeepsFormat, Loads, AreClassesOf, ArePlatform}
 use Rattle.kb_class.specs.Given.{AreGiven}
 use Rattle.kb_link.proofs.MethodNumbers.{get_either}
 use Rattle.kb_link.proofs.WholeMethods.{whole_methods, placed_methods}

@@ -1,11 +1,11 @@
 -- The methods that targets name.
-use Rattle.std.proofs.Common.{◌≡◌, ℕ, Bool, true, false, true≢false, is_some, IsSome, List, Option, Some, None, slice_get, map, refl, sym, ap, subst, ◌∙◌}
-use Rattle.std.proofs.lemmas.Option.{same_Some, slice_get-map}
+use Rattle.std.proofs.Common.{◌≡◌, ℕ, true, false, true≢false, is_some, IsSome, IfSome, IfNone, List, Option, Some, None, slice_get, map, sym, ap, subst, ◌∙◌}
+use Rattle.std.proofs.lemmas.Option.{same_Some, none-some, slice_get-map}
 use Rattle.kb_names.specs.declared.types.Target.{Target}
 use Rattle.kb_class.specs.Class.{Class}
 use Rattle.kb_class.specs.declared.ids.MethodId.{MethodId}
 use Rattle.kb_class.specs.declared.members.MethodInfo.{MethodInfo}
-use Rattle.kb_link.specs.World.{World, number_in, methods_in, method_at}
+use Rattle.kb_link.specs.World.{World, number_in, method_at}
 use Rattle.kb_link.specs.Rules.{HaveDifferentNames, HaveOwnMethods, name_of}
 use Rattle.kb_link.specs.Tables.{IsNumberOf}
 use Rattle.kb_link.specs.Targets.{Declares, IsTargetOf}
@@ -56,6 +56,22 @@ module _ (world : World) (names : HaveDifferentNames world.classes) (own : HaveO
       let ids : one.0 ≡ other.0 =
       one_id world.classes one.0 other.0 first.method second.method own first.method_is second.method_is classes (first.name ∙ sym second.name) (first.kind ∙ sym second.kind) in
       λ i. record { 0 = ids i }
+
+  -- what is told of the pair of the target's name and type is told of the target
+  module _ (number : ℕ) (at : number_in world.classes target.class ≡ Some number) where
+    pub paired_declares : (told : Option MethodId) → IfSome told (λ id. IsNumberOf world.classes number target.name target.kind id.0) → IfSome told (λ id. Declares world id target)
+    paired_declares None is = tt
+    paired_declares (Some id) is = declares number id.0 at is
+
+    pub unpaired_undeclared : (told : Option MethodId) → ((id : ℕ) → IsNumberOf world.classes number target.name target.kind id → told ≡ Some (record { 0 = id }))
+        → IfNone told ((id : MethodId) → Declares world id target → ⊥)
+    unpaired_undeclared None whole = undeclared_method number at (λ id is. none-some (record { 0 = id }) (whole id is))
+    unpaired_undeclared (Some id) whole = tt
+
+    pub paired_alone : (told : Option MethodId) → IfSome told (λ id. IsNumberOf world.classes number target.name target.kind id.0)
+        → IfSome told (λ id. (other : MethodId) → Declares world other target → other ≡ id)
+    paired_alone None is = tt
+    paired_alone (Some id) is = λ other declared. one_declared other id declared (declares number id.0 at is)
 
 -- where its number holds no code, the target's method may not be run
 pub has_no_code : (world : World) (id other : MethodId) (target : Target) (method : MethodInfo) → method_at world id.0 ≡ Some method → is_some method.code ≡ false → other ≡ id → IsTargetOf world target other → ⊥

@@ -1,5 +1,5 @@
 -- The universe from its parts: what the set of the descriptors of named types tells.
-use Rattle.std.proofs.Common.{◌≡◌, ◌↔◌, ℕ, zero, suc, ◌+◌, ◌≤◌, ◌<◌, ◌⊎◌, inl, inr, Bool, true, false, ◌&&◌, not, is_some, IsSome, List, [], ◌∷◌, ◌++◌, length, map, Option, Some, None, slice_get, refl, sym, ap, subst, ◌∙◌, arith}
+use Rattle.std.proofs.Common.{◌≡◌, ◌↔◌, ℕ, zero, suc, ◌+◌, ◌<◌, ◌⊎◌, inl, inr, Bool, true, false, ◌&&◌, not, is_some, List, [], ◌∷◌, ◌++◌, length, map, Option, Some, None, slice_get, refl, sym, ap, subst, ◌∙◌, arith}
 use Rattle.std.specs.List.{AllByRecursion, position_or_len}
 use Rattle.std.specs.Str.{bytes_eq}
 use Rattle.std.proofs.lemmas.Bool.{cases_lt, true≢false, lt-ltb, le-ltb}
@@ -13,8 +13,8 @@ use Rattle.kb_class.specs.Class.{Class}
 use Rattle.kb_class.specs.Naming.{Has, Names}
 use Rattle.kb_order.specs.Texts.{IsRising}
 use Rattle.kb_link.specs.World.{literal_in}
-use Rattle.kb_link.specs.Universe.{is_given, is_concrete, exact_class, IsNamed, given_types, AreNamedPlatform, IsElement, IsNamedArray, array_text, AreArrays, IsUniverse}
-use Rattle.kb_link.specs.Mentions.{AnyOf, exact_text, IsTextGiven, IsWantedArray, IsPartOf, IsSimple, platform_types, array_parts}
+use Rattle.kb_link.specs.Universe.{is_given, is_concrete, exact_class, IsNamed, given_types, AreNamedPlatform, IsElement, IsNamedArray, array_text, IsUniverse}
+use Rattle.kb_link.specs.Mentions.{AnyOf, exact_text, IsTextGiven, IsPartOf, IsSimple, platform_types, array_parts}
 use Rattle.kb_link.proofs.LiteralLaws.{any_has}
 use Rattle.kb_link.proofs.UniverseTexts.{one_type, one_component, parts_are}
 

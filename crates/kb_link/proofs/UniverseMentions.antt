@@ -1,9 +1,9 @@
 -- The descriptors of the types that classes name.
-use Rattle.std.proofs.Common.{◌≡◌, ◌↔◌, ℕ, suc, ◌⊎◌, inl, inr, IsSome, List, [], ◌∷◌, ◌++◌, Option, Some, None, replicate, refl, sym, ap, subst, ◌∙◌}
+use Rattle.std.proofs.Common.{◌≡◌, ◌↔◌, ℕ, ◌⊎◌, inl, inr, IsSome, List, [], ◌∷◌, ◌++◌, Option, Some, None, refl, sym, ap, subst, ◌∙◌}
 use Rattle.std.proofs.lemmas.Bool.{true≢false}
 use Rattle.kb_classfile.specs.declared.file.ClassFile.{ClassFile}
-use Rattle.kb_names.specs.Shape.{Base, Shape}
-use Rattle.kb_names.specs.Types.{shape_of, arrays_of}
+use Rattle.kb_names.specs.Shape.{Shape}
+use Rattle.kb_names.specs.Types.{arrays_of}
 use Rattle.kb_names.specs.Descriptors.{type_text}
 use Rattle.kb_names.specs.declared.class_names.Spelling.TheVariants.{Raw}
 use Rattle.kb_names.specs.declared.types.JType.{JType}

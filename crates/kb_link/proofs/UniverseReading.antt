@@ -1,9 +1,9 @@
 -- Descriptors of arrays read: their elements, and their components.
-use Rattle.std.proofs.Common.{◌≡◌, ◌≢◌, ◌↔◌, ◌==◌, ◌-◌, ℕ, zero, suc, ◌+◌, ◌≤◌, ◌<◌, ◌⊎◌, inl, inr, Bool, true, false, IsSome, List, [], ◌∷◌, ◌++◌, length, take, drop, get_or, map, Option, Some, None, replicate, refl, sym, ap, ap₂, subst, ◌∙◌, arith}
+use Rattle.std.proofs.Common.{◌≡◌, ◌≢◌, ◌==◌, ◌-◌, ℕ, zero, suc, ◌+◌, ◌≤◌, ◌<◌, Bool, true, false, IsSome, List, [], ◌∷◌, ◌++◌, length, take, drop, get_or, map, replicate, refl, sym, ap, ap₂, subst, ◌∙◌, arith}
 use Rattle.std.specs.List.{AllByRecursion}
 use Rattle.std.proofs.lemmas.Bool.{eqb-true}
 use Rattle.std.proofs.lemmas.List.{append-nil, append_assoc, take_all}
-use Rattle.kb_names.specs.Shape.{Base, bool_base, byte_base, char_base, short_base, int_base, long_base, float_base, double_base, class_base, Shape}
+use Rattle.kb_names.specs.Shape.{Base, class_base, Shape}
 use Rattle.kb_names.specs.Types.{shape_of, arrays_of, base_type}
 use Rattle.kb_names.specs.Descriptors.{base_text}
 use Rattle.kb_names.specs.declared.class_names.Spelling.TheVariants.{Raw}
@@ -15,7 +15,7 @@ use Rattle.kb_names.proofs.ShapeLaws.{shape_of-arrays_of, arrays_of-shape_of}
 use Rattle.kb_class.specs.Class.{Class}
 use Rattle.kb_link.specs.World.{number_in}
 use Rattle.kb_link.specs.Universe.{IsElement, array_text}
-use Rattle.kb_link.specs.Mentions.{exact_text, element_text, IsWantedArray, IsSimple}
+use Rattle.kb_link.specs.Mentions.{element_text, IsWantedArray, IsSimple}
 use Rattle.kb_link.proofs.UniverseTexts.{one_base, element_of, part_text_is}
 
 -- ---- how many [ a text begins with

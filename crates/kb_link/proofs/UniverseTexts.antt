@@ -1,16 +1,15 @@
 -- Descriptors of what objects are: each has one type, and what is behind their dimensions.
-use Rattle.std.proofs.Common.{◌≡◌, ◌==◌, if◌then◌else◌, ◌↔◌, ℕ, zero, suc, ◌+◌, ◌≤◌, ◌<◌, ◌⊎◌, inl, inr, Bool, true, false, List, [], ◌∷◌, ◌++◌, length, Option, Some, None, replicate, refl, sym, ap, ap₂, subst, ◌∙◌, arith}
+use Rattle.std.proofs.Common.{◌≡◌, ◌==◌, if◌then◌else◌, ◌↔◌, ℕ, zero, suc, ◌+◌, ◌≤◌, ◌<◌, inl, inr, List, [], ◌∷◌, ◌++◌, length, Some, None, replicate, refl, sym, ap, ap₂, subst, ◌∙◌, arith}
 use Rattle.std.proofs.lemmas.Bool.{cases_order}
 use Rattle.kb_names.specs.Shape.{Base, bool_base, byte_base, char_base, short_base, int_base, long_base, float_base, double_base, class_base, Shape}
-use Rattle.kb_names.specs.Types.{shape_of, arrays_of, base_type}
-use Rattle.kb_names.specs.Descriptors.{shape_text, base_text}
+use Rattle.kb_names.specs.Types.{shape_of, arrays_of}
+use Rattle.kb_names.specs.Descriptors.{base_text}
 use Rattle.kb_names.specs.declared.class_names.Spelling.TheVariants.{Raw}
 use Rattle.kb_names.specs.declared.types.JType.{JType}
 use Rattle.kb_names.specs.declared.types.ExactType.{ExactType}
 use Rattle.kb_names.specs.declared.types.ExactType.TheVariants as exact
 use Rattle.kb_names.proofs.ShapeLaws.{shape_of-arrays_of, arrays_of-shape_of}
 use Rattle.kb_class.specs.Naming.{Has}
-use Rattle.kb_link.specs.Subtypes.{shape_of_exact}
 use Rattle.kb_link.specs.Mentions.{exact_text, array_parts, element_text}
 
 -- ---- the base

@@ -10,7 +10,7 @@ use Rattle.kb_class.specs.Class.{Class}
 use Rattle.kb_classfile.specs.declared.file.ClassFile.{ClassFile}
 use Rattle.kb_classfile.specs.declared.file.Code.{Code}
 use Rattle.kb_classfile.specs.declared.file.Method.{Method as ClassMethod}
-use Rattle.kb_code.specs.Listing.{Begins, HasRisingKeys, IsInRange, targets_of}
+use Rattle.kb_code.specs.Listing.{Begins, HasRisingKeys, targets_of}
 use Rattle.kb_code.specs.declared.listing.Listing.{Listing}
 use Rattle.kb_code.proofs.RisingKeys.{items_rise}
 use Rattle.kb_class.specs.Given.{AreGiven, IsGiven, IsListing, AreListings}

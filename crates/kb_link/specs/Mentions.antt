@@ -1,8 +1,8 @@
 -- Texts that are gathered: those of string constants, and the descriptors of the types that classes name.
-use Rattle.std.specs.Prelude.{◌≡◌, ◌⊎◌, ◌↔◌, ℕ, suc, ◌≤◌, Bool, ◌==◌, ◌&&◌, not, is_some, IsSome, if◌then◌else◌, List, [], ◌∷◌, map, filter, Option, Some, None}
+use Rattle.std.specs.Prelude.{◌≡◌, ◌⊎◌, ◌↔◌, ℕ, ◌==◌, ◌&&◌, not, is_some, IsSome, if◌then◌else◌, List, [], ◌∷◌, map, filter, Option, Some}
 use Rattle.kb_names.specs.Shape.{Base, bool_base, int_base, class_base}
 use Rattle.kb_names.specs.Types.{shape_of}
-use Rattle.kb_names.specs.Descriptors.{shape_text, base_text}
+use Rattle.kb_names.specs.Descriptors.{shape_text}
 use Rattle.kb_names.specs.declared.class_names.Spelling.TheVariants.{Raw}
 use Rattle.kb_names.specs.declared.types.JType.{JType}
 use Rattle.kb_names.specs.declared.types.ExactType.{ExactType}

@@ -1,5 +1,5 @@
 -- The rules that the classes of a world keep together (JVMS 8 sections 4.1, 5.3.5 and 5.4), and the first that one breaks.
-use Rattle.std.specs.Prelude.{◌≡◌, ◌⊎◌, ℕ, ◌<◌, ◌≤◌, Bool, true, false, ◌==◌, not, bit_and, List, [], ◌∷◌, ◌++◌, map, take, Option, Some, None, IsSome, IfSome, slice_get}
+use Rattle.std.specs.Prelude.{◌≡◌, ℕ, ◌<◌, Bool, true, ◌==◌, not, bit_and, List, ◌∷◌, ◌++◌, map, take, Some, None, IfSome, slice_get}
 use Rattle.std.specs.List.{AllByRecursion, flat_map}
 use Rattle.kb_order.specs.Order.{HasNoCircle, StandsOnCircle}
 use Rattle.kb_class.specs.Class.{Class}

@@ -1,11 +1,12 @@
 -- The slots of an object of a class (JVMS 8 sections 4.5 and 2.7): its instance fields, those of the superclass first, each
 -- class's in the order of its file. Fields of other types than boolean, int, classes and arrays have none (own rule).
-use Rattle.std.specs.Prelude.{ℕ, zero, suc, Bool, true, false, ◌==◌, ◌&&◌, not, bit_and, List, [], ◌∷◌, map, filter, reverse, slice_get, slice_index_or, Option, Some, None}
+use Rattle.std.specs.Prelude.{ℕ, suc, Bool, true, false, ◌&&◌, not, List, [], ◌∷◌, map, filter, reverse, slice_get, slice_index_or, Option, Some, None}
 use Rattle.std.specs.List.{flat_map}
 use Rattle.kb_names.specs.declared.types.JType.{JType}
 use Rattle.kb_names.specs.declared.types.JType.TheVariants as types
 use Rattle.kb_class.specs.declared.members.FieldInfo.{FieldInfo}
 use Rattle.kb_class.specs.Class.{Class}
+use Rattle.kb_class.specs.Members.{is_static}
 use Rattle.kb_link.specs.declared.slots.FieldSlot.{FieldSlot}
 use Rattle.kb_link.specs.World.{World}
 
@@ -16,10 +17,6 @@ has_slot_type types.Int = true
 has_slot_type (types.Class name) = true
 has_slot_type (types.Array component) = true
 has_slot_type _ = false
-
--- whether the flags have the bit ACC_STATIC (JVMS 8 tables 4.5-A and 4.6-A)
-abbrev pub is_static : ℕ → Bool
-is_static access = not (bit_and access 0x0008 == 0)
 
 abbrev pub has_slot : FieldInfo → Bool
 has_slot field = not (is_static field.access) && has_slot_type field.kind

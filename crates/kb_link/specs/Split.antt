@@ -1,8 +1,7 @@
 -- Methods that can be selected only inside a package (JVMS 8 section 5.4.5): two packages may not declare the same one along a
 -- chain of superclasses (own rule, in place of overriding across packages).
-use Rattle.std.specs.Prelude.{◌≡◌, ◌≢◌, ℕ, suc, Bool, true, false, ◌==◌, ◌&&◌, not, bit_and, List, [], ◌∷◌, ◌++◌, map, drop, Option, Some, slice_get, slice_index_or, cond}
+use Rattle.std.specs.Prelude.{◌≡◌, ◌≢◌, ℕ, suc, Bool, true, false, ◌==◌, ◌&&◌, not, bit_and, List, [], ◌∷◌, ◌++◌, map, drop, Some, slice_get, slice_index_or, cond}
 use Rattle.std.specs.List.{list_any}
-use Rattle.kb_names.specs.declared.types.MethodType.{MethodType}
 use Rattle.kb_class.specs.declared.members.MethodInfo.{MethodInfo}
 use Rattle.kb_class.specs.Class.{Class}
 use Rattle.kb_class.specs.Naming.{Has}

@@ -2,8 +2,6 @@
 use Rattle.std.specs.Prelude.{◌≡◌, ◌⊎◌, ℕ, List, Option, Some, length, map, slice_get, ◌<◌, ◌^◌}
 use Rattle.indexmap.specs.IndexSet.{IndexSet}
 use Rattle.std.specs.Option.{option_and_then}
-use Rattle.std.specs.declared.vec.Vec.{Vec}
-use Rattle.std.specs.declared.alloc.Global.{Global}
 use Rattle.kb_format.specs.declared.fault.FormatFault.{FormatFault}
 use Rattle.kb_format.specs.declared.fault.FormatFault.TheVariants as faults
 use Rattle.kb_class.specs.declared.members.MethodInfo.{MethodInfo}
@@ -17,8 +15,8 @@ use Rattle.kb_link.specs.Subtypes.{Claim}
 use Rattle.kb_link.specs.Rules.{IsFirst, IsMissing, IsBad, name_of}
 
 -- the keys are the names of the classes, in order
-pub record HasNames {S : Type 0} (names : IndexSet (Vec ℕ Global) S) (classes : List Class) : Type 0 where
-  pub each : map (λ key. key.items) names.keys ≡ map name_of classes
+pub record HasNames {S : Type 0} (names : IndexSet (List ℕ) S) (classes : List Class) : Type 0 where
+  pub each : names.keys ≡ map name_of classes
   pub few : length classes < 2 ^ 32
 
 -- the method at a place

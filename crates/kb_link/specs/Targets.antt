@@ -1,5 +1,5 @@
 -- Which method a target names (JVMS 8 sections 4.3.3 and 4.6).
-use Rattle.std.specs.Prelude.{◌≡◌, ℕ, false, Option, Some, None, slice_get, IsSome}
+use Rattle.std.specs.Prelude.{◌≡◌, false, Some, slice_get, IsSome}
 use Rattle.kb_names.specs.declared.types.Target.{Target}
 use Rattle.kb_class.specs.declared.ids.MethodId.{MethodId}
 use Rattle.kb_class.specs.declared.members.MethodInfo.{MethodInfo}

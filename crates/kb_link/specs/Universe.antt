@@ -1,7 +1,6 @@
 -- The exact types that an object of an input may have, and the string literals (own rules over JVMS 8 sections 4.3 and 5.1).
-use Rattle.std.specs.Prelude.{◌≡◌, ◌⊎◌, ◌↔◌, ℕ, suc, ◌≤◌, Bool, true, false, ◌==◌, ◌&&◌, not, bit_and, List, [], ◌∷◌, ◌++◌, map, filter, is_some, IsSome, Option, Some, None, slice_get}
-use Rattle.std.specs.List.{Contains}
-use Rattle.kb_names.specs.Shape.{Base, bool_base, int_base, class_base, Shape}
+use Rattle.std.specs.Prelude.{◌≡◌, ◌⊎◌, ◌↔◌, ℕ, ◌≤◌, Bool, true, ◌==◌, ◌&&◌, bit_and, List, [], ◌∷◌, ◌++◌, map, filter, is_some, IsSome, None}
+use Rattle.kb_names.specs.Shape.{Base, bool_base, int_base, class_base}
 use Rattle.kb_names.specs.Types.{shape_of}
 use Rattle.kb_names.specs.declared.types.ExactType.{ExactType}
 use Rattle.kb_names.specs.declared.types.ExactType.TheVariants as exact

@@ -1,11 +1,10 @@
 //! The chain of superclasses of each class.
-ghost use Rattle.std.specs.Prelude.{◌≡◌, ◌<◌, ◌∷◌, [], Some, map, length, IfOk, IfErr};
-ghost use Rattle.kb_order.specs.Order.{IsRank};
+ghost use Rattle.std.specs.Prelude.{◌≡◌, ◌<◌, Some, map, IfOk, IfErr};
 ghost use Rattle.kb_link.specs.World.{parent_in};
 ghost use Rattle.kb_link.specs.Subtypes.{direct_supers, AreChains};
 ghost use Rattle.kb_link.specs.Rules.{HaveNoCircle};
 ghost use Rattle.kb_link.specs.Links.{RefusesClasses};
-ghost use Rattle.kb_link.specs.ChainWalks.{parent_at, walk, AreWalks};
+ghost use Rattle.kb_link.specs.ChainWalks.{parent_at, walk};
 
 use crate::classes::Classes;
 use crate::linking::LinkRefusal;
@@ -52,9 +51,7 @@ fn parents_of(alloc: Global, classes: &Classes) -> Result<Vec<Option<u32>>, NoMe
 {
     let mut parents = Vec::new(alloc);
     for class in classes.as_slice() {
-        let Ok(()) = parents.push(parent_of(classes, class)) else {
-            return Err(NoMemory);
-        };
+        parents.push(parent_of(classes, class))?;
     }
     Ok(parents)
 }

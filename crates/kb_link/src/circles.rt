@@ -1,5 +1,5 @@
 //! Classes that are among their own superclasses and interfaces.
-ghost use Rattle.std.specs.Prelude.{◌≡◌, ◌<◌, Some, length, map, slice_get, IfOk, IfErr};
+ghost use Rattle.std.specs.Prelude.{◌≡◌, ◌<◌, Some, length, IfOk, IfErr};
 ghost use Rattle.kb_link.specs.declared.linking.LinkRefusal.TheVariants as refusals;
 ghost use Rattle.kb_link.specs.Subtypes.{direct_supers};
 ghost use Rattle.kb_link.specs.Rules.{HaveDifferentNames, HaveSupers, HaveNoCircle};

@@ -1,5 +1,5 @@
 //! What a superclass and an interface must be.
-ghost use Rattle.std.specs.Prelude.{◌≡◌, ◌↔◌, ◌∷◌, [], map, true, IsTrue, OnOk, IfErr};
+ghost use Rattle.std.specs.Prelude.{◌≡◌, ◌↔◌, ◌∷◌, [], map, IsTrue, OnOk, IfErr};
 ghost use Rattle.kb_link.specs.declared.linking.LinkRefusal.TheVariants as refusals;
 ghost use Rattle.kb_link.specs.Subtypes.{parent_claim, interface_claim, claims_of};
 ghost use Rattle.kb_link.specs.Rules.{HaveDifferentNames, HaveSupers, HaveNoCircle, HaveGoodSupers, IsNoneSuch, IsBad, is_bad_for};

@@ -1,6 +1,5 @@
 //! Classes by their numbers and by their names.
 ghost use Rattle.std.specs.Prelude.{◌≡◌, ◌<◌, ◌^◌, IfOk, OnOk, IfErr, Some, length, slice_get};
-ghost use Rattle.std.specs.Option.{option_copied};
 ghost use Rattle.kb_link.specs.World.{number_in};
 ghost use Rattle.kb_link.specs.Rules.{HaveDifferentNames};
 ghost use Rattle.kb_link.specs.Links.{RefusesClasses};
@@ -9,7 +8,7 @@ ghost use Rattle.kb_link.specs.Names.{AddsName, AddsNewName, HasName};
 ghost use Rattle.kb_link.specs.declared.linking.LinkRefusal.TheVariants as refusals;
 
 use crate::linking::LinkRefusal;
-use crate::memory::key_of;
+use crate::name_text::NameText;
 use indexmap::IndexSet;
 use kb_class::LoadedClass;
 use kb_names::{Name, NoMemory};
@@ -20,12 +19,12 @@ use std::marker::Model;
 #[derive(Drop)]
 pub(crate) struct Classes {
     list: Vec<LoadedClass>,
-    // The names of the classes, in the same order.
-    names: IndexSet<Vec<u8>>,
+    // The names of the classes, in the same order: each is shared with its class.
+    names: IndexSet<Name>,
 }
 
 impl Model for Classes {
-    ghost use Rattle.std.specs.Prelude.{List, ℕ, ◌≡◌};
+    ghost use Rattle.std.specs.Prelude.{List, ◌≡◌};
     ghost use Rattle.kb_class.specs.Class.{Class};
 
     ghost Value = { List Class };
@@ -62,13 +61,13 @@ impl Classes {
     pub(crate) fn number_of(&self, name: &[u8]) -> Option<u32>
         ensures { result ≡ number_in self.now name.now }
     {
-        let number = self.names.get_index_of(name)?;
+        let number = self.names.get_index_of(NameText { bytes: name })?;
         Some(number as u32)
     }
 }
 
 // The names of these classes. Classes without a number of 32 bits count as out of memory.
-fn names_of(alloc: Global, classes: &[LoadedClass]) -> Result<IndexSet<Vec<u8>>, LinkRefusal>
+fn names_of(alloc: Global, classes: &[LoadedClass]) -> Result<IndexSet<Name>, LinkRefusal>
     ensures differ { IfOk result (λ names. HaveDifferentNames classes.now) }
     ensures names { IfOk result (λ names. HasNames names classes.now) }
     ensures refused { IfErr result (RefusesClasses classes.now) }
@@ -86,11 +85,11 @@ fn names_of(alloc: Global, classes: &[LoadedClass]) -> Result<IndexSet<Vec<u8>>,
 }
 
 // Adds the name of one class more, unless a class before it has that name.
-fn add_name(alloc: Global, names: &mut IndexSet<Vec<u8>>, name: &Name) -> Result<(), LinkRefusal>
+fn add_name(alloc: Global, names: &mut IndexSet<Name>, name: &Name) -> Result<(), LinkRefusal>
     ensures more { OnOk result (AddsName names.old names.new name.now) }
     ensures refused { IfErr result (HasName names.old name.now) }
 {
-    if names.get_index_of(name.as_slice()).is_some() {
+    if names.get_index_of(name).is_some() {
         return Err(twice(alloc, name));
     }
     match add_new(alloc, names, name) {
@@ -100,10 +99,10 @@ fn add_name(alloc: Global, names: &mut IndexSet<Vec<u8>>, name: &Name) -> Result
 }
 
 // Adds the name of one class more, which no class before it has.
-fn add_new(alloc: Global, names: &mut IndexSet<Vec<u8>>, name: &Name) -> Result<(), NoMemory>
+fn add_new(alloc: Global, names: &mut IndexSet<Name>, name: &Name) -> Result<(), NoMemory>
     ensures { OnOk result (AddsNewName names.old names.new name.now) }
 {
-    let key = key_of(alloc, name.as_slice())?;
+    let key = name.copied(alloc)?;
     let Ok(_) = names.insert(key) else {
         return Err(NoMemory);
     };

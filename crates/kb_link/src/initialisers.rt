@@ -1,5 +1,5 @@
 //! Classes that are initialised by code.
-ghost use Rattle.std.specs.Prelude.{◌≡◌, map, slice_get, unwrap_or, false, IfOk};
+ghost use Rattle.std.specs.Prelude.{◌≡◌, map, false, IfOk};
 ghost use Rattle.std.specs.List.{list_any};
 ghost use Rattle.kb_link.specs.Initialisers.{is_initialiser, declares_initialiser, has_initialiser, is_marked};
 
@@ -20,9 +20,7 @@ pub(crate) fn initialised_of(
     let own = declaring_of(alloc, classes.as_slice())?;
     let mut marks = Vec::new(alloc);
     for chain in chains {
-        let Ok(()) = marks.push(is_any_marked(own.as_slice(), chain.as_slice())) else {
-            return Err(NoMemory);
-        };
+        marks.push(is_any_marked(own.as_slice(), chain.as_slice()))?;
     }
     Ok(marks)
 }
@@ -33,9 +31,7 @@ fn declaring_of(alloc: Global, classes: &[LoadedClass]) -> Result<Vec<bool>, NoM
 {
     let mut own = Vec::new(alloc);
     for class in classes {
-        let Ok(()) = own.push(has_initialiser_among(class.methods())) else {
-            return Err(NoMemory);
-        };
+        own.push(has_initialiser_among(class.methods()))?;
     }
     Ok(own)
 }

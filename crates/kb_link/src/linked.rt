@@ -1,7 +1,6 @@
 //! Classes that are linked, and what is known of them.
-ghost use Rattle.std.specs.Prelude.{◌≡◌, ◌<◌, ◌↔◌, List, ℕ, length, map, Some, slice_get, option_map, IsTrue, IfOk, IfErr, IfSome, IfNone};
+ghost use Rattle.std.specs.Prelude.{◌≡◌, ◌<◌, ℕ, length, map, Some, slice_get, option_map, IfOk, IfErr, IfSome, IfNone};
 ghost use Rattle.std.specs.Option.{option_copied, option_and_then};
-ghost use Rattle.kb_names.specs.declared.types.MethodType.{MethodType as PlainType};
 ghost use Rattle.kb_class.specs.Class.{Class};
 ghost use Rattle.kb_numbers.specs.Numbers.{AreNumbered};
 ghost use Rattle.kb_link.specs.World.{chain_of, method_at, methods_in, number_in, type_entry_of, int_entry_of, literal_entry_of};
@@ -24,7 +23,7 @@ use crate::methods::{MethodPlace, places_of};
 use crate::placing::{placed_at, placings_of};
 use crate::slots::{FieldSlot, slots_of};
 use crate::supers::{is_super, supers_of};
-use crate::universe::universe_of;
+use crate::universe::{shared_name, universe_of};
 use kb_class::{ClassId, LoadedClass, MethodId, MethodInfo};
 use kb_classfile::ClassFile;
 use kb_names::{ExactType, Name, NoMemory, Row, Target};
@@ -208,6 +207,13 @@ impl Linked {
         Some(ClassId(number))
     }
 
+    /// The name of these bytes: that of the class of the name, where there is one, shared with it.
+    pub fn shared_name(&self, alloc: Global, name: &[u8]) -> Result<Name, NoMemory>
+        ensures { IfOk result (λ told. told ≡ name.now) }
+    {
+        shared_name(alloc, &self.classes, name)
+    }
+
     /// The name of a class.
     pub fn name_of(&self, class: ClassId) -> &Name
         requires { class.0 < length self.now.classes }
@@ -320,17 +326,12 @@ impl Linked {
         ensures alone { IfSome result (λ id. (other : MethodId) → Declares self.now other target.now → other ≡ id) }
     {
         let class = self.classes.number_of(target.class.as_slice())?;
-        let id = self.paired(class, target)?;
-        if !is_called(self.method_of(id), target) {
-            return None;
-        }
-        Some(id)
+        self.paired(class, target)
     }
 
-    // The method that the class declares and that has the pair of the target's name and type. A type that has no descriptor
-    // may have a pair too, so it is still compared.
+    // The method that the class declares and that has the pair of the target's name and type, and so this name and this type.
     fn paired(&self, class: u32, target: &Target) -> Option<MethodId>
-        ensures found { IfSome result (λ id. (name : List ℕ) × (kind : PlainType) × IsNumberOf self.now.classes class name kind id.0) }
+        ensures found { IfSome result (λ id. IsNumberOf self.now.classes class target.now.name target.now.kind id.0) }
         ensures whole { (id : ℕ) → IsNumberOf self.now.classes class target.now.name target.now.kind id → result ≡ Some (record { 0 = id }) }
     {
         let numbers = self.numbers.get();
@@ -400,16 +401,6 @@ impl Linked {
         let class = self.classes.as_slice().get(class.0 as usize)?;
         place_in(&self.literals, class.text_entry(entry)?)
     }
-}
-
-// Whether the method has the name and type of the target.
-fn is_called(method: &MethodInfo, target: &Target) -> bool
-    ensures { IsTrue result ↔ ((method.now.name ≡ target.now.name) × (method.now.kind ≡ target.now.kind)) }
-{
-    if method.name != target.name {
-        return false;
-    }
-    method.kind.is_same(&target.kind)
 }
 
 // Whether it is the name of an initialiser or the like.

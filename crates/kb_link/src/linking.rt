@@ -4,7 +4,8 @@ ghost use Rattle.std.specs.List.{AllByRecursion};
 ghost use Rattle.kb_class.specs.Given.{AreGiven};
 ghost use Rattle.kb_numbers.specs.Numbers.{AreNumbered, HasTexts};
 ghost use Rattle.kb_link.specs.Rules.{HaveDifferentNames, HaveSupers, HaveNoCircle, HaveGoodSupers};
-ghost use Rattle.kb_link.specs.Subtypes.{direct_supers};
+ghost use Rattle.kb_link.specs.Subtypes.{direct_supers, AreChains};
+ghost use Rattle.kb_link.specs.Split.{HaveNoSplit};
 ghost use Rattle.kb_link.specs.Links.{AreLoaded, KeepsFormat, Links, IsLinked, RefusesClasses, RefusesLink, most_classes};
 
 use crate::chains::chains_of;
@@ -16,7 +17,7 @@ use crate::linked::{Linked, linked_of};
 use crate::loading::{check_formats, load_all};
 use crate::packages::check_packages;
 use kb_class::{GivenClass, LoadedClass};
-use kb_names::{Name, NoMemory, Target};
+use kb_names::{Name, NoMemory, Row, Target};
 use kb_numbers::{Numbers, numbers_of};
 use kb_order::Order;
 use kb_rows::Held;
@@ -165,7 +166,22 @@ fn link_ordered(
     ensures linked { IfOk result IsLinked }
     ensures refused { IfErr result (RefusesClasses classes) }
 {
-    let chains = chains_of(alloc, &classes, &order)?;
-    check_packages(alloc, &classes, chains.as_slice(), numbers.get())?;
+    let chains = whole_chains(alloc, &classes, &order, numbers.get())?;
     linked_of(alloc, classes, order, chains, numbers)
+}
+
+// The chains of these classes, where no package is split.
+fn whole_chains(
+    alloc: Global,
+    classes: &Classes,
+    order: &Order,
+    numbers: &Numbers,
+) -> Result<Vec<Row<u32>>, LinkRefusal>
+    requires { (order.now ≡ direct_supers classes.now) × AreLoaded classes.now × HaveSupers classes.now × HaveNoCircle classes.now × HaveGoodSupers classes.now × AreNumbered classes.now numbers.now }
+    ensures chains { IfOk result (λ chains. AreChains classes.now chains.items × HaveNoSplit classes.now chains.items) }
+    ensures refused { IfErr result (RefusesClasses classes.now) }
+{
+    let chains = chains_of(alloc, classes, order)?;
+    check_packages(alloc, classes, chains.as_slice(), numbers)?;
+    Ok(chains)
 }

@@ -40,7 +40,7 @@ pub(crate) fn set_of(alloc: Global, texts: Vec<Row<u8>>) -> Result<TextSet, NoMe
     }
 }
 
-// The texts of the string constants, in the order of mention.
+// The texts of the string constants, class by class.
 fn texts_of(alloc: Global, classes: &[LoadedClass]) -> Result<Vec<Row<u8>>, NoMemory>
     ensures { IfOk result (λ texts. AddsTexts [] texts.items (AnyOf HasLiteral classes.now)) }
 {
@@ -88,8 +88,6 @@ pub(crate) fn push_text(
 ) -> Result<(), NoMemory>
     ensures { OnOk result (texts.new.items ≡ texts.old.items ++ text.now ∷ []) }
 {
-    let Ok(copy) = text.to_vec(alloc) else {
-        return Err(NoMemory);
-    };
+    let copy = text.to_vec(alloc)?;
     push_row(Row::from_vec(copy), texts)
 }

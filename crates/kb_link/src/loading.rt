@@ -47,9 +47,7 @@ pub(crate) fn load_all(alloc: Global, given: Vec<GivenClass>) -> Result<Vec<Load
     let mut classes = Vec::new(alloc);
     for class in given {
         let id = ClassId(classes.len() as u32);
-        let Ok(()) = classes.push(LoadedClass::load(alloc, id, class)?) else {
-            return Err(NoMemory);
-        };
+        classes.push(LoadedClass::load(alloc, id, class)?)?;
     }
     with_platform(alloc, classes)
 }
@@ -62,9 +60,7 @@ fn with_platform(alloc: Global, classes: Vec<LoadedClass>) -> Result<Vec<LoadedC
     let mut classes = classes;
     for place in 0..PLATFORM_CLASSES {
         let id = ClassId(classes.len() as u32);
-        let Ok(()) = classes.push(LoadedClass::platform(alloc, id, place)?) else {
-            return Err(NoMemory);
-        };
+        classes.push(LoadedClass::platform(alloc, id, place)?)?;
     }
     Ok(classes)
 }

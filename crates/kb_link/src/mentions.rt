@@ -158,9 +158,7 @@ fn array_text(alloc: Global, component: &JType) -> Result<Row<u8>, NoMemory>
     ensures { IfOk result (λ text. text ≡ 91 ∷ type_text Raw component.now) }
 {
     let mut text = Vec::new(alloc);
-    let Ok(()) = text.push(b'[') else {
-        return Err(NoMemory);
-    };
+    text.push(b'[')?;
     write_type(component, Spelling::Raw, &mut text)?;
     Ok(Row::from_vec(text))
 }

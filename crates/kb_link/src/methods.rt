@@ -1,5 +1,5 @@
 //! Methods by their numbers.
-ghost use Rattle.std.specs.Prelude.{◌≡◌, ◌++◌, ◌<◌, ◌^◌, map, slice_get, length, Some, IfOk};
+ghost use Rattle.std.specs.Prelude.{◌≡◌, ◌++◌, ◌<◌, map, slice_get, Some, IfOk};
 ghost use Rattle.kb_class.specs.Class.{Class};
 ghost use Rattle.kb_class.specs.declared.members.MethodInfo.{MethodInfo};
 ghost use Rattle.kb_link.specs.Tables.{HasPlaces, method_in};

@@ -6,8 +6,7 @@ ghost use Rattle.kb_link.specs.Slots.{has_slot_type, has_slot, slot_of, slots_am
 
 use crate::classes::Classes;
 use crate::items::item_at;
-use kb_class::{ClassId, FieldInfo, LoadedClass};
-use kb_classfile::STATIC;
+use kb_class::{ClassId, FieldInfo, LoadedClass, is_static};
 use kb_names::{JType, Name, NoMemory, Row};
 use std::alloc::Global;
 
@@ -32,9 +31,7 @@ pub(crate) fn slots_of(
     let mut slots = Vec::new(alloc);
     for chain in chains {
         let own = slots_along(alloc, classes.as_slice(), chain.as_slice())?;
-        let Ok(()) = slots.push(own) else {
-            return Err(NoMemory);
-        };
+        slots.push(own)?;
     }
     Ok(slots)
 }
@@ -128,7 +125,7 @@ fn slot_of(
 pub fn has_slot(field: &FieldInfo) -> bool
     ensures { result ≡ has_slot field.now }
 {
-    if field.access & STATIC != 0 {
+    if is_static(field.access) {
         return false;
     }
     has_slot_type(&field.kind)

@@ -31,9 +31,22 @@ pub(crate) fn universe_of(alloc: Global, classes: &Classes) -> Result<Row<ExactT
 {
     let named = named_set(alloc, classes.as_slice())?;
     let arrays = arrays_in(alloc, classes, &named)?;
+    universe_with(alloc, classes, &named, &arrays)
+}
+
+// The universe of these classes, with the descriptors that given classes name and those of the arrays among them.
+fn universe_with(
+    alloc: Global,
+    classes: &Classes,
+    named: &TextSet,
+    arrays: &TextSet,
+) -> Result<Row<ExactType>, NoMemory>
+    requires { IsRising named.now × IsRising arrays.now × ((text : List ℕ) → Has named.now text ↔ AnyOf IsTextGiven classes.now text) × ((text : List ℕ) → Has arrays.now text ↔ AnyOf (IsPartOf classes.now) named.now text) }
+    ensures { IfOk result (IsUniverse classes.now) }
+{
     let mut universe = Row::new(alloc);
     push_given(alloc, classes.as_slice(), &mut universe)?;
-    push_platform(alloc, classes.as_slice(), &named, &mut universe)?;
+    push_platform(alloc, classes.as_slice(), named, &mut universe)?;
     push_arrays(alloc, classes, arrays.as_slice(), &mut universe)?;
     Ok(universe)
 }
@@ -313,8 +326,8 @@ fn element_type(alloc: Global, classes: &Classes, text: &[u8]) -> Result<JType, 
     }
 }
 
-// The name of these bytes: that of the class of the name, where there is one, shared with it.
-fn shared_name(alloc: Global, classes: &Classes, name: &[u8]) -> Result<Name, NoMemory>
+/// The name of these bytes: that of the class of the name, where there is one, shared with it.
+pub(crate) fn shared_name(alloc: Global, classes: &Classes, name: &[u8]) -> Result<Name, NoMemory>
     ensures { IfOk result (λ told. told ≡ name.now) }
 {
     match classes.number_of(name) {

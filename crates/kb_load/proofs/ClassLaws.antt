@@ -1,5 +1,6 @@
 -- Classes that files spell.
-use Rattle.std.proofs.Common.{◌≡◌, ℕ, ◌+◌, ◌<◌, List, [], ◌∷◌, ◌++◌, length, take, get_or, map, sym, ap, subst, ◌∙◌}
+use Rattle.std.proofs.Common.{◌≡◌, ℕ, ◌+◌, ◌<◌, List, [], ◌∷◌, ◌++◌, length, take, get_or, map, sym, ap, subst, ◌∙◌, Result, Ok, Err, IfOk, IfSome}
+use Rattle.std.specs.Result.{result_ok}
 use Rattle.std.specs.declared.vec.Vec.{Vec}
 use Rattle.std.specs.declared.alloc.Global.{Global}
 use Rattle.std.proofs.lemmas.List.{map-append}
@@ -8,6 +9,11 @@ use Rattle.kb_class.specs.declared.given.GivenClass.{GivenClass}
 use Rattle.kb_class.specs.Given.{IsGivenBy, AreGivenBy}
 use Rattle.kb_class.proofs.GivenLaws.{given_pushed}
 use Rattle.kb_load.specs.Worlds.{contents_of}
+
+-- what follows from each answer holds of the answer that is left where the reason of a refusal is left out
+pub told_of : {A E : Type 0} (P Q : A → Type 0) → ((value : A) → P value → Q value) → (result : Result A E) → IfOk result P → IfSome (result_ok result) Q
+told_of P Q gives (Ok value) holds = gives value holds
+told_of P Q gives (Err refusal) holds = tt
 
 -- that of the next file
 pub classes_next : (files : List (Vec ℕ Global)) (i : ℕ) (file : Vec ℕ Global) (given : List GivenClass) (class : GivenClass) → i < length files → file ≡ get_or files i file

@@ -6,11 +6,14 @@ mod worlds;
 
 ghost use Rattle.std.specs.Prelude.{[], ◌∷◌, IfOk, IfSome};
 ghost use Rattle.kb_class.specs.Given.{AreListings, IsGiven, IsGivenBy, AreGivenBy};
+ghost use Rattle.kb_link.specs.Targets.{IsTargetOf};
+ghost use Rattle.kb_world.specs.Reach.{IsAccepted};
 ghost use Rattle.kb_load.specs.Worlds.{AddsClass, IsWorldOf, contents_of};
 
-use kb_class::{GivenClass, handlers_of};
+use kb_class::{GivenClass, MethodId, handlers_of};
 use kb_classfile::{ClassFile, Method, read_class};
 use kb_code::{CodeRefusal, Listing, decode};
+use kb_names::Target;
 use kb_rows::Row;
 use kb_world::{World, link};
 use std::alloc::Global;
@@ -22,10 +25,15 @@ pub fn world_of(alloc: Global, files: &[Vec<u8>]) -> Option<World>
     ensures { IfSome result (IsWorldOf (contents_of files.now)) }
 {
     let classes = given_classes(alloc, files)?;
-    match link(alloc, classes) {
-        Ok(world) => Some(world),
-        Err(_) => None,
-    }
+    link(alloc, classes).ok()
+}
+
+/// The method that the target names, where it may be run; without the reason where it may not.
+pub fn reached(alloc: Global, world: &World, target: &Target) -> Option<MethodId>
+    ensures found { IfSome result (IsTargetOf world.now target.now) }
+    ensures accepted { IfSome result (IsAccepted world.now) }
+{
+    world.reach(alloc, target).ok()
 }
 
 // The classes that these bytes spell, in order.

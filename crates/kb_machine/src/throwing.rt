@@ -18,7 +18,6 @@ use crate::state::State;
 use crate::turn::{Step, Turn};
 use crate::unwinding::{Landing, unwind};
 use kb_heap::{Bound, Object, Value};
-use kb_names::Name;
 use kb_values::new_object;
 
 /// The exceptions that the machine throws itself.
@@ -109,10 +108,10 @@ impl State {
     }
 }
 
-// A new object of a class by its name.
+// A new object of a class by its name, which it shares with the class.
 fn object_of(turn: &Turn<'_>, class: &[u8]) -> Result<Object, NoMemory>
     ensures { IfOk result (λ object. object ≡ new_object turn.now.world.now class.now) }
 {
-    let name = Name::from_slice(turn.alloc, class)?;
+    let name = turn.world.shared_name(turn.alloc, class)?;
     new_object(turn.alloc, turn.world, name)
 }

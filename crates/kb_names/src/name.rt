@@ -4,6 +4,7 @@ ghost use Rattle.kb_names.specs.Bytes.{AreBytes};
 
 use crate::{NoMemory, Row, SharedRow};
 use std::alloc::Global;
+use std::hash::{Hash, Hasher};
 use std::marker::Model;
 
 /// The name of a class, a field or a method: any bytes, made once and shared by all copies. That each item of a
@@ -115,4 +116,19 @@ impl Eq for Name {
     ghost use Rattle.std.proofs.lemmas.Cmp.{nat_list_eq_equiv};
 
     ghost laws = { nat_list_eq_equiv };
+}
+
+// A name is fed to a hasher whole: a list is fed item by item, which takes many times as long.
+impl Hash for Name {
+    ghost use Rattle.std.specs.Prelude.{ℕ, List, [], ◌∷◌};
+    ghost use Rattle.std.proofs.Common.{ap};
+    ghost use Rattle.std.proofs.lemmas.Slice.Eq.{bytes_eq-Decides};
+
+    ghost hash_input = { λ name. name ∷ [] };
+
+    ghost respects_eq = { λ x y e. ap (λ (bytes : List ℕ). bytes ∷ []) ((bytes_eq-Decides x y).0 e) };
+
+    fn hash<H: Hasher>(&self, state: &mut H) {
+        state.write(self.as_slice());
+    }
 }

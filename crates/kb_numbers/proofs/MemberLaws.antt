@@ -118,15 +118,6 @@ module _ (classes : List Class) (numbers : Numbers) (are : AreNumbered classes n
         let same = same_pair numbers.texts are.distinct beside.0 pair is.method.name name (kinds.Method is.method.kind) (kinds.Method kind) beside.2 stands is.named (ap (λ (k : MethodType). kinds.Method k) is.typed) in
         place_nowhere (λ (other : Pair). is_pair other pair) own_numbers.own.methods place beside.0 (sym here ∙ none) beside.1 same
 
-  -- the method at a place that the table has
-  pub method_at_place : (pair : Pair) (place : ℕ) → method_place numbers.classes.items number pair ≡ Some place → (method : MethodInfo) × (slice_get class.methods place ≡ Some method)
-  method_at_place pair place at =
-      let here : method_place numbers.classes.items number pair ≡ first_place own_numbers.own.methods pair =
-      ap (λ (o : Option MemberNumbers). option_and_then (λ (n : MemberNumbers). first_place n.methods pair) o) own_numbers.there in
-      let found = place_there (λ (other : Pair). is_pair other pair) own_numbers.own.methods place (sym here ∙ at) in
-      let beside = zip_from (IsMethodPair numbers.texts) class.methods own_numbers.own.methods place found.0 own_numbers.is.numbers.each_method found.1 in
-      (beside.0, beside.1)
-
   -- what an entry of the class names
   pub entry_there : (entry : ℕ) (sought : Sought) → reference_of_entry (slice_get class.entries entry) ≡ Some sought
       → (told : EntryNumbers) × (entry_named numbers.classes.items number entry ≡ Some told) × Names numbers.texts told sought

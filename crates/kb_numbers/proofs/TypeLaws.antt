@@ -10,7 +10,7 @@ use Rattle.kb_names.specs.declared.types.JType.{JType}
 use Rattle.kb_names.specs.declared.types.JType.TheVariants as types
 use Rattle.kb_names.specs.declared.types.MethodType.{MethodType}
 use Rattle.kb_names.proofs.ShapeLaws.{arrays_of-shape_of}
-use Rattle.kb_texts.specs.Texts.{AreDistinct, Keeps}
+use Rattle.kb_texts.specs.Texts.{Keeps}
 use Rattle.kb_numbers.specs.declared.parts.Part.{Part}
 use Rattle.kb_numbers.specs.declared.parts.Symbol.{Symbol}
 use Rattle.kb_numbers.specs.Types.{code_of, IsNameOf, IsTypeSymbol, IsSymbol, void, is_symbol, is_part, HasPart, IsPartOf, IsPath, IsTypePath}

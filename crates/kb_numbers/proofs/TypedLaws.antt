@@ -1,6 +1,5 @@
 -- The number of a type's descriptor is told by the type's first part, also while types are added.
 use Rattle.std.proofs.Common.{◌≡◌, ℕ, Bool, true, false, true≢false, cond, ◌==◌, is_some, List, Option, Some, None, IfSome, refl, sym, ap, subst, ◌∙◌}
-use Rattle.std.specs.HashMap.{HashMap}
 use Rattle.std.proofs.lemmas.Bool.Decides.{Decides-eqb}
 use Rattle.std.proofs.lemmas.Option.{same_Some}
 use Rattle.kb_names.specs.declared.types.MethodType.{MethodType}
@@ -8,11 +7,10 @@ use Rattle.kb_class.specs.Loading.{SpellsKind}
 use Rattle.kb_class.specs.declared.members.MemberKind.TheVariants as kinds
 use Rattle.kb_class.proofs.Spellings.{one_kind}
 use Rattle.kb_texts.specs.Texts.{AreDistinct, Keeps}
-use Rattle.kb_numbers.specs.declared.parts.Part.{Part}
 use Rattle.kb_numbers.specs.declared.types.Types.{Types}
 use Rattle.kb_numbers.specs.Typed.{AreEnds, IsTyped, KeepsTypes, told_in}
 use Rattle.kb_numbers.specs.Types.{HasTextAt, IsTypePath}
-use Rattle.kb_numbers.proofs.NumberLaws.{keeps_self, method_type, one_text, text_on}
+use Rattle.kb_numbers.proofs.NumberLaws.{method_type, one_text, text_on}
 use Rattle.kb_numbers.proofs.TypeLaws.{path_on, same_kind}
 
 pub stays_self : (types : Types) → KeepsTypes types types
@@ -31,6 +29,14 @@ typed_by texts types kind first path None is = tt
 typed_by texts types kind first path (Some number) is = (first, path, sym is)
 
 -- ---- one descriptor
+
+-- the number that is told by a type's parts is that of its descriptor
+pub typed_spelled : (texts : List (List ℕ)) (types : Types) (kind : MethodType) (number : ℕ) → AreEnds texts types → IsTyped texts types kind number
+    → HasTextAt texts number (SpellsKind (kinds.Method kind))
+typed_spelled texts types kind number are is =
+    let end = are.each_end is.0 number is.2 in
+    let same : end.0 ≡ kind = same_kind texts types.parts end.0 kind is.0 end.1 is.1 in
+    subst (λ (k : MethodType). HasTextAt texts number (SpellsKind (kinds.Method k))) same end.2
 
 module _ (texts : List (List ℕ)) where
   -- one number is that of one type

@@ -105,9 +105,7 @@ fn method_pairs(alloc: Global, row: &[u32], methods: &[Method]) -> Result<Vec<Pa
 {
     let mut pairs = Vec::new(alloc);
     for method in methods {
-        let Ok(()) = pairs.push(pair_at(row, method.name, method.kind)) else {
-            return Err(NoMemory);
-        };
+        pairs.push(pair_at(row, method.name, method.kind))?;
     }
     Ok(pairs)
 }
@@ -117,9 +115,7 @@ fn field_pairs(alloc: Global, row: &[u32], fields: &[Field]) -> Result<Vec<Pair>
 {
     let mut pairs = Vec::new(alloc);
     for field in fields {
-        let Ok(()) = pairs.push(pair_at(row, field.name, field.kind)) else {
-            return Err(NoMemory);
-        };
+        pairs.push(pair_at(row, field.name, field.kind))?;
     }
     Ok(pairs)
 }
@@ -134,9 +130,7 @@ fn entry_numbers(
 {
     let mut told = Vec::new(alloc);
     for entry in pool {
-        let Ok(()) = told.push(entry_named(pool, row, entry)) else {
-            return Err(NoMemory);
-        };
+        told.push(entry_named(pool, row, entry))?;
     }
     Ok(told)
 }

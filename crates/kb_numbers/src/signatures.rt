@@ -43,9 +43,7 @@ fn push_pairs(more: &[Pair], pairs: &mut Vec<Pair>) -> Result<(), NoMemory>
     ensures { OnOk result (pairs.new.items ≡ pairs.old.items ++ more.now) }
 {
     for pair in more {
-        let Ok(()) = pairs.push(*pair) else {
-            return Err(NoMemory);
-        };
+        pairs.push(*pair)?;
     }
     Ok(())
 }
@@ -60,9 +58,7 @@ fn places_in(
 {
     let mut places = Vec::new(alloc);
     for pair in pairs {
-        let Ok(()) = places.push(place_in(table, *pair)) else {
-            return Err(NoMemory);
-        };
+        places.push(place_in(table, *pair))?;
     }
     Ok(places)
 }

@@ -32,7 +32,7 @@ pub record ToldState : Type 0 where
 abbrev pub told_at : List (ℕ × Told) → ℕ → Option Told
 told_at told call = option_map (λ (t : ℕ × Told). t.1) (find (λ (t : ℕ × Told). t.0 == call) told)
 
--- a fact for an answer; no stop but want of memory
+-- a fact for an answer; no stop but that memory ran out
 abbrev pub ForAnswer : (Answer → Type 0) → Result Answer OracleStop → Type 0
 ForAnswer P (Ok answer) = P answer
 ForAnswer P (Err (Bad i)) = ⊥

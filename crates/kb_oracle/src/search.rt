@@ -88,7 +88,7 @@ fn values_of(
     Ok(Row::from_vec(values))
 }
 
-/// What the solver says within the largest budget. A search that spends even this one is want of memory.
+/// What the solver says within the largest budget. A search that spends even this one counts as out of memory.
 pub(crate) fn decide(
     alloc: Global,
     pool: &Pool,

@@ -26,7 +26,7 @@ pub enum Told {
     /// Answer that the query is undecided, with this log. A log that is no such answer to the query within the oracle's budget
     /// is left aside: the solver decides, as at a call that is told nothing.
     Undecided(Log),
-    /// Stop for want of memory.
+    /// Stop as if memory ran out.
     NoMemory,
 }
 

@@ -28,7 +28,7 @@ impl Model for TextSet {
     ghost invariant = { λ set. IsRising set.texts × (length set.texts < 2 ^ 32) };
 }
 
-/// The set of these texts, which may repeat. 2^32 different texts or more are answered as want of memory.
+/// The set of these texts, which may repeat. 2^32 different texts or more count as out of memory.
 pub fn ordered_set(alloc: Global, texts: Vec<Row<u8>>) -> Result<TextSet, NoMemory>
     ensures set { IfOk result (λ set. IsOrderedSet texts.items set) }
     ensures only { IfOk result (λ set. (other : List (List ℕ)) → IsOrderedSet texts.items other → other ≡ set) }

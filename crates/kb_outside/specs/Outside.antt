@@ -1,5 +1,5 @@
 -- What the contracts of shelves and sinks say of counts and bytes.
-use Rattle.std.specs.Prelude.{◌≡◌, ℕ, ◌+◌, ◌-◌, ◌^◌, ◌<◌, ◌≤◌, min, Option, None, List, ◌++◌, length, take}
+use Rattle.std.specs.Prelude.{◌≡◌, ℕ, Bool, ◌+◌, ◌-◌, ◌^◌, ◌<◌, ◌≤◌, min, Option, None, List, ◌++◌, length, take}
 use Rattle.std.specs.Option.{option_map}
 
 -- the number after n in a count that stops at the last value of a u64
@@ -26,3 +26,12 @@ GrowsByPart before now text = (n : ℕ) × (n < length text) × Grows before now
 pub record OutState (W : Type 0) : Type 0 where
   pub to : W
   pub faults : ℕ
+
+-- a reader, and whether a read of it has failed
+pub record WatchedState (F : Type 0) : Type 0 where
+  pub from : F
+  pub failed : Bool
+
+-- no list in memory has more bytes
+abbrev pub most_bytes : ℕ
+most_bytes = 2 ^ 64

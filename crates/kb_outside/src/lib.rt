@@ -15,7 +15,7 @@ mod words;
 
 pub use memory_shelf::MemoryShelf;
 pub use memory_sink::MemorySink;
-pub use reading::read_up_to;
+pub use reading::{Watched, read_up_to, read_whole};
 pub use real::{FileShelf, OutSink};
 pub use shelves::{Shelf, ShelfStop};
 pub use sinks::{Sink, SinkFailed, send_all};

@@ -3,7 +3,7 @@ ghost use Rattle.std.specs.Prelude.{◌≡◌, ◌≢◌, ℕ, ◌+◌, ◌<◌,
 ghost use Rattle.std.specs.Io.KnownBytes.{Appends, Keeps};
 ghost use Rattle.kb_outside.specs.Outside.{Rose, Grows, next_count, untold};
 
-use crate::reading::read_up_to;
+use crate::reading::{Watched, read_up_to};
 use crate::shelves::{Shelf, ShelfStop};
 use crate::sinks::{Sink, SinkFailed};
 use std::fs;
@@ -86,7 +86,7 @@ fn read_file<R: Files>(
     ensures refused { OnErr result (into.new.items ≡ into.old.items) }
 {
     match fs::open(rt, name) {
-        Ok(mut file) => read_up_to(&mut file, limit, into),
+        Ok(file) => read_up_to(&mut Watched::new(file), limit, into),
         Err(_) => Err(ShelfStop::Failed),
     }
 }

@@ -1,8 +1,10 @@
 //! Shelves and sinks over files of the system and in memory, and readers and writers that fail.
 
+ghost use Rattle.std.specs.Prelude.{◌<◌};
+
 use crate::{
-    FileShelf, MemoryShelf, MemorySink, OutSink, Shelf, ShelfStop, Sink, SinkFailed, WordsStop,
-    command_words, read_up_to, send_all,
+    FileShelf, MemoryShelf, MemorySink, OutSink, Shelf, ShelfStop, Sink, SinkFailed, Watched,
+    WordsStop, command_words, read_up_to, send_all,
 };
 use std::alloc::{AllocError, Global};
 use std::env::{Env, FillError};
@@ -32,32 +34,41 @@ fn read_all<S: Shelf>(
     Ok(into)
 }
 
+// Whether a read gave these bytes, or failed.
+fn is_wanted(read: &Result<Vec<u8>, ShelfStop>, want: Option<&[u8]>) -> bool {
+    match (read, want) {
+        (Ok(bytes), Some(text)) => bytes.as_slice() == text,
+        (Err(ShelfStop::Failed), None) => true,
+        _ => false,
+    }
+}
+
+// A shelf with two files of one name and a third one, which fails at two calls.
+fn failing_shelf(alloc: Global) -> Result<MemoryShelf, AllocError> {
+    let mut files = Vec::new(alloc);
+    for (name, text) in [("a", "one"), ("a", "two"), ("b", "12345")] {
+        files.push(file(alloc, name, text)?)?;
+    }
+    Ok(MemoryShelf::new(files, vec![in alloc; 1u64, 4]?))
+}
+
+// Reads of that shelf: the name, the limit, and what is there behind the read.
+const READS: [(&str, usize, Option<&[u8]>); 7] = [
+    ("a", 9, Some(b"<one")),
+    ("a", 9, None),
+    ("b", 4, Some(b"<12345")),
+    ("b", 3, Some(b"<1234")),
+    ("b", 9, None),
+    ("c", 9, None),
+    ("b", 0, Some(b"<1")),
+];
+
 #[test]
 fn shelf_in_memory_fails_where_it_is_told_to(rt: HostRuntime) -> Result<(), Fail> {
-    let alloc = rt.alloc();
-    let mut files = Vec::new(alloc);
-    files.push(file(alloc, "a", "one")?)?;
-    files.push(file(alloc, "a", "two")?)?;
-    files.push(file(alloc, "b", "12345")?)?;
-    let mut shelf = MemoryShelf::new(files, vec![in alloc; 1u64, 4]?);
-    let cases = [
-        ("a", 9, Some("<one")),
-        ("a", 9, None),
-        ("b", 4, Some("<12345")),
-        ("b", 3, Some("<1234")),
-        ("b", 9, None),
-        ("c", 9, None),
-        ("b", 0, Some("<1")),
-    ];
-    for (call, (name, limit, want)) in cases.into_iter().enumerate() {
-        let read = read_all(alloc, &mut shelf, name, limit);
-        match want {
-            Some(text) => {
-                let bytes = read.expect(&rt, "a read");
-                assert_eq!(rt; bytes.as_slice(), text.as_bytes(), "call {call}");
-            }
-            None => assert!(rt; matches!(read, Err(ShelfStop::Failed)), "call {call}"),
-        }
+    let mut shelf = failing_shelf(rt.alloc())?;
+    for (call, (name, limit, want)) in READS.into_iter().enumerate() {
+        let read = read_all(rt.alloc(), &mut shelf, name, limit);
+        assert!(rt; is_wanted(&read, want), "call {call}");
     }
     assert_eq!(rt; shelf.faults(), 3);
     Ok(())
@@ -73,11 +84,22 @@ fn refused_read_leaves_what_was_there(rt: HostRuntime) -> Result<(), Fail> {
     Ok(())
 }
 
+// A sink that takes at most so many bytes in a call, fails at the calls of these numbers, and has so much room.
+fn sink_with_room(
+    alloc: Global,
+    most: usize,
+    fails: Vec<u64>,
+    room: usize,
+) -> Result<MemorySink, Fail>
+    requires { 0 < most }
+{
+    Ok(MemorySink::new(alloc, most, fails).with_room(room)?)
+}
+
 #[test]
 fn sink_in_memory_fails_where_it_is_told_to(rt: HostRuntime) -> Result<(), Fail> {
-    let alloc = rt.alloc();
-    let sink = MemorySink::new(alloc, 3, vec![in alloc; 1u64]?);
-    let mut sink = sink.with_room(7).expect(&rt, "room");
+    let fails = vec![in rt.alloc(); 1u64]?;
+    let mut sink = sink_with_room(rt.alloc(), 3, fails, 7)?;
     let wants = [Ok(3), Err(SinkFailed), Ok(3), Ok(1), Err(SinkFailed)];
     for (call, want) in wants.into_iter().enumerate() {
         assert_eq!(rt; sink.write(b"abcde"), want, "call {call}");
@@ -88,20 +110,24 @@ fn sink_in_memory_fails_where_it_is_told_to(rt: HostRuntime) -> Result<(), Fail>
 }
 
 #[test]
-fn text_is_sent_whole_or_by_its_front(rt: HostRuntime) -> Result<(), Fail> {
-    let alloc = rt.alloc();
+fn text_is_sent_whole(rt: HostRuntime) -> Result<(), Fail> {
     let text = b"kiasan report 1\ntarget A.f(II)I\n".as_slice();
-    let mut whole = MemorySink::new(alloc, 10, Vec::new(alloc))
-        .with_room(100)
-        .expect(&rt, "room");
-    assert_eq!(rt; send_all(&mut whole, text), Ok(()));
-    assert_eq!(rt; whole.bytes(), text);
-    let mut front = MemorySink::new(alloc, 10, vec![in alloc; 2u64]?)
-        .with_room(100)
-        .expect(&rt, "room");
-    assert_eq!(rt; send_all(&mut front, text), Err(SinkFailed));
-    assert_eq!(rt; front.bytes(), b"kiasan report 1\ntarg".as_slice());
-    assert_eq!(rt; front.faults(), 1);
+    let mut sink = sink_with_room(rt.alloc(), 10, Vec::new(rt.alloc()), 100)?;
+    assert_eq!(rt; send_all(&mut sink, text), Ok(()));
+    assert_eq!(rt; sink.bytes(), text);
+    Ok(())
+}
+
+#[test]
+fn text_is_sent_by_its_front(rt: HostRuntime) -> Result<(), Fail> {
+    let fails = vec![in rt.alloc(); 2u64]?;
+    let mut sink = sink_with_room(rt.alloc(), 10, fails, 100)?;
+    assert_eq!(rt;
+        send_all(&mut sink, b"kiasan report 1\ntarget A.f(II)I\n"),
+        Err(SinkFailed)
+    );
+    assert_eq!(rt; sink.bytes(), b"kiasan report 1\ntarg".as_slice());
+    assert_eq!(rt; sink.faults(), 1);
     Ok(())
 }
 
@@ -121,55 +147,69 @@ fn varied(alloc: Global, count: usize) -> Result<Vec<u8>, AllocError> {
     Ok(bytes)
 }
 
+// Whether these are such bytes.
+fn are_varied(bytes: &[u8]) -> bool {
+    for (i, byte) in bytes.iter().enumerate() {
+        if *byte != (i % 251) as u8 {
+            return false;
+        }
+    }
+    true
+}
+
+// Whether a read of such bytes gave so many, behind what was there.
+fn has_read(read: &[u8], count: usize) -> bool {
+    match read {
+        [b'<', behind @ ..] => behind.len() == count && are_varied(behind),
+        _ => false,
+    }
+}
+
+// The length of a file, the limit, and how many bytes are read: a file as long as the limit, one longer and two longer, of which
+// one byte is left out.
+const LENGTHS: [(usize, usize, usize); 8] = [
+    (8192, 8192, 8192),
+    (8193, 8192, 8193),
+    (8194, 8192, 8193),
+    (1_048_576, 1_048_576, 1_048_576),
+    (1_048_577, 1_048_576, 1_048_577),
+    (1_048_578, 1_048_576, 1_048_577),
+    (20_000, 9999, 10_000),
+    (0, 9, 0),
+];
+
 #[test]
 fn files_are_read_up_to_the_limit(rt: HostRuntime) -> Result<(), Fail> {
-    let alloc = rt.alloc();
     let path = path_of(&rt, "read")?;
     let name = path.as_path().as_str();
     let mut shelf = FileShelf::new(&rt);
-    // A file as long as the limit, one longer and two longer: of the last one byte is left out.
-    let cases = [
-        (8192, 8192, 8192),
-        (8193, 8192, 8193),
-        (8194, 8192, 8193),
-        (1_048_576, 1_048_576, 1_048_576),
-        (1_048_577, 1_048_576, 1_048_577),
-        (1_048_578, 1_048_576, 1_048_577),
-        (20_000, 9999, 10_000),
-        (0, 9, 0),
-    ];
-    for (length, limit, want) in cases {
-        let text = varied(alloc, length)?;
-        fs::write(&rt, name, text.as_slice())?;
-        let read = read_all(alloc, &mut shelf, name, limit).expect(&rt, "a read");
-        let front = varied(alloc, want)?;
-        let [_, behind @ ..] = read.as_slice() else {
-            assert!(rt; false, "what was there is lost");
-            return Ok(());
-        };
+    for (length, limit, want) in LENGTHS {
+        write_varied(&rt, name, length)?;
+        let read = read_all(rt.alloc(), &mut shelf, name, limit).expect(&rt, "a read");
         assert!(rt;
-            behind == front.as_slice(),
+            has_read(read.as_slice(), want),
             "{length} bytes, at most {limit}"
         );
     }
     assert_eq!(rt; shelf.faults(), 0);
     fs::remove_file(&rt, name)?;
-    assert!(rt; matches!(read_all(alloc, &mut shelf, name, 9), Err(ShelfStop::Failed)));
+    assert!(rt; is_wanted(&read_all(rt.alloc(), &mut shelf, name, 9), None));
     assert_eq!(rt; shelf.faults(), 1);
+    Ok(())
+}
+
+fn write_varied(rt: &HostRuntime, name: &str, length: usize) -> Result<(), Fail> {
+    let text = varied(rt.alloc(), length)?;
+    fs::write(rt, name, text.as_slice())?;
     Ok(())
 }
 
 #[test]
 fn a_directory_is_no_file(rt: HostRuntime) -> Result<(), Fail> {
     let directory = env::temp_dir(&rt)?;
-    let name = directory.as_path().as_str();
     let mut shelf = FileShelf::new(&rt);
-    assert!(rt;
-        matches!(
-            read_all(rt.alloc(), &mut shelf, name, 9),
-            Err(ShelfStop::Failed)
-        )
-    );
+    let read = read_all(rt.alloc(), &mut shelf, directory.as_path().as_str(), 9);
+    assert!(rt; is_wanted(&read, None));
     assert_eq!(rt; shelf.faults(), 1);
     Ok(())
 }
@@ -197,70 +237,78 @@ impl<'a> Read for Blocks<'a> {
     }
 }
 
+// Limits, the calls that fail, and how many bytes are read: 1000 bytes in blocks of 7 are 143 blocks, and a call that gives
+// nothing.
+const BLOCKS: [(usize, u64, Result<usize, ShelfStop>); 8] = [
+    (999, u64::MAX, Ok(1000)),
+    (998, u64::MAX, Ok(999)),
+    (5000, u64::MAX, Ok(1000)),
+    (5000, 144, Ok(1000)),
+    // One byte past the limit is the last of block 143: no further block is asked for.
+    (998, 143, Ok(999)),
+    (5000, 0, Err(ShelfStop::Failed)),
+    (5000, 70, Err(ShelfStop::Failed)),
+    (5000, 143, Err(ShelfStop::Failed)),
+];
+
 #[test]
 fn short_blocks_are_read_and_an_error_in_the_middle_refuses(rt: HostRuntime) -> Result<(), Fail> {
-    let alloc = rt.alloc();
-    let text = varied(alloc, 1000)?;
-    // 1000 bytes in blocks of 7 are 143 blocks, and a call that gives nothing.
-    let cases = [
-        (999, u64::MAX, Ok(1000)),
-        (998, u64::MAX, Ok(999)),
-        (5000, u64::MAX, Ok(1000)),
-        (5000, 144, Ok(1000)),
-        // One byte past the limit is the last of block 143: no further block is asked for.
-        (998, 143, Ok(999)),
-        (5000, 0, Err(ShelfStop::Failed)),
-        (5000, 70, Err(ShelfStop::Failed)),
-        (5000, 143, Err(ShelfStop::Failed)),
-    ];
-    for (limit, fails, want) in cases {
-        let mut blocks = Blocks {
-            rest: text.as_slice(),
-            most: 7,
-            fails,
-            calls: 0,
-        };
-        let mut into = b"<".to_vec(alloc)?;
-        let read = read_up_to(&mut blocks, limit, &mut into);
+    let text = varied(rt.alloc(), 1000)?;
+    for (limit, fails, want) in BLOCKS {
+        let mut into = b"<".to_vec(rt.alloc())?;
+        let read = read_blocks(text.as_slice(), limit, fails, &mut into);
         assert_eq!(rt;
             read,
             want.map(|_| ()),
             "at most {limit}, call {fails} fails"
         );
         let count = want.unwrap_or(0);
-        let mut wanted = b"<".to_vec(alloc)?;
-        wanted.extend_from_slice(varied(alloc, count)?.as_slice())?;
-        assert_eq!(rt; into, wanted, "at most {limit}, call {fails} fails");
+        assert!(rt;
+            has_read(into.as_slice(), count),
+            "at most {limit}, call {fails} fails"
+        );
     }
     Ok(())
+}
+
+fn read_blocks(text: &[u8], limit: usize, fails: u64, into: &mut Vec<u8>) -> Result<(), ShelfStop> {
+    let mut blocks = Watched::new(Blocks {
+        rest: text,
+        most: 7,
+        fails,
+        calls: 0,
+    });
+    read_up_to(&mut blocks, limit, into)
+}
+
+// What comes of a text that is sent to a sink over this writer, and how many faults the sink counts.
+fn sent<W: Write + Drop>(to: W, text: &[u8]) -> (Result<(), SinkFailed>, u64) {
+    let mut out = OutSink::new(to);
+    let sent = send_all(&mut out, text);
+    (sent, out.faults())
 }
 
 #[test]
 fn writer_takes_the_text_and_its_refusals_are_counted(rt: HostRuntime) -> Result<(), Fail> {
     let path = path_of(&rt, "written")?;
     let name = path.as_path().as_str();
-    let mut out = OutSink::new(fs::create(&rt, name)?);
-    assert_eq!(rt; send_all(&mut out, b"a text"), Ok(()));
-    assert_eq!(rt; out.faults(), 0);
+    assert_eq!(rt; sent(fs::create(&rt, name)?, b"a text"), (Ok(()), 0));
     let written = fs::read(&rt, name)?;
     assert_eq!(rt; written.as_slice(), b"a text".as_slice());
-    let mut read_only = OutSink::new(fs::open(&rt, name)?);
-    assert_eq!(rt; send_all(&mut read_only, b"more"), Err(SinkFailed));
-    assert_eq!(rt; read_only.faults(), 1);
+    assert_eq!(rt; sent(fs::open(&rt, name)?, b"more"), (Err(SinkFailed), 1));
     fs::remove_file(&rt, name)?;
     Ok(())
 }
 
 #[test]
 fn writer_has_what_is_said_to_be_taken(rt: HostRuntime) -> Result<(), Fail> {
-    let alloc = rt.alloc();
-    let text = varied(alloc, 100)?;
-    let front = varied(alloc, 64)?;
+    let text = varied(rt.alloc(), 100)?;
     let mut room = [0u8; 64];
-    let mut out = OutSink::new(room.as_mut_slice());
-    assert_eq!(rt; send_all(&mut out, text.as_slice()), Err(SinkFailed));
-    assert_eq!(rt; out.faults(), 1);
-    assert_eq!(rt; room.as_slice(), front.as_slice());
+    assert_eq!(rt;
+        sent(room.as_mut_slice(), text.as_slice()),
+        (Err(SinkFailed), 1)
+    );
+    assert!(rt; are_varied(room.as_slice()));
     Ok(())
 }
 
@@ -287,9 +335,7 @@ impl Write for Counting {
 fn writer_gets_a_text_by_one_call(rt: HostRuntime) -> Result<(), Fail> {
     let text = varied(rt.alloc(), 100_000)?;
     let mut counting = Counting { calls: 0, bytes: 0 };
-    let mut out = OutSink::new(&mut counting);
-    assert_eq!(rt; send_all(&mut out, text.as_slice()), Ok(()));
-    assert_eq!(rt; out.faults(), 0);
+    assert_eq!(rt; sent(&mut counting, text.as_slice()), (Ok(()), 0));
     assert_eq!(rt; counting.calls, 1);
     assert_eq!(rt; counting.bytes, 100_000);
     Ok(())
@@ -329,7 +375,7 @@ fn words_are_those_after_the_name(rt: HostRuntime) -> Result<(), Fail> {
     let line = CommandLine {
         word: "größe".as_bytes(),
     };
-    match command_words(&(line, rt.alloc())) {
+    match command_words(rt.alloc(), env::args(&(line, rt.alloc()))) {
         Ok(words) => {
             assert_eq!(rt; words.len(), 1);
             assert_eq!(rt; words[0].as_str(), "größe");
@@ -344,7 +390,7 @@ fn a_word_that_is_not_utf8_is_told(rt: HostRuntime) -> Result<(), Fail> {
     let line = CommandLine {
         word: b"gr\xf6\xdfe".as_slice(),
     };
-    match command_words(&(line, rt.alloc())) {
+    match command_words(rt.alloc(), env::args(&(line, rt.alloc()))) {
         Ok(_) => assert!(rt; false, "the word is not UTF-8"),
         Err(stop) => {
             assert_eq!(rt; stop, WordsStop::NotUtf8);

@@ -2,7 +2,7 @@
 
 use kb_chain::Chain;
 use kb_rows::Row;
-use kb_table::{RowResult, RowStop, read_number};
+use kb_table::{RowResult, RowStop, read_numbers};
 use std::alloc::Global;
 
 /// A chain: the number of its first clause, and then a pivot and a number for each step, with such a character between two.
@@ -24,12 +24,4 @@ pub fn read_chain(alloc: Global, text: &str, between: char) -> RowResult<Chain> 
         start: *start,
         steps,
     })
-}
-
-fn read_numbers(alloc: Global, text: &str, between: char) -> RowResult<Vec<u32>> {
-    let mut numbers = Vec::new(alloc);
-    for word in text.split(between) {
-        numbers.push(read_number(word)?)?;
-    }
-    Ok(numbers)
 }

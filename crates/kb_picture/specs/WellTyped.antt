@@ -4,7 +4,7 @@ use Rattle.std.specs.Prelude.{◌≡◌, ◌<◌, ◌^◌, ℕ, suc, Bool, true,
 use Rattle.kb_class.specs.Naming.{Has}
 use Rattle.kb_class.specs.declared.ids.MethodId.{MethodId}
 use Rattle.kb_class.specs.declared.members.MethodInfo.{MethodInfo}
-use Rattle.kb_link.specs.Slots.{is_static}
+use Rattle.kb_class.specs.Members.{is_static}
 use Rattle.kb_link.specs.Subtypes.{fits}
 use Rattle.kb_link.specs.World.{World}
 use Rattle.kb_names.specs.declared.types.ExactType.{ExactType}

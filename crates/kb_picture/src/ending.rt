@@ -45,9 +45,8 @@ pub fn ending_at(
         unreachable!()
     };
     let reading = reading_of(alloc, world, path, input, places)?;
-    let ending = reading.ending(alloc, &ended.ending)?;
-    let heap = reading.heap(alloc, &input.heap, ended)?;
-    Ok((ending, heap))
+    let end = reading.end(alloc, &input.heap, ended)?;
+    Ok(end)
 }
 
 fn reading_of<'a>(
@@ -75,6 +74,15 @@ fn reading_of<'a>(
 }
 
 impl<'a> Reading<'a> {
+    fn end(&self, alloc: Global, first: &Heap, ended: &Ended) -> Result<(Ending, Heap), NoMemory>
+        ensures ending { IfOk result (λ end. end.0 ≡ ending_at (as_read self.now) ended.now.ending) }
+        ensures heap { IfOk result (λ end. end.1 ≡ heap_at (as_read self.now) first.now ended.now.writes ended.now.made) }
+    {
+        let ending = self.ending(alloc, &ended.ending)?;
+        let heap = self.heap(alloc, first, ended)?;
+        Ok((ending, heap))
+    }
+
     fn ending(&self, alloc: Global, ending: &SymEnding) -> Result<Ending, NoMemory>
         ensures { IfOk result (λ end. end ≡ ending_at (as_read self.now) ending.now) }
     {

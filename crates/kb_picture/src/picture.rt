@@ -65,9 +65,7 @@ impl PicObject {
     pub fn copied(&self, alloc: Global) -> Result<PicObject, NoMemory>
         ensures { IfOk result (λ copy. copy ≡ self.now) }
     {
-        let Ok(kind) = self.kind.copied(alloc) else {
-            return Err(NoMemory);
-        };
+        let kind = self.kind.copied(alloc)?;
         Ok(PicObject {
             kind,
             length: self.length,

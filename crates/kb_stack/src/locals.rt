@@ -71,9 +71,7 @@ fn grow_to(locals: &mut Vec<Option<Value>>, count: usize) -> Result<(), NoMemory
     ensures { OnOk result (locals.new.items ≡ locals.old.items ++ replicate (count - length locals.old.items) None) }
 {
     if locals.len() < count {
-        let Ok(()) = locals.resize(count, None) else {
-            return Err(NoMemory);
-        };
+        locals.resize(count, None)?;
     }
     Ok(())
 }
@@ -84,9 +82,7 @@ fn arguments(alloc: Global, args: &[Value]) -> Result<Vec<Option<Value>>, NoMemo
 {
     let mut locals = Vec::new(alloc);
     for value in args {
-        let Ok(()) = locals.push(Some(*value)) else {
-            return Err(NoMemory);
-        };
+        locals.push(Some(*value))?;
     }
     Ok(locals)
 }

@@ -5,12 +5,12 @@ use Rattle.std.specs.Option.{option_map, option_map_or, option_and_then}
 use Rattle.kb_class.specs.declared.ids.MethodId.{MethodId}
 use Rattle.kb_class.specs.declared.members.MethodCode.{MethodCode}
 use Rattle.kb_class.specs.declared.members.MethodInfo.{MethodInfo}
+use Rattle.kb_class.specs.Members.{is_static}
 use Rattle.kb_code.specs.Listing.{HasRisingKeys, offset_of}
 use Rattle.kb_code.specs.declared.instruction.Instr.{Instr}
 use Rattle.kb_code.specs.declared.listing.Handler.{Handler}
 use Rattle.kb_link.specs.Links.{IsLinked}
 use Rattle.kb_link.specs.Rules.{HasItsPlaces, HasPlacedCode}
-use Rattle.kb_link.specs.Slots.{is_static}
 use Rattle.kb_link.specs.World.{World, methods_in}
 use Rattle.kb_names.specs.declared.types.JType.{JType}
 use Rattle.kb_names.specs.declared.types.JType.TheVariants as types

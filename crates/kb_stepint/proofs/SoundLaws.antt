@@ -12,8 +12,8 @@ use Rattle.kb_blast.specs.Query.{AreConditions, is_comparison, kind_from, kinds_
 use Rattle.kb_blast.proofs.Listed.{is-operation}
 use Rattle.kb_class.specs.Naming.{Has}
 use Rattle.kb_class.specs.declared.members.MethodInfo.{MethodInfo}
+use Rattle.kb_class.specs.Members.{is_static}
 use Rattle.kb_link.proofs.Places.{get_pushed}
-use Rattle.kb_link.specs.Slots.{is_static}
 use Rattle.kb_link.specs.World.{World}
 use Rattle.kb_link.specs.declared.slots.FieldSlot.{FieldSlot}
 use Rattle.kb_names.specs.declared.types.JType.{JType}

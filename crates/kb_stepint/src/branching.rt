@@ -112,8 +112,6 @@ fn switch_to(
     if place >= keys.len() {
         return ill_typed(turn, state);
     }
-    let Ok(entry) = keys.key_at(place) else {
-        return Err(NoMemory);
-    };
+    let entry = keys.key_at(place)?;
     jumps(turn, state, 1, entry.1)
 }

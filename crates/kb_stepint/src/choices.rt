@@ -205,9 +205,7 @@ fn offer_key(
     let Ok(number) = u32::try_from(place) else {
         return Err(NoMemory);
     };
-    let Ok(entry) = keys.key_at(place) else {
-        return Err(NoMemory);
-    };
+    let entry = keys.key_at(place)?;
     let condition = equals_number(x, entry.0, true);
     offer(state, &condition, Choice::Key(number), choices)
 }

@@ -6,13 +6,10 @@ ghost use Rattle.kb_frames.specs.State.{start_state};
 ghost use Rattle.kb_stepint.specs.Reached.{IsReached};
 ghost use Rattle.kb_stepint.specs.IntMethods.{has_none, is_int_code, is_int_info, is_int_method, is_int_type, is_none_or_int};
 
-use kb_class::{MethodCode, MethodId, MethodInfo};
+use kb_class::{MethodCode, MethodId, MethodInfo, is_static};
 use kb_frames::is_int_instruction;
 use kb_names::JType;
 use kb_world::World;
-
-/// ACC_STATIC (JVMS 8 table 4.6-A).
-const STATIC: u16 = 0x0008;
 
 /// Whether the method is one over ints: static, its parameters and its result ints and booleans, with code that has no handlers
 /// and uses instructions on ints and the stack alone. Then the steps of its states are steps of ints. It takes no memory.
@@ -29,7 +26,7 @@ pub fn is_int_method(world: &World, method: MethodId) -> bool
 fn is_int_info(world: &World, method: MethodId, info: &MethodInfo) -> bool
     ensures { result ≡ is_int_info world.now method info.now }
 {
-    if info.access & STATIC == 0 {
+    if !is_static(info.access) {
         return false;
     }
     if !are_int_types(info.kind.params.as_slice()) {

@@ -212,9 +212,7 @@ fn ask_one_key(
     if place >= keys.len() {
         return Ok(());
     }
-    let Ok(entry) = keys.key_at(place) else {
-        return Err(NoMemory);
-    };
+    let entry = keys.key_at(place)?;
     ask(state, &equals_number(x, entry.0, true))
 }
 

@@ -5,8 +5,8 @@ use Rattle.std.specs.Prelude.{Bool, false, not, nat_eq, ◌&&◌, List, [], ◌�
 use Rattle.std.specs.Option.{option_map_or}
 use Rattle.kb_class.specs.declared.ids.MethodId.{MethodId}
 use Rattle.kb_class.specs.declared.members.MethodInfo.{MethodInfo}
+use Rattle.kb_class.specs.Members.{is_static}
 use Rattle.kb_heap.specs.declared.bounds.Bounds.{Bounds}
-use Rattle.kb_link.specs.Slots.{is_static}
 use Rattle.kb_link.specs.World.{World}
 use Rattle.kb_semantics.specs.Config.{info_of}
 use Rattle.kb_lazy.specs.Choices.{read_choices_of}

@@ -7,8 +7,8 @@ ghost use Rattle.kb_stepref.specs.Reached.{IsHeapReached};
 
 use crate::NoMemory;
 use crate::questions::{FirstRead, question_of};
-use kb_class::MethodId;
-use kb_frames::{SymState, is_reference, is_static};
+use kb_class::{MethodId, is_static};
+use kb_frames::{SymState, is_reference};
 use kb_heap::Bounds;
 use kb_lazy::read_choices;
 use kb_picture::{Choice, Origin};
@@ -81,7 +81,7 @@ fn is_receiver(world: &World, method: MethodId, slot: Origin) -> bool
         return false;
     };
     match world.find_method(method) {
-        Some(info) => !is_static(info),
+        Some(info) => !is_static(info.access),
         None => false,
     }
 }

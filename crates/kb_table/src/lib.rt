@@ -5,9 +5,11 @@
 mod faults;
 mod files;
 mod rows;
+mod texts;
 mod words;
 
 pub use faults::{RowResult, RowStop, kept};
 pub use files::{read_file, read_files, read_table};
 pub use rows::{Rows, send, write_rows};
-pub use words::{read_int, read_number, read_words};
+pub use texts::{append, append_number};
+pub use words::{read_int, read_number, read_numbers, read_words};

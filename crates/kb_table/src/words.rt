@@ -20,6 +20,15 @@ pub fn read_number(word: &str) -> RowResult<u32> {
     }
 }
 
+/// The numbers that a text spells, with such a character between two of them.
+pub fn read_numbers(alloc: Global, text: &str, between: char) -> RowResult<Vec<u32>> {
+    let mut numbers = Vec::new(alloc);
+    for word in text.split(between) {
+        numbers.push(read_number(word)?)?;
+    }
+    Ok(numbers)
+}
+
 /// The int that a word spells.
 pub fn read_int(word: &str) -> RowResult<i32> {
     match word.parse::<i32>() {

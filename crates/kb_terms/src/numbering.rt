@@ -57,7 +57,7 @@ enum Task {
 
 impl Pool {
     /// The numbering of the operations at and below the roots, in time that is linear in their number and without
-    /// recursion. Refused for want of memory alone.
+    /// recursion. Refused only where memory runs out.
     #[tactic(auto, unfolding(crate::specs::Numbering::numbering))]
     pub fn numbering(&self, alloc: Global, roots: &[TermId]) -> Result<Numbering, NoMemory>
         requires { AreTerms self.now roots.now }

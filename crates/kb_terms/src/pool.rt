@@ -46,7 +46,7 @@ impl Pool {
         }
     }
 
-    /// A pool with the same terms. Refused for want of memory alone.
+    /// A pool with the same terms. Refused only where memory runs out.
     pub fn copy(&self) -> Result<Pool, NoMemory>
         ensures { IfOk result (λ p. p ≡ self.now) }
     {
@@ -93,7 +93,7 @@ impl Pool {
         }
     }
 
-    /// The term that is this constant. Refused for want of memory alone.
+    /// The term that is this constant. Refused only where memory runs out.
     pub fn constant(&mut self, value: i32) -> Result<TermId, NoMemory>
         ensures term { IfOk result (IsTerm self.new) }
         ensures node { IfOk result (λ t. HasNode self.old self.new t (Const value)) }
@@ -107,7 +107,7 @@ impl Pool {
         self.intern(Node::Const(value))
     }
 
-    /// A new variable, which has the next number. Refused for want of memory alone.
+    /// A new variable, which has the next number. Refused only where memory runs out.
     pub fn variable(&mut self, kind: VarKind) -> Result<TermId, NoMemory>
         ensures term { IfOk result (IsTerm self.new) }
         ensures number { IfOk result (λ t. t.0 ≡ length self.old) }
@@ -126,7 +126,7 @@ impl Pool {
     }
 
     /// The term of an operation on terms: the constant where its operands are constants, the equal term where there is
-    /// one, and else a new term. Refused for want of memory alone.
+    /// one, and else a new term. Refused only where memory runs out.
     pub fn make(&mut self, op: Op, left: TermId, right: Option<TermId>) -> Result<TermId, NoMemory>
         requires { AreOperands self.old op left right }
         ensures term { IfOk result (IsTerm self.new) }
@@ -166,7 +166,7 @@ impl Pool {
     }
 
     /// The value of a term, where each variable has the entry of `values` at its number. Each term up to this one is
-    /// computed once, in order. Refused for want of memory alone.
+    /// computed once, in order. Refused only where memory runs out.
     pub fn eval(&self, alloc: Global, term: TermId, values: &[i32]) -> Result<i32, NoMemory>
         requires term { IsTerm self.now term }
         requires inputs { length values.now ≡ variables_of self.now }

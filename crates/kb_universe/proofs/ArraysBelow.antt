@@ -1,5 +1,5 @@
 -- Whether an array of a universe is a subtype of a type: by the most dimensions of each element.
-use Rattle.std.proofs.Common.{◌≡◌, ◌↔◌, ℕ, zero, suc, ◌+◌, ◌-◌, ◌^◌, ◌<◌, ◌≤◌, min, ◌⊎◌, inl, inr, Bool, true, false, true≢false, ◌==◌, ◌&&◌, ◌||◌, nat_lt, List, [], ◌∷◌, length, Option, Some, None, IsSome, slice_get, slice_index_or, refl, sym, ap, ap₂, subst, ◌∙◌, arith}
+use Rattle.std.proofs.Common.{◌≡◌, ◌↔◌, ℕ, zero, suc, ◌+◌, ◌-◌, ◌^◌, ◌<◌, ◌≤◌, min, ◌⊎◌, inl, inr, Bool, true, false, true≢false, ◌&&◌, ◌||◌, nat_lt, List, [], length, Option, Some, None, IsSome, slice_get, slice_index_or, refl, sym, ap, ap₂, subst, ◌∙◌, arith}
 use Rattle.std.specs.List.{list_any}
 use Rattle.std.specs.Option.{option_map, option_map_or}
 use Rattle.std.specs.Str.{bytes_eq}
@@ -18,10 +18,10 @@ use Rattle.kb_class.specs.Naming.{Has}
 use Rattle.kb_link.specs.Links.{IsLinked}
 use Rattle.kb_link.specs.Subtypes.{is_above_arrays, is_below, is_super, shape_of_exact, fits_base, fits_array, fits_shape}
 use Rattle.kb_link.specs.World.{World, number_in}
-use Rattle.kb_link.specs.Universe.{IsElement, IsUniverse, IsNamedArray}
+use Rattle.kb_link.specs.Universe.{IsElement, IsNamedArray}
 use Rattle.kb_link.proofs.Named.{number_inside}
 use Rattle.kb_link.proofs.MethodNumbers.{none_named, number_of_named}
-use Rattle.kb_universe.specs.Marks.{name_of_base, element_in, most_over, longest_of, is_array_below, reach, HasLowArray}
+use Rattle.kb_universe.specs.Marks.{name_of_base, most_over, longest_of, is_array_below, reach, HasLowArray}
 use Rattle.kb_universe.proofs.Lists.{any_some, any_true, get_there, same_test}
 use Rattle.kb_universe.proofs.Members.{has_array}
 use Rattle.kb_universe.proofs.Reaching.{reached, reaching, longest_has, has_longest, most_longest}

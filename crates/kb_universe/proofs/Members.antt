@@ -1,8 +1,8 @@
 -- The members of a universe: classes of the world, and behind them arrays.
-use Rattle.std.proofs.Common.{◌≡◌, ◌↔◌, ℕ, zero, suc, ◌⊎◌, inl, inr, Bool, true, false, true≢false, ◌==◌, ◌&&◌, List, [], ◌∷◌, ◌++◌, length, map, take, Option, Some, None, IsSome, slice_get, refl, sym, ap, subst, ◌∙◌}
+use Rattle.std.proofs.Common.{◌≡◌, ◌↔◌, ℕ, inl, inr, Bool, true, false, true≢false, ◌==◌, ◌&&◌, List, [], ◌∷◌, ◌++◌, length, map, take, Option, Some, None, refl, sym, ap, subst, ◌∙◌}
 use Rattle.std.specs.List.{list_any, filter}
 use Rattle.std.specs.Option.{option_map_or}
-use Rattle.std.proofs.lemmas.Option.{same_Some, none-some}
+use Rattle.std.proofs.lemmas.Option.{same_Some}
 use Rattle.std.proofs.lemmas.Bool.{eq-eqb, eqb-true}
 use Rattle.std.proofs.lemmas.List.{append-nil}
 use Rattle.kb_names.specs.declared.types.ExactType.{ExactType}
@@ -10,7 +10,7 @@ use Rattle.kb_names.specs.declared.types.ExactType.TheVariants as exact
 use Rattle.kb_names.specs.declared.types.JType.{JType}
 use Rattle.kb_class.specs.Class.{Class}
 use Rattle.kb_class.specs.Naming.{Has}
-use Rattle.kb_class.proofs.Lists.{has_none, has_first, has_later, has_cases, has_left, has_right, has_either, map_has, has_mapped}
+use Rattle.kb_class.proofs.Lists.{has_none, has_first, has_later, has_cases, has_right, has_either, map_has, has_mapped}
 use Rattle.kb_link.specs.World.{World, number_in}
 use Rattle.kb_link.specs.Universe.{is_given, is_concrete, exact_class, given_types, AreNamedPlatform, IsUniverse}
 use Rattle.kb_link.proofs.Named.{number_right}

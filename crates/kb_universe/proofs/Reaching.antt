@@ -1,5 +1,5 @@
 -- The arrays of a universe by the most dimensions of each element: a universe has the component arrays of its arrays.
-use Rattle.std.proofs.Common.{◌≡◌, ◌↔◌, ℕ, zero, suc, ◌+◌, ◌^◌, ◌<◌, ◌≤◌, max, min, nat_lt, ◌⊎◌, inl, inr, Bool, true, false, true≢false, ◌==◌, if◌then◌else◌, List, [], ◌∷◌, Option, Some, None, IsSome, slice_index_or, refl, sym, ap, subst, ◌∙◌, arith}
+use Rattle.std.proofs.Common.{◌≡◌, ◌↔◌, ℕ, suc, ◌+◌, ◌^◌, ◌<◌, ◌≤◌, max, min, nat_lt, ◌⊎◌, inl, inr, Bool, true, false, true≢false, ◌==◌, List, [], ◌∷◌, Option, Some, None, IsSome, slice_index_or, refl, sym, ap, subst, ◌∙◌, arith}
 use Rattle.std.specs.Option.{option_map, option_map_or}
 use Rattle.std.proofs.lemmas.Option.{same_Some, none-some}
 use Rattle.std.proofs.lemmas.Bool.{eq-eqb, eqb-true, cases_lt}
@@ -12,7 +12,6 @@ use Rattle.kb_names.specs.declared.types.JType.{JType}
 use Rattle.kb_class.specs.Class.{Class}
 use Rattle.kb_class.specs.Naming.{Has}
 use Rattle.kb_class.proofs.Lists.{has_none, has_first, has_later, has_cases}
-use Rattle.kb_link.specs.Rules.{name_of}
 use Rattle.kb_link.specs.Subtypes.{shape_of_exact}
 use Rattle.kb_link.specs.World.{World, number_in}
 use Rattle.kb_link.specs.Universe.{IsElement, IsNamedArray, IsUniverse}

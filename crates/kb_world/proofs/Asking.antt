@@ -1,5 +1,5 @@
 -- Entries that are asked for are told apart by their classes, their numbers and what they are used for.
-use Rattle.std.proofs.Common.{◌≡◌, ◌↔◌, ℕ, zero, suc, ◌⊎◌, inl, inr, Bool, true, false, true≢false, ◌&&◌, eqb, if◌then◌else◌, List, [], ◌∷◌, ◌++◌, Some, slice_get, refl, sym, ap, subst, ◌∙◌}
+use Rattle.std.proofs.Common.{◌≡◌, ◌↔◌, ◌⊎◌, inl, inr, Bool, true, false, true≢false, ◌&&◌, eqb, if◌then◌else◌, List, [], ◌∷◌, ◌++◌, refl, sym, ap, subst, ◌∙◌}
 use Rattle.std.specs.List.{list_any}
 use Rattle.std.proofs.lemmas.Bool.Decides.{Decides-eqb}
 use Rattle.kb_class.specs.Naming.{Has}
@@ -38,7 +38,7 @@ same_use uses.Array uses.Array e = refl
 same_use uses.Cast uses.Cast e = refl
 same_use one other e = absurd cc
 
-use_self : (what : Use) → (use-eq-value.it) what what ≡ true
+use_self : (usage : Use) → (use-eq-value.it) usage usage ≡ true
 use_self (uses.Call call) = call_self call
 use_self uses.Object = refl
 use_self uses.Array = refl
@@ -46,12 +46,12 @@ use_self uses.Cast = refl
 
 same_asked : (one other : Asked) → (eq-value.it) one other ≡ true → one ≡ other
 same_asked one other e =
-    let first = both (eqb one.class other.class) (eqb one.entry other.entry && (use-eq-value.it) one.what other.what) e in
-    let rest = both (eqb one.entry other.entry) ((use-eq-value.it) one.what other.what) first.1 in
+    let first = both (eqb one.class other.class) (eqb one.entry other.entry && (use-eq-value.it) one.usage other.usage) e in
+    let rest = both (eqb one.entry other.entry) ((use-eq-value.it) one.usage other.usage) first.1 in
     let class : one.class ≡ other.class = (Decides-eqb one.class other.class).0 first.0 in
     let entry : one.entry ≡ other.entry = (Decides-eqb one.entry other.entry).0 rest.0 in
-    let what : one.what ≡ other.what = same_use one.what other.what rest.1 in
-    λ i. record { class = class i; entry = entry i; what = what i }
+    let usage : one.usage ≡ other.usage = same_use one.usage other.usage rest.1 in
+    λ i. record { class = class i; entry = entry i; usage = usage i }
 
 and_true : (a b : Bool) → a ≡ true → b ≡ true → (a && b) ≡ true
 and_true true b e f = f
@@ -59,8 +59,8 @@ and_true false b e f = absurd (true≢false (sym e))
 
 asked_self : (asked : Asked) → (eq-value.it) asked asked ≡ true
 asked_self asked =
-    and_true (eqb asked.class asked.class) (eqb asked.entry asked.entry && (use-eq-value.it) asked.what asked.what) ((Decides-eqb asked.class asked.class).1 refl)
-    (and_true (eqb asked.entry asked.entry) ((use-eq-value.it) asked.what asked.what) ((Decides-eqb asked.entry asked.entry).1 refl) (use_self asked.what))
+    and_true (eqb asked.class asked.class) (eqb asked.entry asked.entry && (use-eq-value.it) asked.usage asked.usage) ((Decides-eqb asked.class asked.class).1 refl)
+    (and_true (eqb asked.entry asked.entry) ((use-eq-value.it) asked.usage asked.usage) ((Decides-eqb asked.entry asked.entry).1 refl) (use_self asked.usage))
 
 -- whether an entry is among others
 pub asked_there : (keys : List Asked) (asked : Asked) (told : Bool) → told ≡ list_any ((eq-value.it) asked) keys → (told ≡ true) ↔ Has keys asked

@@ -1,7 +1,7 @@
 -- Instructions one by one: calls by their entries, and what is first wrong.
-use Rattle.std.proofs.Common.{◌≡◌, ℕ, ◌-◌, ◌≤◌, ◌<◌, inl, inr, List, [], ◌∷◌, ◌++◌, length, take, drop, get_or, fold, Option, Some, None, Result, Ok, Err, IfErr, refl, sym, ap, ◌∙◌, subst}
+use Rattle.std.proofs.Common.{◌≡◌, ℕ, ◌-◌, ◌≤◌, List, [], length, take, drop, get_or, fold, Option, Some, None, Result, Ok, Err, IfErr, refl, sym, ap, ◌∙◌}
 use Rattle.std.specs.Option.{option_map}
-use Rattle.std.proofs.lemmas.Option.{same_Some, none-some}
+use Rattle.std.proofs.lemmas.Option.{same_Some}
 use Rattle.std.proofs.lemmas.Grind.{fold-append}
 use Rattle.kb_code.specs.declared.instruction.Instr.{Instr}
 use Rattle.kb_code.specs.declared.instruction.Instr.TheVariants as instrs
@@ -76,7 +76,7 @@ if_err (Err error) P Q f p = f error p
 
 -- the fault of a use of its entry is that of the instruction
 pub use_stops : (world : World) (number class : ℕ) (item : ℕ × Instr) (told : Use × ℕ) (refusal : LinkRefusal) → Some told ≡ use_of item.1
-    → StopsAt world (IsFaultOfUse world number item.0 (record { class = class; entry = told.1; what = told.0 })) refusal → StopsAt world (IsFaultAt world number class item) refusal
+    → StopsAt world (IsFaultOfUse world number item.0 (record { class = class; entry = told.1; usage = told.0 })) refusal → StopsAt world (IsFaultAt world number class item) refusal
 use_stops world number class item told refusal is =
-    stops_as world (IsFaultOfUse world number item.0 (record { class = class; entry = told.1; what = told.0 })) (IsFaultAt world number class item) refusal
+    stops_as world (IsFaultOfUse world number item.0 (record { class = class; entry = told.1; usage = told.0 })) (IsFaultAt world number class item) refusal
     (λ method place fault stops. (stops.0, stops.1, (use_is world class item.1 told is).0 ∙ stops.2))

@@ -1,5 +1,5 @@
 -- The receivers of a call: its classes one by one, and one look for all arrays.
-use Rattle.std.proofs.Common.{◌≡◌, ℕ, zero, suc, Bool, true, false, true≢false, ◌==◌, ◌&&◌, ◌||◌, cond, not, if◌then◌else◌, List, [], ◌∷◌, ◌++◌, length, map, filter_map, fold, Option, Some, None, slice_get, refl, sym, ap, subst, ◌∙◌, append_assoc}
+use Rattle.std.proofs.Common.{◌≡◌, ℕ, Bool, true, false, ◌&&◌, ◌||◌, cond, if◌then◌else◌, List, [], ◌∷◌, ◌++◌, map, filter_map, fold, Option, Some, None, refl, sym, ap, ◌∙◌}
 use Rattle.std.specs.List.{list_any, filter, cons_option}
 use Rattle.std.proofs.lemmas.Grind.{fold-append}
 use Rattle.kb_names.specs.declared.types.ExactType.{ExactType}
@@ -7,7 +7,7 @@ use Rattle.kb_names.specs.declared.types.ExactType.TheVariants as exact
 use Rattle.kb_names.specs.declared.types.JType.{JType}
 use Rattle.kb_link.specs.Universe.{IsUniverse}
 use Rattle.kb_link.specs.World.{World}
-use Rattle.kb_universe.specs.Marks.{is_class_type, class_types, is_array_below}
+use Rattle.kb_universe.specs.Marks.{class_types, is_array_below}
 use Rattle.kb_universe.proofs.Members.{split_is}
 use Rattle.kb_world.specs.Calls.{receives, selected_on, called_on, if_code}
 use Rattle.kb_world.specs.Found.{FoundMethods}

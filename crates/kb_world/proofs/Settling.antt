@@ -1,6 +1,6 @@
 -- Entries that are looked at once: what they mention stays found.
-use Rattle.std.proofs.Common.{◌≡◌, ◌↔◌, ℕ, zero, suc, ◌⊎◌, inl, inr, Bool, true, false, true≢false, ◌==◌, ◌||◌, List, [], ◌∷◌, ◌++◌, length, fold, Option, Some, None, slice_get, refl, sym, ap, subst, ◌∙◌}
-use Rattle.std.specs.List.{AllByRecursion, list_any}
+use Rattle.std.proofs.Common.{◌≡◌, ◌↔◌, ℕ, ◌⊎◌, inl, inr, Bool, true, false, true≢false, ◌==◌, ◌||◌, List, [], ◌∷◌, ◌++◌, length, fold, Some, None, slice_get, refl, sym, ap, subst, ◌∙◌}
+use Rattle.std.specs.List.{list_any}
 use Rattle.kb_class.specs.Naming.{Has}
 use Rattle.kb_link.proofs.Places.{get_last}
 use Rattle.kb_link.specs.declared.linking.LinkRefusal.{LinkRefusal}
@@ -11,7 +11,7 @@ use Rattle.kb_world.specs.Found.{FoundMethods}
 use Rattle.kb_world.specs.Reach.{with_new}
 use Rattle.kb_world.specs.Walks.{with_all, StopsAt, AreFound, IsSettled, AreSettled}
 use Rattle.kb_world.specs.declared.looked.Asked.{Asked}
-use Rattle.kb_world.proofs.Marking.{any_pushed, any_there}
+use Rattle.kb_world.proofs.Marking.{any_there}
 use Rattle.kb_world.proofs.Reaching.{all_front}
 
 -- ---- one number
@@ -66,28 +66,28 @@ found_all (n ∷ numbers) found all = ap (λ (fs : List ℕ). fold with_new fs n
 module _ (world : World) where
   -- what a settled entry mentions is found
   pub settled_found : (found : FoundMethods) (looked : List Asked) (asked : Asked) → AreSettled world found.numbers looked → Has looked asked
-      → found ≡ with_all found (use_mentions world asked.class asked.what asked.entry)
+      → found ≡ with_all found (use_mentions world asked.class asked.usage asked.entry)
   settled_found found looked asked settled has =
-      ap (λ (ns : List ℕ). record { all = found.all; numbers = ns }) (sym (found_all (use_mentions world asked.class asked.what asked.entry) found.numbers (settled asked has).mentioned))
+      ap (λ (ns : List ℕ). record { all = found.all; numbers = ns }) (sym (found_all (use_mentions world asked.class asked.usage asked.entry) found.numbers (settled asked has).mentioned))
 
   -- an entry that is looked at is settled, and those before it stay so
   pub settled_more : (before after : FoundMethods) (looked now : List Asked) (asked : Asked) → AreSettled world before.numbers looked
-      → use_fault world asked.class asked.what asked.entry ≡ None → after ≡ with_all before (use_mentions world asked.class asked.what asked.entry)
+      → use_fault world asked.class asked.usage asked.entry ≡ None → after ≡ with_all before (use_mentions world asked.class asked.usage asked.entry)
       → ((other : Asked) → Has now other ↔ (Has looked other ⊎ (other ≡ asked))) → AreSettled world after.numbers now
   settled_more before after looked now asked settled none added same other has =
       elim ((same other).0 has) [
         | inl old ↦ record {
           faultless = (settled other old).faultless;
-          mentioned = subst (λ (ns : List ℕ). AreFound ns (use_mentions world other.class other.what other.entry)) (sym numbers)
-              (still_found (use_mentions world other.class other.what other.entry) (use_mentions world asked.class asked.what asked.entry) before.numbers (settled other old).mentioned);
+          mentioned = subst (λ (ns : List ℕ). AreFound ns (use_mentions world other.class other.usage other.entry)) (sym numbers)
+              (still_found (use_mentions world other.class other.usage other.entry) (use_mentions world asked.class asked.usage asked.entry) before.numbers (settled other old).mentioned);
         }
         | inr is ↦ subst (IsSettled world after.numbers) (sym is) (record {
           faultless = none;
-          mentioned = subst (λ (ns : List ℕ). AreFound ns (use_mentions world asked.class asked.what asked.entry)) (sym numbers) (all_found (use_mentions world asked.class asked.what asked.entry) before.numbers);
+          mentioned = subst (λ (ns : List ℕ). AreFound ns (use_mentions world asked.class asked.usage asked.entry)) (sym numbers) (all_found (use_mentions world asked.class asked.usage asked.entry) before.numbers);
         })
       ]
     where
-      numbers : after.numbers ≡ fold with_new before.numbers (use_mentions world asked.class asked.what asked.entry)
+      numbers : after.numbers ≡ fold with_new before.numbers (use_mentions world asked.class asked.usage asked.entry)
       numbers = ap (λ (f : FoundMethods). f.numbers) added
 
   pub none_settled : (found : List ℕ) → AreSettled world found []

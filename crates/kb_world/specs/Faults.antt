@@ -33,12 +33,12 @@ pub data Fault : Type 0 where
   -- a class that code initialises, by its name
   Initialiser : List ℕ → Fault
 
--- what the code's fault says
-abbrev pub told : FaultOfCode → Fault
-told faults.NoField = NoField
-told (faults.Missing name) = Missing name.now
-told (faults.Outside what) = Outside what
-told (faults.Initialiser name) = Initialiser name.now
+-- the fault that the code lends, with its name as bytes
+abbrev pub plain_fault : FaultOfCode → Fault
+plain_fault faults.NoField = NoField
+plain_fault (faults.Missing name) = Missing name.now
+plain_fault (faults.Outside what) = Outside what
+plain_fault (faults.Initialiser name) = Initialiser name.now
 
 -- ---- types
 

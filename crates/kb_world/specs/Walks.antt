@@ -1,5 +1,5 @@
 -- The walk over the methods that are reached, and what it tells.
-use Rattle.std.specs.Prelude.{◌≡◌, ◌⊎◌, ℕ, Bool, true, ◌==◌, List, fold, Some, None}
+use Rattle.std.specs.Prelude.{◌≡◌, ◌⊎◌, ℕ, true, ◌==◌, List, fold, Some, None}
 use Rattle.std.specs.List.{AllByRecursion, list_any}
 use Rattle.kb_class.specs.Naming.{Has}
 use Rattle.kb_code.specs.declared.instruction.Instr.{Instr}
@@ -53,7 +53,7 @@ IsFaultAt world number class item method at fault = (method ≡ number) × (at �
 
 -- the fault of this use of an entry at that offset
 abbrev pub IsFaultOfUse : World → ℕ → ℕ → Asked → ℕ → ℕ → Fault → Type 0
-IsFaultOfUse world number place asked method at fault = (method ≡ number) × (at ≡ place) × (use_fault world asked.class asked.what asked.entry ≡ Some fault)
+IsFaultOfUse world number place asked method at fault = (method ≡ number) × (at ≡ place) × (use_fault world asked.class asked.usage asked.entry ≡ Some fault)
 
 -- these numbers are all found
 abbrev pub AreFound : List ℕ → List ℕ → Type 0
@@ -61,8 +61,8 @@ AreFound found numbers = AllByRecursion (λ number. list_any (λ other. other ==
 
 -- Nothing is wrong with such a use of the entry, and what it mentions is found.
 pub record IsSettled (world : World) (found : List ℕ) (asked : Asked) : Type 0 where
-  pub faultless : use_fault world asked.class asked.what asked.entry ≡ None
-  pub mentioned : AreFound found (use_mentions world asked.class asked.what asked.entry)
+  pub faultless : use_fault world asked.class asked.usage asked.entry ≡ None
+  pub mentioned : AreFound found (use_mentions world asked.class asked.usage asked.entry)
 
 abbrev pub AreSettled : World → List ℕ → List Asked → Type 0
 AreSettled world found looked = (asked : Asked) → Has looked asked → IsSettled world found asked

@@ -4,10 +4,9 @@ ghost use Rattle.std.specs.List.{list_any};
 ghost use Rattle.kb_class.specs.Platform.{object_name};
 ghost use Rattle.kb_link.specs.World.{methods_in, number_in};
 ghost use Rattle.kb_link.specs.Links.{IsLinked};
-ghost use Rattle.kb_link.specs.Slots.{is_static};
 ghost use Rattle.kb_world.specs.Lookup.{class_number, class_of, resolved_method};
 ghost use Rattle.kb_world.specs.declared.calls.Call.TheVariants as calls;
-ghost use Rattle.kb_world.specs.Faults.{kind_left_out, told};
+ghost use Rattle.kb_world.specs.Faults.{kind_left_out, plain_fault};
 ghost use Rattle.kb_world.specs.Tables.{kind_owner};
 ghost use Rattle.kb_world.specs.Receivers.{called_below, receivers_in, receives_at, selected_on_array};
 ghost use Rattle.kb_world.specs.Calls.{takes, selected_on, called_on, called, is_callable_method, is_callable, is_for, fault_of_kind, fault_of_number, call_fault};
@@ -16,8 +15,7 @@ use crate::faults::Fault;
 use crate::methods::{OBJECT, is_open};
 use crate::resolved::Resolved;
 use crate::world::World;
-use kb_class::{ClassId, MemberKind, MethodId, MethodInfo, ReferenceKind};
-use kb_classfile::STATIC;
+use kb_class::{ClassId, MemberKind, MethodId, MethodInfo, ReferenceKind, is_static};
 use kb_link::What;
 use kb_names::ExactType;
 
@@ -32,7 +30,7 @@ pub(crate) enum Call {
 
 /// A call of an entry of a class.
 #[derive(Clone, Copy)]
-pub(crate) struct CallOf {
+pub(crate) struct EntryCall {
     pub(crate) class: u32,
     pub(crate) entry: u16,
     pub(crate) call: Call,
@@ -42,7 +40,7 @@ impl World {
     /// What is wrong with a call of the entry, in code of the class.
     pub(crate) fn call_fault(&self, class: ClassId, call: Call, entry: u16) -> Option<Fault<'_>>
         requires { class.0 < length self.now.classes }
-        ensures { option_map told result ≡ call_fault self.now class.0 call entry }
+        ensures { option_map plain_fault result ≡ call_fault self.now class.0 call entry }
     {
         let Some(sought) = self.linked().class_of(class).reference_entry(entry) else {
             return Some(Fault::Outside(What::Operand));
@@ -50,8 +48,8 @@ impl World {
         if !takes(call, sought.what) {
             return Some(Fault::Outside(What::Operand));
         }
-        let told = self.entry_at(class, entry);
-        self.kind_fault(class, call, entry, sought.class, sought.kind, told)
+        let resolved = self.entry_at(class, entry);
+        self.kind_fault(class, call, entry, sought.class, sought.kind, resolved)
     }
 
     // What is wrong with a call of the entry, which names a member of that kind; whether a part of a method's type is left out,
@@ -68,7 +66,7 @@ impl World {
         requires class { class.0 < length self.now.classes }
         requires left_out { known.left_out ≡ kind_left_out kind.now }
         requires owner { known.owner ≡ kind_owner self.now of.now kind.now }
-        ensures { option_map told result ≡ fault_of_kind self.now class.0 call entry of.now kind.now }
+        ensures { option_map plain_fault result ≡ fault_of_kind self.now class.0 call entry of.now kind.now }
     {
         let MemberKind::Method(_) = kind else {
             return Some(Fault::Outside(What::Method));
@@ -90,7 +88,7 @@ impl World {
     ) -> Option<Fault<'_>>
         requires class { class.0 < length self.now.classes }
         requires owner { owner ≡ class_number self.now of.now }
-        ensures { option_map told result ≡ fault_of_number self.now class.0 call entry of.now (resolved_method self.now class.0 entry) }
+        ensures { option_map plain_fault result ≡ fault_of_number self.now class.0 call entry of.now (resolved_method self.now class.0 entry) }
     {
         match self.resolve_method(class, entry) {
             Some(method) => self.method_fault(class, call, entry, of, owner, method),
@@ -111,7 +109,7 @@ impl World {
         requires class { class.0 < length self.now.classes }
         requires owner { owner ≡ class_number self.now of.now }
         requires method { method.0 < length (methods_in self.now.classes) }
-        ensures { option_map told result ≡ fault_of_number self.now class.0 call entry of.now (Some method.0) }
+        ensures { option_map plain_fault result ≡ fault_of_number self.now class.0 call entry of.now (Some method.0) }
     {
         let info = self.method_of(method);
         if !self.is_for(class, call, entry, info) {
@@ -134,7 +132,7 @@ impl World {
         match call {
             Call::Virtual | Call::Interface => is_open(method),
             Call::Special => self.is_for_special(class, entry, method),
-            Call::Static => is_static(method),
+            Call::Static => is_static(method.access),
         }
     }
 
@@ -143,11 +141,11 @@ impl World {
         requires { class.0 < length self.now.classes }
         ensures { result ≡ is_for self.now class.0 calls.Special entry method.now }
     {
-        if is_static(method) {
+        if is_static(method.access) {
             return false;
         }
         match self.select_special(class, entry) {
-            Some(selected) => !is_static(self.method_of(selected)),
+            Some(selected) => !is_static(self.method_of(selected).access),
             None => true,
         }
     }
@@ -295,11 +293,4 @@ pub(crate) fn takes(call: Call, what: ReferenceKind) -> bool
         (Call::Special | Call::Static, ReferenceKind::InterfaceMethod) => true,
         _ => false,
     }
-}
-
-/// Whether the method is static.
-pub(crate) fn is_static(method: &MethodInfo) -> bool
-    ensures { result ≡ is_static method.now.access }
-{
-    method.access & STATIC != 0
 }

@@ -1,17 +1,16 @@
 //! What is wrong with a target and with instructions, and its refusal.
-ghost use Rattle.std.specs.Prelude.{◌≡◌, ◌⊎◌, ◌<◌, length, option_map, IfOk};
+ghost use Rattle.std.specs.Prelude.{◌≡◌, ◌⊎◌, ◌<◌, None, length, option_map, IfOk};
 ghost use Rattle.kb_link.specs.World.{methods_in};
 ghost use Rattle.kb_link.specs.Targets.{Declares};
 ghost use Rattle.kb_link.specs.declared.linking.LinkRefusal.TheVariants as refusals;
-ghost use Rattle.kb_world.specs.Faults.{told};
-ghost use Rattle.kb_world.specs.Calls.{fault_of};
+ghost use Rattle.kb_world.specs.Faults.{plain_fault};
+ghost use Rattle.kb_world.specs.Calls.{fault_of, use_of};
 ghost use Rattle.kb_world.specs.Reach.{static_fault, fault_of_target};
 ghost use Rattle.kb_world.specs.Walks.{Tells};
 
-use crate::calls::{Call, is_static};
 use crate::faults::{Fault, has_left_out, primitive_fault};
 use crate::world::World;
-use kb_class::{ClassId, MethodId, MethodInfo};
+use kb_class::{ClassId, MethodId, MethodInfo, is_static};
 use kb_code::Instr;
 use kb_link::{LinkRefusal, What};
 use kb_names::{Name, NoMemory, Target};
@@ -21,7 +20,7 @@ impl World {
     /// What is wrong with a target itself: a class that code initialises, where it is static, and then its type.
     pub(crate) fn target_fault(&self, id: MethodId) -> Option<Fault<'_>>
         requires { id.0 < length (methods_in self.now.classes) }
-        ensures { option_map told result ≡ fault_of_target self.now id.0 }
+        ensures { option_map plain_fault result ≡ fault_of_target self.now id.0 }
     {
         let method = self.method_of(id);
         if let Some(fault) = self.static_fault(method) {
@@ -36,32 +35,26 @@ impl World {
     // The class of a static method, where code initialises it.
     fn static_fault(&self, method: &MethodInfo) -> Option<Fault<'_>>
         requires { method.now.class.0 < length self.now.classes }
-        ensures { option_map told result ≡ static_fault self.now method.now }
+        ensures { option_map plain_fault result ≡ static_fault self.now method.now }
     {
-        if !is_static(method) {
+        if !is_static(method.access) {
             return None;
         }
         self.initialiser_fault(method.class)
     }
 
-    /// What is wrong with an instruction of a class.
+    /// What is wrong with an instruction of a class that does no more with an entry than to read it.
     #[tactic(auto, unfolding(crate::specs::Calls::fault_of))]
-    pub(crate) fn fault_of(&self, class: ClassId, instr: &Instr) -> Option<Fault<'_>>
-        requires { class.0 < length self.now.classes }
-        ensures { option_map told result ≡ fault_of self.now class.0 instr.now }
+    pub(crate) fn other_fault(&self, class: ClassId, instr: &Instr) -> Option<Fault<'_>>
+        requires class { class.0 < length self.now.classes }
+        requires other { use_of instr.now ≡ None }
+        ensures { option_map plain_fault result ≡ fault_of self.now class.0 instr.now }
     {
         match instr {
             Instr::Other(op) => Some(Fault::Outside(What::Opcode(*op))),
             Instr::Ldc(entry) => self.constant_fault(class, *entry),
             Instr::GetField(entry) | Instr::PutField(entry) => self.field_fault(class, *entry),
-            Instr::Virtual(entry) => self.call_fault(class, Call::Virtual, *entry),
-            Instr::Special(entry) => self.call_fault(class, Call::Special, *entry),
-            Instr::Static(entry) => self.call_fault(class, Call::Static, *entry),
-            Instr::Interface(entry) => self.call_fault(class, Call::Interface, *entry),
-            Instr::New(entry) => self.new_fault(class, *entry),
             Instr::NewPrim(code) => primitive_fault(*code),
-            Instr::NewRefs(entry) => self.array_fault(class, *entry),
-            Instr::Cast(entry) | Instr::InstanceOf(entry) => self.cast_fault(class, *entry),
             _ => None,
         }
     }
@@ -75,7 +68,7 @@ impl World {
         fault: Fault<'_>,
     ) -> LinkRefusal
         requires { method.0 < length (methods_in self.now.classes) }
-        ensures { (result ≡ refusals.NoMemory) ⊎ Tells self.now method.0 at (told fault.entry) result }
+        ensures { (result ≡ refusals.NoMemory) ⊎ Tells self.now method.0 at (plain_fault fault.entry) result }
     {
         match fault {
             Fault::NoField => match self.target_of(alloc, method) {

@@ -1,10 +1,11 @@
 //! What is wrong with an instruction that is no call.
-ghost use Rattle.std.specs.Prelude.{◌≡◌, ◌<◌, length, nat_le, option_map};
+ghost use Rattle.std.specs.Prelude.{◌≡◌, ◌<◌, Some, length, nat_le, option_map};
 ghost use Rattle.std.specs.List.{list_any};
 ghost use Rattle.std.specs.Option.{option_copied};
 ghost use Rattle.kb_names.specs.Types.{shape_of};
+ghost use Rattle.kb_names.specs.declared.types.ExactType.TheVariants as exact;
 ghost use Rattle.kb_world.specs.Lookup.{resolved_field_class, resolved_field};
-ghost use Rattle.kb_world.specs.Faults.{told, is_left_out, has_left_out, class_in_type, missing_class, entry_at, constant_fault, fault_of_slot, field_fault, cast_fault, fault_of_initialiser, fault_of_object, fault_of_new_type, new_fault, is_deepest, array_fault, component_of_code, primitive_fault};
+ghost use Rattle.kb_world.specs.Faults.{plain_fault, is_left_out, has_left_out, class_in_type, missing_class, entry_at, constant_fault, fault_of_slot, field_fault, cast_fault, fault_of_initialiser, fault_of_object, fault_of_new, new_fault, is_deepest, array_fault, component_of_code, primitive_fault};
 
 use crate::world::World;
 use kb_class::{ClassId, ReferenceKind};
@@ -35,7 +36,7 @@ impl World {
     /// What is wrong with an ldc of the entry, in code of the class.
     pub(crate) fn constant_fault(&self, class: ClassId, entry: u16) -> Option<Fault<'_>>
         requires { class.0 < length self.now.classes }
-        ensures { option_map told result ≡ constant_fault (entry_at self.now class.0 entry) }
+        ensures { option_map plain_fault result ≡ constant_fault (entry_at self.now class.0 entry) }
     {
         let loaded = self.linked().class_of(class);
         if loaded.int_entry(entry).is_some() {
@@ -50,7 +51,7 @@ impl World {
     /// What is wrong with a getfield or putfield of the entry, in code of the class.
     pub(crate) fn field_fault(&self, class: ClassId, entry: u16) -> Option<Fault<'_>>
         requires { class.0 < length self.now.classes }
-        ensures { option_map told result ≡ field_fault self.now class.0 entry }
+        ensures { option_map plain_fault result ≡ field_fault self.now class.0 entry }
     {
         let Some(sought) = self.linked().class_of(class).reference_entry(entry) else {
             return Some(Fault::Outside(What::Operand));
@@ -64,7 +65,7 @@ impl World {
     // What is wrong with the field that the entry names.
     fn slot_fault(&self, class: ClassId, entry: u16) -> Option<Fault<'_>>
         requires { class.0 < length self.now.classes }
-        ensures { option_map told result ≡ fault_of_slot (resolved_field_class self.now class.0 entry) (resolved_field self.now class.0 entry) }
+        ensures { option_map plain_fault result ≡ fault_of_slot (resolved_field_class self.now class.0 entry) (resolved_field self.now class.0 entry) }
     {
         if self.field_class(class, entry).is_none() {
             return Some(Fault::NoField);
@@ -78,7 +79,7 @@ impl World {
     /// What is wrong with a checkcast or instanceof of the entry, in code of the class.
     pub(crate) fn cast_fault(&self, class: ClassId, entry: u16) -> Option<Fault<'_>>
         requires { class.0 < length self.now.classes }
-        ensures { option_map told result ≡ cast_fault self.now class.0 entry }
+        ensures { option_map plain_fault result ≡ cast_fault self.now class.0 entry }
     {
         match self.type_entry(class, entry) {
             Some(of) => self.missing_class(of),
@@ -88,7 +89,7 @@ impl World {
 
     // The class that the type names, where it is not there.
     fn missing_class<'a>(&self, of: &'a ExactType) -> Option<Fault<'a>>
-        ensures { option_map told result ≡ missing_class self.now of.now }
+        ensures { option_map plain_fault result ≡ missing_class self.now of.now }
     {
         let name = class_in_type(of)?;
         match self.class_named(name) {
@@ -100,34 +101,41 @@ impl World {
     /// What is wrong with a new of the entry, in code of the class.
     pub(crate) fn new_fault(&self, class: ClassId, entry: u16) -> Option<Fault<'_>>
         requires { class.0 < length self.now.classes }
-        ensures { option_map told result ≡ new_fault self.now class.0 entry }
+        ensures { option_map plain_fault result ≡ new_fault self.now class.0 entry }
     {
-        let Some(of) = self.type_entry(class, entry) else {
-            return Some(Fault::Outside(What::Operand));
-        };
-        match self.missing_class(of) {
-            Some(fault) => Some(fault),
-            None => self.new_type_fault(of),
+        match self.type_entry(class, entry) {
+            Some(of) => self.new_type_fault(of),
+            None => Some(Fault::Outside(What::Operand)),
         }
     }
 
     // What is wrong with making an object of the type.
-    fn new_type_fault(&self, of: &ExactType) -> Option<Fault<'_>>
-        ensures { option_map told result ≡ fault_of_new_type self.now of.now }
+    fn new_type_fault<'a>(&'a self, of: &'a ExactType) -> Option<Fault<'a>>
+        ensures { option_map plain_fault result ≡ fault_of_new self.now (Some of.now) }
     {
         match of {
-            ExactType::Class(name) => {
-                let class = self.class_named(name)?;
-                self.object_fault(class)
-            }
-            ExactType::Array(_) => Some(Fault::Outside(What::Kind)),
+            ExactType::Class(name) => self.new_class_fault(name),
+            ExactType::Array(_) => match self.missing_class(of) {
+                Some(fault) => Some(fault),
+                None => Some(Fault::Outside(What::Kind)),
+            },
+        }
+    }
+
+    // What is wrong with making an object of the class of that name, which is looked up once.
+    fn new_class_fault<'a>(&'a self, name: &'a Name) -> Option<Fault<'a>>
+        ensures { option_map plain_fault result ≡ fault_of_new self.now (Some (exact.Class name.now)) }
+    {
+        match self.class_named(name) {
+            Some(class) => self.object_fault(class),
+            None => Some(Fault::Missing(name)),
         }
     }
 
     // What is wrong with making an object of the class.
     fn object_fault(&self, class: ClassId) -> Option<Fault<'_>>
         requires { class.0 < length self.now.classes }
-        ensures { option_map told result ≡ fault_of_object self.now class.0 }
+        ensures { option_map plain_fault result ≡ fault_of_object self.now class.0 }
     {
         if !is_concrete(self.linked().class_of(class)) {
             return Some(Fault::Outside(What::Kind));
@@ -138,7 +146,7 @@ impl World {
     /// The class, where code initialises it.
     pub(crate) fn initialiser_fault(&self, class: ClassId) -> Option<Fault<'_>>
         requires { class.0 < length self.now.classes }
-        ensures { option_map told result ≡ fault_of_initialiser self.now class.0 }
+        ensures { option_map plain_fault result ≡ fault_of_initialiser self.now class.0 }
     {
         if self.linked().has_initialiser(class) {
             return Some(Fault::Initialiser(self.name_of(class)));
@@ -149,7 +157,7 @@ impl World {
     /// What is wrong with an anewarray of the entry, in code of the class.
     pub(crate) fn array_fault(&self, class: ClassId, entry: u16) -> Option<Fault<'_>>
         requires { class.0 < length self.now.classes }
-        ensures { option_map told result ≡ array_fault self.now class.0 entry }
+        ensures { option_map plain_fault result ≡ array_fault self.now class.0 entry }
     {
         let Some(of) = self.type_entry(class, entry) else {
             return Some(Fault::Outside(What::Operand));
@@ -166,7 +174,7 @@ impl World {
 
 /// What is wrong with a newarray of that code.
 pub(crate) fn primitive_fault(code: u8) -> Option<Fault<'static>>
-    ensures { option_map told result ≡ primitive_fault code }
+    ensures { option_map plain_fault result ≡ primitive_fault code }
 {
     match component_of_code(code) {
         Some(_) => None,

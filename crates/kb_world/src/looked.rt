@@ -24,7 +24,7 @@ pub(crate) enum Use {
 pub(crate) struct Asked {
     pub(crate) class: u32,
     pub(crate) entry: u16,
-    pub(crate) what: Use,
+    pub(crate) usage: Use,
 }
 
 /// Entries with the uses for which they have been looked at. Contracts see the list of them.

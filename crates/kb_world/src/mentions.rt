@@ -6,7 +6,7 @@ ghost use Rattle.kb_world.specs.Lookup.{class_number};
 ghost use Rattle.kb_world.specs.Receivers.{called_below, receivers_in};
 ghost use Rattle.kb_world.specs.Walks.{with_all};
 
-use crate::calls::{Call, CallOf, takes};
+use crate::calls::{Call, EntryCall, takes};
 use crate::found::Found;
 use crate::world::World;
 use kb_class::{ClassId, MethodId};
@@ -14,7 +14,7 @@ use kb_names::{ExactType, NoMemory};
 
 impl World {
     /// Adds the methods that a call of the entry may call, in code of the class.
-    pub(crate) fn add_called(&self, asked: CallOf, found: &mut Found) -> Result<(), NoMemory>
+    pub(crate) fn add_called(&self, asked: EntryCall, found: &mut Found) -> Result<(), NoMemory>
         requires class { asked.class < length self.now.classes }
         requires all { found.old.all ≡ length (methods_in self.now.classes) }
         ensures { OnOk result (found.new ≡ with_all found.old (call_mentions self.now asked.class asked.call asked.entry)) }
@@ -36,7 +36,7 @@ impl World {
     // Adds what a call of the method, which is sought in the type, may call.
     fn add_for(
         &self,
-        asked: CallOf,
+        asked: EntryCall,
         of: &ExactType,
         owner: Option<u32>,
         method: MethodId,

@@ -54,8 +54,7 @@ fn row_of(
     ensures { IfOk result (IsRow linked.now class) }
 {
     let mut known = Known::new(alloc);
-    let row = row_by(alloc, linked, numbers, slots, class, &mut known)?;
-    Ok(row)
+    row_by(alloc, linked, numbers, slots, class, &mut known)
 }
 
 // The same, with what is known.

@@ -169,9 +169,7 @@ fn add_first(signature: u32, number: u32, table: &mut HashMap<u32, u32>) -> Resu
     if table.contains_key(&signature) {
         return Ok(());
     }
-    let Ok(_) = table.insert(signature, number) else {
-        return Err(NoMemory);
-    };
+    table.insert(signature, number)?;
     Ok(())
 }
 

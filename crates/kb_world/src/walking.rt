@@ -4,11 +4,11 @@ ghost use Rattle.std.specs.Prelude.{◌≡◌, ◌<◌, length, None, OnOk, IfEr
 ghost use Rattle.kb_link.specs.World.{methods_in};
 ghost use Rattle.std.specs.Option.{option_map};
 ghost use Rattle.kb_world.specs.Calls.{use_of, use_fault, use_mentions, fault_of, mentions};
-ghost use Rattle.kb_world.specs.Faults.{told};
+ghost use Rattle.kb_world.specs.Faults.{plain_fault};
 ghost use Rattle.kb_world.specs.Reach.{HasNoFault, fault_in, mentions_in, method_mentions};
 ghost use Rattle.kb_world.specs.Walks.{with_all, StopsAt, IsFaultOfMethod, IsFaultIn, IsFaultAt, IsFaultOfUse, AreSettled};
 
-use crate::calls::{Call, CallOf};
+use crate::calls::{Call, EntryCall};
 use crate::faults::Fault;
 use crate::found::Found;
 use crate::looked::{Asked, Looked, Use};
@@ -94,11 +94,11 @@ impl World {
         ensures refused { IfErr result (StopsAt self.now (IsFaultAt self.now method.0 class.0 item.now)) }
     {
         match use_of(&item.1) {
-            Some((what, entry)) => {
+            Some((usage, entry)) => {
                 let asked = Asked {
                     class: class.0,
                     entry,
-                    what,
+                    usage,
                 };
                 self.check_use(alloc, method, item.0, asked, found, looked)
             }
@@ -106,7 +106,7 @@ impl World {
         }
     }
 
-    // Refuses the fault of an instruction that uses no entry.
+    // Refuses the fault of an instruction that does no more with an entry than to read it.
     fn check_other(
         &self,
         alloc: Global,
@@ -116,10 +116,11 @@ impl World {
     ) -> Result<(), LinkRefusal>
         requires there { method.0 < length (methods_in self.now.classes) }
         requires class { class.0 < length self.now.classes }
+        requires other { use_of item.now.1 ≡ None }
         ensures none { OnOk result (fault_of self.now class.0 item.now.1 ≡ None) }
         ensures refused { IfErr result (StopsAt self.now (IsFaultAt self.now method.0 class.0 item.now)) }
     {
-        match self.fault_of(class, &item.1) {
+        match self.other_fault(class, &item.1) {
             Some(fault) => Err(self.refusal(alloc, method, item.0, fault)),
             None => Ok(()),
         }
@@ -140,8 +141,8 @@ impl World {
         requires class { asked.class < length self.now.classes }
         requires all { found.old.all ≡ length (methods_in self.now.classes) }
         requires settled { AreSettled self.now found.old.numbers looked.old }
-        ensures none { OnOk result (use_fault self.now asked.class asked.what asked.entry ≡ None) }
-        ensures added { OnOk result (found.new ≡ with_all found.old (use_mentions self.now asked.class asked.what asked.entry)) }
+        ensures none { OnOk result (use_fault self.now asked.class asked.usage asked.entry ≡ None) }
+        ensures added { OnOk result (found.new ≡ with_all found.old (use_mentions self.now asked.class asked.usage asked.entry)) }
         ensures settled { OnOk result (AreSettled self.now found.new.numbers looked.new) }
         ensures refused { IfErr result (StopsAt self.now (IsFaultOfUse self.now method.0 at asked)) }
     {
@@ -170,17 +171,17 @@ impl World {
         requires there { method.0 < length (methods_in self.now.classes) }
         requires class { asked.class < length self.now.classes }
         requires all { found.old.all ≡ length (methods_in self.now.classes) }
-        ensures none { OnOk result (use_fault self.now asked.class asked.what asked.entry ≡ None) }
-        ensures added { OnOk result (found.new ≡ with_all found.old (use_mentions self.now asked.class asked.what asked.entry)) }
+        ensures none { OnOk result (use_fault self.now asked.class asked.usage asked.entry ≡ None) }
+        ensures added { OnOk result (found.new ≡ with_all found.old (use_mentions self.now asked.class asked.usage asked.entry)) }
         ensures refused { IfErr result (StopsAt self.now (IsFaultOfUse self.now method.0 at asked)) }
     {
-        if let Some(fault) = self.use_fault(ClassId(asked.class), asked.what, asked.entry) {
+        if let Some(fault) = self.use_fault(ClassId(asked.class), asked.usage, asked.entry) {
             return Err(self.refusal(alloc, method, at, fault));
         }
-        let Use::Call(call) = asked.what else {
+        let Use::Call(call) = asked.usage else {
             return Ok(());
         };
-        let called = CallOf {
+        let called = EntryCall {
             class: asked.class,
             entry: asked.entry,
             call,
@@ -192,11 +193,11 @@ impl World {
     }
 
     // What is wrong with a use of the entry, in code of the class.
-    fn use_fault(&self, class: ClassId, what: Use, entry: u16) -> Option<Fault<'_>>
+    fn use_fault(&self, class: ClassId, usage: Use, entry: u16) -> Option<Fault<'_>>
         requires { class.0 < length self.now.classes }
-        ensures { option_map told result ≡ use_fault self.now class.0 what entry }
+        ensures { option_map plain_fault result ≡ use_fault self.now class.0 usage entry }
     {
-        match what {
+        match usage {
             Use::Call(call) => self.call_fault(class, call, entry),
             Use::Object => self.new_fault(class, entry),
             Use::Array => self.array_fault(class, entry),

@@ -172,6 +172,13 @@ impl World {
         self.linked.class_named(name)
     }
 
+    /// The name of these bytes: that of the class of the name, where there is one, shared with it.
+    pub fn shared_name(&self, alloc: Global, name: &[u8]) -> Result<Name, NoMemory>
+        ensures { IfOk result (λ told. told ≡ name.now) }
+    {
+        self.linked.shared_name(alloc, name)
+    }
+
     /// The name of a class.
     pub fn name_of(&self, class: ClassId) -> &Name
         requires { class.0 < length self.now.classes }

@@ -175,16 +175,17 @@ fn reach_asked(alloc: Global, world: &World, target: &str) -> RowResult<Reach> {
 }
 
 fn reach_of(alloc: Global, world: &World, target: &Target) -> Reach {
-    match world.reach(alloc, target) {
-        Ok(_) => Reach::Whole,
-        Err(refusal) => reach_refused(&refusal),
-    }
+    let reached = world.reach(alloc, target);
+    let told = reach_told(&reached);
+    drop(reached);
+    told
 }
 
-fn reach_refused(refusal: &LinkRefusal) -> Reach {
-    match refusal {
-        LinkRefusal::Outside(_, at, What::Method) => Reach::Uncallable(*at),
-        _ => Reach::Refused,
+fn reach_told(reached: &Result<MethodId, LinkRefusal>) -> Reach {
+    match reached {
+        Ok(_) => Reach::Whole,
+        Err(LinkRefusal::Outside(_, at, What::Method)) => Reach::Uncallable(*at),
+        Err(_) => Reach::Refused,
     }
 }
 

@@ -105,7 +105,7 @@ fn push_instr(code: &mut Vec<u8>, written: &Written, at: u32) -> Result<(), NoMe
     }
 }
 
-/// Appends the bytes of an instruction that stands at the offset `at` of the code. After want of memory the code is only
+/// Appends the bytes of an instruction that stands at the offset `at` of the code. After memory ran out the code is only
 /// dropped.
 pub fn write_instr(code: &mut Vec<u8>, written: &Written, at: u32) -> Result<(), NoMemory>
     requires sound { IsTrue (is_sound written.now) }

@@ -1,4 +1,4 @@
-//! Numbers and runs of bytes, appended to bytes. After want of memory the bytes are only dropped.
+//! Numbers and runs of bytes, appended to bytes. After memory ran out the bytes are only dropped.
 
 ghost use Rattle.std.specs.Prelude.{◌≡◌, ◌<◌, ◌^◌, [], ◌∷◌, ◌++◌, OnOk};
 ghost use Rattle.kb_writer.specs.Numbers.{u2, u4};

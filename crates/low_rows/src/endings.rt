@@ -2,7 +2,7 @@
 
 use crate::steps::read_value;
 use crate::told::append_bool;
-use crate::words::read_numbers;
+use crate::words::read_list;
 use kb_heap::{Bound, Bounds, Ending, Place, RunBounds};
 use kb_names::read_target;
 use kb_table::{RowResult, RowStop, read_number, read_words};
@@ -84,7 +84,7 @@ pub fn append_bounds(alloc: Global, asked: &[String], into: &mut Vec<u8>) -> Row
 
 /// The bounds of an exploration in the order in which they stand there.
 fn read_bounds(alloc: Global, spelled: &str) -> RowResult<Bounds> {
-    let numbers = read_numbers(alloc, spelled)?;
+    let numbers = read_list(alloc, spelled)?;
     match numbers.as_slice() {
         [k, array, alloc, loops, depth, steps] => Ok(Bounds {
             k: *k,

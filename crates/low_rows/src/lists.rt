@@ -1,7 +1,7 @@
 //! Rows, and values in boxes.
 
 use crate::told::{append_number, append_numbers};
-use crate::words::read_numbers;
+use crate::words::read_list;
 use kb_rows::{Held, Row};
 use kb_table::{RowResult, RowStop, read_number, read_words};
 use std::alloc::Global;
@@ -25,7 +25,7 @@ fn read_row(alloc: Global, items: &str) -> RowResult<Row<u32>> {
     if items == "-" {
         return Ok(Row::new(alloc));
     }
-    Ok(Row::from_vec(read_numbers(alloc, items)?))
+    Ok(Row::from_vec(read_list(alloc, items)?))
 }
 
 fn change(alloc: Global, step: &str, row: &mut Row<u32>) -> RowResult<()> {

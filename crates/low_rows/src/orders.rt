@@ -1,7 +1,7 @@
 //! Orders of numbers, and sets of texts.
 
 use crate::told::{append_bool, append_number, append_text};
-use crate::words::{read_numbers, read_text, read_texts};
+use crate::words::{read_list, read_text, read_texts};
 use kb_order::{Order, is_complete, order_of, ordered_set};
 use kb_rows::Row;
 use kb_table::{RowResult, RowStop, read_number};
@@ -38,7 +38,7 @@ fn read_order(alloc: Global, lists: &str) -> RowResult<Order> {
 fn read_lists(alloc: Global, spelled: &str) -> RowResult<Vec<Row<u32>>> {
     let mut lists = Vec::new(alloc);
     for list in spelled.split('/') {
-        lists.push(Row::from_vec(read_numbers(alloc, list)?))?;
+        lists.push(Row::from_vec(read_list(alloc, list)?))?;
     }
     Ok(lists)
 }

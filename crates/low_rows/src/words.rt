@@ -1,19 +1,15 @@
 //! What the words of a question spell.
 
 use kb_rows::Row;
-use kb_table::{RowResult, read_number};
+use kb_table::{RowResult, read_numbers};
 use std::alloc::Global;
 
 /// The numbers between commas; `-` alone is none.
-pub fn read_numbers(alloc: Global, spelled: &str) -> RowResult<Vec<u32>> {
-    let mut numbers = Vec::new(alloc);
+pub fn read_list(alloc: Global, spelled: &str) -> RowResult<Vec<u32>> {
     if spelled == "-" {
-        return Ok(numbers);
+        return Ok(Vec::new(alloc));
     }
-    for word in spelled.split(',') {
-        numbers.push(read_number(word)?)?;
-    }
-    Ok(numbers)
+    read_numbers(alloc, spelled, ',')
 }
 
 /// The text that a word spells: `_` is a space, `~` the byte 255, and `.` alone the empty text.

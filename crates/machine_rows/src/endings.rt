@@ -1,8 +1,8 @@
 //! How runs end, as texts.
 
-use kb_heap::{Bound, Ending, Heap, Value};
+use kb_heap::{Bound, Ending, Heap, Place, Value};
 use kb_names::{ExactType, Spelling, write_name, write_target, write_type};
-use kb_table::{RowResult, RowStop, kept};
+use kb_table::{RowResult, RowStop, append, append_number, kept};
 use std::alloc::Global;
 
 /// Appends an ending. An object of the heap is told by its class.
@@ -13,35 +13,33 @@ pub fn append_ending(
     into: &mut Vec<u8>,
 ) -> RowResult<()> {
     match ending {
-        Ending::Returned(None) => into.extend_from_slice(b"returns")?,
-        Ending::Returned(Some(value)) => {
-            into.extend_from_slice(b"returns ")?;
-            append_value(alloc, value, heap, into)?;
-        }
+        Ending::Returned(None) => append("returns", into),
+        Ending::Returned(Some(value)) => append_value(alloc, value, heap, into),
         Ending::Threw(object) => {
-            into.extend_from_slice(b"throws ")?;
-            append_class(*object, heap, into)?;
+            append("throws ", into)?;
+            append_class(*object, heap, into)
         }
-        Ending::IllTyped(place) => {
-            into.extend_from_slice(b"illtyped ")?;
-            kept(write_target(&place.method, into))?;
-            into.extend_from_slice(format!(in alloc; " {}", place.at)?.as_bytes())?;
-        }
+        Ending::IllTyped(place) => append_place(alloc, place, into),
         Ending::Past(bound) => {
-            into.extend_from_slice(b"past ")?;
-            into.extend_from_slice(bound_text(*bound).as_bytes())?;
+            append("past ", into)?;
+            append(bound_text(*bound), into)
         }
     }
-    Ok(())
+}
+
+fn append_place(alloc: Global, place: &Place, into: &mut Vec<u8>) -> RowResult<()> {
+    append("illtyped ", into)?;
+    kept(write_target(&place.method, into))?;
+    append_number(alloc, " ", i64::from(place.at), into)
 }
 
 fn append_value(alloc: Global, value: &Value, heap: &Heap, into: &mut Vec<u8>) -> RowResult<()> {
+    append("returns ", into)?;
     match value {
-        Value::Int(number) => into.extend_from_slice(format!(in alloc; "{number}")?.as_bytes())?,
-        Value::Null => into.extend_from_slice(b"null")?,
-        Value::Ref(object) => append_class(*object, heap, into)?,
+        Value::Int(number) => append_number(alloc, "", i64::from(*number), into),
+        Value::Null => append("null", into),
+        Value::Ref(object) => append_class(*object, heap, into),
     }
-    Ok(())
 }
 
 /// Appends the name of the class of that object, or the descriptor of an array.
@@ -52,7 +50,7 @@ fn append_class(object: u32, heap: &Heap, into: &mut Vec<u8>) -> RowResult<()> {
     match &object.kind {
         ExactType::Class(name) => kept(write_name(name, into)),
         ExactType::Array(component) => {
-            into.push(b'[')?;
+            append("[", into)?;
             kept(write_type(component, Spelling::Escaped, into))
         }
     }

@@ -14,10 +14,10 @@ ghost use Rattle.kb_world.specs.Reach.{IsAccepted};
 use endings::append_ending;
 use kb_class::MethodId;
 use kb_fits::fits_types;
-use kb_load::{InWorlds, WorldRows};
+use kb_load::{InWorlds, WorldRows, reached};
 use kb_machine::run;
 use kb_outside::{FileShelf, OutSink, Sink};
-use kb_table::{RowResult, RowStop, send, write_rows};
+use kb_table::{RowResult, RowStop, append, send, write_rows};
 use kb_world::World;
 use rows::{TableRow, read_row};
 use std::alloc::Global;
@@ -36,10 +36,10 @@ impl WorldRows for Runs {
         row: &str,
         out: &mut W,
     ) -> RowResult<()> {
-        let mut text = format!(in alloc; "{row}: ")?.into_bytes();
+        let mut text = Vec::new(alloc);
         append_run(alloc, world, row, &mut text)?;
-        text.push(b'\n')?;
-        send(out, text.as_slice())
+        send(out, text.as_slice())?;
+        send(out, b"\n")
     }
 }
 
@@ -55,8 +55,10 @@ fn main(rt: HostRuntime) -> io::Result<ExitCode> {
     Ok(ExitCode::from(0))
 }
 
-/// Appends how the run of the row of a line ends, or why there is none.
+/// Appends a line, and how the run of its row ends, or why there is none.
 fn append_run(alloc: Global, world: &World, line: &str, into: &mut Vec<u8>) -> RowResult<()> {
+    append(line, into)?;
+    append(": ", into)?;
     let row = read_row(alloc, line)?;
     append_run_of(alloc, world, row.get(), into)
 }
@@ -67,12 +69,25 @@ fn append_run_of(
     row: &TableRow,
     into: &mut Vec<u8>,
 ) -> RowResult<()> {
-    let Ok(method) = world.reach(alloc, &row.target) else {
-        return Ok(into.extend_from_slice(b"cannot be run")?);
+    let Some(method) = reached(alloc, world, &row.target) else {
+        return append("cannot be run", into);
     };
     if !fits_types(world, method, &row.input) {
-        return Ok(into.extend_from_slice(b"does not take these arguments")?);
+        return append("does not take these arguments", into);
     }
+    append_runs(alloc, world, method, row, into)
+}
+
+/// Runs a method as often as the row says, and appends how the last run ends.
+fn append_runs(
+    alloc: Global,
+    world: &World,
+    method: MethodId,
+    row: &TableRow,
+    into: &mut Vec<u8>,
+) -> RowResult<()>
+    requires { IsAccepted world.now method }
+{
     for _ in 1..row.times {
         run_once(alloc, world, method, row)?;
     }

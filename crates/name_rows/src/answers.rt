@@ -6,8 +6,8 @@ use kb_names::{
     read_name, read_target, read_type, write_method_type, write_name, write_target, write_type,
 };
 use kb_rows::Held;
-use kb_table::{RowResult, RowStop};
-use std::alloc::Global;
+use kb_table::{RowResult, RowStop, append, kept};
+use std::alloc::{AllocError, Global};
 
 /// Appends the answer to a question about the text:
 ///
@@ -26,7 +26,7 @@ pub fn append_answer(
     into: &mut Vec<u8>,
 ) -> RowResult<()> {
     match question {
-        "write" => Ok(write_name(&Name::from_slice(alloc, text)?, into)?),
+        "write" => append_spelled(alloc, text, into),
         "name" => append_name(alloc, text, into),
         "descriptor" => append_descriptor(alloc, text, into),
         "cut" => append_cuts(alloc, text, into),
@@ -37,16 +37,23 @@ pub fn append_answer(
     }
 }
 
+fn append_spelled(alloc: Global, bytes: &[u8], into: &mut Vec<u8>) -> RowResult<()> {
+    let name = Name::from_slice(alloc, bytes)?;
+    kept(write_name(&name, into))
+}
+
 fn append_name(alloc: Global, text: &[u8], into: &mut Vec<u8>) -> RowResult<()> {
     match read_name(alloc, text) {
-        Ok(name) => {
-            if name.is_empty() {
-                into.extend_from_slice(b"empty")?;
-            }
-            append_text(name.as_slice(), into)
-        }
+        Ok(name) => append_bytes(name.as_slice(), into),
         Err(NameTextRefusal::BadName(at)) => append_bad(alloc, at, into),
         Err(NameTextRefusal::NoMemory) => Err(RowStop::NoMemory),
+    }
+}
+
+fn append_bytes(name: &[u8], into: &mut Vec<u8>) -> RowResult<()> {
+    match name {
+        [] => append("empty", into),
+        _ => append_text(name, into),
     }
 }
 
@@ -60,10 +67,23 @@ fn append_descriptor(alloc: Global, text: &[u8], into: &mut Vec<u8>) -> RowResul
 
 /// Appends the descriptor as it is written again.
 fn append_again(alloc: Global, text: &[u8], into: &mut Vec<u8>) -> Result<(), NameRefusal> {
-    let written = match text {
-        [b'(', ..] => write_method_type(&read_method_type(alloc, text)?, Spelling::Raw, into),
-        _ => write_type(&read_type(alloc, text)?, Spelling::Raw, into),
-    };
+    match text {
+        [b'(', ..] => append_method_type(alloc, text, into),
+        _ => append_type(alloc, text, into),
+    }
+}
+
+fn append_method_type(alloc: Global, text: &[u8], into: &mut Vec<u8>) -> Result<(), NameRefusal> {
+    let of = read_method_type(alloc, text)?;
+    as_refusal(write_method_type(&of, Spelling::Raw, into))
+}
+
+fn append_type(alloc: Global, text: &[u8], into: &mut Vec<u8>) -> Result<(), NameRefusal> {
+    let of = read_type(alloc, text)?;
+    as_refusal(write_type(&of, Spelling::Raw, into))
+}
+
+fn as_refusal(written: Result<(), AllocError>) -> Result<(), NameRefusal> {
     match written {
         Ok(()) => Ok(()),
         Err(_) => Err(NameRefusal::NoMemory),
@@ -73,25 +93,28 @@ fn append_again(alloc: Global, text: &[u8], into: &mut Vec<u8>) -> Result<(), Na
 fn append_cuts(alloc: Global, text: &[u8], into: &mut Vec<u8>) -> RowResult<()> {
     for (end, _) in text.iter().enumerate() {
         append_descriptor(alloc, &text[..end], into)?;
-        into.extend_from_slice(b", ")?;
+        append(", ", into)?;
     }
     append_descriptor(alloc, text, into)
 }
 
 fn append_component(alloc: Global, text: &[u8], into: &mut Vec<u8>) -> RowResult<()> {
-    let Ok(of) = read_type(alloc, text) else {
-        return Err(RowStop::Malformed);
-    };
-    let copy = of.copied(alloc)?;
-    match &copy {
-        JType::Array(component) => Ok(write_type(component.get(), Spelling::Escaped, into)?),
+    match read_type(alloc, text) {
+        Ok(of) => append_component_of(&of.copied(alloc)?, into),
+        Err(_) => Err(RowStop::Malformed),
+    }
+}
+
+fn append_component_of(of: &JType, into: &mut Vec<u8>) -> RowResult<()> {
+    match of {
+        JType::Array(component) => kept(write_type(component.get(), Spelling::Escaped, into)),
         _ => Err(RowStop::Malformed),
     }
 }
 
 fn append_target(alloc: Global, text: &[u8], into: &mut Vec<u8>) -> RowResult<()> {
     match read_target(alloc, text) {
-        Ok(target) => Ok(write_target(&target, into)?),
+        Ok(target) => kept(write_target(&target, into)),
         Err(TargetRefusal::BadTarget(at)) => append_bad(alloc, at, into),
         Err(TargetRefusal::NoMemory) => Err(RowStop::NoMemory),
     }
@@ -103,9 +126,13 @@ fn append_same(alloc: Global, text: &[u8], into: &mut Vec<u8>) -> RowResult<()> 
     };
     let one = target_of(alloc, &text[..at])?;
     let other = target_of(alloc, &text[at + 1..])?;
-    append_whether(one.get().is_same(other.get()), into)?;
-    into.push(b' ')?;
-    append_whether(other.get().is_same(one.get()), into)
+    append_both(one.get(), other.get(), into)
+}
+
+fn append_both(one: &Target, other: &Target, into: &mut Vec<u8>) -> RowResult<()> {
+    append_whether(one.is_same(other), into)?;
+    append(" ", into)?;
+    append_whether(other.is_same(one), into)
 }
 
 fn target_of(alloc: Global, text: &[u8]) -> RowResult<Held<Target>> {
@@ -116,12 +143,10 @@ fn target_of(alloc: Global, text: &[u8]) -> RowResult<Held<Target>> {
 }
 
 fn append_whether(is_so: bool, into: &mut Vec<u8>) -> RowResult<()> {
-    let told = if is_so { b"same".as_slice() } else { b"other" };
-    into.extend_from_slice(told)?;
-    Ok(())
+    append(if is_so { "same" } else { "other" }, into)
 }
 
 fn append_bad(alloc: Global, at: usize, into: &mut Vec<u8>) -> RowResult<()> {
-    into.extend_from_slice(format!(in alloc; "bad at {at}")?.as_bytes())?;
-    Ok(())
+    let piece = format!(in alloc; "bad at {at}")?;
+    append(piece.as_str(), into)
 }

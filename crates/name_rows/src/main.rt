@@ -10,7 +10,7 @@ mod texts;
 
 use answers::append_answer;
 use kb_outside::{FileShelf, OutSink, Shelf, Sink};
-use kb_table::{RowResult, RowStop, Rows, send, write_rows};
+use kb_table::{RowResult, RowStop, Rows, append, send, write_rows};
 use std::alloc::Global;
 use std::io;
 use std::process::ExitCode;
@@ -28,15 +28,9 @@ impl Rows for NameRows {
         _shelf: &mut S,
         out: &mut W,
     ) -> RowResult<()> {
-        let Some((question, spelled)) = row.split_once(' ') else {
-            return Err(RowStop::Malformed);
-        };
-        let text = read_text(alloc, spelled)?;
-        let mut answer = Vec::new(alloc);
-        answer.extend_from_slice(format!(in alloc; "> {row}\n")?.as_bytes())?;
-        append_answer(alloc, question, text.as_slice(), &mut answer)?;
-        answer.push(b'\n')?;
-        send(out, answer.as_slice())
+        let mut text = Vec::new(alloc);
+        append_row(alloc, row, &mut text)?;
+        send(out, text.as_slice())
     }
 }
 
@@ -46,4 +40,21 @@ fn main(rt: HostRuntime) -> io::Result<ExitCode> {
     let mut out = OutSink::new(io::writer(&rt));
     write_rows(rt.alloc(), "rows", &mut NameRows, &mut shelf, &mut out)?;
     Ok(ExitCode::from(0))
+}
+
+/// Appends a row and the answer to its question.
+fn append_row(alloc: Global, row: &str, into: &mut Vec<u8>) -> RowResult<()> {
+    append("> ", into)?;
+    append(row, into)?;
+    append("\n", into)?;
+    append_asked(alloc, row, into)?;
+    append("\n", into)
+}
+
+fn append_asked(alloc: Global, row: &str, into: &mut Vec<u8>) -> RowResult<()> {
+    let Some((question, spelled)) = row.split_once(' ') else {
+        return Err(RowStop::Malformed);
+    };
+    let text = read_text(alloc, spelled)?;
+    append_answer(alloc, question, text.as_slice(), into)
 }

@@ -9,18 +9,18 @@ pub fn read_text(alloc: Global, spelled: &str) -> RowResult<Vec<u8>> {
     let mut text = Vec::new(alloc);
     let mut rest = spelled.as_bytes();
     while let [first, others @ ..] = rest {
-        rest = match (*first, others) {
-            (b'\\', [high, low, behind @ ..]) => {
-                text.push(digit_value(*high)? * 16 + digit_value(*low)?)?;
-                behind
-            }
-            (byte, _) => {
-                text.push(byte)?;
-                others
-            }
+        let (byte, behind) = match (*first, others) {
+            (b'\\', [high, low, behind @ ..]) => (byte_of(*high, *low)?, behind),
+            (byte, _) => (byte, others),
         };
+        text.push(byte)?;
+        rest = behind;
     }
     Ok(text)
+}
+
+fn byte_of(high: u8, low: u8) -> RowResult<u8> {
+    Ok(digit_value(high)? * 16 + digit_value(low)?)
 }
 
 fn digit_value(letter: u8) -> RowResult<u8>
@@ -36,13 +36,16 @@ fn digit_value(letter: u8) -> RowResult<u8>
 /// Appends the bytes as one line: `\` and two digits for each that is no letter of ASCII, no digit and no sign.
 pub fn append_text(text: &[u8], into: &mut Vec<u8>) -> RowResult<()> {
     for byte in text {
-        if (0x20..0x7f).contains(byte) {
-            into.push(*byte)?;
-        } else {
-            into.extend_from_slice(&[b'\\', digit(*byte / 16), digit(*byte % 16)])?;
-        }
+        append_byte(*byte, into)?;
     }
     Ok(())
+}
+
+fn append_byte(byte: u8, into: &mut Vec<u8>) -> RowResult<()> {
+    if (0x20..0x7f).contains(&byte) {
+        return Ok(into.push(byte)?);
+    }
+    Ok(into.extend_from_slice(&[b'\\', digit(byte / 16), digit(byte % 16)])?)
 }
 
 fn digit(value: u8) -> u8

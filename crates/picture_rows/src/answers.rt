@@ -7,11 +7,12 @@ use crate::asked::Asked;
 use crate::texts::add;
 use kb_fits::fits_types;
 use kb_heap::{Ending, Heap, Input, RunBounds};
+use kb_load::reached;
 use kb_machine::run;
 use kb_names::Target;
 use kb_picture::{Leaf, Path, PlaceLists, ending_at, is_instance, places};
 use kb_rows::Held;
-use kb_table::{RowResult, RowStop, kept};
+use kb_table::{RowResult, RowStop, append_number, kept};
 use kb_test::write_run;
 use kb_world::World;
 use std::alloc::Global;
@@ -61,16 +62,16 @@ fn add_judged(
 /// As in `places o0=i0 l0=i0`.
 fn add_places(alloc: Global, lists: &PlaceLists, text: &mut Vec<u8>) -> RowResult<()> {
     add(b"places", text)?;
-    add_each(alloc, "o", lists.objects.as_slice(), text)?;
-    add_each(alloc, "l", lists.locs.as_slice(), text)?;
+    add_each(alloc, " o", lists.objects.as_slice(), text)?;
+    add_each(alloc, " l", lists.locs.as_slice(), text)?;
     add(b"\n", text)
 }
 
 fn add_each(alloc: Global, letter: &str, places: &[u32], text: &mut Vec<u8>) -> RowResult<()> {
     let mut number: u32 = 0;
     for place in places {
-        let piece = format!(in alloc; " {letter}{number}=i{place}")?;
-        add(piece.as_bytes(), text)?;
+        append_number(alloc, letter, i64::from(number), text)?;
+        append_number(alloc, "=i", i64::from(*place), text)?;
         number = number.saturating_add(1);
     }
     Ok(())
@@ -136,7 +137,7 @@ fn add_compared(
     stated: &(Ending, Heap),
     text: &mut Vec<u8>,
 ) -> RowResult<()> {
-    let Ok(method) = world.reach(alloc, target) else {
+    let Some(method) = reached(alloc, world, target) else {
         return Err(RowStop::Malformed);
     };
     if !fits_types(world, method, input) {

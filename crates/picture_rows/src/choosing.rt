@@ -5,7 +5,7 @@ use kb_lazy::read_choices;
 use kb_names::{ExactType, JType, Spelling, read_type, write_name, write_type};
 use kb_path_lines::{read_slot, split};
 use kb_picture::{Choice, Init, Length, Origin, Picture};
-use kb_table::{RowResult, RowStop, kept, read_number};
+use kb_table::{RowResult, RowStop, append_number, kept, read_number};
 use kb_world::World;
 use std::alloc::Global;
 
@@ -109,7 +109,7 @@ fn add_choice(alloc: Global, choice: &Choice, text: &mut Vec<u8>) -> RowResult<(
         Choice::Null => add(b"null", text),
         Choice::Location => add(b"location", text),
         Choice::Beyond => add(b"beyond", text),
-        Choice::Alias(object) => add(format!(in alloc; "o{object}")?.as_bytes(), text),
+        Choice::Alias(object) => append_number(alloc, "o", i64::from(*object), text),
         Choice::Fresh(kind, length) => add_fresh(alloc, kind, *length, text),
         _ => Err(RowStop::Malformed),
     }
@@ -120,8 +120,8 @@ fn add_fresh(alloc: Global, kind: &ExactType, length: Length, text: &mut Vec<u8>
     add_exact(kind, text)?;
     match length {
         Length::Plain => Ok(()),
-        Length::Is(count) => add(format!(in alloc; " of {count}")?.as_bytes(), text),
-        Length::Above(count) => add(format!(in alloc; " above {count}")?.as_bytes(), text),
+        Length::Is(count) => append_number(alloc, " of ", i64::from(count), text),
+        Length::Above(count) => append_number(alloc, " above ", i64::from(count), text),
     }
 }
 

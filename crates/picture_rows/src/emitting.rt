@@ -5,8 +5,9 @@ use crate::choosing::add_exact;
 use crate::texts::add;
 use kb_heap::{Input, Object, Value};
 use kb_input::input_of;
+use kb_load::reached;
 use kb_rows::Held;
-use kb_table::{RowResult, RowStop, read_int};
+use kb_table::{RowResult, RowStop, append_number, read_int};
 use kb_world::World;
 use std::alloc::Global;
 
@@ -38,7 +39,7 @@ fn emitted(alloc: Global, world: &World, values: &[i32], asked: &Asked) -> RowRe
     let Some(target) = &asked.target else {
         return Err(RowStop::Malformed);
     };
-    let Ok(method) = world.reach(alloc, target.get()) else {
+    let Some(method) = reached(alloc, world, target.get()) else {
         return Err(RowStop::Malformed);
     };
     match input_of(alloc, world, method, &asked.path.get().picture, values) {
@@ -57,15 +58,20 @@ fn add_input(alloc: Global, input: &Input, text: &mut Vec<u8>) -> RowResult<()> 
 }
 
 fn add_objects(alloc: Global, objects: &[Object], text: &mut Vec<u8>) -> RowResult<()> {
-    let mut number: u32 = 0;
+    let mut number: i64 = 0;
     for object in objects {
-        add(format!(in alloc; "in i{number} ")?.as_bytes(), text)?;
-        add_exact(&object.kind, text)?;
-        add_values(alloc, object.values.as_slice(), text)?;
-        add(b"\n", text)?;
+        append_number(alloc, "in i", number, text)?;
+        add_object(alloc, object, text)?;
         number = number.saturating_add(1);
     }
     Ok(())
+}
+
+fn add_object(alloc: Global, object: &Object, text: &mut Vec<u8>) -> RowResult<()> {
+    add(b" ", text)?;
+    add_exact(&object.kind, text)?;
+    add_values(alloc, object.values.as_slice(), text)?;
+    add(b"\n", text)
 }
 
 fn add_values(alloc: Global, values: &[Value], text: &mut Vec<u8>) -> RowResult<()> {
@@ -76,10 +82,9 @@ fn add_values(alloc: Global, values: &[Value], text: &mut Vec<u8>) -> RowResult<
 }
 
 fn add_value(alloc: Global, value: &Value, text: &mut Vec<u8>) -> RowResult<()> {
-    let piece = match value {
-        Value::Int(number) => format!(in alloc; " {number}")?,
-        Value::Null => format!(in alloc; " null")?,
-        Value::Ref(object) => format!(in alloc; " i{object}")?,
-    };
-    add(piece.as_bytes(), text)
+    match value {
+        Value::Int(number) => append_number(alloc, " ", i64::from(*number), text),
+        Value::Null => add(b" null", text),
+        Value::Ref(object) => append_number(alloc, " i", i64::from(*object), text),
+    }
 }

@@ -1,8 +1,7 @@
 //! Formulas and logs from their texts, and clauses as texts.
 
-use crate::numbers::read_numbers;
 use kb_chain::{Chain, Clause, Formula, Lit, Log, Row};
-use kb_table::{RowResult, RowStop, kept, read_int, read_number};
+use kb_table::{RowResult, RowStop, kept, read_int, read_number, read_numbers};
 use std::alloc::Global;
 
 /// The formula over so many variables with the clauses of a text: the numbers of their literals, and 0 behind each clause.
@@ -62,7 +61,7 @@ fn add_chains(alloc: Global, entries: &mut Row<Chain>, text: &str) -> RowResult<
 }
 
 pub fn read_chain(alloc: Global, text: &str) -> RowResult<Chain> {
-    let numbers = read_numbers(alloc, text)?;
+    let numbers = read_numbers(alloc, text, ' ')?;
     let [start, others @ ..] = numbers.as_slice() else {
         return Err(RowStop::Malformed);
     };

@@ -4,11 +4,10 @@ ghost use Rattle.kb_chain.specs.Literal.{has, negated, place_of};
 ghost use Rattle.kb_chain.specs.Propagation.{all_negated};
 
 use crate::formulas::read_chain;
-use crate::numbers::read_numbers;
 use kb_chain::Lit;
 use kb_eliminate::Trail;
 use kb_sat::{ActivityOrder, Crowding, Ranks, levels_of};
-use kb_table::{RowResult, RowStop, kept, read_int, read_number};
+use kb_table::{RowResult, RowStop, kept, read_int, read_number, read_numbers};
 use std::alloc::Global;
 
 /// Appends which variables come out of an order: how many it has, and then what is done with it, as `bump2`, `put2`, `decay` and
@@ -138,7 +137,7 @@ fn set_ranks(ranks: &mut Ranks, text: &str) -> RowResult<()> {
 }
 
 fn append_ranks_of(alloc: Global, ranks: &Ranks, asked: &str, into: &mut String) -> RowResult<()> {
-    for number in read_numbers(alloc, asked)?.as_slice() {
+    for number in read_numbers(alloc, asked, ' ')?.as_slice() {
         append_rank(ranks, *number, into)?;
     }
     Ok(())

@@ -1,10 +1,9 @@
 //! Questions about terms: their nodes, values and numbers.
 ghost use Rattle.kb_terms.specs.Terms.{AreTerms};
 
-use crate::numbers::read_numbers;
 use crate::terms::{Query, known, no_conditions, op_named, read_query};
 use kb_rows::Held;
-use kb_table::{RowResult, RowStop, kept, read_int, read_number, read_words};
+use kb_table::{RowResult, RowStop, kept, read_int, read_number, read_numbers, read_words};
 use kb_terms::{Node, Numbering, Op, Pool, TermId, VarKind};
 use std::alloc::Global;
 
@@ -178,7 +177,7 @@ fn append_numbers_asked(
     asked: &str,
     into: &mut String,
 ) -> RowResult<()> {
-    for term in read_numbers(alloc, asked)?.as_slice() {
+    for term in read_numbers(alloc, asked, ' ')?.as_slice() {
         write!(into, ", {term} has ")?;
         append_number(numbering, TermId(*term), into)?;
     }

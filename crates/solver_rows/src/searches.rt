@@ -3,7 +3,7 @@ ghost use Rattle.std.specs.Prelude.{◌≡◌, ◌<◌, []};
 ghost use Rattle.kb_eliminate.specs.Base.{IsReady, Stands};
 
 use crate::formulas::{append_clause, append_place, read_log};
-use crate::numbers::{read_budget, read_numbers};
+use crate::numbers::read_budget;
 use crate::outcomes::{Outcome, judged_bits, judged_open, judged_refutation};
 use kb_chain::{
     Chain, Clause, Formula, Log, ResolveStop, Row, Store, Verdict, check_fresh, check_refutation,
@@ -11,7 +11,7 @@ use kb_chain::{
 };
 use kb_eliminate::{Base, Eliminated, EliminationBounds, eliminate, restored};
 use kb_sat::{Counts, Solved, solve_counted};
-use kb_table::{RowResult, RowStop, kept, read_number};
+use kb_table::{RowResult, RowStop, kept, read_number, read_numbers};
 use std::alloc::Global;
 
 /// Appends what is asked of what the solver makes of a formula: a budget, and behind it what the question needs besides.
@@ -171,7 +171,7 @@ pub fn append_resolvent(
     text: &str,
     into: &mut String,
 ) -> RowResult<()> {
-    let numbers = read_numbers(alloc, text)?;
+    let numbers = read_numbers(alloc, text, ' ')?;
     let [left, right, pivot] = numbers.as_slice() else {
         return Err(RowStop::Malformed);
     };
@@ -201,7 +201,7 @@ pub fn append_needed(
     let Some((numbers, log)) = text.split_once(" of ") else {
         return Err(RowStop::Malformed);
     };
-    let numbers = read_numbers(alloc, numbers)?;
+    let numbers = read_numbers(alloc, numbers, ' ')?;
     let log = read_log(alloc, log)?;
     append_derived(
         alloc,

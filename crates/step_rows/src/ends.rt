@@ -4,10 +4,10 @@ ghost use Rattle.kb_stepint.specs.Reached.{IsReached};
 
 use crate::rows::TableRow;
 use kb_frames::{SymState, paths_are_well_formed};
-use kb_picture::{Init, Leaf};
+use kb_picture::{Init, Leaf, Path};
 use kb_report::{Report, Row, report_text};
 use kb_rows::Held;
-use kb_table::{RowResult, RowStop, kept};
+use kb_table::{RowResult, RowStop, append, kept};
 use kb_world::World;
 use std::alloc::Global;
 
@@ -48,9 +48,13 @@ fn add_path(_world: &World, row: &TableRow, state: &SymState, report: &mut Repor
 {
     paths_are_well_formed();
     match state.path(row.decisions.as_slice(), Leaf::Open) {
-        Ok(path) => Ok(report.leaves.push(path)?),
+        Ok(path) => push_path(path, report),
         Err(_) => Err(RowStop::NoMemory),
     }
+}
+
+fn push_path(path: Path, report: &mut Report) -> RowResult<()> {
+    Ok(report.leaves.push(path)?)
 }
 
 /// Appends the block of the path of a report.
@@ -71,8 +75,8 @@ fn append_report(
 fn append_block(text: &str, into: &mut Vec<u8>) -> RowResult<()> {
     for line in text.lines().skip(HEAD) {
         if !line.starts_with("total ") {
-            into.extend_from_slice(line.as_bytes())?;
-            into.push(b'\n')?;
+            append(line, into)?;
+            append("\n", into)?;
         }
     }
     Ok(())

@@ -3,7 +3,8 @@
 use crate::told::append_exact;
 use kb_class::MethodId;
 use kb_frames::{Cell, Outcome, SymState, SymValue};
-use kb_table::RowResult;
+use kb_names::ExactType;
+use kb_table::{RowResult, append, append_number};
 use kb_world::World;
 use std::alloc::Global;
 
@@ -39,13 +40,11 @@ fn append_frame(
 }
 
 fn append_stack(alloc: Global, state: &SymState, into: &mut Vec<u8>) -> RowResult<()> {
-    into.extend_from_slice(b"  stack")?;
+    append("  stack", into)?;
     for depth in 0..state.height() {
-        into.push(b' ')?;
-        append_value(alloc, state.value_at(depth), into)?;
+        append_value(alloc, " ", state.value_at(depth), into)?;
     }
-    into.push(b'\n')?;
-    Ok(())
+    append("\n", into)
 }
 
 fn append_locals(
@@ -54,13 +53,11 @@ fn append_locals(
     state: &SymState,
     into: &mut Vec<u8>,
 ) -> RowResult<()> {
-    into.extend_from_slice(b"  locals")?;
+    append("  locals", into)?;
     for number in 0..local_count(world, state.method()) {
-        into.push(b' ')?;
-        append_value(alloc, state.local(number), into)?;
+        append_value(alloc, " ", state.local(number), into)?;
     }
-    into.push(b'\n')?;
-    Ok(())
+    append("\n", into)
 }
 
 /// How many locals the code of the method may write.
@@ -75,9 +72,8 @@ fn local_count(world: &World, method: MethodId) -> u16 {
 fn append_cells(alloc: Global, state: &SymState, into: &mut Vec<u8>) -> RowResult<()> {
     for number in 0..MOST {
         if state.exact_type_of(SymValue::Obj(number)).is_some() {
-            into.extend_from_slice(format!(in alloc; "  o{number}")?.as_bytes())?;
+            append_number(alloc, "  o", i64::from(number), into)?;
             append_cells_of(alloc, state, number, into)?;
-            into.push(b'\n')?;
         }
     }
     Ok(())
@@ -90,44 +86,51 @@ fn append_cells_of(
     into: &mut Vec<u8>,
 ) -> RowResult<()> {
     for slot in 0..MOST {
-        match state.cell(object, slot) {
-            Some(Cell::Untouched) => into.extend_from_slice(b" ?")?,
-            Some(Cell::Read(value)) => {
-                into.push(b' ')?;
-                append_value(alloc, Some(value), into)?;
-            }
-            Some(Cell::Written(value)) => {
-                into.extend_from_slice(b" =")?;
-                append_value(alloc, Some(value), into)?;
-            }
-            None => (),
-        }
+        append_cell(alloc, state.cell(object, slot), into)?;
     }
-    Ok(())
+    append("\n", into)
+}
+
+fn append_cell(alloc: Global, cell: Option<Cell>, into: &mut Vec<u8>) -> RowResult<()> {
+    match cell {
+        Some(Cell::Untouched) => append(" ?", into),
+        Some(Cell::Read(value)) => append_value(alloc, " ", Some(value), into),
+        Some(Cell::Written(value)) => append_value(alloc, " =", Some(value), into),
+        None => Ok(()),
+    }
 }
 
 fn append_made(alloc: Global, state: &SymState, into: &mut Vec<u8>) -> RowResult<()> {
     for number in 0..MOST {
         if let Some(kind) = state.exact_type_of(SymValue::New(number)) {
-            into.extend_from_slice(format!(in alloc; "  n{number} ")?.as_bytes())?;
-            append_exact(kind, into)?;
-            into.push(b'\n')?;
+            append_number(alloc, "  n", i64::from(number), into)?;
+            append_kind(kind, into)?;
         }
     }
     Ok(())
 }
 
-/// Appends a value, or `-` where there is none.
-fn append_value(alloc: Global, value: Option<SymValue>, into: &mut Vec<u8>) -> RowResult<()> {
-    let text = match value {
-        None => format!(in alloc; "-")?,
-        Some(SymValue::Int(term)) => format!(in alloc; "t{}", term.0)?,
-        Some(SymValue::Null) => format!(in alloc; "null")?,
-        Some(SymValue::Obj(number)) => format!(in alloc; "o{number}")?,
-        Some(SymValue::Literal(number)) => format!(in alloc; "s{number}")?,
-        Some(SymValue::New(number)) => format!(in alloc; "n{number}")?,
-        Some(SymValue::Loc(number)) => format!(in alloc; "l{number}")?,
-    };
-    into.extend_from_slice(text.as_bytes())?;
-    Ok(())
+fn append_kind(kind: &ExactType, into: &mut Vec<u8>) -> RowResult<()> {
+    append(" ", into)?;
+    append_exact(kind, into)?;
+    append("\n", into)
+}
+
+/// Appends a value, or `-` where there is none, behind a piece.
+fn append_value(
+    alloc: Global,
+    before: &str,
+    value: Option<SymValue>,
+    into: &mut Vec<u8>,
+) -> RowResult<()> {
+    append(before, into)?;
+    match value {
+        None => append("-", into),
+        Some(SymValue::Int(term)) => append_number(alloc, "t", i64::from(term.0), into),
+        Some(SymValue::Null) => append("null", into),
+        Some(SymValue::Obj(number)) => append_number(alloc, "o", i64::from(number), into),
+        Some(SymValue::Literal(number)) => append_number(alloc, "s", i64::from(number), into),
+        Some(SymValue::New(number)) => append_number(alloc, "n", i64::from(number), into),
+        Some(SymValue::Loc(number)) => append_number(alloc, "l", i64::from(number), into),
+    }
 }

@@ -17,11 +17,10 @@ use kb_load::{InWorlds, WorldRows};
 use kb_outside::{FileShelf, OutSink, Sink};
 use kb_table::{RowResult, send, write_rows};
 use kb_world::World;
-use rows::read_row;
 use std::alloc::Global;
 use std::io;
 use std::process::ExitCode;
-use walk::walk_text;
+use walk::append_walk;
 
 /// Each row is a walk of its own.
 #[derive(Drop)]
@@ -35,8 +34,8 @@ impl WorldRows for Walks {
         row: &str,
         out: &mut W,
     ) -> RowResult<()> {
-        let asked = read_row(alloc, row)?;
-        let text = walk_text(alloc, world, row, asked.get())?;
+        let mut text = Vec::new(alloc);
+        append_walk(alloc, world, row, &mut text)?;
         send(out, text.as_slice())
     }
 }

@@ -4,39 +4,45 @@ use kb_frames::Outcome;
 use kb_heap::{Bound, Place};
 use kb_names::{ExactType, Spelling, write_name, write_target, write_type};
 use kb_picture::{Choice, Length, Out, SymEnding};
-use kb_table::{RowResult, kept};
-use kb_terms::{Node, Operand, Pool, VarKind};
+use kb_table::{RowResult, append, append_number, kept};
+use kb_terms::{Node, Operand, Pool, TermId, VarKind};
 use std::alloc::Global;
 
 /// Appends the alternatives of a step, one behind the other, without the end of the line.
 pub fn append_choices(alloc: Global, choices: &[Choice], into: &mut Vec<u8>) -> RowResult<()> {
-    let mut front: &[u8] = b"";
+    let mut is_first = true;
     for choice in choices {
-        into.extend_from_slice(front)?;
+        if !is_first {
+            append(" | ", into)?;
+        }
+        is_first = false;
         append_choice(alloc, choice, into)?;
-        front = b" | ";
     }
     Ok(())
 }
 
 fn append_choice(alloc: Global, choice: &Choice, into: &mut Vec<u8>) -> RowResult<()> {
     match choice {
-        Choice::Only => into.extend_from_slice(b"only")?,
-        Choice::Branch(true) => into.extend_from_slice(b"taken")?,
-        Choice::Branch(false) => into.extend_from_slice(b"not taken")?,
-        Choice::Key(place) => into.extend_from_slice(format!(in alloc; "key {place}")?.as_bytes())?,
-        Choice::Default => into.extend_from_slice(b"default")?,
-        Choice::Zero => into.extend_from_slice(b"zero")?,
-        Choice::NotZero => into.extend_from_slice(b"not zero")?,
-        Choice::Null => into.extend_from_slice(b"null")?,
-        Choice::Alias(number) => into.extend_from_slice(format!(in alloc;
-            "o{number}"
-        )?.as_bytes())?,
-        Choice::Fresh(kind, length) => append_fresh(alloc, kind, *length, into)?,
-        Choice::Beyond => into.extend_from_slice(b"beyond")?,
-        _ => into.extend_from_slice(b"one of arrays or locations")?,
+        Choice::Key(place) => append_number(alloc, "key ", i64::from(*place), into),
+        Choice::Alias(number) => append_number(alloc, "o", i64::from(*number), into),
+        Choice::Fresh(kind, length) => append_fresh(alloc, kind, *length, into),
+        other => append(choice_text(other), into),
     }
-    Ok(())
+}
+
+/// The words of an alternative that has no number.
+fn choice_text(choice: &Choice) -> &'static str {
+    match choice {
+        Choice::Only => "only",
+        Choice::Branch(true) => "taken",
+        Choice::Branch(false) => "not taken",
+        Choice::Default => "default",
+        Choice::Zero => "zero",
+        Choice::NotZero => "not zero",
+        Choice::Null => "null",
+        Choice::Beyond => "beyond",
+        _ => "one of arrays or locations",
+    }
 }
 
 /// Appends a new object, with its length where it is an array.
@@ -46,16 +52,13 @@ fn append_fresh(
     length: Length,
     into: &mut Vec<u8>,
 ) -> RowResult<()> {
-    into.extend_from_slice(b"new ")?;
+    append("new ", into)?;
     append_exact(kind, into)?;
     match length {
-        Length::Plain => (),
-        Length::Is(count) => into.extend_from_slice(format!(in alloc;
-            " length {count}"
-        )?.as_bytes())?,
-        Length::Above(_) => into.extend_from_slice(b" above")?,
+        Length::Plain => Ok(()),
+        Length::Is(count) => append_number(alloc, " length ", i64::from(count), into),
+        Length::Above(_) => append(" above", into),
     }
-    Ok(())
 }
 
 /// Appends the name of a class, or the descriptor of an array.
@@ -63,7 +66,7 @@ pub fn append_exact(kind: &ExactType, into: &mut Vec<u8>) -> RowResult<()> {
     let written = match kind {
         ExactType::Class(name) => write_name(name, into),
         ExactType::Array(component) => {
-            into.push(b'[')?;
+            append("[", into)?;
             write_type(component, Spelling::Escaped, into)
         }
     };
@@ -72,18 +75,21 @@ pub fn append_exact(kind: &ExactType, into: &mut Vec<u8>) -> RowResult<()> {
 
 /// Appends what came of a take, behind the alternatives.
 pub fn append_outcome(alloc: Global, outcome: &Outcome, into: &mut Vec<u8>) -> RowResult<()> {
-    into.extend_from_slice(b": ")?;
+    append(": ", into)?;
+    append_what_came(alloc, outcome, into)?;
+    append("\n", into)
+}
+
+fn append_what_came(alloc: Global, outcome: &Outcome, into: &mut Vec<u8>) -> RowResult<()> {
     match outcome {
-        Outcome::Asks => into.extend_from_slice(b"asks")?,
-        Outcome::Goes => into.extend_from_slice(b"goes")?,
+        Outcome::Asks => append("asks", into),
+        Outcome::Goes => append("goes", into),
         Outcome::Cut(bound) => {
-            into.extend_from_slice(b"cut ")?;
-            into.extend_from_slice(bound_text(*bound).as_bytes())?;
+            append("cut ", into)?;
+            append(bound_text(*bound), into)
         }
-        Outcome::Ends(ending) => append_ending(alloc, ending, into)?,
+        Outcome::Ends(ending) => append_ending(alloc, ending, into),
     }
-    into.push(b'\n')?;
-    Ok(())
 }
 
 fn bound_text(bound: Bound) -> &'static str {
@@ -99,40 +105,36 @@ fn bound_text(bound: Bound) -> &'static str {
 
 fn append_ending(alloc: Global, ending: &SymEnding, into: &mut Vec<u8>) -> RowResult<()> {
     match ending {
-        SymEnding::Returned(None) => into.extend_from_slice(b"returns")?,
+        SymEnding::Returned(None) => append("returns", into),
         SymEnding::Returned(Some(value)) => {
-            into.extend_from_slice(b"returns ")?;
-            append_value(alloc, *value, into)?;
+            append("returns ", into)?;
+            append_value(alloc, *value, into)
         }
         SymEnding::Threw(value) => {
-            into.extend_from_slice(b"throws ")?;
-            append_value(alloc, *value, into)?;
+            append("throws ", into)?;
+            append_value(alloc, *value, into)
         }
-        SymEnding::IllTyped(place) => append_place(alloc, place, into)?,
+        SymEnding::IllTyped(place) => append_place(alloc, place, into),
     }
-    Ok(())
 }
 
 fn append_place(alloc: Global, place: &Place, into: &mut Vec<u8>) -> RowResult<()> {
-    into.extend_from_slice(b"illtyped ")?;
+    append("illtyped ", into)?;
     kept(write_target(&place.method, into))?;
-    into.extend_from_slice(format!(in alloc; " {}", place.at)?.as_bytes())?;
-    Ok(())
+    append_number(alloc, " ", i64::from(place.at), into)
 }
 
 fn append_value(alloc: Global, value: Out, into: &mut Vec<u8>) -> RowResult<()> {
-    let text = match value {
-        Out::Int(Operand::Const(number)) => format!(in alloc; "{number}")?,
-        Out::Int(Operand::Var(number)) => format!(in alloc; "v{number}")?,
-        Out::Int(Operand::Term(number)) => format!(in alloc; "t{number}")?,
-        Out::Null => format!(in alloc; "null")?,
-        Out::Obj(number) => format!(in alloc; "o{number}")?,
-        Out::Loc(number) => format!(in alloc; "l{number}")?,
-        Out::Literal(number) => format!(in alloc; "s{number}")?,
-        Out::New(number) => format!(in alloc; "n{number}")?,
-    };
-    into.extend_from_slice(text.as_bytes())?;
-    Ok(())
+    match value {
+        Out::Int(Operand::Const(number)) => append_number(alloc, "", i64::from(number), into),
+        Out::Int(Operand::Var(number)) => append_number(alloc, "v", i64::from(number), into),
+        Out::Int(Operand::Term(number)) => append_number(alloc, "t", i64::from(number), into),
+        Out::Null => append("null", into),
+        Out::Obj(number) => append_number(alloc, "o", i64::from(number), into),
+        Out::Loc(number) => append_number(alloc, "l", i64::from(number), into),
+        Out::Literal(number) => append_number(alloc, "s", i64::from(number), into),
+        Out::New(number) => append_number(alloc, "n", i64::from(number), into),
+    }
 }
 
 /// Appends the terms of the pool from that number on, a line each.
@@ -146,17 +148,38 @@ pub fn append_nodes(alloc: Global, pool: &Pool, from: usize, into: &mut Vec<u8>)
 }
 
 fn append_node(alloc: Global, number: usize, node: &Node, into: &mut Vec<u8>) -> RowResult<()> {
-    let text = match node {
-        Node::Const(value) => format!(in alloc; "  t{number} {value}\n")?,
-        Node::Var(variable, VarKind::Int) => format!(in alloc; "  t{number} v{variable}\n")?,
-        Node::Var(variable, VarKind::Bool) => format!(in alloc;
-            "  t{number} v{variable} boolean\n"
-        )?,
-        Node::Op(op, left, None) => format!(in alloc; "  t{number} {} t{}\n", op.name(), left.0)?,
-        Node::Op(op, left, Some(right)) => {
-            format!(in alloc; "  t{number} {} t{} t{}\n", op.name(), left.0, right.0)?
+    append(format!(in alloc; "  t{number}")?.as_str(), into)?;
+    append_made(alloc, node, into)?;
+    append("\n", into)
+}
+
+fn append_made(alloc: Global, node: &Node, into: &mut Vec<u8>) -> RowResult<()> {
+    match node {
+        Node::Const(value) => append_number(alloc, " ", i64::from(*value), into),
+        Node::Var(variable, kind) => {
+            append_number(alloc, " v", i64::from(*variable), into)?;
+            append(kind_text(*kind), into)
         }
-    };
-    into.extend_from_slice(text.as_bytes())?;
-    Ok(())
+        Node::Op(op, left, right) => {
+            append(" ", into)?;
+            append(op.name(), into)?;
+            append_number(alloc, " t", i64::from(left.0), into)?;
+            append_right(alloc, *right, into)
+        }
+    }
+}
+
+fn kind_text(kind: VarKind) -> &'static str {
+    match kind {
+        VarKind::Int => "",
+        VarKind::Bool => " boolean",
+    }
+}
+
+/// Appends the second operand, where there is one.
+fn append_right(alloc: Global, right: Option<TermId>, into: &mut Vec<u8>) -> RowResult<()> {
+    match right {
+        Some(right) => append_number(alloc, " t", i64::from(right.0), into),
+        None => Ok(()),
+    }
 }

@@ -14,32 +14,38 @@ ghost use Rattle.kb_stepref.specs.Reached.{IsHeapReached};
 
 use crate::ends::append_met;
 use crate::held::append_held;
-use crate::rows::TableRow;
+use crate::rows::{TableRow, read_row};
 use crate::told::{append_choices, append_nodes, append_outcome};
 use kb_class::MethodId;
 use kb_frames::{Outcome, SymState, start};
 use kb_heap::Bounds;
+use kb_load::reached;
 use kb_picture::{Choice, Init};
 use kb_rows::Held;
 use kb_stepint::{choices_int, is_int_method, take_int};
 use kb_stepref::laws::heap_methods_stay;
 use kb_stepref::{choices_ref, is_heap_method, take_ref};
-use kb_table::{RowResult, RowStop};
+use kb_table::{RowResult, RowStop, append};
 use kb_world::World;
 use std::alloc::Global;
 
 /// More steps than a row has.
 const MOST: u32 = 1000;
 
-/// A line with the row, and what its steps come to.
-pub fn walk_text(alloc: Global, world: &World, line: &str, row: &TableRow) -> RowResult<Vec<u8>> {
-    let mut text = format!(in alloc; "> {line}\n")?.into_bytes();
-    let Ok(method) = world.reach(alloc, &row.target) else {
-        text.extend_from_slice(b"cannot be explored\n")?;
-        return Ok(text);
-    };
-    walk(alloc, world, method, row, &mut text)?;
-    Ok(text)
+/// Appends a line with the row, and what its steps come to.
+pub fn append_walk(alloc: Global, world: &World, line: &str, into: &mut Vec<u8>) -> RowResult<()> {
+    let row = read_row(alloc, line)?;
+    append_line(line, into)?;
+    match reached(alloc, world, &row.get().target) {
+        Some(method) => walk(alloc, world, method, row.get(), into),
+        None => append("cannot be explored\n", into),
+    }
+}
+
+fn append_line(line: &str, into: &mut Vec<u8>) -> RowResult<()> {
+    append("> ", into)?;
+    append(line, into)?;
+    append("\n", into)
 }
 
 fn walk(
@@ -50,12 +56,10 @@ fn walk(
     into: &mut Vec<u8>,
 ) -> RowResult<()> {
     if !is_heap_method(world, method) {
-        into.extend_from_slice(b"is no method over heaps\n")?;
-        return Ok(());
+        return append("is no method over heaps\n", into);
     }
     if !is_in_range(&row.bounds) {
-        into.extend_from_slice(b"has a bound on arrays that is too great\n")?;
-        return Ok(());
+        return append("has a bound on arrays that is too great\n", into);
     }
     let mut state = begin(alloc, world, method)?;
     follow(alloc, world, row, state.get_mut(), into)?;
@@ -128,11 +132,11 @@ fn step(
     let choices = choices(alloc, world, state, &row.bounds)?;
     append_choices(alloc, choices.as_slice(), into)?;
     let Some(place) = place_of(choices.as_slice(), row.decisions.as_slice(), taken) else {
-        into.extend_from_slice(b"\n")?;
+        append("\n", into)?;
         return Ok(false);
     };
     let Some(choice) = choices.as_slice().get(place) else {
-        into.extend_from_slice(b" has no such alternative\n")?;
+        append(" has no such alternative\n", into)?;
         return Ok(false);
     };
     take_and_tell(alloc, world, state, choice, &row.bounds, into)

@@ -1,7 +1,6 @@
-use Rattle.std.proofs.Common.{◌≡◌, ◌<◌, ◌++◌, ◌∷◌, ◌+◌, [], List, ℕ, Option, Some, suc, length, sym, ap, ◌∙◌, subst, arith}
+use Rattle.std.proofs.Common.{◌≡◌, ◌∷◌, ◌+◌, [], List, ℕ, Option, Some, suc, length, sym, ap, ◌∙◌, subst, arith}
 use Rattle.std.proofs.lemmas.List.{length-append}
-use Rattle.kb_order.specs.Order.{HasNoCircle, IsRank}
-use Rattle.kb_link.specs.World.{parent_in}
+use Rattle.kb_order.specs.Order.{HasNoCircle}
 use Rattle.kb_link.specs.Subtypes.{direct_supers}
 use Rattle.kb_link.specs.ChainWalks.{parent_at, walk, AreWalks}
 use Rattle.kb_link.proofs.Above.{walks_pushed, walks_are_chains, direct_many}

@@ -5,6 +5,6 @@ use Rattle.kb_link.proofs.classes.add_new.Goals as goal
 
 pub returns : goal.returns
 returns c = λ classes class named fresh few differ has.
-    let keyed : c.in_ok-key.key.items ≡ class.name = c.in_ok-key.ensures ∙ c.as_slice.ensures.same ∙ sym named in
+    let keyed : c.in_ok-key.key ≡ class.name = c.in_ok-key.ensures ∙ sym named in
     let free : number_in classes class.name ≡ None = subst (λ (n : List ℕ). number_in classes n ≡ None) (sym named) fresh in
     (differ_pushed classes class differ free, names_pushed c.args.names.now c.insert.new.self c.in_ok-key.key classes class keyed free c.in-Ok.ensures.keys few has)

@@ -1,4 +1,4 @@
-use Rattle.std.proofs.Common.{◌≡◌, [], length}
+use Rattle.std.proofs.Common.{[], length}
 use Rattle.kb_link.specs.Mentions.{HasLiteral}
 use Rattle.kb_link.proofs.LiteralLaws.{Goes}
 use Rattle.kb_link.proofs.literals.texts_of.Given as goal

@@ -1,9 +1,8 @@
-use Rattle.std.proofs.Common.{◌≡◌, ◌++◌, ◌∷◌, ◌+◌, ◌≤◌, ◌<◌, [], List, ℕ, length, sym, ap, ◌∙◌, subst, append_assoc, arith}
+use Rattle.std.proofs.Common.{◌≡◌, ◌++◌, ◌∷◌, ◌+◌, [], List, ℕ, length, sym, ap, ◌∙◌, subst, append_assoc, arith}
 use Rattle.std.specs.List.{AllByRecursion}
-use Rattle.std.proofs.lemmas.List.{length-append, append-nil}
+use Rattle.std.proofs.lemmas.List.{length-append}
 use Rattle.kb_class.specs.declared.given.GivenClass.{GivenClass}
 use Rattle.kb_class.specs.Given.{IsGiven}
-use Rattle.kb_class.specs.Class.{Class}
 use Rattle.kb_link.specs.Links.{KeepsFormat, AreClassesOf}
 use Rattle.kb_class.specs.Loading.{IsClassOf}
 use Rattle.kb_link.proofs.Loaded.{loads_all, no_items, classes_many, classes_pushed, all_middle}
@@ -39,7 +38,7 @@ loop-class-preserved c =
     let whole : (done ++ c.in-Some.class ∷ []) ++ rest ≡ c.args.given.items = append_assoc done (c.in-Some.class ∷ []) rest ∙ ap (λ (gs : List GivenClass). done ++ gs) (sym c.in-Some.ensures.steps.0) ∙ c.loop-class.invariant.1 in (
       done ++ c.in-Some.class ∷ [],
       whole,
-      subst (AreClassesOf 0 (done ++ c.in-Some.class ∷ [])) (sym c.in-Ok.ensures.items)
+      subst (AreClassesOf 0 (done ++ c.in-Some.class ∷ [])) (sym c.in_ok-push.ensures.items)
           (classes_pushed 0 done classes c.in-Some.class c.in_ok-load.field-0 c.loop-class.invariant.2 (subst (λ (n : ℕ). IsClassOf n c.in-Some.class c.in_ok-load.field-0) len c.in_ok-load.ensures)),
     )
 

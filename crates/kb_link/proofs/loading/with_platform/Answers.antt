@@ -1,4 +1,4 @@
-use Rattle.std.proofs.Common.{◌≡◌, ◌++◌, ◌∷◌, ◌+◌, ◌≤◌, ◌<◌, [], List, ℕ, length, take, sym, ap, ◌∙◌, subst, append_assoc, arith}
+use Rattle.std.proofs.Common.{◌≡◌, ◌++◌, ◌∷◌, ◌+◌, ◌≤◌, [], List, ℕ, length, take, sym, ap, ◌∙◌, subst, append_assoc, arith}
 use Rattle.std.proofs.lemmas.List.{length-append}
 use Rattle.kb_class.specs.Class.{Class}
 use Rattle.kb_class.specs.Platform.{PlatformClass, IsPlatform, platform_table}
@@ -30,7 +30,7 @@ loop-place-preserved c =
     let class = c.in_ok-platform.field-0 in
     let is : IsPlatform (length own + length far) row.0 class = subst (λ (n : ℕ). IsPlatform n row.0 class) len (c.in_ok-platform.ensures row.0 row.1) in (
       platform ++ class ∷ [],
-      c.in-Ok.ensures.items ∙ ap (λ (cs : List Class). cs ++ class ∷ []) c.loop-place.invariant.1 ∙ append_assoc own platform (class ∷ []),
+      c.in_ok-push.ensures.items ∙ ap (λ (cs : List Class). cs ++ class ∷ []) c.loop-place.invariant.1 ∙ append_assoc own platform (class ∷ []),
       subst (λ (rows : List PlatformClass). ArePlatform (length own) rows (platform ++ class ∷ [])) (sym (taken_next platform_table c.loop-place.place row.0 row.1))
           (platform_pushed (length own) far platform row.0 class c.loop-place.invariant.2 is),
     )

@@ -1,4 +1,4 @@
-use Rattle.std.proofs.Common.{[], arith}
+use Rattle.std.proofs.Common.{arith}
 use Rattle.kb_link.specs.Mentions.{IsTextOfKind}
 use Rattle.kb_link.proofs.LiteralLaws.{goes_more, goes_done}
 use Rattle.kb_link.proofs.mentions.push_kinds.Goals as goal

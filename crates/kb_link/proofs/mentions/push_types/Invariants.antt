@@ -1,4 +1,4 @@
-use Rattle.std.proofs.Common.{◌≡◌, [], length}
+use Rattle.std.proofs.Common.{length}
 use Rattle.kb_link.specs.Mentions.{IsTextOf}
 use Rattle.kb_link.proofs.LiteralLaws.{Goes}
 use Rattle.kb_link.proofs.mentions.push_types.Given as goal

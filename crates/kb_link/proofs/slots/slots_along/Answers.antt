@@ -1,6 +1,5 @@
-use Rattle.std.proofs.Common.{◌≡◌, ℕ, ◌+◌, ◌-◌, ◌<◌, List, [], ◌∷◌, ◌++◌, length, get_or, reverse, take, ap, ◌∙◌, arith}
-use Rattle.std.specs.List.{flat_map}
-use Rattle.kb_link.specs.Slots.{numbered, own_slots_at, slots_along}
+use Rattle.std.proofs.Common.{◌-◌}
+use Rattle.kb_link.specs.Slots.{own_slots_at, slots_along}
 use Rattle.kb_link.proofs.SlotLaws.{along_step}
 use Rattle.kb_link.proofs.slots.slots_along.Goals as goal
 

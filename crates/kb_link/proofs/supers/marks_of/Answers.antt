@@ -1,4 +1,4 @@
-use Rattle.std.proofs.Common.{◌≡◌, ◌<◌, length, arith}
+use Rattle.std.proofs.Common.{◌<◌, length, arith}
 use Rattle.kb_link.proofs.Above.{above_inside}
 use Rattle.kb_link.proofs.supers.marks_of.Goals as goal
 

@@ -1,4 +1,4 @@
-use Rattle.std.proofs.Common.{◌≡◌, ◌++◌, [], length}
+use Rattle.std.proofs.Common.{◌≡◌, length}
 use Rattle.kb_link.specs.Mentions.{element_text}
 use Rattle.kb_link.proofs.universe.element_of.Given as goal
 

@@ -1,4 +1,4 @@
-use Rattle.std.proofs.Common.{◌≡◌, List, ℕ, [], ◌∷◌, ◌++◌, refl, sym, ap, ◌∙◌}
+use Rattle.std.proofs.Common.{◌≡◌, [], ◌∷◌, ◌++◌, refl, ap, ◌∙◌}
 use Rattle.kb_names.specs.declared.types.JType.TheVariants as types
 use Rattle.kb_link.proofs.UniverseReading.{class_read}
 use Rattle.kb_link.proofs.universe.element_type.Goals as goal

@@ -1,4 +1,4 @@
-use Rattle.std.proofs.Common.{◌≡◌, List, ℕ, [], ◌∷◌, ◌++◌, IsSome, true, refl, sym, ap, ◌∙◌}
+use Rattle.std.proofs.Common.{◌≡◌, [], ◌∷◌, ◌++◌, IsSome, true, refl}
 use Rattle.kb_names.specs.Shape.{bool_base, int_base}
 use Rattle.kb_link.specs.World.{number_in}
 use Rattle.kb_link.proofs.UniverseReading.{class_element, class_back}

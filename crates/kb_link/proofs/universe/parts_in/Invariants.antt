@@ -1,4 +1,4 @@
-use Rattle.std.proofs.Common.{◌≡◌, ◌++◌, [], length}
+use Rattle.std.proofs.Common.{[], length}
 use Rattle.kb_link.specs.Mentions.{IsOwnPartOf}
 use Rattle.kb_link.proofs.LiteralLaws.{Goes}
 use Rattle.kb_link.proofs.universe.parts_in.Given as goal

@@ -1,4 +1,4 @@
-use Rattle.std.proofs.Common.{sym, ◌∙◌, arith}
+use Rattle.std.proofs.Common.{◌∙◌, arith}
 use Rattle.kb_link.proofs.UniverseReading.{pushed_more, pushed_done}
 use Rattle.kb_link.proofs.universe.push_arrays.Goals as goal
 

@@ -1,4 +1,4 @@
-use Rattle.std.proofs.Common.{◌≡◌, ◌++◌, [], length}
+use Rattle.std.proofs.Common.{◌≡◌, ◌++◌, length}
 use Rattle.kb_link.specs.Universe.{given_types}
 use Rattle.kb_link.proofs.universe.push_given.Given as goal
 

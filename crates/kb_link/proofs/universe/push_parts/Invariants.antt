@@ -1,4 +1,4 @@
-use Rattle.std.proofs.Common.{◌≡◌, ◌++◌, [], length}
+use Rattle.std.proofs.Common.{◌≡◌, ◌++◌, length}
 use Rattle.kb_link.specs.Mentions.{own_parts}
 use Rattle.kb_link.proofs.universe.push_parts.Given as goal
 

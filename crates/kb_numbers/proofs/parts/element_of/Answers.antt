@@ -1,4 +1,4 @@
-use Rattle.std.proofs.Common.{◌≡◌, ◌+◌, ◌<◌, ◌^◌, arith}
+use Rattle.std.proofs.Common.{◌≡◌, arith}
 use Rattle.kb_names.specs.Types.{shape_of}
 use Rattle.kb_numbers.proofs.TypeLaws.{no_dims}
 use Rattle.kb_numbers.proofs.parts.element_of.Goals as goal

@@ -1,4 +1,4 @@
-use Rattle.std.proofs.Common.{◌≡◌, ◌≤◌, ◌^◌, ℕ, Some, ap, arith}
+use Rattle.std.proofs.Common.{◌≡◌, ℕ, Some, ap, arith}
 use Rattle.kb_numbers.proofs.parts.text_number.Goals as goal
 
 pub returns-in_err-place-clause-whole : goal.returns-in_err-place-clause-whole

@@ -9,7 +9,7 @@ unfolding ending_of
 returns-clause-ending c = λ ended is.
     let leaf : EndedLeaf c.in-Ended.ended ≡ EndedLeaf ended = sym c.in-Ended.is ∙ is in
     let same : c.in-Ended.ended ≡ ended = cc in
-    c.in_ok-ending.ensures
+    c.in_ok-end.ensures.ending
     ∙ ap (λ (r : Reading). ending_at r c.in-Ended.ended.ending) c.in_ok-reading.ensures
     ∙ ap (λ (e : Stated). ending_at (reading_of c.args.world.now c.args.path.now c.args.input.now) e.ending) same
 
@@ -18,6 +18,6 @@ unfolding final_heap_of
 returns-clause-heap c = λ ended is.
     let leaf : EndedLeaf c.in-Ended.ended ≡ EndedLeaf ended = sym c.in-Ended.is ∙ is in
     let same : c.in-Ended.ended ≡ ended = cc in
-    c.in_ok-heap.ensures
+    c.in_ok-end.ensures.heap
     ∙ ap (λ (r : Reading). heap_at r c.args.input.now.heap c.in-Ended.ended.writes c.in-Ended.ended.made) c.in_ok-reading.ensures
     ∙ ap (λ (e : Stated). heap_at (reading_of c.args.world.now c.args.path.now c.args.input.now) c.args.input.now.heap e.writes e.made) same

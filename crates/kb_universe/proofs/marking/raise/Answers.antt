@@ -1,4 +1,4 @@
-use Rattle.std.proofs.Common.{◌≡◌, ◌<◌, ◌≤◌, ◌+◌, ℕ, max, length, get_or, sym, ap, ◌∙◌, arith}
+use Rattle.std.proofs.Common.{◌≡◌, ◌<◌, ◌≤◌, ◌+◌, max, length, get_or, sym, ap, ◌∙◌, arith}
 use Rattle.kb_names.specs.Types.{shape_of}
 use Rattle.kb_names.specs.declared.types.ExactType.{ExactType}
 use Rattle.kb_universe.specs.Marks.{dims_over}

@@ -1,4 +1,4 @@
-use Rattle.std.proofs.Common.{List, ℕ, ap, ◌∙◌}
+use Rattle.std.proofs.Common.{List, ap, ◌∙◌}
 use Rattle.kb_class.specs.Class.{Class}
 use Rattle.kb_link.specs.World.{number_in}
 use Rattle.kb_link.proofs.Named.{place_of_name}

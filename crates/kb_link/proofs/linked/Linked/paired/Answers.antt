@@ -1,16 +1,12 @@
-use Rattle.std.proofs.Common.{◌≡◌, ℕ, List, Some, None, sym, ap, subst, ◌∙◌}
+use Rattle.std.proofs.Common.{◌≡◌, ℕ, List, Some, sym, ap, subst, ◌∙◌}
 use Rattle.std.proofs.lemmas.Option.{same_Some, none-some}
-use Rattle.kb_names.specs.declared.types.MethodType.{MethodType}
 use Rattle.kb_class.specs.Class.{Class}
-use Rattle.kb_class.specs.declared.ids.MethodId.{MethodId}
-use Rattle.kb_numbers.specs.declared.numbering.Numbers.{Numbers}
 use Rattle.kb_numbers.specs.declared.pairs.Pair.{Pair}
 use Rattle.kb_numbers.specs.Members.{method_number}
 use Rattle.kb_numbers.specs.Numbers.{AreNumbered}
 use Rattle.kb_link.specs.World.{World}
-use Rattle.kb_link.specs.Links.{IsLinked}
 use Rattle.kb_link.specs.Tables.{IsNumberOf}
-use Rattle.kb_link.proofs.ByNumbers.{number_there, pair_of_number}
+use Rattle.kb_link.proofs.ByNumbers.{number_by_pair, pair_of_number}
 use Rattle.kb_link.proofs.linked.Linked.paired.Goals as goal
 
 pub pair_of-requires : goal.pair_of-requires
@@ -41,8 +37,10 @@ pub returns-clause-found : goal.returns-clause-found
 returns-clause-found c =
     let are : AreNumbered c.self.inside.classes c.get-numbers.result.now = subst (AreNumbered c.self.inside.classes) (sym c.get-numbers.ensures) c.self.invariant.3 in
     let classes : c.self.inside.classes ≡ c.args.self.now.classes = ap (λ (w : World). w.classes) c.self.view_is in
-    let found = number_there c.self.inside.classes c.get-numbers.result.now are c.self.invariant.0.loaded.methods c.args.class c.in_ok-pair.pair c.in_ok-number.number (sym c.in_ok-number.ensures) in
-    (found.0, found.1, subst (λ (cs : List Class). IsNumberOf cs c.args.class found.0 found.1 c.in_ok-number.number) classes found.2)
+    let found =
+    number_by_pair c.self.inside.classes c.get-numbers.result.now are c.self.invariant.0.loaded.methods c.args.class c.in_ok-pair.pair c.args.target.now.name c.args.target.now.kind c.in_ok-number.number c.in_ok-pair.ensures.found
+    (sym c.in_ok-number.ensures) in
+    subst (λ (cs : List Class). IsNumberOf cs c.args.class c.args.target.now.name c.args.target.now.kind c.in_ok-number.number) classes found
 
 pub returns-clause-whole : goal.returns-clause-whole
 returns-clause-whole c = λ id is.

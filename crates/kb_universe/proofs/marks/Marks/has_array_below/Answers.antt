@@ -1,4 +1,4 @@
-use Rattle.std.proofs.Common.{◌≡◌, sym, ap, ◌∙◌}
+use Rattle.std.proofs.Common.{sym, ap, ◌∙◌}
 use Rattle.std.specs.List.{list_any}
 use Rattle.kb_names.specs.declared.types.ExactType.{ExactType}
 use Rattle.kb_universe.specs.Marks.{is_array_below}

@@ -1,4 +1,4 @@
-use Rattle.std.proofs.Common.{◌≡◌, sym, ◌∙◌}
+use Rattle.std.proofs.Common.{sym, ◌∙◌}
 use Rattle.std.proofs.lemmas.Bool.{false≢true}
 use Rattle.kb_universe.proofs.Members.{class_named, marked_is}
 use Rattle.kb_universe.proofs.marks.Marks.has_class.Goals as goal

@@ -2,11 +2,10 @@ use Rattle.std.proofs.Common.{◌≡◌, ℕ, List, Option, ◌∷◌, [], OnOk,
 use Rattle.std.specs.List.{filter_map}
 use Rattle.std.specs.Option.{option_map}
 use Rattle.kb_class.specs.declared.ids.MethodId.{MethodId}
-use Rattle.kb_link.specs.Links.{IsLinked}
 use Rattle.kb_universe.specs.Marks.{class_types}
 use Rattle.kb_world.specs.Calls.{called_on, if_code}
 use Rattle.kb_world.specs.Found.{FoundMethods}
-use Rattle.kb_world.specs.Receivers.{called_among, selected_on_array}
+use Rattle.kb_world.specs.Receivers.{called_among}
 use Rattle.kb_world.specs.Walks.{with_all}
 use Rattle.kb_world.proofs.Inside.{array_told}
 use Rattle.kb_world.proofs.ReceiverLaws.{without_array, with_array}

@@ -17,7 +17,7 @@ kind_fault-requires-clause-left_out c =
     let sought = c.in-Some.sought in
     let there : slice_get world.classes class ≡ Some c.class_of.result.now = subst (λ (w : World). slice_get w.classes class ≡ Some c.class_of.result.now) c.linked.ensures c.class_of.ensures.there in
     let at : sought_at world class entry ≡ Some (sought_of sought) = sought_told world class entry c.class_of.result.now (Some (sought_of sought)) there c.in-Some.ensures in
-    c.entry_at-told.ensures.there.is_left_out
+    c.entry_at-resolved.ensures.there.is_left_out
     ∙ ap (λ (o : Option Sought). option_map_or left_out_of o false) at
     ∙ taken_left_out c.args.call sought.what sought.kind.now (sym c.takes.ensures ∙ c.if-not-takes.false)
 
@@ -29,6 +29,6 @@ kind_fault-requires-clause-owner c =
     let sought = c.in-Some.sought in
     let there : slice_get world.classes class ≡ Some c.class_of.result.now = subst (λ (w : World). slice_get w.classes class ≡ Some c.class_of.result.now) c.linked.ensures c.class_of.ensures.there in
     let at : sought_at world class entry ≡ Some (sought_of sought) = sought_told world class entry c.class_of.result.now (Some (sought_of sought)) there c.in-Some.ensures in
-    c.entry_at-told.ensures.there.is_owner
+    c.entry_at-resolved.ensures.there.is_owner
     ∙ ap (λ (o : Option Sought). option_and_then (owner_of world) o) at
     ∙ taken_owner world c.args.call sought.what sought.class.now sought.kind.now (sym c.takes.ensures ∙ c.if-not-takes.false)

@@ -1,5 +1,4 @@
-use Rattle.std.proofs.Common.{◌≡◌, length, sym, ap, ◌∙◌}
-use Rattle.kb_link.specs.World.{methods_in}
+use Rattle.std.proofs.Common.{ap, ◌∙◌}
 use Rattle.kb_world.specs.Found.{FoundMethods}
 use Rattle.kb_world.proofs.Items.{fault_later, mention_next, stops_here}
 use Rattle.kb_world.proofs.world.World.check_items.Goals as goal

@@ -1,4 +1,4 @@
-use Rattle.std.proofs.Common.{◌≡◌, ℕ, Bool, List, Option, not, sym, ap, ◌∙◌}
+use Rattle.std.proofs.Common.{ℕ, Option, not, sym, ap, ◌∙◌}
 use Rattle.std.specs.List.{list_any}
 use Rattle.kb_world.specs.Calls.{is_callable}
 use Rattle.kb_world.proofs.Inside.{array_told}
