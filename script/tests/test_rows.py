@@ -52,7 +52,8 @@ def judge(row):
 
 
 def test_rows_are_answered_as_they_are_stored():
-    found = rows()
+    # a folder is the script's: it takes class files from it, where the program reads none
+    found = [row for row in rows() if "." not in row[0]]
     same(len(found) > 400, True, "the rows")
     judge_all(judge, found)
 

@@ -113,9 +113,7 @@ fn mark(flags: &mut Vec<bool>, id: MethodId) -> Result<(), NoMemory>
 {
     let place = id.0 as usize;
     while flags.len() <= place {
-        let Ok(()) = flags.push(false) else {
-            return Err(NoMemory);
-        };
+        flags.push(false)?;
     }
     flags[place] = true;
     Ok(())

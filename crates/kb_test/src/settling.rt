@@ -174,7 +174,7 @@ fn bound_of(bound: RunBound) -> Bound
     }
 }
 
-// The test of that text. A heap that an object's number of 32 bits can't number is want of memory.
+// The test of that text. A heap that an object's number of 32 bits can't number counts as out of memory.
 pub(crate) fn settled(alloc: Global, literals: u32, script: &Script) -> Result<Test, NoMemory>
     ensures { IfOk result (λ test. test ≡ test_of literals script.now) }
 {

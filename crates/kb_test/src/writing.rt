@@ -393,7 +393,7 @@ impl Counts {
         Ok(())
     }
 
-    // More objects than a number of 32 bits can number are want of memory.
+    // More objects than a number of 32 bits can number count as out of memory.
     fn append_news<O: Objects>(self, heap: &O, into: &mut Vec<u8>) -> Result<(), NoMemory>
         ensures ok { OnOk result (into.new.items ≡ into.old.items ++ lines_text (texts_of (new_lines 0 (news_of self.inputs self.literals (O.objects heap.now))))) }
         ensures kept { take (length into.old.items) into.new.items ≡ into.old.items }

@@ -41,6 +41,10 @@ bounds_given settings = record {
   };
 }
 
+-- those that stand where no option gives one
+abbrev pub default_bounds : Bounds
+default_bounds = bounds_given []
+
 -- the job on a target and files, where options say or leave what else it has
 abbrev pub job_with : List Setting → List (List ℕ) → Target → Job
 job_with settings files target = record {
@@ -75,13 +79,13 @@ job_of target command words = settings_of (is_some target) command words >>= (λ
 
 -- ---- orders
 
-abbrev pub replay_from : Option (List ℕ) → List (List ℕ) → Result Order WordFault
-replay_from None files = Err faults.NoTests
-replay_from (Some tests) [] = Err faults.NoFiles
-replay_from (Some tests) (file ∷ files) = Ok (orders.Replay tests (file ∷ files))
+abbrev pub replay_from : Option (List ℕ) → ℕ → List (List ℕ) → Result Order WordFault
+replay_from None workers files = Err faults.NoTests
+replay_from (Some tests) workers [] = Err faults.NoFiles
+replay_from (Some tests) workers (file ∷ files) = Ok (orders.Replay tests (file ∷ files) workers)
 
 unfoldable pub replay_of : List (List ℕ) → Result Order WordFault
-replay_of words = settings_of false commands.Replay words >>= (λ settings. replay_from (value_given options.Tests settings) (files_of words))
+replay_of words = settings_of false commands.Replay words >>= (λ settings. replay_from (value_given options.Tests settings) (number_given options.Workers 1 settings) (files_of words))
 
 -- `assemble FILE`, whatever the word begins with
 unfoldable pub assembly_of : List (List ℕ) → Result Order WordFault
@@ -117,11 +121,21 @@ command_named word =
     else if bytes_eq word (codes "sample") then Some commands.Sample
     else None
 
+-- the order to explore a job
+abbrev pub explored : Command → Job → Order
+explored commands.Tests job = orders.Tests job
+explored commands.Diagrams job = orders.Diagrams job
+explored command job = orders.Explore job
+
+-- the order of a command that explores with the words behind it
+abbrev pub exploration_of : Option Target → Command → List (List ℕ) → Result Order WordFault
+exploration_of target command words = job_of target command words >>= (λ job. Ok (explored command job))
+
 -- the order of a command with the words behind it
 abbrev pub order_by : Option Target → Command → List (List ℕ) → Result Order WordFault
-order_by target commands.Explore words = job_of target commands.Explore words >>= (λ job. Ok (orders.Explore job))
-order_by target commands.Tests words = job_of target commands.Tests words >>= (λ job. Ok (orders.Tests job))
-order_by target commands.Diagrams words = job_of target commands.Diagrams words >>= (λ job. Ok (orders.Diagrams job))
+order_by target commands.Explore words = exploration_of target commands.Explore words
+order_by target commands.Tests words = exploration_of target commands.Tests words
+order_by target commands.Diagrams words = exploration_of target commands.Diagrams words
 order_by target commands.Replay words = replay_of words
 order_by target commands.Assemble words = assembly_of words
 order_by target commands.Sample words = sample_of words
@@ -190,6 +204,6 @@ abbrev pub IsOrder : Order → Type 0
 IsOrder (orders.Explore job) = IsJob job
 IsOrder (orders.Tests job) = IsJob job
 IsOrder (orders.Diagrams job) = IsJob job
-IsOrder (orders.Replay tests files) = Unit {0}
+IsOrder (orders.Replay tests files workers) = (1 ≤ workers) × (workers ≤ 64)
 IsOrder (orders.Assemble text) = Unit {0}
 IsOrder (orders.Sample blocks) = blocks ≤ 64

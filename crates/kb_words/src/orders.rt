@@ -5,7 +5,7 @@ ghost use Rattle.kb_words.specs.declared.orders.Order.{Order as Ordered};
 ghost use Rattle.kb_words.specs.declared.orders.WordFault.{WordFault as Fault};
 ghost use Rattle.kb_words.specs.Options.{range_of};
 ghost use Rattle.kb_words.specs.Settings.{Gives};
-ghost use Rattle.kb_words.specs.Orders.{AreBounds, AreOrdered, IsJob, IsOrder, IsTargetIn, Orders, assembly_of, bounds_given, command_named, if_enough, init_given, job_from, job_of, job_on, job_with, number_given, order_by, order_of, replay_from, replay_of, sample_at, sample_of};
+ghost use Rattle.kb_words.specs.Orders.{AreBounds, AreOrdered, IsJob, IsOrder, IsTargetIn, Orders, assembly_of, bounds_given, command_named, default_bounds, exploration_of, explored, if_enough, init_given, job_from, job_of, job_on, job_with, number_given, order_by, order_of, replay_from, replay_of, sample_at, sample_of};
 
 use crate::options::{OptionName, Range, init_named, is_number, number_within, range_of};
 use crate::settings::{Setting, files_of, method_word, read_settings, value_given};
@@ -55,8 +55,8 @@ pub enum Order {
     Tests(Job),
     /// To draw the paths.
     Diagrams(Job),
-    /// To run the tests of a file, whose methods are those of class files.
-    Replay(Word, Row<Word>),
+    /// To run the tests of a file, whose methods are those of class files, by so many workers.
+    Replay(Word, Row<Word>, u32),
     /// To write the class file of a text.
     Assemble(Word),
     /// To make a class of so many branches, to explore it, and to run its tests.
@@ -174,12 +174,40 @@ fn read_order(
     ensures ranges { IfOk result IsOrder }
 {
     match command {
-        Command::Explore => Ok(Order::Explore(read_job(alloc, target, command, words)?)),
-        Command::Tests => Ok(Order::Tests(read_job(alloc, target, command, words)?)),
-        Command::Diagrams => Ok(Order::Diagrams(read_job(alloc, target, command, words)?)),
         Command::Replay => read_replay(alloc, words),
         Command::Assemble => read_assembly(alloc, words),
         Command::Sample => read_sample(words),
+        Command::Explore | Command::Tests | Command::Diagrams => {
+            read_exploration(alloc, target, command, words)
+        }
+    }
+}
+
+/// The order of a command that explores with the words behind it.
+fn read_exploration(
+    alloc: Global,
+    target: Option<Target>,
+    command: Command,
+    words: &[String],
+) -> Result<Order, WordFault>
+    requires { IfSome target IsTarget }
+    ensures order { Gives (λ order. order) result (exploration_of target command (map string_bytes words.now)) }
+    ensures ranges { IfOk result IsOrder }
+{
+    let job = read_job(alloc, target, command, words)?;
+    Ok(explored(command, job))
+}
+
+/// The order to explore a job.
+fn explored(command: Command, job: Job) -> Order
+    requires { IsJob job }
+    ensures order { result ≡ explored command job }
+    ensures ranges { IsOrder result }
+{
+    match command {
+        Command::Tests => Order::Tests(job),
+        Command::Diagrams => Order::Diagrams(job),
+        _ => Order::Explore(job),
     }
 }
 
@@ -269,6 +297,14 @@ fn job_with(settings: &[Setting], files: Row<Word>, target: Target) -> Job
     }
 }
 
+/// The bounds that stand where no option gives one.
+pub fn default_bounds() -> Bounds
+    ensures bounds { result ≡ default_bounds }
+    ensures ranges { AreBounds result }
+{
+    bounds_given(&[])
+}
+
 fn bounds_given(settings: &[Setting]) -> Bounds
     ensures bounds { result ≡ bounds_given settings.now }
     ensures ranges { AreBounds result }
@@ -324,12 +360,13 @@ fn read_replay(alloc: Global, words: &[String]) -> Result<Order, WordFault>
     let Some(tests) = value_given(OptionName::Tests, settings.as_slice()) else {
         return Err(WordFault::NoTests);
     };
+    let workers = number_given(OptionName::Workers, 1, settings.as_slice());
     let files = files_of(words);
     if files.is_empty() {
         return Err(WordFault::NoFiles);
     }
     let tests = Word::from_text(alloc, tests.as_str())?;
-    Ok(Order::Replay(tests, words_of(alloc, files)?))
+    Ok(Order::Replay(tests, words_of(alloc, files)?, workers))
 }
 
 /// The order of the words behind `assemble`.

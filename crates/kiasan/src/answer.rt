@@ -4,22 +4,26 @@ ghost use Rattle.std.specs.Prelude.{◌≡◌, ℕ, ◌<◌, ◌≤◌, ◌^◌,
 ghost use Rattle.kb_link.specs.Links.{IsLinked};
 ghost use Rattle.kb_outside.specs.Outside.{Rose};
 ghost use Rattle.kb_test_laws.specs.Texts.{NamesHaveTexts};
-ghost use Rattle.kiasan.specs.Answers.{Answers, AreRead, Carries, IsAnswer, IsContents, IsOf, IsRead, IsReadFault, IsReadFaultOrNoMemory, Replies, RepliesIn, RepliesOn, RepliesTo, SomeUnsound, class_limit, text_limit};
-ghost use Rattle.kiasan.specs.Orders.{IsBuiltOrder, classes_of, files_of, texts_of};
+ghost use Rattle.kiasan.specs.Answers.{Answers, AreRead, Carries, ContentsRefuse, HasContents, IsAnswer, IsContents, IsOf, IsRead, IsReadFault, IsReadFaultOrNoMemory, Replies, RepliesIn, RepliesOn, RepliesTo, SomeUnsound};
+ghost use Rattle.kiasan.specs.Orders.{IsBuiltOrder, files_of, texts_of};
+ghost use Rattle.kiasan.specs.Refusals.{Gives};
 
 use crate::assembly::answer_assembly;
 use crate::classes::{link_world, read_classes};
 use crate::methods::{answer_diagrams, answer_report, answer_tests};
-use crate::orders::{classes_of, read_built_order, texts_of};
+use crate::orders::{blocks_of, classes_of, read_built_order, texts_of};
 use crate::ranges::tell_files;
 use crate::refusals::{Answer, Fault, Stop, settle};
 use crate::replay::replay;
+use crate::sample::{answer_sample, made_contents};
 use kb_outside::{Shelf, ShelfStop};
 use kb_rows::Row;
 use kb_test_laws::worlds_have_names;
 use kb_words::{Order, Word};
+use kb_workers::Gate;
 use kb_world::World;
 use std::alloc::Global;
+use std::thread::Threads;
 
 /// The most bytes of a class file.
 const CLASS_LIMIT: usize = 1_048_576;
@@ -27,7 +31,7 @@ const CLASS_LIMIT: usize = 1_048_576;
 /// The most bytes of a text.
 pub const TEXT_LIMIT: usize = 67_108_864;
 
-/// What was read of an order's files, in the order of the words.
+/// What was read of an order's files, in the order of the words; of a sample the class file that is made.
 #[derive(Drop)]
 pub struct Contents {
     pub texts: Row<Row<u8>>,
@@ -36,17 +40,19 @@ pub struct Contents {
 
 /// What the program answers to its words.
 #[tactic(auto, using(crate::proofs::TopLaws::ends_answer))]
-pub fn answer_words<S: Shelf>(
-    alloc: Global,
+pub fn answer_words<R: AllocGlobal + Threads + Sync, S: Shelf, G: Gate + Sync>(
+    rt: &R,
     words: &[String],
     shelf: &mut S,
+    gate: &G,
 ) -> Result<Answer, Fault>
     ensures answers { IfOk result (λ a. Answers (map string_bytes words.now) (S.holds shelf.old) a.status a.text.items) }
     ensures answer { IfOk result (λ a. IsAnswer a.status) }
     ensures counted { IsErrOf result Fault.Read → Rose (S.faults shelf.old) (S.faults shelf.new) }
     ensures unsound { IsErrOf result Fault.Read → SomeUnsound (map string_bytes words.now) (S.sound shelf.old) }
 {
-    match reply_to_words(alloc, words, shelf) {
+    let alloc = rt.alloc();
+    match reply_to_words(rt, words, shelf, gate) {
         Ok(answer) => Ok(answer),
         Err(stop) => settle(alloc, stop),
     }
@@ -54,21 +60,41 @@ pub fn answer_words<S: Shelf>(
 
 /// Does what the words order.
 #[tactic(auto, unfolding(crate::specs::Answers::Replies))]
-fn reply_to_words<S: Shelf>(alloc: Global, words: &[String], shelf: &mut S) -> Result<Answer, Stop>
+fn reply_to_words<R: AllocGlobal + Threads + Sync, S: Shelf, G: Gate + Sync>(
+    rt: &R,
+    words: &[String],
+    shelf: &mut S,
+    gate: &G,
+) -> Result<Answer, Stop>
     ensures { Carries (Rose (S.faults shelf.old) (S.faults shelf.new) × SomeUnsound (map string_bytes words.now) (S.sound shelf.old)) (Replies (map string_bytes words.now) (S.holds shelf.old)) result }
 {
-    let order = read_built_order(alloc, words)?;
-    carry_out_order(alloc, order.get(), shelf)
+    let order = read_built_order(rt.alloc(), words)?;
+    carry_out_order(rt, order.get(), shelf, gate)
 }
 
 /// Does what an order says.
 #[tactic(auto, unfolding(crate::specs::Answers::RepliesTo))]
-fn carry_out_order<S: Shelf>(alloc: Global, order: &Order, shelf: &mut S) -> Result<Answer, Stop>
-    requires { IsBuiltOrder order.now }
+fn carry_out_order<R: AllocGlobal + Threads + Sync, S: Shelf, G: Gate + Sync>(
+    rt: &R,
+    order: &Order,
+    shelf: &mut S,
+    gate: &G,
+) -> Result<Answer, Stop>
+    requires built { IsBuiltOrder order.now }
     ensures { Carries (IsReadFault (S.faults shelf.old) (S.faults shelf.new) (files_of order.now) (S.sound shelf.old)) (RepliesTo order.now (S.holds shelf.old)) result }
 {
-    let contents = read_contents(alloc, order, shelf)?;
-    answer_on(alloc, order, &contents)
+    let contents = contents_of(rt.alloc(), order, shelf)?;
+    answer_on(rt, order, &contents, gate)
+}
+
+/// What an order is carried out on: the class file that it makes itself, or what its files have.
+fn contents_of<S: Shelf>(alloc: Global, order: &Order, shelf: &mut S) -> Result<Contents, Stop>
+    ensures { Gives (IsReadFault (S.faults shelf.old) (S.faults shelf.new) (files_of order.now) (S.sound shelf.old)) (ContentsRefuse order.now) (HasContents (S.holds shelf.old) order.now) result }
+{
+    match blocks_of(order) {
+        Some(blocks) => made_contents(alloc, blocks),
+        None => read_contents(alloc, order, shelf),
+    }
 }
 
 /// Reads the files of an order.
@@ -127,7 +153,12 @@ fn read_bytes<S: Shelf>(
 
 /// What the program answers to an order whose files are these.
 #[tactic(auto, using(crate::proofs::AnswerLaws::classes_stop, crate::proofs::AnswerLaws::world_stops, crate::proofs::AnswerLaws::world_goes))]
-fn answer_on(alloc: Global, order: &Order, contents: &Contents) -> Result<Answer, Stop>
+fn answer_on<R: AllocGlobal + Threads + Sync, G: Gate + Sync>(
+    rt: &R,
+    order: &Order,
+    contents: &Contents,
+    gate: &G,
+) -> Result<Answer, Stop>
     requires built { IsBuiltOrder order.now }
     requires texts { length contents.now.texts ≡ length (texts_of order.now) }
     ensures { Carries ⊥ (RepliesOn order.now contents.now) result }
@@ -135,25 +166,34 @@ fn answer_on(alloc: Global, order: &Order, contents: &Contents) -> Result<Answer
     let classes = contents.classes.as_slice();
     tell_files(classes);
     worlds_have_names();
-    let given = read_classes(alloc, classes)?;
-    let world = link_world(alloc, given)?;
-    answer_in(alloc, order, contents.texts.as_slice(), world.get())
+    let given = read_classes(rt.alloc(), classes)?;
+    let world = link_world(rt.alloc(), given)?;
+    answer_in(rt, order, contents.texts.as_slice(), world.get(), gate)
 }
 
 /// What the program answers to an order on these texts and the world of its classes.
-fn answer_in(alloc: Global, order: &Order, texts: &[Row<u8>], world: &World) -> Result<Answer, Stop>
+fn answer_in<R: AllocGlobal + Threads + Sync, G: Gate + Sync>(
+    rt: &R,
+    order: &Order,
+    texts: &[Row<u8>],
+    world: &World,
+    gate: &G,
+) -> Result<Answer, Stop>
     requires linked { IsLinked world.now }
     requires names { NamesHaveTexts world.now }
     requires built { IsBuiltOrder order.now }
     requires texts { length texts.now ≡ length (texts_of order.now) }
     ensures { Carries ⊥ (RepliesIn order.now texts.now world.now) result }
 {
+    let alloc = rt.alloc();
     match order {
         Order::Explore(job) => answer_report(alloc, world, job),
         Order::Tests(job) => answer_tests(alloc, world, job),
         Order::Diagrams(job) => answer_diagrams(alloc, world, job),
-        Order::Replay(..) => replay(alloc, world, texts[0].as_slice()),
+        Order::Replay(_, _, workers) => {
+            replay(rt, world, texts[0].as_slice(), *workers as usize, gate)
+        }
         Order::Assemble(_) => answer_assembly(alloc, texts[0].as_slice()),
-        Order::Sample(_) => unreachable!(),
+        Order::Sample(blocks) => answer_sample(rt, world, *blocks, gate),
     }
 }

@@ -1,6 +1,6 @@
 //! From the bytes of class files to their world.
 
-ghost use Rattle.std.specs.Prelude.{[], ◌∷◌, IfOk};
+ghost use Rattle.std.specs.Prelude.{[], ◌∷◌};
 ghost use Rattle.kb_classfile.specs.Spelling.{IsClassFile};
 ghost use Rattle.kb_class.specs.Given.{AreGiven, AreListings, IsGivenBy, AreGivenBy};
 ghost use Rattle.kb_link.specs.Links.{Links};

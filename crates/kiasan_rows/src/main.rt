@@ -7,38 +7,48 @@
 #![tactic(auto)]
 
 use kb_outside::{FileShelf, OutSink, Shelf, Sink};
-use kb_table::{RowResult, Rows, read_words, send, write_rows};
+use kb_table::{RowResult, read_table, read_words, send};
 use kiasan::kiasan;
-use std::alloc::Global;
 use std::io;
 use std::process::ExitCode;
-
-/// Each call is made by itself.
-#[derive(Drop)]
-struct Calls;
-
-impl Rows for Calls {
-    fn write_row<S: Shelf, W: Sink>(
-        &mut self,
-        alloc: Global,
-        row: &str,
-        shelf: &mut S,
-        out: &mut W,
-    ) -> RowResult<()> {
-        let words = read_words(alloc, row, ' ')?;
-        send(out, format!(in alloc; "> {row}\n")?.as_bytes())?;
-        let status = kiasan(alloc, words.as_slice(), shelf, out);
-        send(
-            out,
-            format!(in alloc; "status {}\n", status.number())?.as_bytes(),
-        )
-    }
-}
+use std::thread::Threads;
 
 /// Writes what each row comes to.
 fn main(rt: HostRuntime) -> io::Result<ExitCode> {
     let mut shelf = FileShelf::new(&rt);
     let mut out = OutSink::new(io::writer(&rt));
-    write_rows(rt.alloc(), "rows", &mut Calls, &mut shelf, &mut out)?;
+    write_calls(&rt, &mut shelf, &mut out)?;
     Ok(ExitCode::from(0))
+}
+
+/// Writes the words of each row of the table `rows` and what they come to. Empty lines and those that begin with `#` are no rows.
+/// The calls need the runtime, whose bounds no implementation of `kb_table`'s `Rows` may hand on.
+fn write_calls<R: AllocGlobal + Threads + Sync, S: Shelf, W: Sink>(
+    rt: &R,
+    shelf: &mut S,
+    out: &mut W,
+) -> RowResult<()> {
+    let table = read_table(rt.alloc(), "rows", shelf)?;
+    for row in table.as_str().lines() {
+        if !row.is_empty() && !row.starts_with("#") {
+            write_call(rt, row, shelf, out)?;
+        }
+    }
+    Ok(())
+}
+
+fn write_call<R: AllocGlobal + Threads + Sync, S: Shelf, W: Sink>(
+    rt: &R,
+    row: &str,
+    shelf: &mut S,
+    out: &mut W,
+) -> RowResult<()> {
+    let alloc = rt.alloc();
+    let words = read_words(alloc, row, ' ')?;
+    send(out, format!(in alloc; "> {row}\n")?.as_bytes())?;
+    let status = kiasan(rt, words.as_slice(), shelf, out);
+    send(
+        out,
+        format!(in alloc; "status {}\n", status.number())?.as_bytes(),
+    )
 }

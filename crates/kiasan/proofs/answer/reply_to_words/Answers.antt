@@ -5,8 +5,8 @@ use Rattle.kiasan.specs.Orders.{files_of}
 use Rattle.kiasan.proofs.AnswerLaws.{words_go}
 use Rattle.kiasan.proofs.answer.reply_to_words.Goals as goal
 
-pub carry_out_order-requires : goal.carry_out_order-requires
-carry_out_order-requires g c = rw c.get.ensures c.in_ok-order.ensures.built
+pub carry_out_order-requires-clause-built : goal.carry_out_order-requires-clause-built
+carry_out_order-requires-clause-built g c κs within = rw c.get.ensures c.in_ok-order.ensures.built
 
 pub returns : goal.returns
 returns g c =

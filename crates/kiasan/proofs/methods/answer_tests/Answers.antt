@@ -3,8 +3,8 @@ use Rattle.std.proofs.lemmas.Result.{err_from_is_err_and}
 use Rattle.kb_report.specs.declared.report.Report.{Report}
 use Rattle.kb_test.specs.Tests.{SpellsTests}
 use Rattle.kiasan.specs.Answers.{IsTestsTextOf}
-use Rattle.kiasan.specs.Exploring.{status_of, tests_of}
-use Rattle.kiasan.specs.Tests.{literals_in}
+use Rattle.kb_report_tests.specs.Tests.{literals_in, tests_of}
+use Rattle.kiasan.specs.Exploring.{status_of}
 use Rattle.kiasan.proofs.JobLaws.{bounds_written, job_stops, job_ends, paths_carry, target_written, tests_written}
 use Rattle.kiasan.proofs.methods.answer_tests.Goals as goal
 
@@ -29,5 +29,5 @@ pub returns : goal.returns
 returns c =
     job_ends IsTestsTextOf c.args.world.now c.args.job.now c.in_ok-report.report _ c.in_ok-answer.answer.text.items c.in_ok-report.ensures
     (c.in_ok-answer.ensures.status ∙ ap (λ (report : Report). status_of report.leaves) c.get.ensures)
-    (tests_written c.args.world.now c.args.job.now c.in_ok-report.report c.in_ok-answer.answer.text.items c.in_ok-report.ensures.reported
+    (tests_written c.args.world.now c.args.job.now c.in_ok-report.report c.in_ok-answer.answer.text.items c.in_ok-report.ensures
     (subst (λ (report : Report). SpellsTests (literals_in c.args.world.now) (tests_of c.args.world.now report) c.in_ok-answer.answer.text.items) c.get.ensures c.in_ok-answer.ensures.text))
