@@ -15,6 +15,7 @@ import tempfile
 from pathlib import Path
 
 from assembler import BRANCHES, assemble
+from sample import sample_text
 
 HERE = Path(__file__).resolve().parent
 CRATE = HERE.parent.parent / "crates" / "asm_rows"
@@ -322,6 +323,42 @@ ask(
     "0021000200040000000000010009000500060001000700000010000200020000"
     "00041a1b60ac000000000000",
 )  # fmt: skip
+
+# ---- the program's own text
+
+for blocks in (0, 1, 7):
+    ask(f"a sample of {blocks} blocks", "bytes", f"%{blocks}", assemble(sample_text(blocks)).hex())
+
+# ---- texts that are cut or spoiled
+
+
+def runs(verdicts):
+    """The answers in order, each once where it stands several times in a row, behind the number of the first."""
+    told, last = [], None
+    for number, answer in enumerate(verdicts):
+        if answer != last:
+            told.append(f"\n{number} {answer}")
+            last = answer
+    return "".join(told)
+
+
+def front_verdict(front):
+    """A front of a good text is a class where it ends behind a line that stands in no body; else its last line is bad, which may be
+    missing."""
+    bodies = [line for line in front.splitlines() if line == "end" or re.match(r"method( \S+){5}$", line)]
+    is_open = bool(bodies) and bodies[-1] != "end"
+    whole = front.endswith("\n") and not is_open
+    return "a class file" if whole else f"Line({front.count(chr(10)) + 1})"
+
+
+for name, spelled, text in (
+    ("Whole.asm", "@Whole.asm", WHOLE),
+    ("a sample of 2 blocks", "%2", sample_text(2)),
+    ("a class of each line", lines_of(*EACH), expanded(lines_of(*EACH))),
+):
+    ask(f"{name}, each front", "cuts", spelled, runs(front_verdict(text[:end]) for end in range(len(text))))
+    # a byte that no text has makes its line one that does not fit, or joins it with the next one
+    ask(f"{name}, each byte 255", "changes", spelled, runs(f"Line({text[:at].count(chr(10)) + 1})" for at in range(len(text))))
 
 (CRATE / "data" / "Whole.asm").write_text(WHOLE)
 (CRATE / "data" / "rows").write_text("".join(f"{asked}\n" for asked, _ in rows))

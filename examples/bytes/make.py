@@ -1,6 +1,6 @@
 #!/usr/bin/env python3
 """Writes `data/` and `stdout` of crates/bytes_rows: class files and code by their bytes, with what JVMS 8 chapters 4 and 6 and
-`javap -v` say of them.
+`javap -v` say of them, and `reader.py` beside it of those that are cut or spoiled.
 
 Usage: examples/bytes/make.py
 It needs javac of a JDK from 9 to 19 (later ones no longer make files of version 52).
@@ -10,6 +10,8 @@ import re
 import subprocess
 import tempfile
 from pathlib import Path
+
+from reader import changes, cuts, verdict
 
 HERE = Path(__file__).resolve().parent
 ROOT = HERE.parent.parent
@@ -211,6 +213,49 @@ NAMES |= dict(enumerate("getfield putfield invokevirtual invokespecial invokesta
 NAMES |= dict(enumerate("new newarray anewarray arraylength athrow checkcast instanceof".split(), 0xBB))
 
 
+def with_length(content, at, length):
+    return content[:at] + length.to_bytes(4, "big") + content[at + 4 :]
+
+
+def length_rows():
+    """An attribute that says to be 4,294,967,295 bytes long, wherever one may stand: what is behind its length is not there, of one
+    inside a Code what is behind it in the Code."""
+    longest = 0xFFFFFFFF
+    empty = bytes((0, 7, 0, 0, 0, 0))
+    field = A[:66] + bytes((0, 1, 0, 0, 0, 5, 0, 6, 0, 1)) + empty + A[68:]
+    method = A[:77] + b"\2" + A[78:100] + bytes((0, 5, 0, 0, 0, 0)) + A[100:]
+    of_class = A[:100] + b"\0\1" + empty
+    inner = A[:83] + b"\x16" + A[84:98] + b"\0\1" + bytes((0, 5, 0, 0, 0, 0)) + A[100:]
+    for name, content, at, answer in (
+        ("of a field", field, 78, "Short(82)"),
+        ("of a method, its Code", A, 80, "Short(84)"),
+        ("of a method, behind its Code", method, 102, "Short(106)"),
+        ("of the class", of_class, 104, "Short(108)"),
+        ("inside a Code", inner, 102, "CodeLength(84)"),
+    ):
+        assert verdict(content) == "methods 4", name
+        ask(f"an attribute {name}, of no bytes or its own", "class", content, WHOLE_A.replace("0 1", "1 1") if content is field else WHOLE_A)
+        for length in (longest, 0x80000000, 0x7FFFFFFF):
+            ask(f"an attribute {name}, of {length} bytes", "class", with_length(content, at, length), answer)
+
+
+def spoiled_rows():
+    """Class files that are cut at each length, or of which each byte in turn is ff, by the reader beside this script. Class A is told
+    byte by byte; of each that is read, the code is decoded too."""
+    for at in range(len(A)):
+        answer = verdict(changed(A, (at, 0xFF)))
+        assert re.match(r"Magic|Version|Short|Tag|Pool|CodeLength|Extra|TwoCodes|methods (none|\d+|Opcode|Cut|Target|Switch|Range)", answer)
+    ask("class A, each byte 255", "changes", A, changes(A, 255), "255")
+    ask("class A, each byte 0", "changes", A, changes(A, 0), "0")
+    ask("class B, each byte 255", "changes", B, changes(B, 255), "255")
+    ask("class B, each byte 0", "changes", B, changes(B, 0), "0")
+    ask("class A, each front", "cuts", A, cuts(A))
+    for name in ("plain", "inner"):
+        content = (CRATE / "data" / f"{name}.class").read_bytes()
+        ask(f"{name} Parts, each front", "cuts", f"@{name}.class", cuts(content))
+        ask(f"{name} Parts, each byte 255", "changes", f"@{name}.class", changes(content, 255), "255")
+
+
 def opcode_rows():
     for opcode in range(256):
         if opcode not in SIZES:
@@ -301,7 +346,7 @@ def javac_code_rows():
 
 def main():
     (CRATE / "data").mkdir(exist_ok=True)
-    for make in (class_rows, javac_rows, fault_rows, attribute_rows, opcode_rows, code_rows, javac_code_rows):
+    for make in (class_rows, javac_rows, fault_rows, attribute_rows, length_rows, spoiled_rows, opcode_rows, code_rows, javac_code_rows):
         make()
     (CRATE / "data" / "rows").write_text("".join(f"{name}: {asked}\n" for name, asked, _ in rows))
     (CRATE / "stdout").write_text("".join(f"{name}: {answer}\n" for name, _, answer in rows))

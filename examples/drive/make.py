@@ -1,5 +1,5 @@
 #!/usr/bin/env python3
-"""Writes crates/drive_rows/data/Paths.class from Paths.java beside this script, and looks at the rows there, which were written
+"""Writes crates/drive_rows/data/Paths.class and Pair.class from Paths.java and Pair.asm beside this script, and looks at the rows there, which were written
 by hand with what is expected of them.
 
 As many paths of the rows on `sq` must be undecided as the oracle is told logs that are fresh, by the formula of a product that
@@ -18,7 +18,8 @@ HERE = Path(__file__).resolve().parent
 CRATE = HERE.parent.parent / "crates" / "drive_rows"
 DATA = CRATE / "data"
 
-sys.path += [str(HERE.parent), str(HERE.parent.parent / "bench")]
+sys.path += [str(HERE.parent), str(HERE.parent.parent / "bench"), str(HERE.parent / "assemble")]
+from assembler import assemble  # noqa: E402
 from formulas import Formula, constant  # noqa: E402
 from logs import is_fresh  # noqa: E402
 
@@ -79,6 +80,7 @@ def judge_calls():
 def main():
     words = ["javac", "-g:none", "-nowarn", "--release", "8", "-d", DATA, HERE / "Paths.java"]
     subprocess.run(words, check=True, stderr=subprocess.DEVNULL)
+    (DATA / "Pair.class").write_bytes(assemble((HERE / "Pair.asm").read_text()))
     judge_logs()
     judge_calls()
 

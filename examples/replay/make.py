@@ -1,5 +1,6 @@
 #!/usr/bin/env python3
-"""Writes the class files and the tests of heaps of crates/kiasan_rows/data, whose ends are those of the Java virtual machine.
+"""Writes the class files and the tests of heaps of crates/kiasan_rows/data, whose ends are those of the Java virtual machine, and
+the rows there in which several workers replay tests.
 
 Usage: examples/replay/make.py
 It needs javac and java of a JDK 17.
@@ -7,6 +8,8 @@ It needs javac and java of a JDK 17.
 
 import subprocess
 from pathlib import Path
+
+from workers import write_rows
 
 HERE = Path(__file__).resolve().parent
 DATA = HERE.parent.parent / "crates" / "kiasan_rows" / "data"
@@ -26,6 +29,7 @@ def main():
     run("java", *EXPORTS, ASSEMBLER, DATA, HERE / "Small.text", HERE / "Odd.text")
     tests = run("java", HERE / "Written.java", HERE / "heaps.tests", DATA, stdout=subprocess.PIPE)
     (DATA / "heaps.tests").write_bytes(tests.stdout)
+    write_rows()
 
 
 if __name__ == "__main__":

@@ -205,7 +205,7 @@ for bounds in [
     "alloc 0 loops 0 depth 257 steps 20", "alloc 0 loops 0 depth 1 steps 0", "alloc 0 loops 0 depth 1 steps 100001",
     "alloc 0 loops 0 depth 1 steps 01", "alloc 0 loops 0 depth 1 steps -1", "alloc 0 loops 0 depth 1 steps 1 ",
     "alloc 0 loops 0 depth 1", "loops 0 alloc 0 depth 1 steps 1", "alloc 0  loops 0 depth 1 steps 1",
-    "alloc 4294967296 loops 0 depth 1 steps 1", "k 3 alloc 0 loops 0 depth 1 steps 1",
+    "alloc -1 loops 0 depth 1 steps 1", "alloc 0 loops -1 depth 1 steps 1", "alloc 4294967296 loops 0 depth 1 steps 1", "k 3 alloc 0 loops 0 depth 1 steps 1",
 ]:
     bad(f"test A.f()V|bounds {bounds}|", 2)
 good("~illtyped A.()V 0|end|")

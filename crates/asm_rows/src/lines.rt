@@ -5,22 +5,22 @@ use kb_rows::Held;
 use kb_table::{RowResult, RowStop};
 use std::alloc::Global;
 
-/// Whether the text spells a line.
-pub fn line_answer(alloc: Global, text: &[u8]) -> RowResult<String> {
+/// Appends whether the text spells a line.
+pub fn append_line_answer(alloc: Global, text: &[u8], into: &mut String) -> RowResult<()> {
     let line = line_of(alloc, text)?;
     let told = if line.get().is_some() {
         "a line"
     } else {
         "no line"
     };
-    Ok(String::from_str(alloc, told)?)
+    Ok(into.push_str(told)?)
 }
 
-/// The opcode and the int of a line that pushes a constant.
-pub fn int_answer(alloc: Global, text: &[u8]) -> RowResult<String> {
+/// Appends the opcode and the int of a line that pushes a constant.
+pub fn append_int_answer(alloc: Global, text: &[u8], into: &mut String) -> RowResult<()> {
     let line = line_of(alloc, text)?;
     match int_of(line.get()) {
-        Some((op, number)) => Ok(format!(in alloc; "{op:02x} {number}")?),
+        Some((op, number)) => Ok(write!(into, "{op:02x} {number}")?),
         None => Err(RowStop::Malformed),
     }
 }
@@ -56,9 +56,9 @@ fn int_at(constant: &Constant) -> Option<i32> {
     }
 }
 
-/// How many lines of the text fit, where they lead, and whether nothing stands behind them.
-pub fn front_answer(alloc: Global, text: &[u8]) -> RowResult<String> {
+/// Appends how many lines of the text fit, where they lead, and whether nothing stands behind them.
+pub fn append_front_answer(alloc: Global, text: &[u8], into: &mut String) -> RowResult<()> {
     let front = read_front(alloc, text)?;
     let told = (front.lines.as_slice().len(), front.place, front.ended);
-    Ok(format!(in alloc; "{told:?}")?)
+    Ok(write!(into, "{told:?}")?)
 }

@@ -8,9 +8,10 @@
 
 mod answers;
 mod lines;
+mod spoiled;
 mod texts;
 
-use answers::answer;
+use answers::append_answer;
 use kb_outside::{FileShelf, OutSink, Shelf, Sink};
 use kb_table::{RowResult, RowStop, Rows, send, write_rows};
 use std::alloc::Global;
@@ -30,16 +31,9 @@ impl Rows for AssemblerRows {
         shelf: &mut S,
         out: &mut W,
     ) -> RowResult<()> {
-        let Some((name, asked)) = row.split_once(": ") else {
-            return Err(RowStop::Malformed);
-        };
-        let Some((question, spelled)) = asked.split_once(' ') else {
-            return Err(RowStop::Malformed);
-        };
-        let text = read_text(alloc, spelled, shelf)?;
-        let answer = answer(alloc, question, text.as_slice())?;
-        let told = format!(in alloc; "{name}: {answer}\n")?;
-        send(out, told.as_bytes())
+        let mut text = String::new(alloc);
+        append_row(alloc, row, shelf, &mut text)?;
+        send(out, text.as_bytes())
     }
 }
 
@@ -49,4 +43,33 @@ fn main(rt: HostRuntime) -> io::Result<ExitCode> {
     let mut out = OutSink::new(io::writer(&rt));
     write_rows(rt.alloc(), "rows", &mut AssemblerRows, &mut shelf, &mut out)?;
     Ok(ExitCode::from(0))
+}
+
+/// Appends the name of a row and the answer to its question.
+fn append_row<S: Shelf>(
+    alloc: Global,
+    row: &str,
+    shelf: &mut S,
+    into: &mut String,
+) -> RowResult<()> {
+    let Some((name, asked)) = row.split_once(": ") else {
+        return Err(RowStop::Malformed);
+    };
+    into.push_str(name)?;
+    into.push_str(": ")?;
+    append_asked(alloc, asked, shelf, into)?;
+    Ok(into.push_str("\n")?)
+}
+
+fn append_asked<S: Shelf>(
+    alloc: Global,
+    asked: &str,
+    shelf: &mut S,
+    into: &mut String,
+) -> RowResult<()> {
+    let Some((question, spelled)) = asked.split_once(' ') else {
+        return Err(RowStop::Malformed);
+    };
+    let text = read_text(alloc, spelled, shelf)?;
+    append_answer(alloc, question, text.as_slice(), into)
 }

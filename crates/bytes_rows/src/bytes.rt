@@ -21,25 +21,32 @@ pub fn read_bytes<S: Shelf>(alloc: Global, text: &str, shelf: &mut S) -> RowResu
 }
 
 fn append_piece(alloc: Global, piece: &str, bytes: &mut Vec<u8>) -> RowResult<()> {
-    let (digits, times) = match piece.split_once('*') {
-        Some((digits, times)) => (digits, read_number(times)?),
-        None => (piece, 1),
-    };
-    let once = hexadecimal(alloc, digits.as_bytes())?;
+    match piece.split_once('*') {
+        Some((digits, times)) => append_times(alloc, digits, read_number(times)?, bytes),
+        None => append_digits(piece.as_bytes(), bytes),
+    }
+}
+
+fn append_times(alloc: Global, digits: &str, times: u32, bytes: &mut Vec<u8>) -> RowResult<()> {
+    let mut once = Vec::new(alloc);
+    append_digits(digits.as_bytes(), &mut once)?;
     for _ in 0..times {
         bytes.extend_from_slice(once.as_slice())?;
     }
     Ok(())
 }
 
-fn hexadecimal(alloc: Global, digits: &[u8]) -> RowResult<Vec<u8>> {
-    let mut bytes = Vec::new(alloc);
+fn append_digits(digits: &[u8], bytes: &mut Vec<u8>) -> RowResult<()> {
     for pair in digits.chunks_exact(2) {
         if let [high, low] = pair {
-            bytes.push(digit(*high)?.wrapping_shl(4) | digit(*low)?)?;
+            bytes.push(byte_of(*high, *low)?)?;
         }
     }
-    Ok(bytes)
+    Ok(())
+}
+
+fn byte_of(high: u8, low: u8) -> RowResult<u8> {
+    Ok(digit(high)?.wrapping_shl(4) | digit(low)?)
 }
 
 fn digit(byte: u8) -> RowResult<u8> {

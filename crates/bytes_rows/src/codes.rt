@@ -4,33 +4,43 @@ use kb_code::{Handler, Instr, Listing, decode, op_name};
 use kb_table::{RowResult, RowStop, read_number};
 use std::alloc::Global;
 
-/// The answer to a question about code with handlers, or why it is refused: its `code`, instruction by instruction, how many
-/// instructions there are (`count`), the `last` one, or whether the first one is looked at (`looked`) and by which name.
-pub fn code_answer(alloc: Global, question: &str, bytes: &[u8], detail: &str) -> RowResult<String> {
-    let handlers = read_handlers(alloc, detail)?;
-    match decode(alloc, bytes, handlers.as_slice()) {
-        Ok(listing) => listing_answer(alloc, question, bytes, &listing),
-        Err(refusal) => Ok(format!(in alloc; "{refusal:?}")?),
-    }
-}
-
-fn listing_answer(
+/// Appends the answer to a question about code with handlers, or why it is refused: its `code`, instruction by instruction, how
+/// many instructions there are (`count`), the `last` one, or whether the first one is looked at (`looked`) and by which name.
+pub fn append_code_answer(
     alloc: Global,
     question: &str,
     bytes: &[u8],
+    detail: &str,
+    into: &mut String,
+) -> RowResult<()> {
+    let handlers = read_handlers(alloc, detail)?;
+    append_decoded(alloc, question, bytes, handlers.as_slice(), into)
+}
+
+fn append_decoded(
+    alloc: Global,
+    question: &str,
+    bytes: &[u8],
+    handlers: &[Handler],
+    into: &mut String,
+) -> RowResult<()> {
+    match decode(alloc, bytes, handlers) {
+        Ok(listing) => append_of_listing(question, bytes, &listing, into),
+        Err(refusal) => Ok(write!(into, "{refusal:?}")?),
+    }
+}
+
+fn append_of_listing(
+    question: &str,
+    bytes: &[u8],
     listing: &Listing,
-) -> RowResult<String> {
+    into: &mut String,
+) -> RowResult<()> {
     match question {
-        "code" => listing_text(alloc, listing),
-        "count" => {
-            let count = listing.items.as_slice().len();
-            Ok(format!(in alloc; "{count}")?)
-        }
-        "last" => match listing.items.as_slice().last() {
-            Some(item) => Ok(format!(in alloc; "{item:?}")?),
-            None => Err(RowStop::Malformed),
-        },
-        "looked" => looked_text(alloc, bytes, listing),
+        "code" => append_listing(listing, into),
+        "count" => append_count(listing, into),
+        "last" => append_last(listing, into),
+        "looked" => append_looked(bytes, listing, into),
         _ => Err(RowStop::Malformed),
     }
 }
@@ -48,10 +58,7 @@ fn read_handlers(alloc: Global, text: &str) -> RowResult<Vec<Handler>> {
 }
 
 fn read_handler(alloc: Global, row: &str) -> RowResult<Handler> {
-    let mut numbers = Vec::new(alloc);
-    for word in row.split('-') {
-        numbers.push(small(word)?)?;
-    }
+    let numbers = read_small_numbers(alloc, row)?;
     let [start, end, target, catch] = numbers.as_slice() else {
         return Err(RowStop::Malformed);
     };
@@ -63,6 +70,14 @@ fn read_handler(alloc: Global, row: &str) -> RowResult<Handler> {
     })
 }
 
+fn read_small_numbers(alloc: Global, row: &str) -> RowResult<Vec<u16>> {
+    let mut numbers = Vec::new(alloc);
+    for word in row.split('-') {
+        numbers.push(small(word)?)?;
+    }
+    Ok(numbers)
+}
+
 fn small(word: &str) -> RowResult<u16> {
     match u16::try_from(read_number(word)?) {
         Ok(number) => Ok(number),
@@ -70,23 +85,48 @@ fn small(word: &str) -> RowResult<u16> {
     }
 }
 
-fn listing_text(alloc: Global, listing: &Listing) -> RowResult<String> {
-    let mut text = String::new(alloc);
+fn append_listing(listing: &Listing, into: &mut String) -> RowResult<()> {
     for (at, instruction) in listing.items.as_slice() {
-        text.push_str(format!(in alloc; "{at} {instruction:?}; ")?.as_str())?;
+        write!(into, "{at} {instruction:?}; ")?;
     }
-    Ok(text)
+    Ok(())
+}
+
+fn append_count(listing: &Listing, into: &mut String) -> RowResult<()> {
+    let count = listing.items.as_slice().len();
+    Ok(write!(into, "{count}")?)
+}
+
+fn append_last(listing: &Listing, into: &mut String) -> RowResult<()> {
+    match listing.items.as_slice().last() {
+        Some(item) => Ok(write!(into, "{item:?}")?),
+        None => Err(RowStop::Malformed),
+    }
 }
 
 /// The name of the first opcode, where its instruction is looked at.
-fn looked_text(alloc: Global, bytes: &[u8], listing: &Listing) -> RowResult<String> {
+fn append_looked(bytes: &[u8], listing: &Listing, into: &mut String) -> RowResult<()> {
     let (Some(opcode), Some((_, first))) = (bytes.first(), listing.items.as_slice().first()) else {
         return Err(RowStop::Malformed);
     };
-    match (op_name(*opcode), first) {
-        (None, Instr::Other(_)) => Ok(String::from_str(alloc, "skipped")?),
-        (Some(name), Instr::Other(_)) => Ok(format!(in alloc; "{name}, but skipped")?),
-        (Some(name), _) => Ok(String::from_str(alloc, name)?),
-        (None, _) => Ok(String::from_str(alloc, "without a name")?),
+    let name = op_name(*opcode);
+    into.push_str(looked_words(name, first))?;
+    Ok(into.push_str(skipped_words(name, first))?)
+}
+
+/// The name, or what stands in its place.
+fn looked_words(name: Option<&'static str>, first: &Instr) -> &'static str {
+    match (name, first) {
+        (Some(name), _) => name,
+        (None, Instr::Other(_)) => "skipped",
+        (None, _) => "without a name",
+    }
+}
+
+/// What stands behind the name of an instruction that is skipped.
+fn skipped_words(name: Option<&'static str>, first: &Instr) -> &'static str {
+    match (name, first) {
+        (Some(_), Instr::Other(_)) => ", but skipped",
+        _ => "",
     }
 }

@@ -7,7 +7,7 @@ ghost use Rattle.kb_world.specs.Reach.{IsAccepted};
 use crate::rows::TableRow;
 use kb_class::MethodId;
 use kb_fits::fits_types;
-use kb_heap::{Ending, Heap, Input};
+use kb_heap::{Bound, Ending, Heap, Input};
 use kb_machine::run;
 use kb_picture::{Leaf, Path, PlaceLists, ending_at, is_instance, places};
 use kb_report::Report;
@@ -17,7 +17,7 @@ use std::alloc::Global;
 
 /// Appends a line that says for each path whether the input that it carries is as it says: an input of the method, an instance
 /// of the path, and one whose run ends with the ending and the heap that the path states, or goes beyond the bound by which it
-/// is cut.
+/// is cut. What a path that is cut by k or array says is how deep or long the objects of its instances are.
 pub fn append_inputs(
     alloc: Global,
     world: &World,
@@ -103,6 +103,7 @@ fn compared(
             Ok(stated) => Ok(verdict_of(are_same(end, &stated))),
             Err(_) => Err(RowStop::NoMemory),
         },
+        Leaf::Cut(Bound::K | Bound::Array, _) => Ok("an instance"),
         Leaf::Cut(bound, _) => Ok(verdict_of(end.0.is_same(&Ending::Past(*bound)))),
         Leaf::Undecided(_) | Leaf::Open => Ok("none"),
     }

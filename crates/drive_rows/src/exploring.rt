@@ -9,6 +9,7 @@ use crate::telling::read_all_told;
 use kb_class::MethodId;
 use kb_drive::{DriveStop, explore_from};
 use kb_frames::start;
+use kb_load::reached;
 use kb_oracle::ToldOracle;
 use kb_picture::Init;
 use kb_report::Report;
@@ -46,7 +47,7 @@ fn append_exploration(
     oracle: &mut ToldOracle,
     into: &mut Vec<u8>,
 ) -> RowResult<()> {
-    let Ok(method) = world.reach(alloc, &row.target) else {
+    let Some(method) = reached(alloc, world, &row.target) else {
         return Err(RowStop::Malformed);
     };
     let mut report = report_of(alloc, row)?;

@@ -24,8 +24,8 @@ pub fn report_of(alloc: Global, row: &TableRow) -> RowResult<Held<Report>> {
     Ok(Held::new(alloc, report)?)
 }
 
-/// Appends the block of each path of the report as one line, without the slots that are seen, and with the arguments where the
-/// row wants them.
+/// Appends the block of each path of the report as one line, without the slots that are seen, and with its input where the row
+/// wants it.
 pub fn append_paths(
     alloc: Global,
     world: &World,
@@ -60,7 +60,7 @@ fn append_lines(row: &TableRow, text: &str, into: &mut Vec<u8>) -> RowResult<()>
     Ok(())
 }
 
-/// Whether the row wants the arguments of the listed path of that number.
+/// Whether the row wants the input of the listed path of that number.
 fn is_shown(row: &TableRow, number: u32) -> bool {
     row.shown.as_slice().iter().any(|shown| *shown == number)
 }
@@ -70,7 +70,11 @@ fn is_written(line: &str, shown: bool) -> bool {
     if line.starts_with("see ") || line.starts_with("total ") {
         return false;
     }
-    shown || !line.starts_with("arg ")
+    shown || !is_of_input(line)
+}
+
+fn is_of_input(line: &str) -> bool {
+    line.starts_with("arg ") || line.starts_with("in ")
 }
 
 fn append_line(line: &str, into: &mut Vec<u8>) -> RowResult<()> {

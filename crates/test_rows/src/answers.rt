@@ -4,7 +4,7 @@ ghost use Rattle.kb_test.specs.Tests.{AreTests};
 
 use crate::heaps::append_numbers;
 use crate::texts::append_text;
-use kb_table::{RowResult, RowStop};
+use kb_table::{RowResult, RowStop, append};
 use kb_test::{Test, TestRefusal, read_tests, write_run, write_test};
 use std::alloc::Global;
 
@@ -22,15 +22,17 @@ pub fn append_answer(
     into: &mut Vec<u8>,
 ) -> RowResult<()> {
     match question {
-        "read" => {
-            append_verdict(alloc, verdict(alloc, literals, text), into)?;
-            append_again(alloc, literals, text, into)
-        }
+        "read" => append_read(alloc, literals, text, into),
         "cut" => append_cuts(alloc, literals, text, into),
         "run" => append_runs(alloc, literals, text, into),
         "numbers" => append_all_numbers(alloc, literals, text, into),
         _ => Err(RowStop::Malformed),
     }
+}
+
+fn append_read(alloc: Global, literals: u32, text: &[u8], into: &mut Vec<u8>) -> RowResult<()> {
+    append_verdict(alloc, verdict(alloc, literals, text), into)?;
+    append_again(alloc, literals, text, into)
 }
 
 /// How many tests are read.
@@ -46,13 +48,23 @@ fn append_verdict(
     verdict: Result<usize, TestRefusal>,
     into: &mut Vec<u8>,
 ) -> RowResult<()> {
-    let told = match verdict {
-        Ok(tests) => format!(in alloc; "tests {tests}\n")?,
-        Err(TestRefusal::TestLine(line)) => format!(in alloc; "bad line {line}\n")?,
-        Err(TestRefusal::NoMemory) => format!(in alloc; "no memory\n")?,
-    };
-    into.extend_from_slice(told.as_bytes())?;
-    Ok(())
+    match verdict {
+        Ok(tests) => append_count(alloc, "tests ", tests, "\n", into),
+        Err(TestRefusal::TestLine(line)) => append_count(alloc, "bad line ", line, "\n", into),
+        Err(TestRefusal::NoMemory) => append("no memory\n", into),
+    }
+}
+
+/// Appends a number with what stands before and behind it.
+fn append_count(
+    alloc: Global,
+    before: &str,
+    count: usize,
+    behind: &str,
+    into: &mut Vec<u8>,
+) -> RowResult<()> {
+    let piece = format!(in alloc; "{before}{count}{behind}")?;
+    append(piece.as_str(), into)
 }
 
 /// Says where the tests are written otherwise than they were.
@@ -64,7 +76,7 @@ fn append_again(alloc: Global, literals: u32, text: &[u8], into: &mut Vec<u8>) -
     if again.as_slice() == text {
         return Ok(());
     }
-    into.extend_from_slice(b"written otherwise: ")?;
+    append("written otherwise: ", into)?;
     append_text(again.as_slice(), into)
 }
 
@@ -88,7 +100,7 @@ fn append_cuts(alloc: Global, literals: u32, text: &[u8], into: &mut Vec<u8>) ->
     for (end, _) in text.iter().enumerate() {
         let now = verdict(alloc, literals, &text[..end]);
         if last != Some(now) {
-            into.extend_from_slice(format!(in alloc; "from {end}: ")?.as_bytes())?;
+            append_count(alloc, "from ", end, ": ", into)?;
             append_verdict(alloc, now, into)?;
             last = Some(now);
         }
@@ -101,16 +113,20 @@ fn append_runs(alloc: Global, literals: u32, text: &[u8], into: &mut Vec<u8>) ->
         return Err(RowStop::Malformed);
     };
     for test in tests.as_slice() {
-        let Ok(inputs) = u32::try_from(test.input.heap.objects.as_slice().len()) else {
-            return Err(RowStop::Malformed);
-        };
-        let mut run = Vec::new(alloc);
-        let Ok(()) = write_run(alloc, &test.ending, &test.heap, inputs, literals, &mut run) else {
-            return Err(RowStop::Malformed);
-        };
-        append_text(run.as_slice(), into)?;
+        append_run(alloc, literals, test, into)?;
     }
     Ok(())
+}
+
+fn append_run(alloc: Global, literals: u32, test: &Test, into: &mut Vec<u8>) -> RowResult<()> {
+    let Ok(inputs) = u32::try_from(test.input.heap.objects.as_slice().len()) else {
+        return Err(RowStop::Malformed);
+    };
+    let mut run = Vec::new(alloc);
+    match write_run(alloc, &test.ending, &test.heap, inputs, literals, &mut run) {
+        Ok(()) => append_text(run.as_slice(), into),
+        Err(_) => Err(RowStop::Malformed),
+    }
 }
 
 fn append_all_numbers(

@@ -2,7 +2,7 @@
 
 use kb_heap::{Ending, Object, Value};
 use kb_names::{ExactType, Spelling, write_name, write_type};
-use kb_table::{RowResult, RowStop};
+use kb_table::{RowResult, append, append_number, kept};
 use kb_test::{Objects, Test};
 use std::alloc::Global;
 
@@ -12,61 +12,70 @@ const MOST: usize = 64;
 /// Appends the arguments, the objects of the input, the object or value at the run's end, and the objects that are there then,
 /// each on a line. `#` stands before an object's number in the heap.
 pub fn append_numbers(alloc: Global, test: &Test, into: &mut Vec<u8>) -> RowResult<()> {
-    into.extend_from_slice(b"args")?;
+    append("args", into)?;
     append_values(alloc, test.input.args.as_slice(), into)?;
-    for object in test.input.heap.objects.as_slice() {
+    append_objects(alloc, test.input.heap.objects.as_slice(), into)?;
+    append_ending(alloc, &test.ending, into)?;
+    append_left(alloc, test, into)
+}
+
+fn append_objects(alloc: Global, objects: &[Object], into: &mut Vec<u8>) -> RowResult<()> {
+    for object in objects {
         append_object(alloc, object, into)?;
     }
-    append_ending(alloc, &test.ending, into)?;
+    Ok(())
+}
+
+/// Appends the objects that are there at the run's end.
+fn append_left(alloc: Global, test: &Test, into: &mut Vec<u8>) -> RowResult<()> {
     for number in 0..MOST {
-        let Some(object) = test.heap.object(number) else {
-            return Ok(());
-        };
-        append_object(alloc, object, into)?;
+        match test.heap.object(number) {
+            Some(object) => append_object(alloc, object, into)?,
+            None => return Ok(()),
+        }
     }
     Ok(())
 }
 
 fn append_values(alloc: Global, values: &[Value], into: &mut Vec<u8>) -> RowResult<()> {
     for value in values {
-        let text = match value {
-            Value::Int(number) => format!(in alloc; " {number}")?,
-            Value::Null => format!(in alloc; " null")?,
-            Value::Ref(object) => format!(in alloc; " #{object}")?,
-        };
-        into.extend_from_slice(text.as_bytes())?;
+        append_value(alloc, *value, into)?;
     }
-    into.push(b'\n')?;
-    Ok(())
+    append("\n", into)
+}
+
+fn append_value(alloc: Global, value: Value, into: &mut Vec<u8>) -> RowResult<()> {
+    match value {
+        Value::Int(number) => append_number(alloc, " ", i64::from(number), into),
+        Value::Null => append(" null", into),
+        Value::Ref(object) => append_number(alloc, " #", i64::from(object), into),
+    }
 }
 
 fn append_object(alloc: Global, object: &Object, into: &mut Vec<u8>) -> RowResult<()> {
-    let written = match &object.kind {
-        ExactType::Class(name) => write_name(name, into),
-        ExactType::Array(component) => {
-            into.extend_from_slice(b"array of ")?;
-            write_type(component, Spelling::Escaped, into)
-        }
-    };
-    let Ok(()) = written else {
-        return Err(RowStop::NoMemory);
-    };
+    append_kind(&object.kind, into)?;
     append_values(alloc, object.values.as_slice(), into)
+}
+
+fn append_kind(kind: &ExactType, into: &mut Vec<u8>) -> RowResult<()> {
+    match kind {
+        ExactType::Class(name) => kept(write_name(name, into)),
+        ExactType::Array(component) => {
+            append("array of ", into)?;
+            kept(write_type(component, Spelling::Escaped, into))
+        }
+    }
 }
 
 fn append_ending(alloc: Global, ending: &Ending, into: &mut Vec<u8>) -> RowResult<()> {
     match ending {
-        Ending::Returned(Some(value)) => {
-            into.extend_from_slice(b"returned")?;
-            append_values(alloc, &[*value], into)
-        }
-        Ending::Threw(object) => {
-            into.extend_from_slice(b"threw")?;
-            append_values(alloc, &[Value::Ref(*object)], into)
-        }
-        _ => {
-            into.extend_from_slice(b"ended\n")?;
-            Ok(())
-        }
+        Ending::Returned(Some(value)) => append_end(alloc, "returned", *value, into),
+        Ending::Threw(object) => append_end(alloc, "threw", Value::Ref(*object), into),
+        _ => append("ended\n", into),
     }
+}
+
+fn append_end(alloc: Global, how: &str, value: Value, into: &mut Vec<u8>) -> RowResult<()> {
+    append(how, into)?;
+    append_values(alloc, &[value], into)
 }

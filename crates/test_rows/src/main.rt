@@ -11,7 +11,7 @@ mod texts;
 
 use answers::append_answer;
 use kb_outside::{FileShelf, OutSink, Shelf, Sink};
-use kb_table::{RowResult, RowStop, Rows, read_number, send, write_rows};
+use kb_table::{RowResult, RowStop, Rows, append, read_number, send, write_rows};
 use std::alloc::Global;
 use std::io;
 use std::process::ExitCode;
@@ -29,18 +29,9 @@ impl Rows for TextRows {
         _shelf: &mut S,
         out: &mut W,
     ) -> RowResult<()> {
-        let Some((question, words)) = row.split_once(' ') else {
-            return Err(RowStop::Malformed);
-        };
-        let Some((literals, spelled)) = words.split_once(' ') else {
-            return Err(RowStop::Malformed);
-        };
-        let literals = read_number(literals)?;
-        let text = read_text(alloc, spelled)?;
-        let mut answer = Vec::new(alloc);
-        answer.extend_from_slice(format!(in alloc; "> {row}\n")?.as_bytes())?;
-        append_answer(alloc, question, literals, text.as_slice(), &mut answer)?;
-        send(out, answer.as_slice())
+        let mut text = Vec::new(alloc);
+        append_row(alloc, row, &mut text)?;
+        send(out, text.as_slice())
     }
 }
 
@@ -50,4 +41,24 @@ fn main(rt: HostRuntime) -> io::Result<ExitCode> {
     let mut out = OutSink::new(io::writer(&rt));
     write_rows(rt.alloc(), "rows", &mut TextRows, &mut shelf, &mut out)?;
     Ok(ExitCode::from(0))
+}
+
+/// Appends a row and the answer to its question.
+fn append_row(alloc: Global, row: &str, into: &mut Vec<u8>) -> RowResult<()> {
+    append("> ", into)?;
+    append(row, into)?;
+    append("\n", into)?;
+    match row.split_once(' ') {
+        Some((question, words)) => append_asked(alloc, question, words, into),
+        None => Err(RowStop::Malformed),
+    }
+}
+
+fn append_asked(alloc: Global, question: &str, words: &str, into: &mut Vec<u8>) -> RowResult<()> {
+    let Some((literals, spelled)) = words.split_once(' ') else {
+        return Err(RowStop::Malformed);
+    };
+    let literals = read_number(literals)?;
+    let text = read_text(alloc, spelled)?;
+    append_answer(alloc, question, literals, text.as_slice(), into)
 }

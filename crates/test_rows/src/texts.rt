@@ -13,23 +13,23 @@ pub fn read_text(alloc: Global, spelled: &str) -> RowResult<Vec<u8>> {
         return Ok(text);
     }
     for byte in spelled.as_bytes() {
-        match byte {
-            b'|' => text.push(b'\n')?,
-            b'~' => text.extend_from_slice(HEAD)?,
-            _ => text.push(*byte)?,
-        }
+        push_spelled(*byte, &mut text)?;
     }
     Ok(text)
+}
+
+fn push_spelled(byte: u8, text: &mut Vec<u8>) -> RowResult<()> {
+    match byte {
+        b'|' => Ok(text.push(b'\n')?),
+        b'~' => Ok(text.extend_from_slice(HEAD)?),
+        _ => Ok(text.push(byte)?),
+    }
 }
 
 /// Appends the text on one line, with `|` for each line feed.
 pub fn append_text(text: &[u8], into: &mut Vec<u8>) -> RowResult<()> {
     for byte in text {
-        match byte {
-            b'\n' => into.push(b'|')?,
-            _ => into.push(*byte)?,
-        }
+        into.push(if *byte == b'\n' { b'|' } else { *byte })?;
     }
-    into.push(b'\n')?;
-    Ok(())
+    Ok(into.push(b'\n')?)
 }

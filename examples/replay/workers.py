@@ -1,0 +1,105 @@
+"""Writes the rows of crates/kiasan_rows in which tests are replayed by several workers, and `thousand.tests`: in `data/rows`
+all that stand between its lines `# workers` and `# words`, and in `stdout` what they come to.
+
+A row answers as the same words without `--workers` do, to the byte. `thousand.tests` has the tests of smaller files again and again,
+and its verdicts are those of the rows of these files, numbered anew. Faults of the option are rows of examples/words/.
+make.py calls it.
+"""
+
+import re
+from itertools import cycle, islice
+from pathlib import Path
+
+CRATE = Path(__file__).resolve().parent.parent.parent / "crates" / "kiasan_rows"
+DATA = CRATE / "data"
+MARK, NEXT_MARK = "# workers", "# words"
+
+# rows on files of tests, and by how many workers each is done too
+SHARED = {
+    "replay --tests swap_twice.tests Node.class": (1, 2, 7),
+    "replay --tests no.tests A.class": (7,),
+    "replay --tests swap.tests Node.class": (64,),
+    "replay --tests unfit_second.tests Node.class": (4,),
+    "replay --tests lists.tests List.class": (1, 2, 3, 7, 64),
+    "replay --tests trees.tests Search.class": (1, 2, 3, 7, 64),
+    "replay --tests types.tests Figure.class Disc.class Box.class Bare.class": (1, 2, 3, 7, 64),
+    "replay --tests odd_heaps.tests Odd.class Other.class": (1, 2, 3, 7, 64),
+    "replay --tests thrown.tests Small.class": (2,),
+}
+
+# tests that pass, differ, throw, are ill-typed or pass a bound, each file with the row that says its verdicts
+PARTS = {
+    "heaps.tests": "replay --tests heaps.tests Node.class Tree.class Heavy.class Sorts.class Small.class B.class",
+    "bounded.tests": "replay --tests bounded.tests Small.class Sorts.class",
+    "thrown.tests": "replay --tests thrown.tests Small.class",
+    "at_bounds.tests": "replay --tests at_bounds.tests Sorts.class",
+    "changed.tests": "replay --tests changed.tests Node.class",
+    "odd.tests": "replay --tests odd.tests Odd+One.class",
+}
+MANY = 1000
+CLASSES = "Node.class Tree.class Heavy.class Sorts.class Small.class B.class Odd+One.class"
+
+def blocks_of(text):
+    """What each row writes, its status among it, by its words."""
+    found = {}
+    for block in re.split(r"^> ", text, flags=re.MULTILINE)[1:]:
+        words, _, rest = block.partition("\n")
+        found[words] = rest
+    return found
+
+
+def tests_of(name):
+    return re.findall(r"^test .*?^end\n", (DATA / name).read_text(), flags=re.MULTILINE | re.DOTALL)
+
+
+def verdicts_of(block):
+    """What a row writes of each test, behind the test's number."""
+    lines, _, _ = block.partition("tests ")
+    return re.split(r"^test \d+ ", lines, flags=re.MULTILINE)[1:]
+
+
+def many_tests(blocks):
+    """The tests of all parts with their verdicts, again and again."""
+    pairs = []
+    for name, words in PARTS.items():
+        tests, verdicts = tests_of(name), verdicts_of(blocks[words])
+        assert len(tests) == len(verdicts), name
+        pairs += zip(tests, verdicts)
+    return list(islice(cycle(pairs), MANY))
+
+
+def many_text(verdicts):
+    differed = sum(not verdict.startswith("passes") for verdict in verdicts)
+    lines = "".join(f"test {number} {verdict}" for number, verdict in enumerate(verdicts))
+    return f"{lines}tests {MANY} passed {MANY - differed} differed {differed}\nstatus 10\n"
+
+
+def with_workers(words, number):
+    """The words with the option, before or behind `--tests`."""
+    command, tests, name, *files = words.split(" ")
+    option = ["--workers", str(number)]
+    front = [*option, tests, name] if number % 2 else [tests, name, *option]
+    return " ".join([command, *front, *files])
+
+
+def rows_with_workers(blocks):
+    """The rows, each with what it writes. Writes `thousand.tests`."""
+    rows = {with_workers(words, number): blocks[words] for words, numbers in SHARED.items() for number in numbers}
+    tests, verdicts = zip(*many_tests(blocks))
+    (DATA / "thousand.tests").write_text("".join(tests))
+    many = f"replay --tests thousand.tests {CLASSES}"
+    rows[many] = rows[with_workers(many, 7)] = many_text(verdicts)
+    return rows
+
+
+def write_rows():
+    table = (DATA / "rows").read_text().splitlines()
+    at, behind = table.index(MARK), table.index(NEXT_MARK)
+    before, after = table[:at], table[behind:]
+    blocks = blocks_of((CRATE / "stdout").read_text())
+    rows = rows_with_workers(blocks)
+    blocks |= rows
+    table = [*before, MARK, *rows, *after]
+    (DATA / "rows").write_text("".join(f"{words}\n" for words in table))
+    told = (words for words in table if not words.startswith("#"))
+    (CRATE / "stdout").write_text("".join(f"> {words}\n{blocks[words]}" for words in told))
