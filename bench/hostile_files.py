@@ -1,6 +1,6 @@
 #!/usr/bin/env python3
 """Measures how time and memory grow on class files that keep all rules but are hostile: long texts that many items share, many
-overloads of one name, and many array types.
+overloads of one name, many array types, many short entries of a pool, many handlers, and many switches.
 
 Each family has three sizes, a quarter, half and all of it, and beside each size its twin: the same files with long texts cut to
 three bytes, overloads with names of their own, and array types that are only texts, which nothing names. For each the script
@@ -44,6 +44,7 @@ TEXT_BYTES = 1 << 26
 ABSTRACT_CLASS, OPEN, STATIC, ABSTRACT, PACKAGE = 0x0421, 0x0001, 0x0009, 0x0401, 0x0400
 INVOKEVIRTUAL, INVOKESTATIC, NEW, POP, RETURN = 0xB6, 0xB8, 0xBB, 0x57, 0xB1
 ALOAD_0, GETFIELD, CHECKCAST = 0x2A, 0xB4, 0xC0
+ACONST_NULL, ICONST_0, ATHROW, LOOKUPSWITCH = 0x01, 0x03, 0xBF, 0xAB
 # the most calls of three bytes in one method, beside the one that leads on and the return
 CALLS_IN_METHOD = 21_840
 PLATFORM = (
@@ -97,10 +98,11 @@ class ClassFile:
     def add_string(self, text):
         return self.pool.add(string_entry(self.text(text)))
 
-    def add_method(self, access, name, kind, code=None, most_locals=0):
+    def add_method(self, access, name, kind, code=None, most_locals=0, handlers=b""):
         attributes = b""
         if code is not None:
-            content = struct.pack(">HHI", 2, most_locals, len(code)) + code + struct.pack(">HH", 0, 0)
+            content = struct.pack(">HHI", 2, most_locals, len(code)) + code
+            content += struct.pack(">H", len(handlers) // 8) + handlers + struct.pack(">H", 0)
             attributes = attribute(self.text("Code"), content)
         front = struct.pack(">HHHH", access, self.text(name), self.text(kind), 0 if code is None else 1)
         self.methods.append(front + attributes)
@@ -427,6 +429,45 @@ def uses(share, is_twin):
     return Case([file.bytes(), used.bytes()], tests=test * count, wanted=passing(count))
 
 
+def one_byte_entries(share, is_twin):
+    """65,000 texts of one byte; the twin has as many bytes of text in few entries."""
+    count, file = int(65_000 * share), ClassFile("H")
+    if is_twin:
+        for start in range(0, 4 * count, LONGEST):
+            file.pool.add(utf8("n" * min(LONGEST, 4 * count - start)))
+    else:
+        for number in range(count):
+            file.pool.add(utf8(LETTERS[number % len(LETTERS)]))
+    return Case([file.bytes()], "H.none()I", texts=[[]])
+
+
+def handlers(share, is_twin):
+    """A test of a method with 65,535 handlers, which throws 1,000 times and is caught by the last of them; the twin has that one alone."""
+    count, file = 0 if is_twin else int(65_534 * share), ClassFile("H")
+    other = file.named("java/lang/ClassCastException")
+    rows = struct.pack(">HHHH", 0, 2, 0, other) * count + struct.pack(">HHHH", 0, 2, 0, 0)
+    file.add_method(STATIC, "m", "()V", bytes([ACONST_NULL, ATHROW]), handlers=rows)
+    test = ["test H.m()V", "bounds alloc 16 loops 1000 depth 16 steps 50000", "past steps", "end", ""]
+    return Case([file.bytes()], tests="\n".join(test).encode(), wanted=b"test 0 differs\npast loops\n")
+
+
+def switches_code():
+    """Switches without a pair, side by side, each leading to the next one."""
+    code = b""
+    while len(code) < LONGEST - 20:
+        pads = 3 - (len(code) + 1) % 4
+        code += bytes([ICONST_0, LOOKUPSWITCH]) + bytes(pads) + struct.pack(">iI", 1 + pads + 8, 0)
+    return code + bytes([RETURN])
+
+
+def switches(share, is_twin):
+    """15 methods of 65,535 bytes of switches side by side; the twin has instructions of one byte."""
+    file, code = ClassFile("H"), switches_code()
+    for number in range(int(15 * share)):
+        file.add_method(STATIC, f"m{number}", "()V", bytes(len(code) - 1) + code[-1:] if is_twin else code)
+    return Case([file.bytes()], "H.none()I", entries=int(15 * share), texts=[[]])
+
+
 FAMILIES = [
     methods,
     references,
@@ -445,6 +486,9 @@ FAMILIES = [
     made_objects,
     answers,
     uses,
+    one_byte_entries,
+    handlers,
+    switches,
 ]
 
 
