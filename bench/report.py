@@ -25,7 +25,7 @@ SOURCE = with_main("""\
 
 use kb_diagram::diagrams_text;
 use kb_heap::{Bounds, Heap, Input, Object, RunBounds, Value};
-use kb_names::{ExactType, JType, read_target};
+use kb_names::{ExactType, JType, Target, read_target};
 use kb_picture::{
     Ended, Init, Leaf, Length, Origin, Out, Path, PicObject, Picture, Seen, SymEnding, Write,
 };
@@ -51,18 +51,31 @@ fn answer(alloc: Global, words: &[String]) -> Result<Option<String>, Stop> {
     let Ok(times) = times.as_str().parse::<u32>() else {
         return Ok(None);
     };
-    let Ok(world) = link(alloc, Vec::new(alloc)) else {
-        return Err(Stop);
-    };
-    let leaves = match shape.as_str() {
-        "paths" => small_paths(alloc, size)?,
-        "terms" => one_open(alloc, Picture::new(alloc), sums(alloc, size)?)?,
-        "arguments" => one_open(alloc, arguments(alloc, size)?, Row::new(alloc))?,
-        "objects" => one_ended(alloc, size)?,
-        _ => return Ok(None),
-    };
+    let is_drawn = text.as_str() == "diagrams";
+    match shape.as_str() {
+        "paths" => told(alloc, small_paths(alloc, size)?, is_drawn, times),
+        "terms" => told(alloc, one_of_terms(alloc, size)?, is_drawn, times),
+        "arguments" => told(alloc, one_of_arguments(alloc, size)?, is_drawn, times),
+        "objects" => told(alloc, one_ended(alloc, size)?, is_drawn, times),
+        _ => Ok(None),
+    }
+}
+
+fn told(alloc: Global, leaves: Row<Path>, is_drawn: bool, times: u32) -> Result<Option<String>, Stop> {
     let report = report_of(alloc, leaves)?;
-    given(alloc, &world, &report, text.as_str() == "diagrams", times)
+    told_in_world(alloc, &report, is_drawn, times)
+}
+
+fn told_in_world(alloc: Global, report: &Report, is_drawn: bool, times: u32) -> Result<Option<String>, Stop> {
+    let world = world_of_the_platform(alloc)?;
+    given(alloc, &world, report, is_drawn, times)
+}
+
+fn world_of_the_platform(alloc: Global) -> Result<World, Stop> {
+    match link(alloc, Vec::new(alloc)).ok() {
+        Some(world) => Ok(world),
+        None => Err(Stop),
+    }
 }
 
 /// How many bytes the text has, which is made so many times.
@@ -82,10 +95,15 @@ fn text_of(alloc: Global, world: &World, report: &Report, is_drawn: bool) -> Res
     report_text(alloc, world, report)
 }
 
+fn target_of(alloc: Global) -> Result<Target, Stop> {
+    match read_target(alloc, b"A.f(I)I").ok() {
+        Some(target) => Ok(target),
+        None => Err(Stop),
+    }
+}
+
 fn report_of(alloc: Global, leaves: Row<Path>) -> Result<Report, Stop> {
-    let Ok(target) = read_target(alloc, b"A.f(I)I") else {
-        return Err(Stop);
-    };
+    let target = target_of(alloc)?;
     let run = RunBounds {
         alloc: 16,
         loops: 10,
@@ -128,6 +146,14 @@ fn one_open(alloc: Global, picture: Picture, terms: Row<Term>) -> Result<Row<Pat
     let mut paths = Row::new(alloc);
     paths.push(path)?;
     Ok(paths)
+}
+
+fn one_of_terms(alloc: Global, size: u32) -> Result<Row<Path>, Stop> {
+    one_open(alloc, Picture::new(alloc), sums(alloc, size)?)
+}
+
+fn one_of_arguments(alloc: Global, size: u32) -> Result<Row<Path>, Stop> {
+    one_open(alloc, arguments(alloc, size)?, Row::new(alloc))
 }
 
 fn one_ended(alloc: Global, size: u32) -> Result<Row<Path>, Stop> {
