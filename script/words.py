@@ -8,6 +8,8 @@ from .names import read_target
 HERE = dirname(__file__)
 # The commands that explore a method.
 EXPLORING = ("explore", "tests", "diagrams")
+# The options of `replay`; all others are of the commands that explore.
+OF_REPLAY = ("--tests", "--workers")
 MOST_CONFLICTS = 2_000_000
 # What stands in front of the lines on a command, behind its words.
 INSIDE = " " * 6
@@ -50,15 +52,15 @@ def read_page():
 
 
 def least(options):
-    """Words that set all bounds to their least."""
-    return [word for option in options.values() if option.low is not None for word in (option.name, str(option.low))]
+    """Words that set all bounds of an exploration to their least."""
+    return [word for option in options_of("explore", options).values() if option.low is not None for word in (option.name, str(option.low))]
 
 
 def options_of(command, options):
     """The options that the command takes."""
     if command in EXPLORING:
-        return {name: option for name, option in options.items() if name != "--tests"}
-    return {"--tests": options["--tests"]} if command == "replay" else {}
+        return {name: option for name, option in options.items() if name not in OF_REPLAY}
+    return {name: options[name] for name in OF_REPLAY} if command == "replay" else {}
 
 
 class Order:

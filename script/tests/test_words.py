@@ -12,7 +12,7 @@ OPTIONS = """
 --loops 1000|--loops 1001|--depth 1|--depth 0|--depth 256|--depth 257|--steps 1|--steps 0|--steps 100000|--steps 100001
 --steps 99999999999|--steps 99999999999999999999999|--paths 1 --budget 100000|--budget 100000 --paths 21|--budget 2000
 --budget 2001|--paths 1000 --budget 2000|--paths 1001|--paths 20 --budget 100000|--paths 100001 --budget 1|--paths 0
---init lazy|--init lazier|--init eager|--init lazy --init lazy|--method M.f()I|--tests a.tests|--nothing 1|--k|--init
+--init lazy|--init lazier|--init eager|--init lazy --init lazy|--method M.f()I|--tests a.tests|--workers 2|--nothing 1|--k|--init
 --k --k|--init --k|--loops 0 --k 1 --init lazy --array 2
 """.strip().replace("\n", "|").split("|")
 OPTIONS += ["--k \u0663", "--k 1\u0663", "--k \u00b2"]
@@ -21,6 +21,9 @@ explore|explore M.class|explore --method M.f()I|explore --method|explore M.class
 explore --method M.f()I M.class --k 17|explore --method M.f()I -k M.class|explore --method M.f M.class
 replay --tests a.tests M.class|replay M.class|replay --tests a.tests|replay --tests
 replay --tests a.tests --tests a.tests M.class|replay --tests a.tests --k 1 M.class|replay --k 1 --tests a.tests M.class|replay --method M.f()I M.class
+replay --workers 1 --tests a.tests M.class|replay --tests a.tests --workers 64 M.class|replay --workers 65 --tests a.tests M.class|replay --workers 2 M.class
+replay --workers 0 --tests a.tests M.class|replay --workers x --tests a.tests M.class|replay --workers 02 --tests a.tests M.class|replay --tests a.tests --workers
+replay --workers 2 --tests a.tests --workers 2 M.class|replay --tests a.tests M.class --workers 2
 """.strip().replace("\n", "|").split("|")
 # Texts that are targets, or that look like some.
 TARGETS = """

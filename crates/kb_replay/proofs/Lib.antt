@@ -1,4 +1,6 @@
 mod Marks
+mod Outcomes
 mod Runnable
 pub mod OneAnswer
 pub mod RunEnds
+mod Threads

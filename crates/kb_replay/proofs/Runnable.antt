@@ -1,5 +1,5 @@
 -- How tests are found fit one after another.
-use Rattle.std.proofs.Common.{◌≡◌, ◌⊎◌, inl, inr, ℕ, zero, suc, ◌+◌, ◌<◌, ◌≤◌, Bool, slice_index_or, append-nil, List, [], ◌∷◌, ◌++◌, length, take, drop, get_or, refl, sym, ◌∙◌, ap, subst, arith, drop-cons}
+use Rattle.std.proofs.Common.{◌≡◌, ◌⊎◌, inl, inr, ℕ, zero, suc, ◌+◌, ◌<◌, ◌≤◌, Bool, List, [], ◌∷◌, ◌++◌, length, take, drop, get_or, refl, sym, ◌∙◌, ap, subst, arith, drop-cons}
 use Rattle.std.proofs.lemmas.List.{take_all, take-append-drop}
 use Rattle.std.proofs.Math.Seq.{take-suc}
 use Rattle.kb_class.specs.declared.ids.MethodId.{MethodId}
@@ -9,8 +9,7 @@ use Rattle.kb_semantics.specs.Inputs.{IsTypeCorrect}
 use Rattle.kb_test.specs.declared.test_case.Test.{Test}
 use Rattle.kb_world.specs.Reach.{IsAccepted}
 use Rattle.kb_replay.specs.declared.checks.ReplayStop.{ReplayStop}
-use Rattle.kb_replay.specs.declared.replays.Replayed.{Replayed}
-use Rattle.kb_replay.specs.Replays.{IsFit, IsRunnable, AreRunnable, Stops, StopsAt, IsMarked, AreAccepted, AreReplayed}
+use Rattle.kb_replay.specs.Replays.{IsFit, IsRunnable, AreRunnable, Stops, StopsAt, IsMarked, AreAccepted}
 
 runnable_more : (world : World) (tests : List Test) (ids : List MethodId) (test : Test) (id : MethodId) → AreRunnable world tests ids
     → IsRunnable world test id → AreRunnable world (tests ++ test ∷ []) (ids ++ id ∷ [])
@@ -19,7 +18,7 @@ runnable_more world (x ∷ tests) (i ∷ ids) test id are is = (are.0, runnable_
 runnable_more world [] (i ∷ ids) test id are is = absurd are
 runnable_more world (x ∷ tests) [] test id are is = absurd are
 
-as_many : (world : World) (tests : List Test) (ids : List MethodId) → AreRunnable world tests ids → length tests ≡ length ids
+pub as_many : (world : World) (tests : List Test) (ids : List MethodId) → AreRunnable world tests ids → length tests ≡ length ids
 as_many world [] [] are = refl
 as_many world (x ∷ tests) (i ∷ ids) are = ap suc (as_many world tests ids are.1)
 as_many world [] (i ∷ ids) are = absurd are
@@ -77,16 +76,3 @@ accepted_here world test id reached alone found accepted = subst (IsAccepted wor
 pub runnable_here : (world : World) (test : Test) (id reached : MethodId) → IsFit world test id → ((other : MethodId) → IsTargetOf world test.target other → other ≡ id)
     → IsTargetOf world test.target reached → IsAccepted world reached → IsRunnable world test id
 runnable_here world test id reached fit alone found accepted = record { fit = fit; accepted = accepted_here world test id reached alone found accepted }
-
--- ---- runs
-
-pub first_runnable : (world : World) (tests : List Test) (ids : List MethodId) (test : Test) (d : MethodId) → AreRunnable world tests ids → 1 ≤ length tests
-    → test ≡ get_or tests 0 test → IsRunnable world test (slice_index_or ids 0 d)
-first_runnable world [] ids test d are some at = absurd (omega (arith, some))
-first_runnable world (x ∷ tests) [] test d are some at = absurd are
-first_runnable world (x ∷ tests) (i ∷ ids) test d are some at = subst (λ (t : Test). IsRunnable world t i) (sym at) are.0
-
-pub all_replayed : (world : World) (all rest : List Test) (replayed : List Replayed) → length rest < 1
-    → ((more : List Replayed) → AreReplayed world rest more → AreReplayed world all (replayed ++ more)) → AreReplayed world all replayed
-all_replayed world all [] replayed end goes_on = subst (AreReplayed world all) (append-nil replayed) (goes_on [] tt)
-all_replayed world all (x ∷ rest) replayed end goes_on = absurd (omega (arith, end))

@@ -4,8 +4,10 @@
 mod checks;
 mod laws;
 mod replays;
+mod workers;
 
 pub use checks::{BadTest, ReplayStop, check_tests};
 pub use laws::{runs_end_as_tests, tests_have_one_answer};
-pub use replays::{Replayed, replay, run_test, run_tests};
+pub use replays::{Replayed, replay, run_test};
 pub use std::alloc::AllocError as NoMemory;
+pub use workers::{Ran, run_tests};

@@ -1,11 +1,11 @@
 //! The runs of tests, held against what the tests say.
 ghost use Rattle.std.specs.Prelude.{◌≡◌, ◌↔◌, IfErr, IfOk, IsTrue};
-ghost use Rattle.kb_replay.specs.Replays.{AreReplayed, AreRunnable, IsReplayed, IsRunnable, Says, Stops};
+ghost use Rattle.kb_replay.specs.Replays.{IsReplayed, IsRunnable, Says, Stops};
 
 use crate::NoMemory;
 use crate::checks::{ReplayStop, check};
 use kb_class::MethodId;
-use kb_heap::{Ending, Heap, Row};
+use kb_heap::{Ending, Heap};
 use kb_machine::run;
 use kb_test::Test;
 use kb_world::World;
@@ -58,28 +58,4 @@ fn ends_as_stated(test: &Test, ending: &Ending, heap: &Heap) -> bool
         return false;
     }
     test.heap.is_heap(heap)
-}
-
-/// Runs each test by its method.
-pub fn run_tests(
-    alloc: Global,
-    world: &World,
-    tests: &[Test],
-    methods: &[MethodId],
-) -> Result<Row<Replayed>, NoMemory>
-    requires { AreRunnable world.now tests.now methods.now }
-    ensures { IfOk result (AreReplayed world.now tests.now) }
-{
-    let mut replayed = Row::new(alloc);
-    let mut rest = tests;
-    let mut ids = methods;
-    while let [test, others @ ..] = rest {
-        let [id, more @ ..] = ids else {
-            return Ok(replayed);
-        };
-        replayed.push(run_test(alloc, world, test, *id)?)?;
-        rest = others;
-        ids = more;
-    }
-    Ok(replayed)
 }

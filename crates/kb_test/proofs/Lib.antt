@@ -10,3 +10,4 @@ pub mod Appending
 pub mod OneText
 pub mod SameHeaps
 pub mod TextLaws
+pub mod Threads

@@ -16,14 +16,15 @@ pub some_files : {A : Type 0} (word : A → List ℕ) (settings : List Setting) 
 some_files word settings [] target e = absurd (omega (arith, e))
 some_files word settings (file ∷ files) target e = refl
 
-pub replay_no_files : {A : Type 0} (word : A → List ℕ) (tests : List ℕ) (files : List A) → length files ≡ 0 → replay_from (Some tests) (map word files) ≡ Err faults.NoFiles
-replay_no_files word tests [] e = refl
-replay_no_files word tests (file ∷ files) e = absurd (omega (arith, e))
+pub replay_no_files : {A : Type 0} (word : A → List ℕ) (tests : List ℕ) (workers : ℕ) (files : List A) → length files ≡ 0 →
+    replay_from (Some tests) workers (map word files) ≡ Err faults.NoFiles
+replay_no_files word tests workers [] e = refl
+replay_no_files word tests workers (file ∷ files) e = absurd (omega (arith, e))
 
-pub replay_some_files : {A : Type 0} (word : A → List ℕ) (tests : List ℕ) (files : List A) → 1 ≤ length files →
-    replay_from (Some tests) (map word files) ≡ Ok (orders.Replay tests (map word files))
-replay_some_files word tests [] e = absurd (omega (arith, e))
-replay_some_files word tests (file ∷ files) e = refl
+pub replay_some_files : {A : Type 0} (word : A → List ℕ) (tests : List ℕ) (workers : ℕ) (files : List A) → 1 ≤ length files →
+    replay_from (Some tests) workers (map word files) ≡ Ok (orders.Replay tests (map word files) workers)
+replay_some_files word tests workers [] e = absurd (omega (arith, e))
+replay_some_files word tests workers (file ∷ files) e = refl
 
 -- no words
 pub no_words : {A : Type 0} (word : A → List ℕ) (words : List A) → length words < 1 → Orders (map word words) (Err faults.NoCommand)

@@ -29,6 +29,7 @@ option_named word =
     else if bytes_eq word (codes "--paths") then Some options.Paths
     else if bytes_eq word (codes "--budget") then Some options.Budget
     else if bytes_eq word (codes "--tests") then Some options.Tests
+    else if bytes_eq word (codes "--workers") then Some options.Workers
     else None
 
 abbrev pub same_option : OptionName → OptionName → Bool
@@ -43,6 +44,7 @@ same_option options.Steps options.Steps = true
 same_option options.Paths options.Paths = true
 same_option options.Budget options.Budget = true
 same_option options.Tests options.Tests = true
+same_option options.Workers options.Workers = true
 same_option _ _ = false
 
 -- ---- values
@@ -72,6 +74,7 @@ range_of options.Depth = record { low = 1; high = 256 }
 range_of options.Steps = record { low = 1; high = 100000 }
 range_of options.Paths = record { low = 1; high = 100000 }
 range_of options.Budget = record { low = 1; high = 100000 }
+range_of options.Workers = record { low = 1; high = 64 }
 range_of options.Method = record { low = 0; high = 0 }
 range_of options.Init = record { low = 0; high = 0 }
 range_of options.Tests = record { low = 0; high = 0 }

@@ -75,13 +75,13 @@ job_of target command words = settings_of (is_some target) command words >>= (λ
 
 -- ---- orders
 
-abbrev pub replay_from : Option (List ℕ) → List (List ℕ) → Result Order WordFault
-replay_from None files = Err faults.NoTests
-replay_from (Some tests) [] = Err faults.NoFiles
-replay_from (Some tests) (file ∷ files) = Ok (orders.Replay tests (file ∷ files))
+abbrev pub replay_from : Option (List ℕ) → ℕ → List (List ℕ) → Result Order WordFault
+replay_from None workers files = Err faults.NoTests
+replay_from (Some tests) workers [] = Err faults.NoFiles
+replay_from (Some tests) workers (file ∷ files) = Ok (orders.Replay tests (file ∷ files) workers)
 
 unfoldable pub replay_of : List (List ℕ) → Result Order WordFault
-replay_of words = settings_of false commands.Replay words >>= (λ settings. replay_from (value_given options.Tests settings) (files_of words))
+replay_of words = settings_of false commands.Replay words >>= (λ settings. replay_from (value_given options.Tests settings) (number_given options.Workers 1 settings) (files_of words))
 
 -- `assemble FILE`, whatever the word begins with
 unfoldable pub assembly_of : List (List ℕ) → Result Order WordFault
@@ -200,6 +200,6 @@ abbrev pub IsOrder : Order → Type 0
 IsOrder (orders.Explore job) = IsJob job
 IsOrder (orders.Tests job) = IsJob job
 IsOrder (orders.Diagrams job) = IsJob job
-IsOrder (orders.Replay tests files) = Unit {0}
+IsOrder (orders.Replay tests files workers) = (1 ≤ workers) × (workers ≤ 64)
 IsOrder (orders.Assemble text) = Unit {0}
 IsOrder (orders.Sample blocks) = blocks ≤ 64

@@ -1,6 +1,6 @@
 -- What stands behind a command: options, each a name and a value, and then files. It is read from left to right, so that the first
 -- fault by its place is the answer. Places count the words from 0, the command's.
-use Rattle.std.specs.Prelude.{◌≡◌, ℕ, ◌+◌, Bool, true, false, Option, Some, None, List, [], ◌∷◌, ◌++◌, Result, Ok, Err, is_some, codes, if◌then◌else◌}
+use Rattle.std.specs.Prelude.{◌≡◌, ℕ, ◌+◌, Bool, true, false, not, Option, Some, None, List, [], ◌∷◌, ◌++◌, Result, Ok, Err, is_some, codes, if◌then◌else◌}
 use Rattle.std.specs.List.{list_any}
 use Rattle.std.specs.Str.{bytes_eq}
 use Rattle.kb_words.specs.declared.options.OptionName.{OptionName}
@@ -32,16 +32,20 @@ Gives view (Err fault) told = Fails fault told
 
 -- ---- one option
 
--- `--tests` is an option of `replay` and its only one, all others are of the commands that explore; two commands have none
+-- `--tests` and `--workers` are the options of `replay`
+abbrev pub is_of_replay : OptionName → Bool
+is_of_replay options.Tests = true
+is_of_replay options.Workers = true
+is_of_replay _ = false
+
+-- all others are options of the commands that explore; two commands have none
 abbrev pub takes : Command → OptionName → Bool
-takes Replay options.Tests = true
-takes Replay _ = false
-takes Explore options.Tests = false
-takes Tests options.Tests = false
-takes Diagrams options.Tests = false
-takes Assemble _ = false
-takes Sample _ = false
-takes _ _ = true
+takes Replay option = is_of_replay option
+takes Assemble option = false
+takes Sample option = false
+takes Explore option = not (is_of_replay option)
+takes Tests option = not (is_of_replay option)
+takes Diagrams option = not (is_of_replay option)
 
 -- the option was given before
 abbrev pub is_given : OptionName → List Setting → Bool
@@ -75,6 +79,7 @@ setting_at is_target options.Depth place word = number_at options.Depth place wo
 setting_at is_target options.Steps place word = number_at options.Steps place word
 setting_at is_target options.Paths place word = number_at options.Paths place word
 setting_at is_target options.Budget place word = number_at options.Budget place word
+setting_at is_target options.Workers place word = number_at options.Workers place word
 
 -- ---- all of them
 

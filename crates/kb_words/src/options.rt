@@ -30,6 +30,8 @@ pub enum OptionName {
     Budget,
     /// The file of the tests that are run.
     Tests,
+    /// How many workers run them.
+    Workers,
 }
 
 /// The numbers that an option may have as its value.
@@ -62,6 +64,7 @@ pub(crate) fn option_named(word: &str) -> Option<OptionName>
         "--paths" => Some(OptionName::Paths),
         "--budget" => Some(OptionName::Budget),
         "--tests" => Some(OptionName::Tests),
+        "--workers" => Some(OptionName::Workers),
         _ => None,
     }
 }
@@ -87,6 +90,7 @@ pub(crate) fn range_of(option: OptionName) -> Range
         OptionName::Loops => between(0, 1_000),
         OptionName::Depth => between(1, 256),
         OptionName::Steps | OptionName::Paths | OptionName::Budget => between(1, 100_000),
+        OptionName::Workers => between(1, 64),
         OptionName::Method | OptionName::Init | OptionName::Tests => between(0, 0),
     }
 }

@@ -55,8 +55,8 @@ pub enum Order {
     Tests(Job),
     /// To draw the paths.
     Diagrams(Job),
-    /// To run the tests of a file, whose methods are those of class files.
-    Replay(Word, Row<Word>),
+    /// To run the tests of a file, whose methods are those of class files, by so many workers.
+    Replay(Word, Row<Word>, u32),
     /// To write the class file of a text.
     Assemble(Word),
     /// To make a class of so many branches, to explore it, and to run its tests.
@@ -352,12 +352,13 @@ fn read_replay(alloc: Global, words: &[String]) -> Result<Order, WordFault>
     let Some(tests) = value_given(OptionName::Tests, settings.as_slice()) else {
         return Err(WordFault::NoTests);
     };
+    let workers = number_given(OptionName::Workers, 1, settings.as_slice());
     let files = files_of(words);
     if files.is_empty() {
         return Err(WordFault::NoFiles);
     }
     let tests = Word::from_text(alloc, tests.as_str())?;
-    Ok(Order::Replay(tests, words_of(alloc, files)?))
+    Ok(Order::Replay(tests, words_of(alloc, files)?, workers))
 }
 
 /// The order of the words behind `assemble`.

@@ -1,6 +1,6 @@
 //! The options behind a command, each with the word behind it, and the files behind them.
 ghost use Rattle.std.specs.Prelude.{◌≡◌, ◌+◌, ◌<◌, ◌^◌, length, map, string_bytes, option_copied};
-ghost use Rattle.kb_words.specs.Settings.{Gives, files_of, is_given, method_word, number_at, option_at, setting_at, settings_of, takes, value_given};
+ghost use Rattle.kb_words.specs.Settings.{Gives, files_of, is_given, is_of_replay, method_word, number_at, option_at, setting_at, settings_of, takes, value_given};
 
 use crate::options::{
     OptionName, init_named, is_number, is_option, number_within, option_named, range_of,
@@ -74,9 +74,19 @@ fn takes(command: Command, option: OptionName) -> bool
     ensures { result ≡ takes command option }
 {
     match command {
-        Command::Explore | Command::Tests | Command::Diagrams => option != OptionName::Tests,
-        Command::Replay => option == OptionName::Tests,
+        Command::Explore | Command::Tests | Command::Diagrams => !is_of_replay(option),
+        Command::Replay => is_of_replay(option),
         Command::Assemble | Command::Sample => false,
+    }
+}
+
+/// Whether it is an option of `replay`.
+fn is_of_replay(option: OptionName) -> bool
+    ensures { result ≡ is_of_replay option }
+{
+    match option {
+        OptionName::Tests | OptionName::Workers => true,
+        _ => false,
     }
 }
 

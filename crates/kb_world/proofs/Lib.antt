@@ -17,3 +17,4 @@ mod ReceiverNumbers
 mod Asking
 mod Items
 pub mod ReachLaws
+pub mod Threads

@@ -324,21 +324,21 @@ replay_one Same bytes world given same =
 abbrev SameEnd : List (List ℕ) → Status → List ℕ → Status → List ℕ → Type 0
 SameEnd words a t b u = IsReplay words → (a ≡ b) × (t ≡ u)
 
-not_both : (words : List (List ℕ)) (order : Order) → OrdersBuilt words order → ((tests : List ℕ) (files : List (List ℕ)) → order ≡ Replay tests files → ⊥) → IsReplay words → ⊥
-not_both words order ordered other (tests, files, replay) = other tests files (one_order words order (Replay tests files) ordered.0 replay.0)
+not_both : (words : List (List ℕ)) (order : Order) → OrdersBuilt words order → ((tests : List ℕ) (files : List (List ℕ)) (workers : ℕ) → order ≡ Replay tests files workers → ⊥) → IsReplay words → ⊥
+not_both words order ordered other (tests, files, workers, replay) = other tests files workers (one_order words order (Replay tests files workers) ordered.0 replay.0)
 
 order_one : (words : List (List ℕ)) (order : Order) → OrdersBuilt words order → (texts : List (List ℕ)) (world : World) → IsLinked world → HasOne (SameEnd words) (RepliesIn order texts world)
 order_one words (Explore job) ordered texts world given =
-    job_one (SameEnd words) _ world job given (λ s u t v replay. absurd (not_both words (Explore job) ordered (λ tests files e. cc) replay))
+    job_one (SameEnd words) _ world job given (λ s u t v replay. absurd (not_both words (Explore job) ordered (λ tests files workers e. cc) replay))
 order_one words (Tests job) ordered texts world given =
-    job_one (SameEnd words) _ world job given (λ s u t v replay. absurd (not_both words (Tests job) ordered (λ tests files e. cc) replay))
-order_one words (Replay name files) ordered (bytes ∷ []) world given = replay_one (SameEnd words) bytes world given (λ s u t v e f replay. (e, f))
-order_one words (Replay name files) ordered [] world given = λ one other p q. absurd p
-order_one words (Replay name files) ordered (bytes ∷ more ∷ texts) world given = λ one other p q. absurd p
+    job_one (SameEnd words) _ world job given (λ s u t v replay. absurd (not_both words (Tests job) ordered (λ tests files workers e. cc) replay))
+order_one words (Replay name files workers) ordered (bytes ∷ []) world given = replay_one (SameEnd words) bytes world given (λ s u t v e f replay. (e, f))
+order_one words (Replay name files workers) ordered [] world given = λ one other p q. absurd p
+order_one words (Replay name files workers) ordered (bytes ∷ more ∷ texts) world given = λ one other p q. absurd p
 order_one words (Diagrams job) ordered texts world given =
-    job_one (SameEnd words) _ world job given (λ s u t v replay. absurd (not_both words (Diagrams job) ordered (λ tests files e. cc) replay))
+    job_one (SameEnd words) _ world job given (λ s u t v replay. absurd (not_both words (Diagrams job) ordered (λ tests files workers e. cc) replay))
 order_one words (Assemble name) ordered (bytes ∷ []) world given =
-    assembly_one (SameEnd words) bytes (λ s u t v replay. absurd (not_both words (Assemble name) ordered (λ tests files e. cc) replay))
+    assembly_one (SameEnd words) bytes (λ s u t v replay. absurd (not_both words (Assemble name) ordered (λ tests files workers e. cc) replay))
 order_one words (Assemble name) ordered [] world given = λ one other p q. absurd p
 order_one words (Assemble name) ordered (bytes ∷ more ∷ texts) world given = λ one other p q. absurd p
 order_one words (Sample blocks) ordered texts world given = λ one other p q. absurd p

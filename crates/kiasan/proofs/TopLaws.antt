@@ -78,9 +78,9 @@ tests_answer bytes world status text (tests, are, (ids, fit, end)) = rw end.stat
 order_answers : (order : Order) (texts : List (List ℕ)) (world : World) (status : Status) (text : List ℕ) → RepliesIn order texts world (ends status text) → IsAnswer status
 order_answers (Explore job) texts world status text h = job_answers _ world job status text h
 order_answers (Tests job) texts world status text h = job_answers _ world job status text h
-order_answers (Replay name files) (bytes ∷ []) world status text h = tests_answer bytes world status text h
-order_answers (Replay name files) [] world status text h = absurd h
-order_answers (Replay name files) (bytes ∷ other ∷ more) world status text h = absurd h
+order_answers (Replay name files workers) (bytes ∷ []) world status text h = tests_answer bytes world status text h
+order_answers (Replay name files workers) [] world status text h = absurd h
+order_answers (Replay name files workers) (bytes ∷ other ∷ more) world status text h = absurd h
 order_answers (Diagrams job) texts world status text h = job_answers _ world job status text h
 order_answers (Assemble name) (bytes ∷ []) world status text h = rw h.status_is tt
 order_answers (Assemble name) [] world status text h = absurd h
@@ -143,9 +143,9 @@ order_status : (words : List (List ℕ)) (order : Order) → OrdersBuilt words o
     RepliesIn order texts world (ends status text) → (IsReplay words → status ≡ one) → EndsOrder order one status
 order_status words (Explore job) ordered texts world status one text h same = job_status _ world job status text h
 order_status words (Tests job) ordered texts world status one text h same = job_status _ world job status text h
-order_status words (Replay name files) ordered (bytes ∷ []) world status one text h same = (same (name, files, ordered), tests_status bytes world status text h)
-order_status words (Replay name files) ordered [] world status one text h same = absurd h
-order_status words (Replay name files) ordered (bytes ∷ other ∷ more) world status one text h same = absurd h
+order_status words (Replay name files workers) ordered (bytes ∷ []) world status one text h same = (same (name, files, workers, ordered), tests_status bytes world status text h)
+order_status words (Replay name files workers) ordered [] world status one text h same = absurd h
+order_status words (Replay name files workers) ordered (bytes ∷ other ∷ more) world status one text h same = absurd h
 order_status words (Diagrams job) ordered texts world status one text h same = job_status _ world job status text h
 order_status words (Assemble name) ordered (bytes ∷ []) world status one text h same = rw h.status_is tt
 order_status words (Assemble name) ordered [] world status one text h same = absurd h

@@ -34,7 +34,7 @@ pub built_order : (order : Order) → IsOrder order → is_built order ≡ true 
 built_order (Explore job) is built = record { numbers = is; lazy = lazy_is job.init built }
 built_order (Tests job) is built = record { numbers = is; lazy = lazy_is job.init built }
 built_order (Diagrams job) is built = record { numbers = is; lazy = lazy_is job.init built }
-built_order (Replay tests files) is built = tt
+built_order (Replay tests files workers) is built = is
 built_order (Assemble text) is built = tt
 built_order (Sample blocks) is built = cc
 

@@ -176,7 +176,7 @@ abbrev pub RepliesIn : Order → List (List ℕ) → World → Reply → Type 0
 RepliesIn (Explore job) texts world = RepliesJob IsReportText world job
 RepliesIn (Tests job) texts world = RepliesJob IsTestsTextOf world job
 RepliesIn (Diagrams job) texts world = RepliesJob IsDiagramsText world job
-RepliesIn (Replay name files) (bytes ∷ []) world = RepliesReplay bytes world
+RepliesIn (Replay name files workers) (bytes ∷ []) world = RepliesReplay bytes world
 RepliesIn (Assemble name) (bytes ∷ []) world = RepliesAssembly bytes
 RepliesIn _ texts world = λ reply. ⊥
 
@@ -288,7 +288,7 @@ abbrev pub AreTold : List (List ℕ) → (List ℕ → Option (List ℕ)) → Ty
 AreTold words holds = (order : Order) → OrdersBuilt words order → AllByRecursion (λ file. IsSome (holds file)) (files_of order)
 
 abbrev pub IsReplay : List (List ℕ) → Type 0
-IsReplay words = (tests : List ℕ) × (files : List (List ℕ)) × OrdersBuilt words (Replay tests files)
+IsReplay words = (tests : List ℕ) × (files : List (List ℕ)) × (workers : ℕ) × OrdersBuilt words (Replay tests files workers)
 
 -- the same refusal, or none of both is one; of a replay they are one status and one text
 abbrev pub IsSameReply : List (List ℕ) → Reply → Reply → Type 0
@@ -322,7 +322,7 @@ abbrev pub EndsOrder : Order → Status → Status → Type 0
 EndsOrder (Explore job) one status = IsOfReport status
 EndsOrder (Tests job) one status = IsOfReport status
 EndsOrder (Diagrams job) one status = IsOfReport status
-EndsOrder (Replay tests files) one status = (status ≡ one) × IsOfVerdicts status
+EndsOrder (Replay tests files workers) one status = (status ≡ one) × IsOfVerdicts status
 EndsOrder (Assemble text) one status = IsDone status
 EndsOrder (Sample blocks) one status = ⊥
 

@@ -1,5 +1,5 @@
 -- Which orders are built for now, and the files that an order reads.
-use Rattle.std.specs.Prelude.{◌≡◌, ℕ, Bool, true, false, List, [], ◌∷◌, ◌++◌, Ok}
+use Rattle.std.specs.Prelude.{◌≡◌, ℕ, ◌≤◌, Bool, true, false, List, [], ◌∷◌, ◌++◌, Ok}
 use Rattle.kb_picture.specs.declared.choice.Init.{Init}
 use Rattle.kb_picture.specs.declared.choice.Init.TheVariants.{Lazy, Lazier}
 use Rattle.kb_words.specs.declared.orders.Job.{Job}
@@ -17,7 +17,7 @@ abbrev pub is_built : Order → Bool
 is_built (Explore job) = is_lazy job.init
 is_built (Tests job) = is_lazy job.init
 is_built (Diagrams job) = is_lazy job.init
-is_built (Replay tests files) = true
+is_built (Replay tests files workers) = true
 is_built (Assemble text) = true
 is_built (Sample blocks) = false
 
@@ -39,7 +39,7 @@ abbrev pub IsBuiltOrder : Order → Type 0
 IsBuiltOrder (Explore job) = IsBuiltJob job
 IsBuiltOrder (Tests job) = IsBuiltJob job
 IsBuiltOrder (Diagrams job) = IsBuiltJob job
-IsBuiltOrder (Replay tests files) = Unit {0}
+IsBuiltOrder (Replay tests files workers) = (1 ≤ workers) × (workers ≤ 64)
 IsBuiltOrder (Assemble text) = Unit {0}
 IsBuiltOrder (Sample blocks) = ⊥
 
@@ -48,7 +48,7 @@ abbrev pub texts_of : Order → List (List ℕ)
 texts_of (Explore job) = []
 texts_of (Tests job) = []
 texts_of (Diagrams job) = []
-texts_of (Replay tests files) = tests ∷ []
+texts_of (Replay tests files workers) = tests ∷ []
 texts_of (Assemble text) = text ∷ []
 texts_of (Sample blocks) = []
 
@@ -56,7 +56,7 @@ abbrev pub classes_of : Order → List (List ℕ)
 classes_of (Explore job) = job.files
 classes_of (Tests job) = job.files
 classes_of (Diagrams job) = job.files
-classes_of (Replay tests files) = files
+classes_of (Replay tests files workers) = files
 classes_of (Assemble text) = []
 classes_of (Sample blocks) = []
 

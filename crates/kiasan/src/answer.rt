@@ -18,8 +18,10 @@ use kb_outside::{Shelf, ShelfStop};
 use kb_rows::Row;
 use kb_test_laws::worlds_have_names;
 use kb_words::{Order, Word};
+use kb_workers::Gate;
 use kb_world::World;
 use std::alloc::Global;
+use std::thread::Threads;
 
 /// The most bytes of a class file.
 const CLASS_LIMIT: usize = 1_048_576;
@@ -36,17 +38,19 @@ pub struct Contents {
 
 /// What the program answers to its words.
 #[tactic(auto, using(crate::proofs::TopLaws::ends_answer))]
-pub fn answer_words<S: Shelf>(
-    alloc: Global,
+pub fn answer_words<R: AllocGlobal + Threads + Sync, S: Shelf, G: Gate + Sync>(
+    rt: &R,
     words: &[String],
     shelf: &mut S,
+    gate: &G,
 ) -> Result<Answer, Fault>
     ensures answers { IfOk result (λ a. Answers (map string_bytes words.now) (S.holds shelf.old) a.status a.text.items) }
     ensures answer { IfOk result (λ a. IsAnswer a.status) }
     ensures counted { IsErrOf result Fault.Read → Rose (S.faults shelf.old) (S.faults shelf.new) }
     ensures unsound { IsErrOf result Fault.Read → SomeUnsound (map string_bytes words.now) (S.sound shelf.old) }
 {
-    match reply_to_words(alloc, words, shelf) {
+    let alloc = rt.alloc();
+    match reply_to_words(rt, words, shelf, gate) {
         Ok(answer) => Ok(answer),
         Err(stop) => settle(alloc, stop),
     }
@@ -54,21 +58,31 @@ pub fn answer_words<S: Shelf>(
 
 /// Does what the words order.
 #[tactic(auto, unfolding(crate::specs::Answers::Replies))]
-fn reply_to_words<S: Shelf>(alloc: Global, words: &[String], shelf: &mut S) -> Result<Answer, Stop>
+fn reply_to_words<R: AllocGlobal + Threads + Sync, S: Shelf, G: Gate + Sync>(
+    rt: &R,
+    words: &[String],
+    shelf: &mut S,
+    gate: &G,
+) -> Result<Answer, Stop>
     ensures { Carries (Rose (S.faults shelf.old) (S.faults shelf.new) × SomeUnsound (map string_bytes words.now) (S.sound shelf.old)) (Replies (map string_bytes words.now) (S.holds shelf.old)) result }
 {
-    let order = read_built_order(alloc, words)?;
-    carry_out_order(alloc, order.get(), shelf)
+    let order = read_built_order(rt.alloc(), words)?;
+    carry_out_order(rt, order.get(), shelf, gate)
 }
 
 /// Does what an order says.
 #[tactic(auto, unfolding(crate::specs::Answers::RepliesTo))]
-fn carry_out_order<S: Shelf>(alloc: Global, order: &Order, shelf: &mut S) -> Result<Answer, Stop>
+fn carry_out_order<R: AllocGlobal + Threads + Sync, S: Shelf, G: Gate + Sync>(
+    rt: &R,
+    order: &Order,
+    shelf: &mut S,
+    gate: &G,
+) -> Result<Answer, Stop>
     requires { IsBuiltOrder order.now }
     ensures { Carries (IsReadFault (S.faults shelf.old) (S.faults shelf.new) (files_of order.now) (S.sound shelf.old)) (RepliesTo order.now (S.holds shelf.old)) result }
 {
-    let contents = read_contents(alloc, order, shelf)?;
-    answer_on(alloc, order, &contents)
+    let contents = read_contents(rt.alloc(), order, shelf)?;
+    answer_on(rt, order, &contents, gate)
 }
 
 /// Reads the files of an order.
@@ -127,7 +141,12 @@ fn read_bytes<S: Shelf>(
 
 /// What the program answers to an order whose files are these.
 #[tactic(auto, using(crate::proofs::AnswerLaws::classes_stop, crate::proofs::AnswerLaws::world_stops, crate::proofs::AnswerLaws::world_goes))]
-fn answer_on(alloc: Global, order: &Order, contents: &Contents) -> Result<Answer, Stop>
+fn answer_on<R: AllocGlobal + Threads + Sync, G: Gate + Sync>(
+    rt: &R,
+    order: &Order,
+    contents: &Contents,
+    gate: &G,
+) -> Result<Answer, Stop>
     requires built { IsBuiltOrder order.now }
     requires texts { length contents.now.texts ≡ length (texts_of order.now) }
     ensures { Carries ⊥ (RepliesOn order.now contents.now) result }
@@ -135,24 +154,33 @@ fn answer_on(alloc: Global, order: &Order, contents: &Contents) -> Result<Answer
     let classes = contents.classes.as_slice();
     tell_files(classes);
     worlds_have_names();
-    let given = read_classes(alloc, classes)?;
-    let world = link_world(alloc, given)?;
-    answer_in(alloc, order, contents.texts.as_slice(), world.get())
+    let given = read_classes(rt.alloc(), classes)?;
+    let world = link_world(rt.alloc(), given)?;
+    answer_in(rt, order, contents.texts.as_slice(), world.get(), gate)
 }
 
 /// What the program answers to an order on these texts and the world of its classes.
-fn answer_in(alloc: Global, order: &Order, texts: &[Row<u8>], world: &World) -> Result<Answer, Stop>
+fn answer_in<R: AllocGlobal + Threads + Sync, G: Gate + Sync>(
+    rt: &R,
+    order: &Order,
+    texts: &[Row<u8>],
+    world: &World,
+    gate: &G,
+) -> Result<Answer, Stop>
     requires linked { IsLinked world.now }
     requires names { NamesHaveTexts world.now }
     requires built { IsBuiltOrder order.now }
     requires texts { length texts.now ≡ length (texts_of order.now) }
     ensures { Carries ⊥ (RepliesIn order.now texts.now world.now) result }
 {
+    let alloc = rt.alloc();
     match order {
         Order::Explore(job) => answer_report(alloc, world, job),
         Order::Tests(job) => answer_tests(alloc, world, job),
         Order::Diagrams(job) => answer_diagrams(alloc, world, job),
-        Order::Replay(..) => replay(alloc, world, texts[0].as_slice()),
+        Order::Replay(_, _, workers) => {
+            replay(rt, world, texts[0].as_slice(), *workers as usize, gate)
+        }
         Order::Assemble(_) => answer_assembly(alloc, texts[0].as_slice()),
         Order::Sample(_) => unreachable!(),
     }

@@ -20,4 +20,4 @@ mod verdicts;
 
 pub use kb_refusals::Status;
 pub use std::alloc::AllocError as NoMemory;
-pub use top::{kiasan, words_have_one_reply};
+pub use top::{kiasan, kiasan_gated, words_have_one_reply};

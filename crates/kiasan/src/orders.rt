@@ -58,7 +58,7 @@ pub fn texts_of(order: &Order) -> &[Word]
     ensures { result.now ≡ texts_of order.now }
 {
     match order {
-        Order::Replay(tests, _) => slice::from_ref(tests),
+        Order::Replay(tests, ..) => slice::from_ref(tests),
         Order::Assemble(text) => slice::from_ref(text),
         Order::Explore(_) | Order::Tests(_) | Order::Diagrams(_) | Order::Sample(_) => &[],
     }
@@ -70,7 +70,7 @@ pub fn classes_of(order: &Order) -> &[Word]
 {
     match order {
         Order::Explore(job) | Order::Tests(job) | Order::Diagrams(job) => job.files.as_slice(),
-        Order::Replay(_, files) => files.as_slice(),
+        Order::Replay(_, files, _) => files.as_slice(),
         Order::Assemble(_) | Order::Sample(_) => &[],
     }
 }

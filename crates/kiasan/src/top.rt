@@ -7,23 +7,38 @@ use crate::answer::answer_words;
 use crate::refusals::Fault;
 use kb_outside::{Shelf, Sink, SinkFailed, send_all};
 use kb_refusals::Status;
-use std::alloc::Global;
+use kb_workers::{Gate, OpenGate};
+use std::thread::Threads;
 
 /// Does what the words after the program's name ask for: reads from the shelf, writes the whole text to `out`, and says
 /// how the program ends. The text is built before any of it is written.
 ///
 /// Words come first, then reading, then the classes, then the texts, then the methods. `Status::Memory` says that memory
 /// ran out, and is tied to nothing.
-#[tactic(auto, using(crate::proofs::TopLaws::owes_read, crate::proofs::TopLaws::owes_memory, crate::proofs::TopLaws::owes_answer, crate::proofs::TopLaws::owes_part))]
-pub fn kiasan<S: Shelf, K: Sink>(
-    alloc: Global,
+pub fn kiasan<R: AllocGlobal + Threads + Sync, S: Shelf, K: Sink>(
+    rt: &R,
     words: &[String],
     shelf: &mut S,
     out: &mut K,
 ) -> Status
     ensures { Owes (map string_bytes words.now) (S.holds shelf.old) (S.sound shelf.old) (S.faults shelf.old, S.faults shelf.new) (K.written out.old, K.written out.new) (K.faults out.old, K.faults out.new) result }
 {
-    let answer = match answer_words(alloc, words, shelf) {
+    kiasan_gated(rt, words, shelf, out, &OpenGate)
+}
+
+/// The same call, where a gate is told of the tests that `replay` runs: of each by its number, from 0, when its run begins and
+/// when it has ended, by the worker that runs it.
+#[tactic(auto, using(crate::proofs::TopLaws::owes_read, crate::proofs::TopLaws::owes_memory, crate::proofs::TopLaws::owes_answer, crate::proofs::TopLaws::owes_part))]
+pub fn kiasan_gated<R: AllocGlobal + Threads + Sync, S: Shelf, K: Sink, G: Gate + Sync>(
+    rt: &R,
+    words: &[String],
+    shelf: &mut S,
+    out: &mut K,
+    gate: &G,
+) -> Status
+    ensures { Owes (map string_bytes words.now) (S.holds shelf.old) (S.sound shelf.old) (S.faults shelf.old, S.faults shelf.new) (K.written out.old, K.written out.new) (K.faults out.old, K.faults out.new) result }
+{
+    let answer = match answer_words(rt, words, shelf, gate) {
         Ok(answer) => answer,
         Err(Fault::Read) => return Status::ReadFault,
         Err(Fault::NoMemory) => return Status::Memory,

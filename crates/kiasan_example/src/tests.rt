@@ -6,6 +6,7 @@ use kb_samples::CLASS_A;
 use kiasan::{Status, kiasan};
 use std::alloc::{AllocError, Global};
 use std::test::Fail;
+use std::thread::Threads;
 
 const EXPLORE_A: &str = "explore --method A.f(II)I A.class";
 
@@ -49,17 +50,23 @@ fn sink_failing_at(alloc: Global, fails: Vec<u64>) -> Result<MemorySink, Fail> {
 }
 
 /// The program's answer to these words.
-fn answer_to(
-    alloc: Global,
+fn answer_to<R: AllocGlobal + Threads + Sync>(
+    rt: &R,
     line: &str,
     shelf: &mut MemoryShelf,
     sink: &mut MemorySink,
 ) -> Result<Status, AllocError> {
+    let words = words_of(rt.alloc(), line)?;
+    Ok(kiasan(rt, words.as_slice(), shelf, sink))
+}
+
+/// The words of a line.
+pub fn words_of(alloc: Global, line: &str) -> Result<Vec<String>, AllocError> {
     let mut words = Vec::new(alloc);
     for word in line.split_whitespace() {
         words.push(String::from_str(alloc, word)?)?;
     }
-    Ok(kiasan(alloc, words.as_slice(), shelf, sink))
+    Ok(words)
 }
 
 /// A second call of the shelf would fail.
@@ -68,7 +75,7 @@ fn an_exploration_reads_its_file_once(rt: HostRuntime) -> Result<(), Fail> {
     let alloc = rt.alloc();
     let mut shelf = shelf_failing_at(alloc, vec![in alloc; 1u64]?)?;
     let mut sink = sink_failing_at(alloc, Vec::new(alloc))?;
-    let status = answer_to(alloc, EXPLORE_A, &mut shelf, &mut sink)?;
+    let status = answer_to(&rt, EXPLORE_A, &mut shelf, &mut sink)?;
     assert_eq!(rt; status, Status::Complete);
     Ok(())
 }
@@ -79,7 +86,7 @@ fn a_replay_reads_each_of_its_files_once(rt: HostRuntime) -> Result<(), Fail> {
     let alloc = rt.alloc();
     let mut shelf = shelf_failing_at(alloc, vec![in alloc; 2u64]?)?;
     let mut sink = sink_failing_at(alloc, Vec::new(alloc))?;
-    let status = answer_to(alloc, REPLAY_A, &mut shelf, &mut sink)?;
+    let status = answer_to(&rt, REPLAY_A, &mut shelf, &mut sink)?;
     assert_eq!(rt; status, Status::Complete);
     Ok(())
 }
@@ -90,7 +97,7 @@ fn a_sink_that_fails_has_the_front_of_the_report(rt: HostRuntime) -> Result<(), 
     let alloc = rt.alloc();
     let mut shelf = shelf_failing_at(alloc, Vec::new(alloc))?;
     let mut sink = sink_failing_at(alloc, vec![in alloc; 2u64]?)?;
-    let status = answer_to(alloc, EXPLORE_A, &mut shelf, &mut sink)?;
+    let status = answer_to(&rt, EXPLORE_A, &mut shelf, &mut sink)?;
     assert_eq!(rt; status, Status::WriteFault);
     assert_eq!(rt; sink.bytes(), b"kiasan report 1\ntarg".as_slice());
     Ok(())
@@ -102,7 +109,7 @@ fn a_class_is_assembled(rt: HostRuntime) -> Result<(), Fail> {
     let alloc = rt.alloc();
     let mut shelf = shelf_failing_at(alloc, Vec::new(alloc))?;
     let mut sink = sink_failing_at(alloc, Vec::new(alloc))?;
-    let status = answer_to(alloc, ASSEMBLE_A, &mut shelf, &mut sink)?;
+    let status = answer_to(&rt, ASSEMBLE_A, &mut shelf, &mut sink)?;
     assert_eq!(rt; status, Status::Complete);
     assert_eq!(rt; sink.bytes().len(), CLASS_A.len());
     Ok(())

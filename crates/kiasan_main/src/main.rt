@@ -13,5 +13,5 @@ fn main(rt: HostRuntime) -> ExitCode {
     let words = command_words(rt.alloc(), env::args(&rt));
     let mut shelf = FileShelf::new(&rt);
     let mut out = OutSink::new(io::writer(&rt));
-    run(rt.alloc(), words, &mut shelf, &mut out)
+    run(&rt, words, &mut shelf, &mut out)
 }

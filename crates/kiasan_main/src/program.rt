@@ -9,13 +9,13 @@ ghost use Rattle.kiasan_main.specs.Program.{EndsWith, not_utf8};
 
 use kb_outside::{Shelf, Sink, WordsStop};
 use kiasan::{Status, kiasan};
-use std::alloc::Global;
 use std::process::ExitCode;
+use std::thread::Threads;
 
 /// Does what the words ask for, and ends with the number of the status. Where there are no words to go by, nothing is
 /// written.
-pub fn run<S: Shelf, K: Sink>(
-    alloc: Global,
+pub fn run<R: AllocGlobal + Threads + Sync, S: Shelf, K: Sink>(
+    rt: &R,
     words: Result<Vec<String>, WordsStop>,
     shelf: &mut S,
     out: &mut K,
@@ -26,7 +26,7 @@ pub fn run<S: Shelf, K: Sink>(
     ensures nothing { IsErr words → K.written out.new ≡ K.written out.old }
 {
     match words {
-        Ok(words) => exit_code(kiasan(alloc, words.as_slice(), shelf, out)),
+        Ok(words) => exit_code(kiasan(rt, words.as_slice(), shelf, out)),
         Err(stop) => ExitCode::from(stop.code()),
     }
 }

@@ -12,12 +12,15 @@ use kiasan::kiasan;
 use std::alloc::Global;
 use std::io;
 use std::process::ExitCode;
+use std::thread::Threads;
 
-/// Each call is made by itself.
+/// Each call is made by itself, over the runtime.
 #[derive(Drop)]
-struct Calls;
+struct Calls<'a, R> {
+    rt: &'a R,
+}
 
-impl Rows for Calls {
+impl<'a, R: AllocGlobal + Threads + Sync> Rows for Calls<'a, R> {
     fn write_row<S: Shelf, W: Sink>(
         &mut self,
         alloc: Global,
@@ -27,7 +30,7 @@ impl Rows for Calls {
     ) -> RowResult<()> {
         let words = read_words(alloc, row, ' ')?;
         send(out, format!(in alloc; "> {row}\n")?.as_bytes())?;
-        let status = kiasan(alloc, words.as_slice(), shelf, out);
+        let status = kiasan(self.rt, words.as_slice(), shelf, out);
         send(
             out,
             format!(in alloc; "status {}\n", status.number())?.as_bytes(),
@@ -39,6 +42,7 @@ impl Rows for Calls {
 fn main(rt: HostRuntime) -> io::Result<ExitCode> {
     let mut shelf = FileShelf::new(&rt);
     let mut out = OutSink::new(io::writer(&rt));
-    write_rows(rt.alloc(), "rows", &mut Calls, &mut shelf, &mut out)?;
+    let mut calls = Calls { rt: &rt };
+    write_rows(rt.alloc(), "rows", &mut calls, &mut shelf, &mut out)?;
     Ok(ExitCode::from(0))
 }

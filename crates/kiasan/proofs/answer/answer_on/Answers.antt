@@ -12,18 +12,18 @@ use Rattle.kiasan.proofs.ClassLaws.{are_of_bytes}
 use Rattle.kiasan.proofs.answer.answer_on.Goals as goal
 
 pub link_world-requires : goal.link_world-requires
-link_world-requires c = are_given _ c.in_ok-given.given.items c.in_ok-given.ensures
+link_world-requires g c = are_given _ c.in_ok-given.given.items c.in_ok-given.ensures
 
 pub answer_in-requires-clause-linked : goal.answer_in-requires-clause-linked
-answer_in-requires-clause-linked c = rw c.get.ensures c.in_ok-world.ensures.linked
+answer_in-requires-clause-linked g c = rw c.get.ensures c.in_ok-world.ensures.linked
 
 pub answer_in-requires-clause-names : goal.answer_in-requires-clause-names
-answer_in-requires-clause-names c =
+answer_in-requires-clause-names g c =
     let given = c.in_ok-given.given.items in
     rw c.get.ensures (c.worlds_have_names.ensures given c.in_ok-world.world (are_of_bytes _ given c.in_ok-given.ensures c.tell_files.ensures) c.in_ok-world.ensures)
 
 pub returns-in_err-given : goal.returns-in_err-given
-returns-in_err-given c =
+returns-in_err-given g c =
     let p = err_from_is_err_and c.from_residual.result c.from_residual.ensures.1 in
     rw (p.1, p.2)
     (classes_stop c.args.order.now c.args.contents.now (λ (given : Vec GivenClass Global). AreGivenBy c.args.contents.now.classes given.items) c.in_err-given.field-0.0
@@ -31,14 +31,14 @@ returns-in_err-given c =
     c.as_slice-classes.ensures c.in_err-given.ensures))
 
 pub returns-in_err-world : goal.returns-in_err-world
-returns-in_err-world c =
+returns-in_err-world g c =
     let p = err_from_is_err_and c.from_residual-in_err-world.result c.from_residual-in_err-world.ensures.1 in
     rw (p.1, p.2)
     (world_stops c.args.order.now c.args.contents.now c.in_ok-given.given.items (Links c.in_ok-given.given.items) c.in_err-world.field-0.0
     (subst (λ (classes : List (List ℕ)). AreGivenBy classes c.in_ok-given.given.items) c.as_slice-classes.ensures c.in_ok-given.ensures) c.in_err-world.ensures)
 
 pub returns : goal.returns
-returns c =
+returns g c =
     let given = c.in_ok-given.given.items in
     let world = c.in_ok-world.world in
     world_goes c.args.order.now c.args.contents.now given world c.answer_in.result
