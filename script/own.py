@@ -25,6 +25,7 @@ COMMANDS = {
         "./kiasan tests --method 'A.f(II)I' examples/A.class | ./kiasan replay --tests /dev/stdin examples/A.class",
     ),
     "assemble": ((0, 2, 6, 7, 8, 9, 70, 71), "./kiasan assemble examples/assemble/Whole.asm > Whole.class"),
+    "sample": ((0, 2, 7, 8, 70, 71), "./kiasan sample 6"),
     "explain": ((0, 2, 7, 70), "./kiasan explain refused 47 'A.f(II)I' at 2 opcode b2"),
     "targets": ((0, 2, 6, 7, 70), "./kiasan targets --check examples/List.class"),
     "build": ((0, 2, 70), "./kiasan build"),
@@ -41,8 +42,6 @@ COMMANDS = {
 }
 # How the page begins what it says of some commands alone.
 OF_COMMANDS = re.compile("(of|for) `")
-# Commands that the program knows and that are not built.
-LATER = ("sample",)
 
 
 def answer(signals, program, words):
@@ -65,8 +64,7 @@ def answer(signals, program, words):
 def command_help(command):
     """The words, options, statuses and an example of a command."""
     if command not in COMMANDS:
-        what = "not built yet" if command in LATER else "no command"
-        raise Fault(2, f"{command} is {what}; the commands with a page of help are {', '.join(COMMANDS)}")
+        raise Fault(2, f"{command} is no command; the commands with a page of help are {', '.join(COMMANDS)}")
     forms, options = read_page()
     numbers, example = COMMANDS[command]
     lines = [line for form, says in forms[command] for line in (form, *(f"    {each}" for each in says))]

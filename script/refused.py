@@ -18,7 +18,6 @@ from .names import (
 )
 from .remarks import beside
 from .say import MOST_NAMES
-from .words import EXPLORING
 from .world import PLATFORM
 
 MOST_BYTES = 200
@@ -242,8 +241,6 @@ class Parts:
 
     def _in_the_way(self):
         """The first thing that is not explored today. This goes where everything is."""
-        if self.order.command not in EXPLORING:
-            return [f"word 0 is {self.order.command}"]
         if self.order.value("--init") == "lazier":
             return [f"word {self.order.values['--init']} is --init lazier"]
         text = self.order.value("--method")

@@ -15,6 +15,7 @@ import tempfile
 from pathlib import Path
 
 from assembler import BRANCHES, assemble
+from sample import sample_text
 
 HERE = Path(__file__).resolve().parent
 CRATE = HERE.parent.parent / "crates" / "asm_rows"
@@ -322,6 +323,11 @@ ask(
     "0021000200040000000000010009000500060001000700000010000200020000"
     "00041a1b60ac000000000000",
 )  # fmt: skip
+
+# ---- the program's own text
+
+for blocks in (0, 1, 7):
+    ask(f"a sample of {blocks} blocks", "bytes", f"%{blocks}", assemble(sample_text(blocks)).hex())
 
 (CRATE / "data" / "Whole.asm").write_text(WHOLE)
 (CRATE / "data" / "rows").write_text("".join(f"{asked}\n" for asked, _ in rows))

@@ -35,6 +35,8 @@ DATA = CRATE / "data"
 WRITTEN = HERE.parent / "replay" / "Written.java"
 SOURCES = ("Search.java", "Queue.java", "Types.java")
 ASSEMBLED = {"Node.asm": "worked_node.class", "A.asm": "kept.class", "Odd.asm": "Odd.class", "Other.asm": "Other.class"}
+# samples of so many blocks
+SAMPLES = (0, 1, 7)
 # the tests that are replayed: those of all rows of these class files
 TESTS = {
     "List.class": "lists.tests",
@@ -49,6 +51,7 @@ UNVERIFIED = ["-XX:+UnlockDiagnosticVMOptions", "-XX:-BytecodeVerificationRemote
 
 sys.path.insert(0, str(HERE.parent / "assemble"))
 from assembler import assemble  # noqa: E402
+from sample import sample_text  # noqa: E402
 
 
 def run(*words, **options):
@@ -61,6 +64,8 @@ def write_class_files():
     run(*javac, DATA, HERE.parent / "List.java", *(HERE / name for name in SOURCES), stderr=subprocess.DEVNULL)
     for source, name in ASSEMBLED.items():
         (DATA / name).write_bytes(assemble((HERE / source).read_text()))
+    for blocks in SAMPLES:
+        (DATA / f"sample_{blocks}.class").write_bytes(assemble(sample_text(blocks)))
 
 
 # ---- what rows write
@@ -147,7 +152,7 @@ def main():
     options.add_argument("--program", type=Path, help="a built program, whose output the rows are")
     program = options.parse_args().program
     write_class_files()
-    table = (DATA / "rows").read_text().splitlines()
+    table = [row for row in (DATA / "rows").read_text().splitlines() if not row.startswith("#")]
     before = {words: (lines, status) for words, lines, status in rows_of((CRATE / "stdout").read_text())}
     if program:
         rows = {words: of_program(program.resolve(), words) for words in table if not words.startswith("replay ")}

@@ -30,6 +30,7 @@ OTHERS = (
     " a0                ",
     "kiasan: warning: class coll/MyList$Node",
     "class FLAGS NAME NAME ",
+    "class 0021 Sample java/lang/Object\n",
     ".ci/run\n",
     "javac -d out ",
 )

@@ -60,7 +60,7 @@ TABLE = [
         explained(
             "refused 91 word W",
             "word 0 is --version",
-            "commands: explore, tests, diagrams, replay, assemble, explain, targets, view, junit, build, --help",
+            "commands: explore, tests, diagrams, replay, assemble, sample, explain, targets, view, junit, build, --help",
         ),
     ),
     ("assemble Unfit.asm A.class", explained("refused 91 word W", "word 2 is A.class")),
@@ -131,7 +131,6 @@ TABLE = [
     ("explore --method B.abs(I)I A.class cut_flags.class", explained("refused 12 file F at N", "file 1 is cut_flags.class")),
     ("explore --init lazier --method A.f(II)I A.class", explained("refused 50", "word 2 is --init lazier")),
     ("diagrams --init lazier --method A.f(II)I A.class", explained("refused 50", "word 2 is --init lazier")),
-    ("sample 6", explained("refused 50", "word 0 is sample")),
     ("sample 65", explained("refused 94 word W", "word 1 is 65, sample takes 0 to 64")),
     (
         "explore --method A.f(II)I Lst.class",

@@ -12,7 +12,7 @@ from view.commands import WAYS_TO_CALL
 from view.wants import ENDINGS
 
 EXPLAINS = "explain: give the number of a refusal, a whole line `refused N ..`, or `status N`"
-NAMED = "explore, tests, diagrams, replay, assemble, explain, targets, build, view, junit"
+NAMED = "explore, tests, diagrams, replay, assemble, sample, explain, targets, build, view, junit"
 WITH_HELP = f"the commands with a page of help are {NAMED}"
 FAULTS = [
     (["--help", "x"], 2, ["--help stands alone"]),
@@ -39,7 +39,6 @@ FAULTS = [
     (["targets", "--chek", "A.class"], 2, ["targets: give class files, folders or jars, behind `--check` or alone"]),
     (["none", "--help"], 2, [f"none is no command; {WITH_HELP}"]),
     (["kiasan", "--help"], 2, [f"kiasan is no command; {WITH_HELP}"]),
-    (["sample", "--help"], 2, [f"sample is not built yet; {WITH_HELP}"]),
     (["build", "--help", "x"], 2, ["build stands alone"]),
     (["targets", "gone.class"], 6, ["cannot read gone.class: No such file or directory", "near names: Gone.class"]),
     (["targets", b"\xff.class"], 6, ["cannot read %FF.class: No such file or directory"]),
@@ -117,7 +116,7 @@ def test_help_of_a_command():
 
 def test_statuses_of_the_commands():
     """Those that stored rows end with, and those that no row can have: 7, 8, 70, 71, and 0 of an assembler text."""
-    found = {command: {7, 8, 70, 71} for command in ("explore", "tests", "diagrams", "replay", "assemble")}
+    found = {command: {7, 8, 70, 71} for command in ("explore", "tests", "diagrams", "replay", "assemble", "sample")}
     found["assemble"].add(0)
     for words, _, status in rows():
         if words and words[0] in found:
@@ -130,7 +129,7 @@ def test_statuses_of_the_commands():
 def test_help_asks_for_no_program():
     """Pages of help are there without a program, and so is what is said of a word that has none."""
     env = environment(KIASAN_PROGRAM="/nowhere/kiasan")
-    for word, status in [("explore", 0), ("build", 0), ("sample", 2), ("x", 2)]:
+    for word, status in [("explore", 0), ("build", 0), ("sample", 0), ("x", 2)]:
         same(call(word, "--help", env=env).status, status, f"{word} --help")
     ran = call("explore", "--help", "A.class")
     same((ran.status, ran.out), (2, b"refused 91 word 1\n"), "three words, which are the program's")

@@ -1,15 +1,19 @@
 //! Assembler texts from their spellings.
 
 use kb_outside::Shelf;
+use kb_sample::sample_text;
 use kb_table::{RowResult, RowStop, append, append_number, read_file, read_number};
 use std::alloc::Global;
 
-/// The text of a spelling: that of a file, `@` and its name; or lines with `|` behind each, what stands behind the last one being
+/// The text of a spelling: that of a file, `@` and its name; that of a sample, `%` and how many blocks it has; or lines with `|` behind each, what stands behind the last one being
 /// a line that is cut short. A line that ends with `*9` stands for nine lines, `#` in a word of a line for the number of the line
 /// among these, from 0, and `~9~` in a word for nine letters.
 pub fn read_text<S: Shelf>(alloc: Global, spelled: &str, shelf: &mut S) -> RowResult<Vec<u8>> {
     if let Some(name) = spelled.strip_prefix("@") {
         return read_file(alloc, name, shelf);
+    }
+    if let Some(blocks) = spelled.strip_prefix("%") {
+        return read_sample(alloc, blocks);
     }
     let mut text = Vec::new(alloc);
     append_text(alloc, spelled, &mut text)?;
@@ -31,6 +35,14 @@ fn append_all_lines(alloc: Global, lines: &str, text: &mut Vec<u8>) -> RowResult
         append_lines(alloc, line, text)?;
     }
     Ok(())
+}
+
+/// The text of the sample of that many blocks.
+fn read_sample(alloc: Global, blocks: &str) -> RowResult<Vec<u8>> {
+    let text = sample_text(alloc, read_number(blocks)?)?;
+    let mut bytes = Vec::new(alloc);
+    bytes.extend_from_slice(text.as_bytes())?;
+    Ok(bytes)
 }
 
 /// The lines that a line with or without a count stands for, each with a line feed behind it.

@@ -16,5 +16,5 @@ mod slots;
 pub use kb_rows::Row;
 pub use kinds::LeafKind;
 pub use ranges::tell_report;
-pub use report::{Report, report_text};
+pub use report::{Report, report_text, write_kinds};
 pub use std::alloc::AllocError as NoMemory;

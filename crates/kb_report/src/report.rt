@@ -141,8 +141,9 @@ fn write_total(text: &mut Text, paths: &[Path]) -> Result<(), NoMemory>
     text.end_line()
 }
 
+/// How many of the paths have ended, are cut, are undecided and are open, as the last line of a report says it.
 #[tactic(auto, unfolding(crate::specs::Report::kinds_text))]
-fn write_kinds(text: &mut Text, paths: &[Path]) -> Result<(), NoMemory>
+pub fn write_kinds(text: &mut Text, paths: &[Path]) -> Result<(), NoMemory>
     ensures { OnOk result (text.new ≡ text.old ++ kinds_text paths.now) }
 {
     write_kind(text, " ended ", LeafKind::Ended, paths)?;

@@ -41,6 +41,10 @@ bounds_given settings = record {
   };
 }
 
+-- those that stand where no option gives one
+abbrev pub default_bounds : Bounds
+default_bounds = bounds_given []
+
 -- the job on a target and files, where options say or leave what else it has
 abbrev pub job_with : List Setting → List (List ℕ) → Target → Job
 job_with settings files target = record {

@@ -12,6 +12,8 @@ mod word;
 pub use kb_picture::Init;
 pub use kb_rows::Row;
 pub use options::{OptionName, Range};
-pub use orders::{Command, Job, Order, WordFault, read_words, words_have_one_order};
+pub use orders::{
+    Command, Job, Order, WordFault, default_bounds, read_words, words_have_one_order,
+};
 pub use settings::Setting;
 pub use word::Word;

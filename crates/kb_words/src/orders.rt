@@ -5,7 +5,7 @@ ghost use Rattle.kb_words.specs.declared.orders.Order.{Order as Ordered};
 ghost use Rattle.kb_words.specs.declared.orders.WordFault.{WordFault as Fault};
 ghost use Rattle.kb_words.specs.Options.{range_of};
 ghost use Rattle.kb_words.specs.Settings.{Gives};
-ghost use Rattle.kb_words.specs.Orders.{AreBounds, AreOrdered, IsJob, IsOrder, IsTargetIn, Orders, assembly_of, bounds_given, command_named, exploration_of, explored, if_enough, init_given, job_from, job_of, job_on, job_with, number_given, order_by, order_of, replay_from, replay_of, sample_at, sample_of};
+ghost use Rattle.kb_words.specs.Orders.{AreBounds, AreOrdered, IsJob, IsOrder, IsTargetIn, Orders, assembly_of, bounds_given, command_named, default_bounds, exploration_of, explored, if_enough, init_given, job_from, job_of, job_on, job_with, number_given, order_by, order_of, replay_from, replay_of, sample_at, sample_of};
 
 use crate::options::{OptionName, Range, init_named, is_number, number_within, range_of};
 use crate::settings::{Setting, files_of, method_word, read_settings, value_given};
@@ -295,6 +295,14 @@ fn job_with(settings: &[Setting], files: Row<Word>, target: Target) -> Job
         budget: number_given(OptionName::Budget, 2_000, settings),
         files,
     }
+}
+
+/// The bounds that stand where no option gives one.
+pub fn default_bounds() -> Bounds
+    ensures bounds { result ≡ default_bounds }
+    ensures ranges { AreBounds result }
+{
+    bounds_given(&[])
 }
 
 fn bounds_given(settings: &[Setting]) -> Bounds

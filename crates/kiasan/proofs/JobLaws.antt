@@ -1,5 +1,5 @@
 -- How a job is answered.
-use Rattle.std.proofs.Common.{◌≡◌, List, [], ◌∷◌, ◌++◌, ℕ, suc, true, false, Some, slice_get, Err, refl, sym, ◌∙◌, ap, subst, inl, inr, arith}
+use Rattle.std.proofs.Common.{◌≡◌, List, [], ◌∷◌, ℕ, suc, true, false, Some, slice_get, Err, refl, sym, ◌∙◌, ap, subst, inl, inr, arith}
 use Rattle.std.specs.List.{AllByRecursion}
 use Rattle.kb_class.specs.declared.ids.MethodId.{MethodId}
 use Rattle.kb_drive.specs.Compared.{ComparesAsRuns}
@@ -16,12 +16,12 @@ use Rattle.kb_link.specs.World.{World}
 use Rattle.kb_names.specs.declared.types.Target.{Target}
 use Rattle.kb_picture.specs.declared.choice.Init.{Init}
 use Rattle.kb_picture.specs.declared.choice.Init.TheVariants.{Lazy}
-use Rattle.kb_picture.specs.declared.path.Leaf.{Leaf}
-use Rattle.kb_picture.specs.declared.path.Leaf.TheVariants.{Ended as EndedLeaf, Cut, Undecided, Open}
 use Rattle.kb_picture.specs.declared.path.Path.{Path}
 use Rattle.kb_report.specs.Ranges.{ReportFits}
 use Rattle.kb_report.specs.declared.report.Report.{Report}
 use Rattle.kb_report_laws.specs.OneText.{IsSound}
+use Rattle.kb_report_tests.specs.Tests.{IsCarried, StatesTexts, literals_in, tests_of}
+use Rattle.kb_report_tests.proofs.TestTexts.{TestHolds, tests_all}
 use Rattle.kb_names.specs.Targets.{IsTarget}
 use Rattle.kb_test_lines.specs.Lines.{IsRunBounds}
 use Rattle.kb_test.specs.Tests.{SpellsTests}
@@ -37,12 +37,11 @@ use Rattle.kiasan.specs.declared.refusals.Stop.{Stop}
 use Rattle.kiasan.specs.declared.refusals.Stop.TheVariants.{Refused, ReadFault, NoMemory}
 use Rattle.kb_refusals.specs.declared.status.Status.{Status}
 use Rattle.kiasan.specs.Answers.{ends, Carries, IsTestsTextOf, RepliesJob, TextOf}
-use Rattle.kiasan.specs.Exploring.{AreListed, HasHead, IsBuiltReport, IsCarried, IsReportOf, StatesTexts, path_tests, status_of, tests_of}
+use Rattle.kiasan.specs.Exploring.{AreListed, HasHead, IsBuiltReport, IsReportOf, status_of}
 use Rattle.kiasan.specs.Reach.{TargetRefuses}
 use Rattle.kiasan.specs.Refusals.{Gives, link_refusal}
-use Rattle.kiasan.specs.Tests.{EndsAsStated, literals_in}
+use Rattle.kiasan.specs.Tests.{EndsAsStated}
 use Rattle.kiasan.specs.Unbuilt.{IsBuiltFor}
-use Rattle.kiasan.proofs.TestTexts.{path_head, path_tail, tests_on}
 
 -- what the world says of a target that it does not reach
 pub reach_stops : {A : Type 0} (world : World) (target : Target) (found : LinkRefusal) (Passes : A → Type 0) → Refuses world target found →
@@ -128,36 +127,18 @@ paths_sound world job report built =
 
 -- ---- the tests of a report end as they state
 
-both_all : {A : Type 0} (P : A → Type 0) (xs ys : List A) → AllByRecursion P xs → AllByRecursion P ys → AllByRecursion P (xs ++ ys)
-both_all P [] ys front back = back
-both_all P (x ∷ xs) ys front back = (front.0, both_all P xs ys front.1 back)
-
 -- the input that a path carries is one of its instances, so that it states its run
-path_ends : (world : World) (id : MethodId) (report : Report) (path : Path) → StatesRuns world id report.bounds path → CarriesInstance world id path →
-    AllByRecursion (EndsAsStated world id) (path_tests world report path path.leaf)
-path_ends world id report path states carries = go path.leaf refl
-  where
-    go : (leaf : Leaf) → path.leaf ≡ leaf → AllByRecursion (EndsAsStated world id) (path_tests world report path leaf)
-    go (EndedLeaf ended) e =
-        let carried = carries ended.input (ap input_carried e) in
-        (states ended ended.input e carried.0 carried.1, tt)
-    go (Cut bound input) e = tt
-    go (Undecided log) e = tt
-    go Open e = tt
-
-paths_end : (world : World) (id : MethodId) (report : Report) (paths : List Path) → EachPath (StatesRuns world id report.bounds) paths →
-    EachPath (CarriesInstance world id) paths → AllByRecursion (EndsAsStated world id) (tests_on world report paths)
-paths_end world id report [] state carry = tt
-paths_end world id report (path ∷ paths) state carry =
-    both_all (EndsAsStated world id) (path_tests world report path path.leaf) (tests_on world report paths)
-    (path_ends world id report path (path_head (StatesRuns world id report.bounds) path paths state) (path_head (CarriesInstance world id) path paths carry))
-    (paths_end world id report paths (path_tail (StatesRuns world id report.bounds) path paths state) (path_tail (CarriesInstance world id) path paths carry))
+pub test_ends : (world : World) (report : Report) (id : MethodId) → Covers world id report.bounds report.paths report.budget report.leaves →
+    EachPath (TestHolds (EndsAsStated world id) world report) report.leaves
+test_ends world report id covers = λ i path at ended leaf.
+    let carried = covers.carried i path at ended.input (ap input_carried leaf) in
+    covers.endings i path at ended ended.input leaf carried.0 carried.1
 
 pub tests_written : (world : World) (job : Job) (report : Report) (text : List ℕ) (reported : IsReportOf world job report) →
     SpellsTests (literals_in world) (tests_of world report) text → IsTestsTextOf world reported.id report text
 tests_written world job report text reported spelled = record {
   spelled = spelled;
-  end_as_stated = paths_end world reported.id report report.leaves reported.listed.covers.endings reported.listed.covers.carried;
+  end_as_stated = tests_all (EndsAsStated world reported.id) world report report.leaves (test_ends world report reported.id reported.listed.covers);
 }
 
 -- ---- what is written of a job

@@ -6,8 +6,7 @@ pub mod OneListing
 pub mod OneReply
 pub mod ReadLaws
 pub mod ReplayLaws
+pub mod SampleLaws
 pub mod StageLaws
-pub mod TestLaws
-pub mod TestTexts
 pub mod TopLaws
 pub mod WordsLaws

@@ -1,12 +1,21 @@
--- An assembly has one refusal, or it ends.
-use Rattle.std.proofs.Common.{◌≡◌, ◌≤◌, ℕ, List, length, sym, ◌∙◌, ap, arith, inl, inr}
+-- How an assembly is refused, and that it has one refusal, or ends.
+use Rattle.std.proofs.Common.{◌≡◌, ◌≤◌, ℕ, List, length, Vec, Global, Err, sym, ◌∙◌, ap, arith, inl, inr}
 use Rattle.kb_asm_check.proofs.OneLaws.{one_number, no_refusal}
 use Rattle.kb_refusals.specs.declared.refusal.Refusal.{Refusal}
 use Rattle.kb_refusals.specs.declared.refusal.Refusal.TheVariants as refusals
 use Rattle.kb_refusals.specs.declared.refusal.TextRefusal.TheVariants as texts
 use Rattle.kb_refusals.specs.declared.status.Status.{Status}
-use Rattle.kiasan.specs.Answers.{refuses, ends, AssemblyRefuses, EndsAssembly, RepliesAssembly, text_limit}
+use Rattle.kiasan.specs.declared.refusals.Stop.{Stop}
+use Rattle.kiasan.specs.declared.refusals.Stop.TheVariants.{Refused, ReadFault, NoMemory}
+use Rattle.kiasan.specs.Answers.{refuses, ends, AssemblyRefuses, Carries, EndsAssembly, LineRefuses, RepliesAssembly, text_limit}
+use Rattle.kiasan.specs.Refusals.{Gives}
 use Rattle.kiasan.proofs.StageLaws.{HasOne}
+
+pub assembly_stops : (bytes : List ℕ) (Passes : Vec ℕ Global → Type 0) (stop : Stop) → length bytes ≤ text_limit → Gives {A = Vec ℕ Global} ⊥ (LineRefuses bytes) Passes (Err stop) →
+    Carries ⊥ (RepliesAssembly bytes) (Err stop)
+assembly_stops bytes Passes (Refused refusal) within (number, is, unfit) = inr (number, is, within, unfit)
+assembly_stops bytes Passes ReadFault within wrong = absurd wrong
+assembly_stops bytes Passes NoMemory within none = tt
 
 assembly_refusal : (bytes : List ℕ) (r s : Refusal) → AssemblyRefuses bytes r → AssemblyRefuses bytes s → r ≡ s
 assembly_refusal bytes r s (inl a) (inl b) = a.0 ∙ sym b.0

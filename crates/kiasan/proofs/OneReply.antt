@@ -27,6 +27,7 @@ use Rattle.kb_link.proofs.OneUniverse.{one_world_is}
 use Rattle.kb_link.proofs.OneWorld.{one_refusal, refused_or_linked}
 use Rattle.kb_link.proofs.TargetLaws.{one_declared}
 use Rattle.kb_world.proofs.ReachLaws.{one_refusal as one_reach_refusal, refused_or_accepted}
+use Rattle.kb_report_tests.specs.Tests.{literals_in}
 use Rattle.kiasan.specs.declared.answer.Contents.{Contents}
 use Rattle.kb_refusals.specs.declared.refusal.Refusal.{Refusal}
 use Rattle.kb_refusals.specs.declared.refusal.Refusal.TheVariants as refusals
@@ -42,12 +43,13 @@ use Rattle.kb_refusals.specs.declared.status.Status.{Status}
 use Rattle.kb_words.specs.declared.orders.Job.{Job}
 use Rattle.kb_words.specs.declared.orders.Order.{Order}
 use Rattle.kb_words.specs.declared.orders.Order.TheVariants.{Explore, Tests, Diagrams, Replay, Assemble, Sample}
-use Rattle.kiasan.specs.Answers.{Reply, refuses, ends, Last, RefusesNothing, Replies, RepliesTo, RepliesOn, RepliesIn, RepliesJob, RepliesReplay, WordsRefuse, IsRead, AreRead, IsContents, RefusesClasses, ClassRefuses, FileRefuses, WorldRefuses, TextRefuses, TextOf, AreTestsOf, EndsReplay, EndsJob, AreTold, IsReplay, IsSameReply, class_limit, text_limit}
-use Rattle.kiasan.specs.Orders.{OrdersBuilt, files_of, texts_of, classes_of}
+use Rattle.kiasan.specs.Answers.{Reply, refuses, ends, ContentsRefuse, HasContents, IsContentsBy, Last, RefusesBy, Replies, RepliesTo, RepliesOn, RepliesIn, RepliesJob, RepliesReplay, WordsRefuse, IsRead, AreRead, IsContents, RefusesClasses, ClassRefuses, FileRefuses, WorldRefuses, TextRefuses, TextOf, AreTestsOf, EndsReplay, EndsJob, AreTold, IsReplay, IsSample, IsSameReply, class_limit, text_limit}
+use Rattle.kiasan.specs.Orders.{OrdersBuilt, blocks_of, files_of, texts_of, classes_of}
 use Rattle.kiasan.specs.Reach.{TargetRefuses}
 use Rattle.kiasan.specs.CodeFaults.{MethodsRefuse, methods_fault}
 use Rattle.kiasan.specs.Refusals.{class_refusal, code_refusal, link_refusal, word_refusal}
-use Rattle.kiasan.specs.Tests.{RefusesTests, literals_in, replay_status, test_refusal}
+use Rattle.kiasan.specs.Samples.{sample_job}
+use Rattle.kiasan.specs.Tests.{RefusesTests, replay_status, test_refusal}
 use Rattle.kiasan.specs.Unbuilt.{IsBuiltFor, IsBuiltTarget}
 use Rattle.kiasan.proofs.ClassLaws.{no_faults}
 use Rattle.kiasan.proofs.OneAssembly.{assembly_one}
@@ -298,7 +300,7 @@ tests_refusal_one world given tests r s (a, p, e) (b, q, h) =
     let told : refused_by r ≡ refused_by s = sym e ∙ ap (λ (bad : BadTest). test_refusal bad.number bad.stop) same ∙ h in
     cc
 
-tests_apart : (world : World) → IsLinked world → (tests : List Test) (r : Refusal) (ids : List MethodId) → RefusesTests world tests r → AreRunnable world tests ids → ⊥
+pub tests_apart : (world : World) → IsLinked world → (tests : List Test) (r : Refusal) (ids : List MethodId) → RefusesTests world tests r → AreRunnable world tests ids → ⊥
 tests_apart world given tests r ids (a, p, e) are = stopped_or_runnable world given tests a ids p (no_want a r e) are
 
 -- ---- runs
@@ -321,7 +323,7 @@ replay_one Same bytes world given same =
 
 -- ---- words
 
-abbrev SameEnd : List (List ℕ) → Status → List ℕ → Status → List ℕ → Type 0
+abbrev pub SameEnd : List (List ℕ) → Status → List ℕ → Status → List ℕ → Type 0
 SameEnd words a t b u = IsReplay words → (a ≡ b) × (t ≡ u)
 
 not_both : (words : List (List ℕ)) (order : Order) → OrdersBuilt words order → ((tests : List ℕ) (files : List (List ℕ)) (workers : ℕ) → order ≡ Replay tests files workers → ⊥) → IsReplay words → ⊥
@@ -341,9 +343,10 @@ order_one words (Assemble name) ordered (bytes ∷ []) world given =
     assembly_one (SameEnd words) bytes (λ s u t v replay. absurd (not_both words (Assemble name) ordered (λ tests files workers e. cc) replay))
 order_one words (Assemble name) ordered [] world given = λ one other p q. absurd p
 order_one words (Assemble name) ordered (bytes ∷ more ∷ texts) world given = λ one other p q. absurd p
-order_one words (Sample blocks) ordered texts world given = λ one other p q. absurd p
+order_one words (Sample blocks) ordered texts world given =
+    job_one (SameEnd words) _ world sample_job given (λ s u t v replay. absurd (not_both words (Sample blocks) ordered (λ tests files e. cc) replay))
 
-contents_one : (words : List (List ℕ)) (order : Order) → OrdersBuilt words order → (contents : Contents) → HasOne (SameEnd words) (RepliesOn order contents)
+pub contents_one : (words : List (List ℕ)) (order : Order) → OrdersBuilt words order → (contents : Contents) → HasOne (SameEnd words) (RepliesOn order contents)
 unfolding RepliesOn
 contents_one words order ordered contents =
     stage_one (SameEnd words) (RefusesClasses contents.classes) (AreGivenBy contents.classes) _ (classes_refusal contents.classes) (classes_apart contents.classes)
@@ -351,11 +354,26 @@ contents_one words order ordered contents =
     stage_one (SameEnd words) (WorldRefuses given) (Links given) (λ world. RepliesIn order contents.texts world) (world_refusal given) (world_apart given)
     (λ a b p q. one_world_is given a b p q) (λ world links. order_one words order ordered contents.texts world links.linked))
 
-to_one : (words : List (List ℕ)) (holds : List ℕ → Option (List ℕ)) (order : Order) → OrdersBuilt words order → AreTold words holds → HasOne (SameEnd words) (RepliesTo order holds)
+-- an order that is no sample is carried out on what is read
+no_sample : (order : Order) → ((blocks : ℕ) → order ≡ Sample blocks → ⊥) → blocks_of order ≡ None
+no_sample (Explore job) other = refl
+no_sample (Tests job) other = refl
+no_sample (Diagrams job) other = refl
+no_sample (Replay tests files) other = refl
+no_sample (Assemble text) other = refl
+no_sample (Sample blocks) other = absurd (other blocks refl)
+
+to_one : (words : List (List ℕ)) (holds : List ℕ → Option (List ℕ)) (order : Order) → OrdersBuilt words order → AreTold words holds → (IsSample words → ⊥) →
+    HasOne (SameEnd words) (RepliesTo order holds)
 unfolding RepliesTo
-to_one words holds order ordered told =
-    stage_one (SameEnd words) RefusesNothing (IsRead holds order) (RepliesOn order) (λ r s wrong more. absurd wrong) (λ r contents wrong is. wrong)
-    (one_contents holds order (told order ordered)) (λ contents read. contents_one words order ordered contents)
+to_one words holds order ordered told other =
+    let none : blocks_of order ≡ None = no_sample order (λ blocks e. other (blocks, subst (OrdersBuilt words) e ordered)) in
+    stage_one (SameEnd words) (ContentsRefuse order) (HasContents holds order) (RepliesOn order)
+    (λ r s wrong more. absurd (subst (λ (by : Option ℕ). RefusesBy by r) none wrong))
+    (λ r contents wrong is. subst (λ (by : Option ℕ). RefusesBy by r) none wrong)
+    (λ a b p q. one_contents holds order (told order ordered) a b
+    (subst (λ (by : Option ℕ). IsContentsBy by holds order a) none p) (subst (λ (by : Option ℕ). IsContentsBy by holds order b) none q))
+    (λ contents has. contents_one words order ordered contents)
 
 fault_one : (words : List (List ℕ)) (r s : Refusal) → WordsRefuse words r → WordsRefuse words s → r ≡ s
 fault_one words r s (inl (f, p, e)) (inl (g, q, h)) =
@@ -366,19 +384,28 @@ fault_one words r s (inl (f, p, e)) (inr (is, (order, ordered, not))) = absurd (
 fault_one words r s (inr (is, (order, ordered, not))) (inl (g, q, h)) = absurd (fault_or_order words g order q ordered)
 fault_one words r s (inr a) (inr b) = a.0 ∙ sym b.0
 
-words_apart : (words : List (List ℕ)) (r : Refusal) (order : Order) → WordsRefuse words r → OrdersBuilt words order → ⊥
+pub words_apart : (words : List (List ℕ)) (r : Refusal) (order : Order) → WordsRefuse words r → OrdersBuilt words order → ⊥
 words_apart words r order (inl (f, p, e)) ordered = fault_or_order words f order p ordered.0
 words_apart words r order (inr (is, unbuilt)) ordered = built_or_not words order unbuilt ordered
 
-words_one : (words : List (List ℕ)) (holds : List ℕ → Option (List ℕ)) → AreTold words holds → HasOne (SameEnd words) (Replies words holds)
+words_one : (words : List (List ℕ)) (holds : List ℕ → Option (List ℕ)) → AreTold words holds → (IsSample words → ⊥) → HasOne (SameEnd words) (Replies words holds)
 unfolding Replies
-words_one words holds told =
+words_one words holds told other =
     stage_one (SameEnd words) (WordsRefuse words) (OrdersBuilt words) (λ order. RepliesTo order holds) (fault_one words) (words_apart words)
-    (λ a b p q. one_order words a b p.0 q.0) (λ order ordered. to_one words holds order ordered told)
+    (λ a b p q. one_order words a b p.0 q.0) (λ order ordered. to_one words holds order ordered told other)
 
--- two replies to the same words are the same refusal, or neither is one
-pub one_reply : (words : List (List ℕ)) (holds : List ℕ → Option (List ℕ)) → AreTold words holds → (one other : Reply) → Replies words holds one → Replies words holds other → IsSameReply words one other
-one_reply words holds told (refuses r) (refuses s) a b = words_one words holds told (refuses r) (refuses s) a b
-one_reply words holds told (refuses r) (ends s t) a b = words_one words holds told (refuses r) (ends s t) a b
-one_reply words holds told (ends s t) (refuses r) a b = words_one words holds told (ends s t) (refuses r) a b
-one_reply words holds told (ends s t) (ends u v) a b = words_one words holds told (ends s t) (ends u v) a b
+-- two replies to the same words, which order no sample, are the same refusal, or neither is one
+pub one_reply : (words : List (List ℕ)) (holds : List ℕ → Option (List ℕ)) → AreTold words holds → (IsSample words → ⊥) → (one other : Reply) → Replies words holds one →
+    Replies words holds other → IsSameReply words one other
+one_reply words holds told none (refuses r) (refuses s) a b = words_one words holds told none (refuses r) (refuses s) a b
+one_reply words holds told none (refuses r) (ends s t) a b = words_one words holds told none (refuses r) (ends s t) a b
+one_reply words holds told none (ends s t) (refuses r) a b = words_one words holds told none (ends s t) (refuses r) a b
+one_reply words holds told none (ends s t) (ends u v) a b = words_one words holds told none (ends s t) (ends u v) a b
+
+-- and so are two replies on one class file of a sample
+pub sample_reply : (words : List (List ℕ)) (blocks : ℕ) → OrdersBuilt words (Sample blocks) → (contents : Contents) (one other : Reply) → RepliesOn (Sample blocks) contents one →
+    RepliesOn (Sample blocks) contents other → IsSameReply words one other
+sample_reply words blocks ordered contents (refuses r) (refuses s) a b = contents_one words (Sample blocks) ordered contents (refuses r) (refuses s) a b
+sample_reply words blocks ordered contents (refuses r) (ends s t) a b = contents_one words (Sample blocks) ordered contents (refuses r) (ends s t) a b
+sample_reply words blocks ordered contents (ends s t) (refuses r) a b = contents_one words (Sample blocks) ordered contents (ends s t) (refuses r) a b
+sample_reply words blocks ordered contents (ends s t) (ends u v) a b = contents_one words (Sample blocks) ordered contents (ends s t) (ends u v) a b

@@ -10,12 +10,13 @@ use Rattle.kb_replay.specs.declared.replays.Replayed.{Replayed}
 use Rattle.kb_replay.specs.declared.replays.Replayed.TheVariants.{Passes, Differs as DiffersFrom}
 use Rattle.kb_replay.specs.Replays.{AreRunnable, StopsAt}
 use Rattle.kb_test.specs.declared.test_case.Test.{Test}
+use Rattle.kb_report_tests.specs.Tests.{literals_in}
 use Rattle.kiasan.specs.declared.refusals.Stop.{Stop}
 use Rattle.kiasan.specs.declared.refusals.Stop.TheVariants.{Refused, ReadFault, NoMemory as NoRoom}
 use Rattle.kiasan.specs.Refusals.{Gives, link_refusal}
 use Rattle.kiasan.specs.Answers.{AreTestsOf, Carries, EndsReplay, Last, RepliesReplay, Stage, TextRefuses}
 use Rattle.kiasan.proofs.StageLaws.{stage_stops}
-use Rattle.kiasan.specs.Tests.{RefusesTests, literals_in, test_refusal, passes, count_passes, count_differs}
+use Rattle.kiasan.specs.Tests.{RefusesTests, test_refusal, passes, count_passes, count_differs}
 
 -- ---- refusals
 

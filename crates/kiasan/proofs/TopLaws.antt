@@ -1,9 +1,13 @@
 -- What the top call owes.
 use Rattle.std.proofs.Common.{◌≡◌, ℕ, List, [], ◌∷◌, Option, Result, Ok, Err, IfOk, refl, sym, ◌∙◌, ap, subst, inl, inr, nat_eq, Bool, true, false, cond}
+use Rattle.std.specs.List.{AllByRecursion}
+use Rattle.std.specs.Prelude.{◌⊎◌}
 use Rattle.kb_outside.specs.Outside.{Rose, Grows, GrowsByPart}
 use Rattle.kb_link.specs.World.{World}
 use Rattle.kb_link.specs.declared.linking.LinkRefusal.{LinkRefusal}
 use Rattle.kb_link.specs.declared.linking.LinkRefusal.TheVariants as links
+use Rattle.kb_sample.specs.Sample.{sample_text}
+use Rattle.kiasan.specs.declared.answer.Contents.{Contents}
 use Rattle.kiasan.specs.declared.refusals.Answer.{Answer}
 use Rattle.kiasan.specs.declared.refusals.Fault.{Fault}
 use Rattle.kiasan.specs.declared.refusals.Fault.TheVariants as faults
@@ -19,12 +23,13 @@ use Rattle.kb_words.specs.declared.orders.Order.{Order}
 use Rattle.kb_words.specs.declared.orders.Order.TheVariants.{Explore, Tests, Diagrams, Replay, Assemble, Sample}
 use Rattle.kb_refusals.specs.declared.status.Status.{Status}
 use Rattle.kb_refusals.specs.declared.status.Status.TheVariants.{Complete, Partial, Words, Class, Link, Outside, ReadFault, WriteFault, Memory, Text, Differs}
-use Rattle.kiasan.specs.Answers.{Reply, refuses, ends, Carries, ComesTo, Replies, RepliesTo, RepliesOn, RepliesIn, RepliesJob, RepliesReplay, Answers, IsAnswer, IsOfReport, IsOfVerdicts, IsReplay, IsSameReply, EndsAs, EndsOrder, Owes, SomeUnsound, TextOf, WritesNothing, reply_status}
-use Rattle.kiasan.specs.Exploring.{status_of}
-use Rattle.kiasan.specs.Orders.{OrdersBuilt}
 use Rattle.kb_refusals.specs.Refusals.{link_status, refusal_status, refusal_line}
+use Rattle.kiasan.specs.Answers.{Reply, refuses, ends, AreSound, Carries, ComesTo, ContentsRefuse, HasContents, HasUnsound, Replies, RepliesTo, RepliesOn, RepliesIn, RepliesJob, RepliesReplay, Answers, IsAnswer, IsOfReport, IsOfVerdicts, IsReplay, IsSameReply, EndsAs, EndsMade, EndsOrder, EndsSample, LineRefuses, Owes, SomeUnsound, TextOf, WritesNothing, reply_status}
+use Rattle.kiasan.specs.Exploring.{status_of}
+use Rattle.kiasan.specs.Orders.{OrdersBuilt, files_of}
+use Rattle.kiasan.specs.Samples.{IsMade, sample_job}
 use Rattle.kiasan.specs.Tests.{count_differs, replay_status}
-use Rattle.kiasan.proofs.OneReply.{one_reply}
+use Rattle.kiasan.proofs.OneReply.{one_reply, sample_reply, words_apart}
 use Rattle.kiasan.proofs.WordsLaws.{one_order}
 
 -- ---- the statuses of answers
@@ -85,7 +90,7 @@ order_answers (Diagrams job) texts world status text h = job_answers _ world job
 order_answers (Assemble name) (bytes ∷ []) world status text h = rw h.status_is tt
 order_answers (Assemble name) [] world status text h = absurd h
 order_answers (Assemble name) (bytes ∷ other ∷ more) world status text h = absurd h
-order_answers (Sample blocks) texts world status text h = absurd h
+order_answers (Sample blocks) texts world status text h = job_answers _ world sample_job status text h
 
 pub ends_answer : (words : List (List ℕ)) (holds : List ℕ → Option (List ℕ)) (status : Status) (text : List ℕ) → Replies words holds (ends status text) → IsAnswer status
 unfolding Replies RepliesTo RepliesOn
@@ -150,7 +155,7 @@ order_status words (Diagrams job) ordered texts world status one text h same = j
 order_status words (Assemble name) ordered (bytes ∷ []) world status one text h same = rw h.status_is tt
 order_status words (Assemble name) ordered [] world status one text h same = absurd h
 order_status words (Assemble name) ordered (bytes ∷ other ∷ more) world status one text h same = absurd h
-order_status words (Sample blocks) ordered texts world status one text h same = absurd h
+order_status words (Sample blocks) ordered texts world status one text h same = job_status _ world sample_job status text h
 
 -- what is answered with a status ends as any order of the words says
 ended : (words : List (List ℕ)) (holds : List ℕ → Option (List ℕ)) (status one : Status) (text : List ℕ) → Replies words holds (ends status text) →
@@ -168,6 +173,58 @@ ends_as words holds status (ends s t) (refuses r) replied is same = absurd same
 ends_as words holds status (ends s t) (ends u v) replied is same =
     subst (λ (x : Status). (order : Order) → OrdersBuilt words order → EndsOrder order u x) (sym is) (ended words holds s u t replied (λ replay. (same replay).0))
 
+-- ---- a sample
+
+-- a sample's reply on a class file is a report's end, or a refusal
+made_status : (blocks : ℕ) (contents : Contents) (status : Status) (text : List ℕ) → RepliesOn (Sample blocks) contents (ends status text) → IsOfReport status
+unfolding RepliesOn
+made_status blocks contents status text (files, spelled, (world, is, h)) = job_status _ world sample_job status text h
+
+ends_made : (words : List (List ℕ)) (blocks : ℕ) (contents : Contents) (status : Status) (one reply : Reply) → RepliesOn (Sample blocks) contents one → status ≡ reply_status one →
+    IsSameReply words one reply → EndsMade reply status
+ends_made words blocks contents status (refuses r) (refuses s) replied is same = is ∙ ap (λ refusal. refusal_status refusal) same
+ends_made words blocks contents status (refuses r) (ends u v) replied is same = absurd same
+ends_made words blocks contents status (ends s t) (refuses r) replied is same = absurd same
+ends_made words blocks contents status (ends s t) (ends u v) replied is same = subst IsOfReport (sym is) (made_status blocks contents s t replied)
+
+-- what was made of a sample's text ends as each reply on it
+on_made : (words : List (List ℕ)) (holds : List ℕ → Option (List ℕ)) (status : Status) (blocks : ℕ) → OrdersBuilt words (Sample blocks) → (order : Order) → order ≡ Sample blocks →
+    (contents : Contents) → HasContents holds order contents → (one : Reply) → RepliesOn order contents one → status ≡ reply_status one → EndsSample blocks status
+on_made words holds status blocks ordered order same contents has one replied is =
+    let made : IsMade blocks contents = subst (λ (o : Order). HasContents holds o contents) same has in
+    let on : RepliesOn (Sample blocks) contents one = subst (λ (o : Order). RepliesOn o contents one) same replied in
+    inr (contents, made, λ reply also. ends_made words blocks contents status one reply on is (sample_reply words blocks ordered contents one reply on also))
+
+sample_ends : (words : List (List ℕ)) (holds : List ℕ → Option (List ℕ)) (status : Status) (blocks : ℕ) → OrdersBuilt words (Sample blocks) → (one : Reply) → Replies words holds one →
+    status ≡ reply_status one → EndsSample blocks status
+unfolding Replies RepliesTo
+sample_ends words holds status blocks ordered (refuses r) (inl refuse) is = absurd (words_apart words r (Sample blocks) refuse ordered)
+sample_ends words holds status blocks ordered (refuses r) (inr (order, also, inl refuse)) is =
+    let same : order ≡ Sample blocks = one_order words order (Sample blocks) also.0 ordered.0 in
+    let line : LineRefuses (sample_text blocks) r = subst (λ (o : Order). ContentsRefuse o r) same refuse in
+    inl (r, line, is)
+sample_ends words holds status blocks ordered (refuses r) (inr (order, also, inr (contents, has, replied))) is =
+    on_made words holds status blocks ordered order (one_order words order (Sample blocks) also.0 ordered.0) contents has (refuses r) replied is
+sample_ends words holds status blocks ordered (ends s t) (order, also, (contents, has, replied)) is =
+    on_made words holds status blocks ordered order (one_order words order (Sample blocks) also.0 ordered.0) contents has (ends s t) replied is
+
+-- ---- sound files
+
+sound_or_not : (files : List (List ℕ)) (sound : List ℕ → Type 0) → AllByRecursion sound files → HasUnsound files sound → ⊥
+sound_or_not [] sound all some = some
+sound_or_not (file ∷ files) sound all (inl not) = not all.0
+sound_or_not (file ∷ files) sound all (inr more) = sound_or_not files sound all.1 more
+
+-- where each file is sound or the count did not rise, no read failed
+read_or_sound : (words : List (List ℕ)) (sound : List ℕ → Type 0) (before now : ℕ) → AreSound words sound ⊎ (Rose before now → ⊥) → Rose before now → SomeUnsound words sound → ⊥
+read_or_sound words sound before now (inl all) rose (order, ordered, some) = sound_or_not (files_of order) sound (all order ordered) some
+read_or_sound words sound before now (inr calm) rose some = calm rose
+
+-- a sample reads no file
+sample_read : (words : List (List ℕ)) (sound : List ℕ → Type 0) (blocks : ℕ) → OrdersBuilt words (Sample blocks) → SomeUnsound words sound → ⊥
+sample_read words sound blocks ordered (order, also, some) =
+    subst (λ (o : Order). HasUnsound (files_of o) sound) (one_order words order (Sample blocks) also.0 ordered.0) some
+
 -- ---- what a call owes, by how it ends
 
 pub owes_read : (words : List (List ℕ)) (holds : List ℕ → Option (List ℕ)) (sound : List ℕ → Type 0) (before now : ℕ) (bytes : Option (List ℕ)) (first last : ℕ) →
@@ -179,7 +236,8 @@ owes_read words holds sound before now bytes first last rose some = record {
   write_counted = λ e. absurd cc;
   write_part = λ e. absurd cc;
   nothing = λ is. refl;
-  certain = λ none calm told reply replied. absurd (none rose);
+  certain = λ calm still told other reply replied. absurd (read_or_sound words sound before now calm rose some);
+  sampled = λ still blocks ordered. absurd (sample_read words sound blocks ordered some);
 }
 
 pub owes_memory : (words : List (List ℕ)) (holds : List ℕ → Option (List ℕ)) (sound : List ℕ → Type 0) (before now : ℕ) (bytes : Option (List ℕ)) (first last : ℕ) →
@@ -191,7 +249,8 @@ owes_memory words holds sound before now bytes first last = record {
   write_counted = λ e. absurd cc;
   write_part = λ e. absurd cc;
   nothing = λ is. refl;
-  certain = λ none calm told reply replied. inl refl;
+  certain = λ calm still told other reply replied. inl refl;
+  sampled = λ still blocks ordered. inl refl;
 }
 
 is_none : (status : Status) → IsAnswer status → (status ≡ ReadFault → ⊥) × (status ≡ WriteFault → ⊥) × (WritesNothing status → ⊥)
@@ -219,8 +278,9 @@ owes_answer words holds sound before now bytes after first last status text answ
       write_counted = λ e. absurd (none.1 e);
       write_part = λ e. absurd (none.1 e);
       nothing = λ h. absurd (none.2 h);
-      certain = λ calm still told reply replied.
-          inr (ends_as words holds status answers.reply reply answers.replied answers.status_is (one_reply words holds told answers.reply reply answers.replied replied));
+      certain = λ calm still told other reply replied.
+          inr (ends_as words holds status answers.reply reply answers.replied answers.status_is (one_reply words holds told other answers.reply reply answers.replied replied));
+      sampled = λ still blocks ordered. inr (sample_ends words holds status blocks ordered answers.reply answers.replied answers.status_is);
     }
 
 pub owes_part : (words : List (List ℕ)) (holds : List ℕ → Option (List ℕ)) (sound : List ℕ → Type 0) (before now : ℕ) (bytes after : Option (List ℕ)) (first last : ℕ)
@@ -233,5 +293,6 @@ owes_part words holds sound before now bytes after first last status text answer
   write_counted = λ e. rose;
   write_part = λ e. (status, text, answers, grows);
   nothing = λ is. absurd is;
-  certain = λ calm none told reply replied. absurd (none rose);
+  certain = λ calm still told other reply replied. absurd (still rose);
+  sampled = λ still blocks ordered. absurd (still rose);
 }

@@ -36,7 +36,7 @@ built_order (Tests job) is built = record { numbers = is; lazy = lazy_is job.ini
 built_order (Diagrams job) is built = record { numbers = is; lazy = lazy_is job.init built }
 built_order (Replay tests files workers) is built = is
 built_order (Assemble text) is built = tt
-built_order (Sample blocks) is built = cc
+built_order (Sample blocks) is built = tt
 
 -- what is ordered and not built is refused
 pub not_built : (words : List (List ℕ)) (order : Order) → Orders words (Ok order) → is_built order ≡ false → WordsRefuse words Unbuilt

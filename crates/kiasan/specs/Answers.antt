@@ -1,6 +1,6 @@
 -- What the program answers. It goes by stages: the words, the reading of their files, the classes, their world, the texts, the
 -- methods that are reached, and the exploration or the runs. The first stage that refuses gives the answer.
-use Rattle.std.specs.Prelude.{◌≡◌, ℕ, ◌+◌, ◌<◌, ◌≤◌, ◌⊎◌, List, [], ◌∷◌, ◌++◌, length, take, Option, Some, IfSome, IsSome, Result, Ok, Err}
+use Rattle.std.specs.Prelude.{◌≡◌, ℕ, ◌+◌, ◌<◌, ◌≤◌, ◌⊎◌, List, [], ◌∷◌, ◌++◌, length, take, Option, None, Some, IfSome, IsSome, Result, Ok, Err}
 use Rattle.std.specs.List.{AllByRecursion}
 use Rattle.kb_class.specs.declared.given.GivenClass.{GivenClass}
 use Rattle.kb_class.specs.declared.ids.MethodId.{MethodId}
@@ -39,16 +39,19 @@ use Rattle.kb_refusals.specs.declared.status.Status.{Status}
 use Rattle.kb_refusals.specs.declared.status.Status.TheVariants.{Complete, Partial, Words, Class, Link, Outside, ReadFault, WriteFault, Memory, Text, Differs}
 use Rattle.kiasan.specs.CodeFaults.{MethodsRefuse}
 use Rattle.kb_words.specs.Orders.{Orders}
-use Rattle.kiasan.specs.Orders.{OrdersBuilt, OrdersUnbuilt, texts_of, classes_of, files_of}
+use Rattle.kiasan.specs.Orders.{OrdersBuilt, OrdersUnbuilt, blocks_of, texts_of, classes_of, files_of}
 use Rattle.kb_refusals.specs.Refusals.{refusal_status, refusal_line}
 use Rattle.kiasan.specs.Refusals.{Gives, class_refusal, link_refusal, word_refusal}
 use Rattle.kb_diagram.specs.Diagram.{diagrams_text}
 use Rattle.kb_report.specs.Ranges.{ReportFits}
 use Rattle.kb_report.specs.Report.{report_text}
 use Rattle.kb_report_laws.specs.OneText.{IsReport}
+use Rattle.kb_report_tests.specs.Tests.{literals_in, tests_of}
+use Rattle.kb_sample.specs.Sample.{sample_text}
 use Rattle.kiasan.specs.Reach.{TargetRefuses}
-use Rattle.kiasan.specs.Exploring.{IsReportOf, status_of, tests_of}
-use Rattle.kiasan.specs.Tests.{EndsAsStated, RefusesTests, literals_in, replay_status}
+use Rattle.kiasan.specs.Samples.{IsMade, IsSampleLine, sample_job}
+use Rattle.kiasan.specs.Exploring.{IsReportOf, status_of}
+use Rattle.kiasan.specs.Tests.{EndsAsStated, RefusesTests, replay_status}
 use Rattle.kiasan.specs.Unbuilt.{IsBuiltTarget}
 use Rattle.kiasan.specs.Verdicts.{replay_text}
 
@@ -118,6 +121,10 @@ pub record IsTestsTextOf (world : World) (id : MethodId) (report : Report) (text
 abbrev pub IsDiagramsText : TextOf
 IsDiagramsText world id report text = text ≡ diagrams_text world report.leaves
 
+-- the text of the command `sample`: the line on the report and its tests
+abbrev pub IsSampleText : ℕ → TextOf
+IsSampleText blocks world id report text = IsSampleLine blocks world report text
+
 -- the end of a replay: what the runs of the tests say, in order
 pub record EndsReplay (world : World) (tests : List Test) (status : Status) (text : List ℕ) : Type 0 where
   pub verdicts : List Replayed
@@ -161,6 +168,10 @@ AssemblyRefuses bytes refusal =
     ((refusal ≡ TextRefused texts.Long) × (text_limit < length bytes))
     ⊎ ((number : ℕ) × (refusal ≡ TextRefused (texts.AssemblyLine number)) × (length bytes ≤ text_limit) × IsFirstUnfit bytes number)
 
+-- this is the first line of the text that does not fit
+abbrev pub LineRefuses : List ℕ → Refusal → Type 0
+LineRefuses bytes refusal = (number : ℕ) × (refusal ≡ TextRefused (texts.AssemblyLine number)) × IsFirstUnfit bytes number
+
 -- the end of an assembly: the class file that the text is
 pub record EndsAssembly (bytes : List ℕ) (status : Status) (text : List ℕ) : Type 0 where
   pub within : length bytes ≤ text_limit
@@ -171,13 +182,15 @@ abbrev pub RepliesAssembly : List ℕ → Reply → Type 0
 RepliesAssembly bytes (refuses refusal) = AssemblyRefuses bytes refusal
 RepliesAssembly bytes (ends status text) = EndsAssembly bytes status text
 
--- the commands, each on its texts and the world of its classes; an assembly has no classes
+-- The commands, each on its texts and the world of its classes. An assembly has no classes; a sample has the one that is made, and goes
+-- on as a job of its own.
 abbrev pub RepliesIn : Order → List (List ℕ) → World → Reply → Type 0
 RepliesIn (Explore job) texts world = RepliesJob IsReportText world job
 RepliesIn (Tests job) texts world = RepliesJob IsTestsTextOf world job
 RepliesIn (Diagrams job) texts world = RepliesJob IsDiagramsText world job
 RepliesIn (Replay name files workers) (bytes ∷ []) world = RepliesReplay bytes world
 RepliesIn (Assemble name) (bytes ∷ []) world = RepliesAssembly bytes
+RepliesIn (Sample blocks) texts world = RepliesJob (IsSampleText blocks) world sample_job
 RepliesIn _ texts world = λ reply. ⊥
 
 -- ---- classes, and their world
@@ -226,6 +239,22 @@ pub record IsRead (holds : List ℕ → Option (List ℕ)) (order : Order) (cont
   pub texts : AreRead text_limit holds (texts_of order) contents.texts
   pub classes : AreRead class_limit holds (classes_of order) contents.classes
 
+-- What an order is carried out on: the class file that is made of a sample's text, which may have more than one, or what is read of
+-- its files. Only the text of a sample may be refused here.
+abbrev pub RefusesBy : Option ℕ → Refusal → Type 0
+RefusesBy None refusal = ⊥
+RefusesBy (Some blocks) refusal = LineRefuses (sample_text blocks) refusal
+
+abbrev pub IsContentsBy : Option ℕ → (List ℕ → Option (List ℕ)) → Order → Contents → Type 0
+IsContentsBy None holds order contents = IsRead holds order contents
+IsContentsBy (Some blocks) holds order contents = IsMade blocks contents
+
+abbrev pub ContentsRefuse : Order → Refusal → Type 0
+ContentsRefuse order refusal = RefusesBy (blocks_of order) refusal
+
+abbrev pub HasContents : (List ℕ → Option (List ℕ)) → Order → Contents → Type 0
+HasContents holds order contents = IsContentsBy (blocks_of order) holds order contents
+
 -- a name among these is not sound
 abbrev pub HasUnsound : List (List ℕ) → (List ℕ → Type 0) → Type 0
 HasUnsound [] sound = ⊥
@@ -260,7 +289,7 @@ RepliesOn order contents =
     RepliesIn order contents.texts world))
 
 unfoldable pub RepliesTo : Order → (List ℕ → Option (List ℕ)) → Reply → Type 0
-RepliesTo order holds = Stage RefusesNothing (IsRead holds order) (RepliesOn order)
+RepliesTo order holds = Stage (ContentsRefuse order) (HasContents holds order) (RepliesOn order)
 
 -- the words have a fault
 abbrev pub HaveFault : List (List ℕ) → Refusal → Type 0
@@ -289,6 +318,9 @@ AreTold words holds = (order : Order) → OrdersBuilt words order → AllByRecur
 
 abbrev pub IsReplay : List (List ℕ) → Type 0
 IsReplay words = (tests : List ℕ) × (files : List (List ℕ)) × (workers : ℕ) × OrdersBuilt words (Replay tests files workers)
+
+abbrev pub IsSample : List (List ℕ) → Type 0
+IsSample words = (blocks : ℕ) × OrdersBuilt words (Sample blocks)
 
 -- the same refusal, or none of both is one; of a replay they are one status and one text
 abbrev pub IsSameReply : List (List ℕ) → Reply → Reply → Type 0
@@ -324,12 +356,25 @@ EndsOrder (Tests job) one status = IsOfReport status
 EndsOrder (Diagrams job) one status = IsOfReport status
 EndsOrder (Replay tests files workers) one status = (status ≡ one) × IsOfVerdicts status
 EndsOrder (Assemble text) one status = IsDone status
-EndsOrder (Sample blocks) one status = ⊥
+EndsOrder (Sample blocks) one status = IsOfReport status
 
 -- A call that was answered so ends with this status: that of the refusal, or one of the order.
 abbrev pub EndsAs : List (List ℕ) → Reply → Status → Type 0
 EndsAs words (refuses refusal) status = status ≡ refusal_status refusal
 EndsAs words (ends one text) status = (order : Order) → OrdersBuilt words order → EndsOrder order one status
+
+-- A call that made that class file of a sample ends with this status, where one reply on it is this: that of the refusal, or one of a
+-- report.
+abbrev pub EndsMade : Reply → Status → Type 0
+EndsMade (refuses refusal) status = status ≡ refusal_status refusal
+EndsMade (ends one text) status = IsOfReport status
+
+-- A call for a sample of so many blocks ends with this status: that of the refusal of its text, or, of one class file of its text, the
+-- status of every reply on it.
+abbrev pub EndsSample : ℕ → Status → Type 0
+EndsSample blocks status =
+    ((refusal : Refusal) × LineRefuses (sample_text blocks) refusal × (status ≡ refusal_status refusal))
+    ⊎ ((contents : Contents) × IsMade blocks contents × ((reply : Reply) → RepliesOn (Sample blocks) contents reply → EndsMade reply status))
 
 -- a status that comes with a text
 abbrev pub IsAnswer : Status → Type 0
@@ -355,6 +400,10 @@ WritesNothing _ = ⊥
 abbrev pub SomeUnsound : List (List ℕ) → (List ℕ → Type 0) → Type 0
 SomeUnsound words sound = (order : Order) × OrdersBuilt words order × HasUnsound (files_of order) sound
 
+-- each file of the order is sound
+abbrev pub AreSound : List (List ℕ) → (List ℕ → Type 0) → Type 0
+AreSound words sound = (order : Order) → OrdersBuilt words order → AllByRecursion sound (files_of order)
+
 -- What a call for these words owes over a shelf and a sink: what the shelf holds and which names are sound, how its count of
 -- faults went (before, now), how the sink's bytes and its count went, and the status that the call ends with.
 pub record Owes (words : List (List ℕ)) (holds : List ℕ → Option (List ℕ)) (sound : List ℕ → Type 0) (reads : ℕ × ℕ)
@@ -369,7 +418,9 @@ pub record Owes (words : List (List ℕ)) (holds : List ℕ → Option (List ℕ
   pub write_part : status ≡ WriteFault → (other : Status) × (text : List ℕ) × Answers words holds other text × GrowsByPart written.0 written.1 text
   -- Nothing was written without an answer.
   pub nothing : WritesNothing status → written.1 ≡ written.0
-  -- Where neither count rose, the call ends with the status of what answers, or with memory that ran out. Where the shelf tells
-  -- what it holds, every reply is the same as the one that answers.
-  pub certain : (Rose reads.0 reads.1 → ⊥) → (Rose writes.0 writes.1 → ⊥) → AreTold words holds → (reply : Reply) → Replies words holds reply →
-      (status ≡ Memory) ⊎ EndsAs words reply status
+  -- Where each file is sound or the shelf's count did not rise, nor the sink's, the call ends with the status of what answers, or with
+  -- memory that ran out. Where the shelf tells what it holds, every reply is the same as the one that answers, but for a sample.
+  pub certain : AreSound words sound ⊎ (Rose reads.0 reads.1 → ⊥) → (Rose writes.0 writes.1 → ⊥) → AreTold words holds → (IsSample words → ⊥) → (reply : Reply) →
+      Replies words holds reply → (status ≡ Memory) ⊎ EndsAs words reply status
+  -- A sample, which reads no file, ends so by the class file that was made of its text.
+  pub sampled : (Rose writes.0 writes.1 → ⊥) → (blocks : ℕ) → OrdersBuilt words (Sample blocks) → (status ≡ Memory) ⊎ EndsSample blocks status

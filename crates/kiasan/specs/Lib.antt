@@ -2,9 +2,9 @@ pub mod Answers
 pub mod CodeFaults
 pub mod Exploring
 pub mod Orders
-pub mod Ranges
 pub mod Reach
 pub mod Refusals
+pub mod Samples
 pub mod Tests
 pub mod Unbuilt
 pub mod Verdicts

@@ -1,5 +1,5 @@
 -- Which orders are built for now, and the files that an order reads.
-use Rattle.std.specs.Prelude.{◌≡◌, ℕ, ◌≤◌, Bool, true, false, List, [], ◌∷◌, ◌++◌, Ok}
+use Rattle.std.specs.Prelude.{◌≡◌, ℕ, ◌≤◌, Bool, true, false, List, [], ◌∷◌, ◌++◌, Ok, Option, None, Some}
 use Rattle.kb_picture.specs.declared.choice.Init.{Init}
 use Rattle.kb_picture.specs.declared.choice.Init.TheVariants.{Lazy, Lazier}
 use Rattle.kb_words.specs.declared.orders.Job.{Job}
@@ -19,7 +19,7 @@ is_built (Tests job) = is_lazy job.init
 is_built (Diagrams job) = is_lazy job.init
 is_built (Replay tests files workers) = true
 is_built (Assemble text) = true
-is_built (Sample blocks) = false
+is_built (Sample blocks) = true
 
 -- the words order what is built
 abbrev pub OrdersBuilt : List (List ℕ) → Order → Type 0
@@ -41,7 +41,16 @@ IsBuiltOrder (Tests job) = IsBuiltJob job
 IsBuiltOrder (Diagrams job) = IsBuiltJob job
 IsBuiltOrder (Replay tests files workers) = (1 ≤ workers) × (workers ≤ 64)
 IsBuiltOrder (Assemble text) = Unit {0}
-IsBuiltOrder (Sample blocks) = ⊥
+IsBuiltOrder (Sample blocks) = Unit {0}
+
+-- how many blocks the sample has that is ordered, if one is
+abbrev pub blocks_of : Order → Option ℕ
+blocks_of (Explore job) = None
+blocks_of (Tests job) = None
+blocks_of (Diagrams job) = None
+blocks_of (Replay tests files workers) = None
+blocks_of (Assemble text) = None
+blocks_of (Sample blocks) = Some blocks
 
 -- the text files of an order, and its class files, in the order of the words
 abbrev pub texts_of : Order → List (List ℕ)

@@ -1,5 +1,5 @@
 -- The tests of a replay: what refuses them, and how the program ends.
-use Rattle.std.specs.Prelude.{◌≡◌, ℕ, ◌+◌, Bool, true, false, cond, nat_eq, List, [], ◌∷◌, length}
+use Rattle.std.specs.Prelude.{◌≡◌, ℕ, ◌+◌, Bool, true, false, cond, nat_eq, List, [], ◌∷◌}
 use Rattle.kb_class.specs.declared.ids.MethodId.{MethodId}
 use Rattle.kb_link.specs.World.{World}
 use Rattle.kb_replay.specs.declared.checks.BadTest.{BadTest}
@@ -7,7 +7,7 @@ use Rattle.kb_replay.specs.declared.checks.ReplayStop.{ReplayStop}
 use Rattle.kb_replay.specs.declared.checks.ReplayStop.TheVariants.{TestMethod, TestTypes, Reach, NoMemory}
 use Rattle.kb_replay.specs.declared.replays.Replayed.{Replayed}
 use Rattle.kb_replay.specs.declared.replays.Replayed.TheVariants.{Passes, Differs}
-use Rattle.kb_replay.specs.Replays.{StopsAt, run_in, stated}
+use Rattle.kb_replay.specs.Replays.{IsRunnable, StopsAt, run_in, stated}
 use Rattle.kb_test.specs.declared.test_case.Test.{Test}
 use Rattle.kb_refusals.specs.declared.refusal.Refusal.{Refusal}
 use Rattle.kb_refusals.specs.declared.refusal.Refusal.TheVariants.{Text as TextRefused}
@@ -18,10 +18,6 @@ use Rattle.kiasan.specs.declared.refusals.Stop.TheVariants as stops
 use Rattle.kb_refusals.specs.declared.status.Status.{Status}
 use Rattle.kb_refusals.specs.declared.status.Status.TheVariants as statuses
 use Rattle.kiasan.specs.Refusals.{link_refusal}
-
--- how many string literals a world has
-abbrev pub literals_in : World → ℕ
-literals_in world = length world.literals
 
 -- ---- what refuses tests
 
@@ -41,6 +37,10 @@ RefusesTests world tests refusal = (bad : BadTest) × StopsAt world tests bad ×
 -- The test ends as it says, where the machine runs that method.
 abbrev pub EndsAsStated : World → MethodId → Test → Type 0
 EndsAsStated world id test = run_in world id test ≡ stated test
+
+-- the machine may run it by that method, and it ends as it says
+abbrev pub RunsAsStated : World → MethodId → Test → Type 0
+RunsAsStated world id test = IsRunnable world test id × EndsAsStated world id test
 
 abbrev pub passes : Replayed → Bool
 passes Passes = true

@@ -4,16 +4,18 @@ ghost use Rattle.std.specs.Prelude.{◌≡◌, ℕ, ◌<◌, ◌≤◌, ◌^◌,
 ghost use Rattle.kb_link.specs.Links.{IsLinked};
 ghost use Rattle.kb_outside.specs.Outside.{Rose};
 ghost use Rattle.kb_test_laws.specs.Texts.{NamesHaveTexts};
-ghost use Rattle.kiasan.specs.Answers.{Answers, AreRead, Carries, IsAnswer, IsContents, IsOf, IsRead, IsReadFault, IsReadFaultOrNoMemory, Replies, RepliesIn, RepliesOn, RepliesTo, SomeUnsound, class_limit, text_limit};
+ghost use Rattle.kiasan.specs.Answers.{Answers, AreRead, Carries, ContentsRefuse, HasContents, IsAnswer, IsContents, IsOf, IsRead, IsReadFault, IsReadFaultOrNoMemory, Replies, RepliesIn, RepliesOn, RepliesTo, SomeUnsound, class_limit, text_limit};
 ghost use Rattle.kiasan.specs.Orders.{IsBuiltOrder, classes_of, files_of, texts_of};
+ghost use Rattle.kiasan.specs.Refusals.{Gives};
 
 use crate::assembly::answer_assembly;
 use crate::classes::{link_world, read_classes};
 use crate::methods::{answer_diagrams, answer_report, answer_tests};
-use crate::orders::{classes_of, read_built_order, texts_of};
+use crate::orders::{blocks_of, classes_of, read_built_order, texts_of};
 use crate::ranges::tell_files;
 use crate::refusals::{Answer, Fault, Stop, settle};
 use crate::replay::replay;
+use crate::sample::{answer_sample, made_contents};
 use kb_outside::{Shelf, ShelfStop};
 use kb_rows::Row;
 use kb_test_laws::worlds_have_names;
@@ -29,7 +31,7 @@ const CLASS_LIMIT: usize = 1_048_576;
 /// The most bytes of a text.
 pub const TEXT_LIMIT: usize = 67_108_864;
 
-/// What was read of an order's files, in the order of the words.
+/// What was read of an order's files, in the order of the words; of a sample the class file that is made.
 #[derive(Drop)]
 pub struct Contents {
     pub texts: Row<Row<u8>>,
@@ -81,8 +83,18 @@ fn carry_out_order<R: AllocGlobal + Threads + Sync, S: Shelf, G: Gate + Sync>(
     requires { IsBuiltOrder order.now }
     ensures { Carries (IsReadFault (S.faults shelf.old) (S.faults shelf.new) (files_of order.now) (S.sound shelf.old)) (RepliesTo order.now (S.holds shelf.old)) result }
 {
-    let contents = read_contents(rt.alloc(), order, shelf)?;
+    let contents = contents_of(rt.alloc(), order, shelf)?;
     answer_on(rt, order, &contents, gate)
+}
+
+/// What an order is carried out on: the class file that it makes itself, or what its files have.
+fn contents_of<S: Shelf>(alloc: Global, order: &Order, shelf: &mut S) -> Result<Contents, Stop>
+    ensures { Gives (IsReadFault (S.faults shelf.old) (S.faults shelf.new) (files_of order.now) (S.sound shelf.old)) (ContentsRefuse order.now) (HasContents (S.holds shelf.old) order.now) result }
+{
+    match blocks_of(order) {
+        Some(blocks) => made_contents(alloc, blocks),
+        None => read_contents(alloc, order, shelf),
+    }
 }
 
 /// Reads the files of an order.
@@ -182,6 +194,6 @@ fn answer_in<R: AllocGlobal + Threads + Sync, G: Gate + Sync>(
             replay(rt, world, texts[0].as_slice(), *workers as usize, gate)
         }
         Order::Assemble(_) => answer_assembly(alloc, texts[0].as_slice()),
-        Order::Sample(_) => unreachable!(),
+        Order::Sample(blocks) => answer_sample(alloc, world, *blocks),
     }
 }

@@ -1,6 +1,8 @@
 //! The assembler: the class file of a text.
 
-ghost use Rattle.kiasan.specs.Answers.{Carries, RepliesAssembly};
+ghost use Rattle.kb_asm.specs.Class.{IsAssembled};
+ghost use Rattle.kiasan.specs.Answers.{Carries, LineRefuses, RepliesAssembly};
+ghost use Rattle.kiasan.specs.Refusals.{Gives};
 
 use crate::answer::TEXT_LIMIT;
 use crate::refusals::{Answer, Stop};
@@ -15,14 +17,22 @@ pub fn answer_assembly(alloc: Global, bytes: &[u8]) -> Result<Answer, Stop>
     if bytes.len() > TEXT_LIMIT {
         return Err(Stop::Refused(Refusal::Text(TextRefusal::Long)));
     }
-    match assemble(alloc, bytes) {
-        Ok(text) => Ok(Answer {
-            status: Status::Complete,
-            text,
-        }),
-        Err(AsmRefusal::Line(number)) => {
-            Err(Stop::Refused(Refusal::Text(TextRefusal::AssemblyLine(number))))
-        }
+    let text = assembled(alloc, bytes)?;
+    Ok(Answer {
+        status: Status::Complete,
+        text,
+    })
+}
+
+/// The class file of a text.
+pub fn assembled(alloc: Global, text: &[u8]) -> Result<Vec<u8>, Stop>
+    ensures { Gives ⊥ (LineRefuses text.now) (λ bytes. IsAssembled text.now bytes.items) result }
+{
+    match assemble(alloc, text) {
+        Ok(bytes) => Ok(bytes),
+        Err(AsmRefusal::Line(number)) => Err(Stop::Refused(Refusal::Text(TextRefusal::AssemblyLine(
+            number,
+        )))),
         Err(AsmRefusal::NoMemory) => Err(Stop::NoMemory),
     }
 }

@@ -1,7 +1,8 @@
 //! Kiasan tells what a Java method does on every input that its types allow, path by path.
 //!
 //! `specs/` has the definitions: what the program answers, stage by stage (`Answers`); which orders and methods are built
-//! (`Orders`, `Unbuilt`); what a report says of a method (`Exploring`); and what refusals come to (`Refusals`).
+//! (`Orders`, `Unbuilt`); what a report says of a method (`Exploring`); what is explored and told of a sample (`Samples`); and what
+//! refusals come to (`Refusals`).
 #![tactic(auto)]
 
 mod answer;
@@ -13,7 +14,7 @@ mod ranges;
 mod refusals;
 mod replay;
 mod reports;
-mod tests_text;
+mod sample;
 mod top;
 mod unbuilt;
 mod verdicts;

@@ -8,25 +8,25 @@ ghost use Rattle.kb_drive.specs.Covers.{EachPath};
 ghost use Rattle.kb_link.specs.Links.{IsLinked};
 ghost use Rattle.kb_names.specs.Targets.{IsTarget};
 ghost use Rattle.kb_report_laws.specs.OneText.{IsSound};
+ghost use Rattle.kb_report_tests.specs.Tests.{IsCarried, literals_in, tests_of};
 ghost use Rattle.kb_test_lines.specs.Lines.{IsRunBounds};
 ghost use Rattle.kb_test.specs.Tests.{SpellsTests};
 ghost use Rattle.kb_test_laws.specs.Texts.{NamesHaveTexts};
 ghost use Rattle.kiasan.specs.Answers.{Carries, IsDiagramsText, IsOwnText, IsReportText, IsTestsTextOf, RepliesJob};
-ghost use Rattle.kiasan.specs.Exploring.{IsBuiltReport, IsCarried, is_unsettled, status_of, tests_of};
+ghost use Rattle.kiasan.specs.Exploring.{IsBuiltReport, is_unsettled, status_of};
 ghost use Rattle.kiasan.specs.Orders.{IsBuiltJob};
 ghost use Rattle.kiasan.specs.Reach.{TargetRefuses};
 ghost use Rattle.kiasan.specs.Refusals.{Gives};
-ghost use Rattle.kiasan.specs.Tests.{literals_in};
 
 use crate::NoMemory;
 use crate::refusals::{Answer, Stop};
-use crate::tests_text::tests_text;
 use crate::unbuilt::built_report;
 use kb_diagram::diagrams_text;
 use kb_picture::{Leaf, Path};
 use kb_refusals::Status;
 use kb_report::Report;
 use kb_report_laws::own_report_text;
+use kb_report_tests::tests_text;
 use kb_rows::Held;
 use kb_test_laws::runs_have_names;
 use kb_words::Job;
@@ -110,7 +110,7 @@ fn diagrams_answer(alloc: Global, world: &World, leaves: &[Path]) -> Result<Answ
 
 /// The report of a job.
 #[tactic(auto, using(crate::proofs::JobLaws::reach_stops))]
-fn explore_job(alloc: Global, world: &World, job: &Job) -> Result<Held<Report>, Stop>
+pub fn explore_job(alloc: Global, world: &World, job: &Job) -> Result<Held<Report>, Stop>
     requires { IsBuiltJob job.now }
     ensures { Gives ⊥ (TargetRefuses world.now job.now.target) (IsBuiltReport world.now job.now) result }
 {
@@ -119,7 +119,7 @@ fn explore_job(alloc: Global, world: &World, job: &Job) -> Result<Held<Report>, 
 }
 
 /// How the program ends where these paths were told.
-fn status_of(leaves: &[Path]) -> Status
+pub fn status_of(leaves: &[Path]) -> Status
     ensures { result ≡ status_of leaves.now }
 {
     let mut rest = leaves;

@@ -2,7 +2,7 @@
 ghost use Rattle.std.specs.Prelude.{◌≡◌, IfOk, map, string_bytes};
 ghost use Rattle.kb_words.specs.Orders.{AreOrdered, IsOrder};
 ghost use Rattle.kiasan.specs.Answers.{WordsRefuse};
-ghost use Rattle.kiasan.specs.Orders.{IsBuiltOrder, OrdersBuilt, classes_of, is_built, is_lazy, texts_of};
+ghost use Rattle.kiasan.specs.Orders.{IsBuiltOrder, OrdersBuilt, blocks_of, classes_of, is_built, is_lazy, texts_of};
 ghost use Rattle.kiasan.specs.Refusals.{Gives};
 
 use crate::refusals::Stop;
@@ -42,8 +42,7 @@ fn is_built(order: &Order) -> bool
 {
     match order {
         Order::Explore(job) | Order::Tests(job) | Order::Diagrams(job) => is_lazy(job.init),
-        Order::Replay(..) | Order::Assemble(_) => true,
-        Order::Sample(_) => false,
+        Order::Replay(..) | Order::Assemble(_) | Order::Sample(_) => true,
     }
 }
 
@@ -51,6 +50,17 @@ fn is_lazy(init: Init) -> bool
     ensures { result ≡ is_lazy init }
 {
     matches!(init, Init::Lazy)
+}
+
+/// How many blocks the sample has that is ordered, if one is.
+pub fn blocks_of(order: &Order) -> Option<u32>
+    ensures { result ≡ blocks_of order.now }
+{
+    match order {
+        Order::Sample(blocks) => Some(*blocks),
+        Order::Explore(_) | Order::Tests(_) | Order::Diagrams(_) => None,
+        Order::Replay(..) | Order::Assemble(_) => None,
+    }
 }
 
 /// The text files that are read for an order.

@@ -83,7 +83,7 @@ fn read_text(alloc: Global, literals: u32, bytes: &[u8]) -> Result<Row<Test>, St
 
 /// The method of each test, where all of them may be run.
 #[tactic(auto, using(crate::proofs::ReplayLaws::tests_stop))]
-fn find_methods(alloc: Global, world: &World, tests: &[Test]) -> Result<Row<MethodId>, Stop>
+pub fn find_methods(alloc: Global, world: &World, tests: &[Test]) -> Result<Row<MethodId>, Stop>
     ensures { Gives ⊥ (RefusesTests world.now tests.now) (AreRunnable world.now tests.now) result }
 {
     Ok(check_tests(alloc, world, tests)?)

@@ -1,7 +1,10 @@
 //! The top call: all that the program does.
 
 ghost use Rattle.std.specs.Prelude.{ℕ, List, Option, map, string_bytes};
-ghost use Rattle.kiasan.specs.Answers.{AreTold, IsSameReply, Owes, Replies, Reply};
+ghost use Rattle.kb_words.specs.declared.orders.Order.TheVariants.{Sample};
+ghost use Rattle.kiasan.specs.declared.answer.Contents.{Contents};
+ghost use Rattle.kiasan.specs.Answers.{AreTold, IsSameReply, IsSample, Owes, Replies, RepliesOn, Reply};
+ghost use Rattle.kiasan.specs.Orders.{OrdersBuilt};
 
 use crate::answer::answer_words;
 use crate::refusals::Fault;
@@ -50,7 +53,9 @@ pub fn kiasan_gated<R: AllocGlobal + Threads + Sync, S: Shelf, K: Sink, G: Gate 
 }
 
 /// Where the shelf tells each file that is read, two replies to the same words are the same refusal, or neither is a refusal.
-/// Of a replay they are one status and one text.
+/// Of a replay they are one status and one text. Of a sample the same holds of two replies on one class file; more than one class file
+/// may be right for its text.
 pub fn words_have_one_reply()
-    ensures { (words : List (List ℕ)) (holds : List ℕ → Option (List ℕ)) → AreTold words holds → (one other : Reply) → Replies words holds one → Replies words holds other → IsSameReply words one other }
+    ensures words { (words : List (List ℕ)) (holds : List ℕ → Option (List ℕ)) → AreTold words holds → (IsSample words → ⊥) → (one other : Reply) → Replies words holds one → Replies words holds other → IsSameReply words one other }
+    ensures sample { (words : List (List ℕ)) (blocks : ℕ) → OrdersBuilt words (Sample blocks) → (contents : Contents) (one other : Reply) → RepliesOn (Sample blocks) contents one → RepliesOn (Sample blocks) contents other → IsSameReply words one other }
 {}

@@ -1,7 +1,7 @@
 //! The top call over memory, on the class file of the README's first example.
 //!
 //! The gate runs each program as two compilers make it and compares what the two write. The stored run of the program
-//! itself has no words, so this one takes the main path.
+//! itself writes one line, so this one writes a report.
 #![tactic(auto)]
 
 #[cfg(test)]

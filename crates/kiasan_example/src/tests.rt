@@ -12,6 +12,8 @@ const EXPLORE_A: &str = "explore --method A.f(II)I A.class";
 
 const ASSEMBLE_A: &str = "assemble A.asm";
 
+const SAMPLE_6: &str = "sample 6";
+
 const REPLAY_A: &str = "replay --tests A.tests A.class";
 
 /// The test of class A's one path.
@@ -100,6 +102,18 @@ fn a_sink_that_fails_has_the_front_of_the_report(rt: HostRuntime) -> Result<(), 
     let status = answer_to(&rt, EXPLORE_A, &mut shelf, &mut sink)?;
     assert_eq!(rt; status, Status::WriteFault);
     assert_eq!(rt; sink.bytes(), b"kiasan report 1\ntarg".as_slice());
+    Ok(())
+}
+
+/// The first call of the sink fails.
+#[test]
+fn a_sink_that_fails_has_nothing_of_the_sample(rt: HostRuntime) -> Result<(), Fail> {
+    let alloc = rt.alloc();
+    let mut shelf = shelf_failing_at(alloc, Vec::new(alloc))?;
+    let mut sink = sink_failing_at(alloc, vec![in alloc; 0u64]?)?;
+    let status = answer_to(alloc, SAMPLE_6, &mut shelf, &mut sink)?;
+    assert_eq!(rt; status, Status::WriteFault);
+    assert_eq!(rt; sink.bytes().len(), 0);
     Ok(())
 }
 

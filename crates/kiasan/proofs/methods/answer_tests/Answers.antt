@@ -3,8 +3,8 @@ use Rattle.std.proofs.lemmas.Result.{err_from_is_err_and}
 use Rattle.kb_report.specs.declared.report.Report.{Report}
 use Rattle.kb_test.specs.Tests.{SpellsTests}
 use Rattle.kiasan.specs.Answers.{IsTestsTextOf}
-use Rattle.kiasan.specs.Exploring.{status_of, tests_of}
-use Rattle.kiasan.specs.Tests.{literals_in}
+use Rattle.kb_report_tests.specs.Tests.{literals_in, tests_of}
+use Rattle.kiasan.specs.Exploring.{status_of}
 use Rattle.kiasan.proofs.JobLaws.{bounds_written, job_stops, job_ends, paths_carry, target_written, tests_written}
 use Rattle.kiasan.proofs.methods.answer_tests.Goals as goal
 

@@ -1,5 +1,8 @@
-use Rattle.kiasan.proofs.OneReply.{one_reply}
+use Rattle.kiasan.proofs.OneReply.{one_reply, sample_reply}
 use Rattle.kiasan.proofs.top.words_have_one_reply.Goals as goal
 
-pub returns : goal.returns
-returns c = one_reply
+pub returns-clause-words : goal.returns-clause-words
+returns-clause-words c = one_reply
+
+pub returns-clause-sample : goal.returns-clause-sample
+returns-clause-sample c = sample_reply
