@@ -1,6 +1,6 @@
 use Rattle.std.proofs.Common.{◌≡◌, length}
 use Rattle.kb_semantics.specs.Ways.{handler_among}
-use Rattle.kb_machine.proofs.unwinding.handler_among.Given as goal
+use Rattle.kb_lookups.proofs.handlers.handler_among.Given as goal
 
 abbrev pub invariant-loop-rest : goal.invariant-loop-rest
 invariant-loop-rest l = handler_among l.world l.class.0 l.at l.kind l.rest ≡ handler_among l.world l.class.0 l.at l.kind l.handlers

@@ -4,7 +4,7 @@ use Rattle.std.specs.Option.{option_map}
 use Rattle.kb_code.specs.declared.instruction.Instr.{Instr}
 use Rattle.kb_link.specs.Placing.{place_of_offset}
 use Rattle.kb_semantics.specs.Config.{instruction_in}
-use Rattle.kb_stack.specs.Listings.{from_place}
+use Rattle.kb_lookups.specs.Listings.{from_place}
 
 behind_item : (item : ℕ × Instr) (rest : List (ℕ × Instr)) (size : ℕ) (place : Option ℕ) → from_place rest size place ≡ from_place (item ∷ rest) size (option_map suc place)
 behind_item item rest size None = refl

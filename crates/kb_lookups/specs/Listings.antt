@@ -1,8 +1,8 @@
--- What the machine finds at an offset.
+-- What stands at an offset of a method's code (JVMS 8 section 4.7.3).
 use Rattle.std.specs.Prelude.{ℕ, suc, List, drop, option_map, Option, Some, None, slice_get}
 use Rattle.kb_code.specs.Listing.{offset_of}
 use Rattle.kb_code.specs.declared.instruction.Instr.{Instr}
-use Rattle.kb_stack.specs.declared.listing.Found.{Found}
+use Rattle.kb_lookups.specs.declared.listing.Found.{Found}
 
 abbrev pub plain_found : Found → Instr × ℕ
 plain_found found = (found.instr.now, found.next)

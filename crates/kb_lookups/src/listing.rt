@@ -1,11 +1,11 @@
-//! Which instruction a frame stands at.
+//! The instructions of a method's code, by their offsets.
 
 ghost use Rattle.std.specs.Prelude.{◌≡◌, drop, option_map};
 ghost use Rattle.kb_code.specs.Listing.{offset_of};
 ghost use Rattle.kb_semantics.specs.Config.{behind, instruction_at};
-ghost use Rattle.kb_stack.specs.Listings.{from_place, plain_found};
+ghost use Rattle.kb_lookups.specs.Listings.{from_place, plain_found};
 
-use crate::frame::Frame;
+use kb_class::MethodId;
 use kb_code::Instr;
 use kb_world::World;
 
@@ -16,13 +16,14 @@ pub struct Found<'w> {
     pub next: u32,
 }
 
-/// The instruction at the frame's offset.
+/// The instruction at an offset of a method's code: None where the code has run off its end, or there is none. It takes no
+/// memory.
 #[tactic(auto, using(crate::proofs::ListingLaws::by_place))]
-pub fn instruction_at<'w>(world: &'w World, frame: &Frame) -> Option<Found<'w>>
-    ensures { option_map plain_found result ≡ instruction_at world.now frame.now.method frame.now.at }
+pub fn instruction_at(world: &World, method: MethodId, at: u32) -> Option<Found<'_>>
+    ensures { option_map plain_found result ≡ instruction_at world.now method at }
 {
-    let place = world.find_place(frame.method(), frame.at());
-    match world.find_code(frame.method()) {
+    let place = world.find_place(method, at);
+    match world.find_code(method) {
         Some(code) => found_at(code.listing.items.as_slice(), code.size, place),
         None => None,
     }
@@ -50,12 +51,12 @@ fn offset_at(items: &[(u32, Instr)], place: usize, size: u32) -> u32
     }
 }
 
-/// The offset behind the instruction at the frame's offset.
-pub(crate) fn behind(world: &World, frame: &Frame) -> u32
-    ensures { result ≡ behind world.now frame.now.method frame.now.at }
+/// The offset behind the instruction at an offset. It takes no memory.
+pub fn behind(world: &World, method: MethodId, at: u32) -> u32
+    ensures { result ≡ behind world.now method at }
 {
-    match instruction_at(world, frame) {
+    match instruction_at(world, method, at) {
         Some(found) => found.next,
-        None => frame.at(),
+        None => at,
     }
 }
