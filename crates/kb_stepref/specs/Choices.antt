@@ -14,9 +14,11 @@ use Rattle.kb_picture.specs.declared.choice.Choice.{Choice}
 use Rattle.kb_picture.specs.declared.choice.Choice.TheVariants.{Only}
 use Rattle.kb_picture.specs.declared.picture.Origin.{Origin}
 use Rattle.kb_picture.specs.declared.picture.Origin.TheVariants.{Arg, Field, Element}
-use Rattle.kb_frames.specs.Next.{is_reference}
+use Rattle.kb_picture.specs.WellTyped.{is_reference_type}
 use Rattle.kb_frames.specs.State.{State}
-use Rattle.kb_stepref.specs.Questions.{Question, Reads, question_of}
+use Rattle.kb_ways.specs.declared.question.Question.{Question}
+use Rattle.kb_ways.specs.declared.question.Question.TheVariants.{Reads}
+use Rattle.kb_stepref.specs.Questions.{question_of}
 
 abbrev pub only : List Choice
 only = Only ∷ []
@@ -31,7 +33,7 @@ is_receiver world method (Element array index) = false
 -- those of a question
 abbrev pub alternatives : World → State → Bounds → Question → List Choice
 alternatives world state bounds (Reads slot type) =
-    if is_reference type then read_choices_of state.init world state.picture slot type (is_receiver world state.method slot) bounds.k bounds.array else only
+    if is_reference_type type then read_choices_of state.init world state.picture slot type (is_receiver world state.method slot) bounds.k bounds.array else only
 
 -- The alternatives of the next step of a state.
 abbrev pub choices_of : World → State → Bounds → List Choice
