@@ -34,7 +34,7 @@ use Rattle.kb_picture.specs.declared.picture.PlaceLists.{PlaceLists}
 use Rattle.kb_picture.specs.declared.picture.Seen.TheVariants as seens
 use Rattle.kb_picture.specs.declared.picture.Standing.TheVariants as standings
 use Rattle.kb_picture.specs.Endings.{Reading}
-use Rattle.kb_picture.specs.Growing.{IsChoiceIn, IsUnread, params_of}
+use Rattle.kb_picture.specs.Growing.{IsChoiceIn, IsUnread, is_receiver, params_of}
 use Rattle.kb_picture.specs.Growth.{after_read, after_int_read, with_open_loc}
 use Rattle.kb_picture.specs.Instances.{variable_values}
 use Rattle.kb_picture.specs.Laws.{loc_placed_behind}
@@ -63,7 +63,7 @@ use Rattle.kb_ways.proofs.OneInstances.{hold_last, many_values, value_inputs}
 use Rattle.kb_ways.proofs.OutcomeValues.{reading_int}
 use Rattle.kb_lazy.proofs.FitLaws.{fitting_choice}
 use Rattle.kb_lazy.specs.Choices.{read_choices_of}
-use Rattle.kb_stepref.specs.Choices.{alternatives, is_receiver, only}
+use Rattle.kb_stepref.specs.Choices.{alternatives, only}
 use Rattle.kb_lazy.specs.Laws.{AreInRange}
 use Rattle.kb_stepref.specs.Laws.{IsAtReferences}
 use Rattle.kb_ways.specs.declared.question.Question.TheVariants.{Reads}

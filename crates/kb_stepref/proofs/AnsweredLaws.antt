@@ -30,7 +30,7 @@ use Rattle.kb_picture.specs.declared.picture.Origin.TheVariants.{Arg, Field, Ele
 use Rattle.kb_picture.specs.declared.picture.PicObject.{PicObject}
 use Rattle.kb_picture.specs.declared.picture.Picture.{Picture}
 use Rattle.kb_picture.specs.declared.picture.Seen.{Seen}
-use Rattle.kb_picture.specs.Growing.{IsChoiceFor, IsChoiceIn}
+use Rattle.kb_picture.specs.Growing.{IsChoiceFor, IsChoiceIn, is_receiver}
 use Rattle.kb_picture.specs.Growth.{after_int_read, after_read}
 use Rattle.kb_picture.specs.Queries.{kind_for, kind_seen, kinds_seen, type_of_slot}
 use Rattle.kb_picture.specs.WellFormed.{IsLengthOf, slots_seen, variable_seen, variables_seen}
@@ -54,7 +54,7 @@ use Rattle.kb_frames.specs.States.{Each, HasCells, IsBeginning, IsCell, IsStage,
 use Rattle.kb_ways.specs.Reached.{HasReadReceiver}
 use Rattle.kb_ways.proofs.ItemLaws.{each_append, each_cons, each_copy, no_items}
 use Rattle.kb_ways.proofs.SoundLaws.{Sound, sound_reached}
-use Rattle.kb_stepref.specs.Choices.{alternatives, is_receiver}
+use Rattle.kb_stepref.specs.Choices.{alternatives}
 use Rattle.kb_stepref.specs.Laws.{IsAtReferences}
 use Rattle.kb_ways.specs.declared.question.Question.TheVariants.{Reads}
 use Rattle.kb_stepref.specs.Questions.{question_of}

@@ -22,6 +22,7 @@ use Rattle.kb_names.specs.declared.types.ExactType.TheVariants as exact
 use Rattle.kb_names.specs.declared.types.JType.{JType}
 use Rattle.kb_semantics.specs.Looks.{numbers_below}
 use Rattle.kb_semantics.specs.Past.{IsPastArray}
+use Rattle.kb_picture.specs.Growing.{is_receiver}
 use Rattle.kb_picture.specs.declared.choice.Choice.{Choice}
 use Rattle.kb_picture.specs.declared.choice.Choice.TheVariants as choices
 use Rattle.kb_picture.specs.declared.choice.Init.{Init}
@@ -43,7 +44,7 @@ use Rattle.kb_picture.specs.WellTyped.{is_reference_type}
 use Rattle.kb_frames.specs.StandsFor.{IsInstanceOf}
 use Rattle.kb_frames.specs.State.{State}
 use Rattle.kb_picture.specs.Queries.{kind_for}
-use Rattle.kb_stepref.specs.Choices.{alternatives, is_receiver, only}
+use Rattle.kb_stepref.specs.Choices.{alternatives, only}
 use Rattle.kb_stepref.specs.Laws.{IsAtReferences}
 use Rattle.kb_ways.specs.declared.question.Question.TheVariants.{Reads}
 use Rattle.kb_stepref.specs.Questions.{question_of}

@@ -1,12 +1,9 @@
 -- What holds of the slot that a step on references asks for: it is there and was not read, and its declared type is that of the
 -- question.
-use Rattle.std.proofs.Common.{◌≡◌, ◌↔◌, ℕ, Bool, true, false, true≢false, not, nat_eq, nat_le, List, length, Option, Some, None, slice_get, refl, sym, ap, subst, ◌∙◌, if◌then◌else◌}
+use Rattle.std.proofs.Common.{◌≡◌, ℕ, Bool, true, false, true≢false, not, nat_le, List, length, Option, Some, None, slice_get, refl, sym, ap, subst, ◌∙◌, if◌then◌else◌}
 use Rattle.std.specs.Option.{option_and_then, option_map, option_map_or}
-use Rattle.std.proofs.lemmas.Bool.{and_from, and_parts, eqb-true, eq-eqb}
 use Rattle.std.proofs.lemmas.Option.{none-some, option_and_then_some, same_Some, slice_get_within}
-use Rattle.kb_class.specs.declared.ids.MethodId.{MethodId}
 use Rattle.kb_class.specs.declared.members.MethodInfo.{MethodInfo}
-use Rattle.kb_class.specs.Members.{is_static}
 use Rattle.kb_code.specs.declared.instruction.Instr.{Instr}
 use Rattle.kb_code.specs.declared.instruction.Instr.TheVariants as instrs
 use Rattle.kb_heap.specs.declared.bounds.Bounds.{Bounds}
@@ -17,14 +14,14 @@ use Rattle.kb_link.specs.declared.slots.FieldSlot.{FieldSlot}
 use Rattle.kb_names.specs.declared.types.ExactType.{ExactType}
 use Rattle.kb_names.specs.declared.types.JType.{JType}
 use Rattle.kb_names.specs.declared.types.JType.TheVariants as types
-use Rattle.kb_semantics.specs.Config.{class_number, info_of}
+use Rattle.kb_semantics.specs.Config.{class_number}
 use Rattle.kb_semantics.specs.Inputs.{argument_types}
 use Rattle.kb_semantics.specs.Instructions.{has_field}
 use Rattle.kb_lazy.specs.Laws.{IsFirstRead}
 use Rattle.kb_picture.specs.declared.picture.Origin.{Origin}
 use Rattle.kb_picture.specs.declared.picture.Origin.TheVariants.{Arg, Field, Element}
 use Rattle.kb_picture.specs.declared.picture.PicObject.{PicObject}
-use Rattle.kb_picture.specs.Growing.{HoldsInt, IsReceiver, IsUnread, params_of}
+use Rattle.kb_picture.specs.Growing.{HoldsInt, IsUnread, is_receiver, params_of}
 use Rattle.kb_picture.specs.Queries.{slot_of_class, type_of_slot}
 use Rattle.kb_picture.specs.WellFormed.{slots_seen}
 use Rattle.kb_picture.specs.WellTyped.{IsWellTyped, is_int_type, is_reference_type}
@@ -42,7 +39,6 @@ use Rattle.kb_frames.specs.State.{State}
 use Rattle.kb_frames.specs.States.{IsStage}
 use Rattle.kb_ways.specs.Reached.{IsReached}
 use Rattle.kb_ways.proofs.SoundLaws.{not_before}
-use Rattle.kb_stepref.specs.Choices.{is_receiver}
 use Rattle.kb_stepref.specs.Fields.{cell_of, field_named, has_slot_of}
 use Rattle.kb_stepref.specs.Laws.{IsAtReferences}
 use Rattle.kb_ways.specs.declared.question.Question.{Question}
@@ -256,38 +252,6 @@ asked world bounds state at slot type asks =
 
 -- ---- first reads
 
-arg_number : (one other : ℕ) → Arg one ≡ Arg other → one ≡ other
-arg_number one other e = cc
-
--- whether the slot is a receiver's
-pub receives : (world : World) (id : MethodId) (slot : Origin) → (is_receiver world id slot ≡ true) ↔ IsReceiver world id slot
-receives world id (Arg number) = (to, back) where
-  by_info : (info : Option MethodInfo) → info_of world id ≡ info → option_map_or (λ (it : MethodInfo). not (is_static it.access)) info false ≡ true
-      → (method : MethodInfo) × (info_of world id ≡ Some method) × (is_static method.access ≡ false)
-  by_info None at is = absurd cc
-  by_info (Some method) at is = (method, at, own (is_static method.access) is) where
-    own : (b : Bool) → not b ≡ true → b ≡ false
-    own true e = absurd (true≢false (sym e))
-    own false e = refl
-
-  to : is_receiver world id (Arg number) ≡ true → IsReceiver world id (Arg number)
-  to is =
-      let parts = and_parts (nat_eq number 0) (option_map_or (λ (info : MethodInfo). not (is_static info.access)) (info_of world id) false) is in
-      let method = by_info (info_of world id) refl parts.1 in
-      (method.0, method.1, method.2, ap Arg (eqb-true number 0 parts.0))
-
-  back : IsReceiver world id (Arg number) → is_receiver world id (Arg number) ≡ true
-  back receiver =
-      let first : number ≡ 0 = arg_number number 0 receiver.3 in
-      and_from (nat_eq number 0) (option_map_or (λ (info : MethodInfo). not (is_static info.access)) (info_of world id) false) (eq-eqb number 0 first)
-      (ap (λ (o : Option MethodInfo). option_map_or (λ (info : MethodInfo). not (is_static info.access)) o false) receiver.1 ∙ ap not receiver.2)
-receives world id (Field object slot) = (λ is. absurd (true≢false (sym is)), λ receiver. absurd (other receiver.3)) where
-  other : Field object slot ≡ Arg 0 → ⊥
-  other e = cc
-receives world id (Element array index) = (λ is. absurd (true≢false (sym is)), λ receiver. absurd (other receiver.3)) where
-  other : Element array index ≡ Arg 0 → ⊥
-  other e = cc
-
 module _ (world : World) (bounds : Bounds) (state : State) (typed : IsWellTyped world state.method state.picture) (slot : Origin) (type : JType)
     (is_asked : IsAsked world bounds state typed slot type) where
   pub first_read : is_reference_type type ≡ true → IsFirstRead world state.method state.picture slot type (is_receiver world state.method slot)
@@ -297,7 +261,7 @@ module _ (world : World) (bounds : Bounds) (state : State) (typed : IsWellTyped 
     unread = is_asked.unread;
     declared = is_asked.declared;
     reference = reference;
-    receives = receives world state.method slot;
+    receives = (λ is. is, λ is. is);
   }
 
   pub holds_int : is_reference_type type ≡ false → HoldsInt world state.method state.picture slot

@@ -22,7 +22,7 @@ use Rattle.kb_picture.specs.declared.choice.Choice.TheVariants.{Only}
 use Rattle.kb_picture.specs.declared.picture.Origin.{Origin}
 use Rattle.kb_picture.specs.declared.picture.Picture.{Picture}
 use Rattle.kb_picture.specs.Exactly.{ExactlyOneHas, NoneHas}
-use Rattle.kb_picture.specs.Growing.{params_of}
+use Rattle.kb_picture.specs.Growing.{is_receiver, params_of}
 use Rattle.kb_picture.specs.Growth.{after_read}
 use Rattle.kb_picture.specs.Queries.{kind_for}
 use Rattle.kb_picture.specs.Shapes.{HasShape}
@@ -34,7 +34,7 @@ use Rattle.kb_ways.specs.Simulation.{TakesOneWay}
 use Rattle.kb_ways.specs.Ways.{Take}
 use Rattle.kb_ways.proofs.OneAsked.{conditions_there}
 use Rattle.kb_ways.proofs.OneInstances.{instance_of_met}
-use Rattle.kb_stepref.specs.Choices.{alternatives, choices_of, is_receiver, only}
+use Rattle.kb_stepref.specs.Choices.{alternatives, choices_of, only}
 use Rattle.kb_stepref.specs.Laws.{IsAtReferences}
 use Rattle.kb_ways.specs.declared.question.Question.{Question}
 use Rattle.kb_ways.specs.declared.question.Question.TheVariants.{Reads}

@@ -1,6 +1,7 @@
 //! The alternatives of the next step on references.
 ghost use Rattle.std.specs.Prelude.{◌≡◌, IfOk};
-ghost use Rattle.kb_stepref.specs.Choices.{alternatives, choices_of, is_receiver, only};
+ghost use Rattle.kb_picture.specs.Growing.{is_receiver};
+ghost use Rattle.kb_stepref.specs.Choices.{alternatives, choices_of, only};
 ghost use Rattle.kb_stepref.specs.Laws.{IsAtReferences};
 ghost use Rattle.kb_ways.specs.declared.question.Question.TheVariants.{Reads};
 
