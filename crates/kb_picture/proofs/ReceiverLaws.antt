@@ -1,6 +1,6 @@
 -- Which slot is a receiver's.
 use Rattle.std.proofs.Common.{◌≡◌, ℕ, nat_eq, Bool, true, false, not, true≢false, Option, Some, None, refl, sym, ap, subst, ◌∙◌}
-use Rattle.std.proofs.lemmas.Bool.{and_parts, eqb-true}
+use Rattle.std.proofs.lemmas.Bool.{and_from, and_parts, eqb-true, eq-eqb}
 use Rattle.std.specs.Option.{option_map_or}
 use Rattle.kb_class.specs.declared.ids.MethodId.{MethodId}
 use Rattle.kb_class.specs.declared.members.MethodInfo.{MethodInfo}
@@ -16,7 +16,8 @@ module _ (world : World) (id : MethodId) where
   pub first_is_receiver : (method : MethodInfo) → info_of world id ≡ Some method → is_static method.access ≡ false → (slot : Origin) → slot ≡ Arg 0 → IsReceiver world id slot
   first_is_receiver method is dynamic slot first =
       subst (λ (s : Origin). is_receiver world id s ≡ true) (sym first)
-      (ap (λ (o : Option MethodInfo). option_map_or (λ (m : MethodInfo). not (is_static m.access)) o false) is ∙ ap not dynamic)
+      (and_from (nat_eq 0 0) (option_map_or (λ (m : MethodInfo). not (is_static m.access)) (info_of world id) false) (eq-eqb 0 0 refl)
+      (ap (λ (o : Option MethodInfo). option_map_or (λ (m : MethodInfo). not (is_static m.access)) o false) is ∙ ap not dynamic))
 
   -- and no other slot is
   pub receiver_is_first : (slot : Origin) → IsReceiver world id slot → (method : MethodInfo) × (info_of world id ≡ Some method) × (is_static method.access ≡ false) × (slot ≡ Arg 0)
@@ -31,7 +32,7 @@ module _ (world : World) (id : MethodId) where
 
       by_info : (info : Option MethodInfo) → info_of world id ≡ info → option_map_or (λ (m : MethodInfo). not (is_static m.access)) info false ≡ true
           → (method : MethodInfo) × (info_of world id ≡ Some method) × (is_static method.access ≡ false)
-      by_info None at yes = absurd (true≢false (sym yes))
-      by_info (Some method) at yes = (method, at, own (is_static method.access) yes)
+      by_info None at is_some = absurd (true≢false (sym is_some))
+      by_info (Some method) at dynamic = (method, at, own (is_static method.access) dynamic)
   receiver_is_first (Field object slot) is = absurd (true≢false (sym is))
   receiver_is_first (Element array index) is = absurd (true≢false (sym is))
