@@ -7,6 +7,7 @@
 #include <stdatomic.h>
 #include <stddef.h>
 #include <stdlib.h>
+#include <sys/syscall.h>
 #include <unistd.h>
 
 extern void *__libc_malloc(size_t);
@@ -61,7 +62,7 @@ int posix_memalign(void **into, size_t align, size_t size) {
     return 0;
 }
 
-__attribute__((destructor)) static void end(void) {
+__attribute__((destructor)) static void tell(void) {
     const char *name = getenv("REFUSE_COUNT");
     char digits[24];
     int at = sizeof digits;
@@ -75,7 +76,14 @@ __attribute__((destructor)) static void end(void) {
         left /= 10;
     } while (left);
     if (write(file, digits + at, sizeof digits - at) < 0) {
-        _exit(99);
+        syscall(SYS_exit_group, 99);
     }
     close(file);
+}
+
+/* A program that uses threads ends so, and runs no destructor. */
+void _exit(int status) {
+    tell();
+    syscall(SYS_exit_group, status);
+    __builtin_unreachable();
 }
