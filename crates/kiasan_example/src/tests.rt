@@ -91,7 +91,7 @@ pub fn assembled<R: AllocGlobal + Threads + Sync>(
     sink.bytes().to_vec(alloc)
 }
 
-/// A second call of the shelf would fail.
+/// A second call of the shelf would fail, and be counted.
 #[test]
 fn an_exploration_reads_its_file_once(rt: HostRuntime) -> Result<(), Fail> {
     let alloc = rt.alloc();
@@ -99,10 +99,11 @@ fn an_exploration_reads_its_file_once(rt: HostRuntime) -> Result<(), Fail> {
     let mut sink = sink_failing_at(alloc, Vec::new(alloc))?;
     let status = answer_to(&rt, EXPLORE_A, &mut shelf, &mut sink)?;
     assert_eq!(rt; status, Status::Complete);
+    assert_eq!(rt; shelf.faults(), 0);
     Ok(())
 }
 
-/// A third call of the shelf would fail.
+/// A third call of the shelf would fail, and be counted.
 #[test]
 fn a_replay_reads_each_of_its_files_once(rt: HostRuntime) -> Result<(), Fail> {
     let alloc = rt.alloc();
@@ -110,6 +111,7 @@ fn a_replay_reads_each_of_its_files_once(rt: HostRuntime) -> Result<(), Fail> {
     let mut sink = sink_failing_at(alloc, Vec::new(alloc))?;
     let status = answer_to(&rt, REPLAY_A, &mut shelf, &mut sink)?;
     assert_eq!(rt; status, Status::Complete);
+    assert_eq!(rt; shelf.faults(), 0);
     Ok(())
 }
 

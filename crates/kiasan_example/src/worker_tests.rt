@@ -246,7 +246,7 @@ impl Gate for Count {
     }
 }
 
-/// The 24 tests of the sample's 24 paths are run.
+/// The 24 tests of the sample's 24 paths are run. A call of the shelf would fail, and be counted.
 #[test]
 fn a_sample_runs_its_tests(rt: HostRuntime) -> Result<(), Fail> {
     let alloc = rt.alloc();
@@ -254,13 +254,14 @@ fn a_sample_runs_its_tests(rt: HostRuntime) -> Result<(), Fail> {
         begun: AtomicU64::new(0),
         left: AtomicU64::new(0),
     };
-    let mut shelf = MemoryShelf::new(Vec::new(alloc), Vec::new(alloc));
+    let mut shelf = MemoryShelf::new(Vec::new(alloc), vec![in alloc; 0u64]?);
     let mut sink = MemorySink::new(alloc, 4096, Vec::new(alloc)).with_room(4096)?;
     let words = words_of(alloc, "sample 6")?;
     let status = kiasan_gated(&rt, words.as_slice(), &mut shelf, &mut sink, &gate);
     assert_eq!(rt; status, Status::Complete);
     assert_eq!(rt; gate.begun.load(Ordering::SeqCst), 24);
     assert_eq!(rt; gate.left.load(Ordering::SeqCst), 24);
+    assert_eq!(rt; shelf.faults(), 0);
     Ok(())
 }
 
