@@ -67,7 +67,7 @@ module _ (t : Turn) (old : State) (class : List ℕ) (object : Object) (is : obj
 -- a frame that has come to its handler goes on there
 pub caught : (t : Turn) (old new : State) (r : Result Step NoMemory) (o : Outcome) (frame : Frame) (callers : List Frame) (heap : Heap) (number : ℕ) →
     o ≡ landed t landings.Caught (config_of t old) heap number frame callers → IfOk r (λ step. step ≡ steps.Goes) →
-    OnOk r (new ≡ record { frame = record frame { stack = Ref number ∷ [] }; callers = callers; heap = heap }) →
+    OnOk r (new ≡ record { frame = record frame { stack = Ref number ∷ [] }; callers = callers; heap = heap; names = tt }) →
     IfOk r (λ step. told t step new ≡ o)
 caught t old new (Ok step) o frame callers heap number e goes is = rw (goes, is) (sym e)
 caught t old new (Err x) o frame callers heap number e goes is = tt

@@ -65,7 +65,8 @@ impl State {
         let Some(ExactType::Class(name)) = turn.world.find_type(class, entry) else {
             return Ok(self.ill_typed());
         };
-        let object = new_object(turn.alloc, turn.world, name.copied(turn.alloc)?)?;
+        let own = self.names.own_name(turn.alloc, name)?;
+        let object = new_object(turn.alloc, turn.world, own)?;
         self.makes(turn, object)
     }
 

@@ -11,6 +11,7 @@ mod fields;
 mod instructions;
 mod ints;
 mod machine;
+mod names;
 mod pool;
 mod rearranging;
 mod returns;

@@ -7,6 +7,7 @@ ghost use Rattle.kb_world.specs.Reach.{IsAccepted};
 ghost use Rattle.kb_machine.specs.Turns.{begun, ending_told};
 
 use crate::NoMemory;
+use crate::names::Names;
 use crate::state::State;
 use crate::turn::{Step, Turn};
 use kb_class::MethodId;
@@ -40,6 +41,7 @@ pub fn run(
         frame: Frame::begin(alloc, world, target, input.args.as_slice())?,
         callers: Callers::new(alloc),
         heap: first_heap(alloc, world, &input.heap)?,
+        names: Names::new(alloc),
     };
     let ending = run_from(alloc, world, bounds, inputs, &mut state)?;
     Ok((ending, state.heap))

@@ -14,6 +14,7 @@ ghost use Rattle.kb_machine.specs.declared.turn.Step.TheVariants as steps;
 ghost use Rattle.kb_machine.specs.Turns.{setting_of, config_of, told};
 
 use crate::NoMemory;
+use crate::names::Names;
 use crate::state::State;
 use crate::turn::{Step, Turn};
 use crate::unwinding::{Landing, unwind};
@@ -51,7 +52,7 @@ impl State {
     pub(crate) fn throws(&mut self, turn: &Turn<'_>, class: &[u8]) -> Result<Step, NoMemory>
         ensures { IfOk result (λ step. told turn.now step self.new ≡ throws (setting_of turn.now) (config_of turn.now self.old) class.now) }
     {
-        let object = object_of(turn, class)?;
+        let object = object_of(turn, &mut self.names, class)?;
         let place = self.ill_typed();
         match unwind(turn, &mut self.frame, &mut self.callers, &object.kind) {
             Landing::Caught => {
@@ -108,10 +109,10 @@ impl State {
     }
 }
 
-// A new object of a class by its name, which it shares with the class.
-fn object_of(turn: &Turn<'_>, class: &[u8]) -> Result<Object, NoMemory>
+// A new object of a class by its name.
+fn object_of(turn: &Turn<'_>, names: &mut Names, class: &[u8]) -> Result<Object, NoMemory>
     ensures { IfOk result (λ object. object ≡ new_object turn.now.world.now class.now) }
 {
-    let name = turn.world.shared_name(turn.alloc, class)?;
+    let name = names.thrown_name(turn.alloc, class)?;
     new_object(turn.alloc, turn.world, name)
 }

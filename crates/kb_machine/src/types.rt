@@ -57,7 +57,8 @@ impl State {
         let class = self.frame.class(turn.world);
         match turn.world.find_type(class, entry) {
             Some(of) => {
-                let component = type_of_exact(turn.alloc, of)?;
+                let own = self.names.own_type(turn.alloc, of)?;
+                let component = type_of_exact(turn.alloc, &own)?;
                 self.make_array(turn, Some(component))
             }
             None => self.make_array(turn, None),
