@@ -2,12 +2,13 @@
 """Times replays by 1, 2 and 4 workers, on 2 and on 4 processors, beside a program that knows no workers.
 
 Five files of tests: 10,000 tests of lists of 16 nodes that are put into the other order, and 10,000 of arrays of 40 ints that are
-sorted (methods of examples/replay/); 10,000 tests of ten instructions each; 1,000 tests of 2,000 instructions each; and 400
-tests that make 1,000 objects of one class each, whose name all workers share by one count of owners. The verdicts of each run
+sorted (methods of examples/replay/); 10,000 tests of ten instructions each; 1,000 tests of 2,000 instructions each; and 2,000
+tests that make 1,000 objects of one class each: a name that all workers shared would have one count of owners for all of them. The verdicts of each run
 are compared with those that are expected.
 
 Times are those of the clock, the least of some runs. What is run stands apart from reading and writing: the time of the same
-file is taken off whose tests are each ended by the bound on steps at their first instruction, as they state. Speeds are to that of one
+file is taken off whose tests are each ended by the bound on steps at their first instruction, as they state; of tests that make
+objects that of the same text with that bound, whose tests differ, since its lines on objects take most of the reading. Speeds are to that of one
 worker; `goal` is 0.8 for each worker that has a processor. With --before FILE the file is run by that program too, without
 `--workers`, and the last column is its time to that of one worker.
 
@@ -40,14 +41,19 @@ OBJECTS = 1000
 ILOAD_0, IFLE, NEW, POP, IINC, GOTO, IRETURN = 0x1A, 0x9E, 0xBB, 0x57, 0x84, 0xA7, 0xAC
 
 
+PASS, DIFFER = 0, 10
+
+
 @dataclass(frozen=True)
 class Family:
-    """Tests of one kind: how many, their class file, and the text of the test of a number."""
+    """Tests of one kind: how many, their class file, the text of the test of a number, and that of the test which ends at once."""
 
     name: str
     count: int
     classes: tuple
     text: object
+    ended: object
+    ended_status: int = PASS
 
 
 def maker_class():
@@ -85,14 +91,28 @@ def ended_at_once(text):
     return "\n".join([kept[0], f"{bounds} 1", *kept[1:-1], "past steps", *heap, kept[-1], ""])
 
 
+def same_text_ended(text):
+    """The test with all that it states, but that its run ends at its first instruction, so that it differs."""
+    return text.replace("steps 100000", "steps 1")
+
+
+def ended_verdicts(family):
+    """What the file of tests that end at once comes to."""
+    if family.ended_status == PASS:
+        return heaps.verdicts(family.count)
+    lines = "".join(f"test {number} differs\npast steps\n" for number in range(family.count))
+    return (lines + f"tests {family.count} passed 0 differed {family.count}\n").encode()
+
+
 def seconds_of(command, wanted, processors, runs):
-    """The least time by the clock of a run on so many processors."""
+    """The least time by the clock of a run on so many processors, whose status and text are as wanted."""
+    status, text = wanted
     least = None
     for _ in range(runs):
         began = time.perf_counter()
         ran = subprocess.run(command, capture_output=True, preexec_fn=lambda: os.sched_setaffinity(0, range(processors)))
         took = time.perf_counter() - began
-        if ran.returncode != 0 or ran.stdout != wanted:
+        if ran.returncode != status or ran.stdout != text:
             sys.exit(f"{command}: status {ran.returncode}, not the verdicts that are expected: {ran.stdout[:80]!r}")
         least = took if least is None else min(least, took)
     return least
@@ -100,9 +120,12 @@ def seconds_of(command, wanted, processors, runs):
 
 def run_seconds(program, family, folder, words, processors, runs):
     """The time of what is run, reading and writing taken off."""
-    wanted = heaps.verdicts(family.count)
     took = []
-    for name, change in (("whole", lambda text: text), ("ended", ended_at_once)):
+    cases = [
+        ("whole", lambda text: text, (PASS, heaps.verdicts(family.count))),
+        ("ended", family.ended, (family.ended_status, ended_verdicts(family))),
+    ]
+    for name, change, wanted in cases:
         tests = folder / f"{name}.tests"
         tests.write_text("".join(change(family.text(number)) for number in range(family.count)))
         command = [program, "replay", "--tests", tests, *words, *family.classes]
@@ -139,11 +162,11 @@ def families(folder):
         straight[length] = (place / "Bench.class", load.sums)
     short, long = straight[replay.SHORT], straight[replay.LONGEST]
     return [
-        Family("lists", 10_000, (DATA / "Node.class",), list_text),
-        Family("arrays", 10_000, (DATA / "Sorts.class",), sort_text),
-        Family("short", 10_000, (short[0],), lambda number: replay.test_text(number, short[1])),
-        Family("long", 1_000, (long[0],), lambda number: replay.test_text(number, long[1])),
-        Family("objects", 400, (made,), object_text),
+        Family("lists", 10_000, (DATA / "Node.class",), list_text, ended_at_once),
+        Family("arrays", 10_000, (DATA / "Sorts.class",), sort_text, ended_at_once),
+        Family("short", 10_000, (short[0],), lambda number: replay.test_text(number, short[1]), ended_at_once),
+        Family("long", 1_000, (long[0],), lambda number: replay.test_text(number, long[1]), ended_at_once),
+        Family("objects", 2_000, (made,), object_text, same_text_ended, DIFFER),
     ]
 
 
