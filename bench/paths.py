@@ -28,7 +28,7 @@ ghost use Rattle.kb_blast.specs.Query.{AreConditions};
 use kb_blast::can_blast;
 use kb_class::MethodId;
 use kb_frames::{SymState, start};
-use kb_picture::{Init, Leaf, Path};
+use kb_picture::{Init, Leaf, Origin, Path};
 use kb_terms::{Op, Pool, TermId, VarKind};
 use kb_world::link;
 use std::alloc::{AllocError, AllocFailed, Global};
@@ -59,11 +59,11 @@ fn answer(alloc: Global, words: &[String]) -> Result<Option<String>, Stop> {
         return Err(Stop);
     };
     let mut state = start(alloc, &world, MethodId(0), Init::Lazy)?;
+    state.first_int(Origin::Arg(0), VarKind::Int)?;
     answered(alloc, &mut state, shape.as_str(), size, times)
 }
 
 fn answered(alloc: Global, state: &mut SymState, shape: &str, size: u32, times: u32) -> Result<Option<String>, Stop> {
-    state.read_int(VarKind::Int)?;
     match shape {
         "terms" => add_chain(state, size)?,
         "conditions" => add_conditions(state, size)?,

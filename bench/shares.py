@@ -28,13 +28,16 @@ def part(functions, dropped):
 
 # those of kb_heap copy what a path or a test is given, and no state
 COPYING = part(
-    r"kb_(?:drive|frames|picture|terms)::(?:\w+::)*cop(?:y|ied)\w*$",
-    r"kb_drive\+\+(?:piece|valued)|kb_frames\+\+(?:state|frame|conditions)|kb_picture\+\+picture|kb_terms\+\+pool",
+    r"kb_(?:drive|frames|numbered|picture|terms)::(?:\w+::)*cop(?:y|ied)\w*$",
+    r"kb_drive\+\+(?:piece|valued)|kb_frames\+\+(?:state|frame)|kb_numbered\+\+conditions|kb_picture\+\+(?:picture|growing)|kb_terms\+\+pool",
 )
 FORMULAS = part(r"kb_(?:blast|circuit)::", r"kb_(?:blast|circuit)\+\+\w+|kb_chain\+\+formula")
 SOLVING = part(r"kb_(?:sat|eliminate)::", r"kb_(?:sat|eliminate)\+\+\w+|kb_chain\+\+log")
 # the path of a state with its input
-PATHS = part(r"kb_drive::leaf::|kb_frames::(?:path::|state::SymState::path$)|kb_input::", r"kb_picture\+\+path|kb_heap\+\+heap")
+PATHS = part(
+    r"kb_drive::leaf::|kb_frames::(?:\w+::)*path$|kb_numbered::(?!conditions::)|kb_input::",
+    r"kb_picture\+\+path|kb_heap\+\+heap",
+)
 WRITING = part(r"kb_(?:report|path_words|diagram)::|kiasan::reports::", r"kb_(?:report|path_words|diagram)\+\+\w+")
 
 # calls of functions of no part are handed on so often at most, and no longer where nothing changes by more than this

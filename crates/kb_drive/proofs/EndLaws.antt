@@ -1,5 +1,5 @@
 -- Where a take of an int step ends a run, the ending states what is there in the state.
-use Rattle.std.proofs.Common.{◌≡◌, ℕ, zero, suc, ◌<◌, ℤ, pos, true, false, List, [], ◌∷◌, ◌++◌, length, length-append, slice_get, nat_le, nat_lt, Option, Some, None, refl, sym, ap, subst, ◌∙◌, option_and_then, arith}
+use Rattle.std.proofs.Common.{◌≡◌, ℕ, zero, suc, ◌<◌, ℤ, pos, true, false, List, [], ◌∷◌, ◌++◌, length, length-append, slice_get, nat_le, nat_lt, Option, Some, None, refl, sym, ap, subst, ◌∙◌, arith}
 use Rattle.std.specs.Prelude.{is_some}
 use Rattle.kb_code.specs.declared.instruction.Instr.{Instr}
 use Rattle.kb_code.specs.declared.instruction.Instr.TheVariants as instrs
@@ -31,16 +31,19 @@ use Rattle.kb_frames.specs.Next.{argument_next, method_now, offset_now}
 use Rattle.kb_frames.specs.StandsFor.{out_of}
 use Rattle.kb_frames.specs.State.{State}
 use Rattle.kb_frames.specs.States.{Each, IsOutIn, IsStage, IsSymValue}
-use Rattle.kb_stepint.specs.Asked.{all_asked}
+use Rattle.kb_ways.specs.Asked.{all_asked}
 use Rattle.kb_stepint.specs.Choices.{conditions_of}
-use Rattle.kb_stepint.specs.Effects.{Planned, branch_way, computes_by, in_local, int_local, kept_int, leaves_with, picked, plain, plan_of, planned, pushes_int, rearranges, switch_way}
+use Rattle.kb_ways.specs.Plans.{Planned, plain, planned, takes_next, takes_up, carried_out, leaves_with, returns_value}
+use Rattle.kb_stepint.specs.Effects.{branch_way, computes_by, in_local, int_local, picked, plan_of, pushes_int, rearranges, switch_way, effect_of}
 use Rattle.kb_stepint.specs.Laws.{OfTakes}
-use Rattle.kb_stepint.specs.Operands.{int_term, one_int, two_ints}
-use Rattle.kb_stepint.specs.Takes.{answered, taken, takes_next, takes_up}
-use Rattle.kb_stepint.specs.Ways.{Take, Way, Goes as WayGoes, Jumps, Leaves, Throws, Fails, ill_typed, went}
-use Rattle.kb_stepint.proofs.AskedLaws.{interned_is_term}
-use Rattle.kb_stepint.proofs.GrowLaws.{Grows, all_asked_grows, if_has, option_has}
+use Rattle.kb_ways.specs.Operands.{int_term, an_int, two_ints}
+use Rattle.kb_stepint.specs.Takes.{taken}
+use Rattle.kb_ways.specs.Ways.{Take, Way, Goes as WayGoes, Jumps, Leaves, Throws, Fails, ill_typed, went}
+use Rattle.kb_ways.proofs.AskedLaws.{interned_is_term}
+use Rattle.kb_ways.proofs.GrowLaws.{Grows, all_asked_grows, if_has, option_has}
 use Rattle.kb_drive.specs.Steps.{EndsIn}
+use Rattle.kb_ways.specs.Kept.{kept_in}
+use Rattle.kb_ways.proofs.KeptLaws.{returns_has}
 
 -- ---- the top of the stack
 
@@ -52,12 +55,12 @@ int_in world state (Literal number) t is e = absurd cc
 int_in world state (New number) t is e = absurd cc
 int_in world state (Loc number) t is e = absurd cc
 
-top_in : (world : World) (state : State) (stack : List SymValue) (t : TermId) → Each (IsSymValue world state) stack → one_int stack ≡ Some t → IsTerm state.nodes t
+top_in : (world : World) (state : State) (stack : List SymValue) (t : TermId) → Each (IsSymValue world state) stack → an_int stack ≡ Some t → IsTerm state.nodes t
 top_in world state [] t each e = absurd cc
 top_in world state (value ∷ rest) t each e = int_in world state value t (each 0 value refl) e
 
 -- also once the run has its first frame
-begun_top : (world : World) (state : State) (stage : Stage) (t : TermId) → IsStage world state stage → one_int (stack_of (begun_stage world state stage)) ≡ Some t
+begun_top : (world : World) (state : State) (stage : Stage) (t : TermId) → IsStage world state stage → an_int (stack_of (begun_stage world state stage)) ≡ Some t
     → IsTerm state.nodes t
 begun_top world state (Begins read) t is e = absurd cc
 begun_top world state (Runs frame callers) t is e = top_in world state frame.stack t is.0.stack e
@@ -76,9 +79,9 @@ LeavesIn world state (Leaves value) = ReturnsIn world state value
 LeavesIn world state (Throws class) = Unit {0}
 LeavesIn world state Fails = Unit {0}
 
-module _ (world : World) (state : State) (top : (t : TermId) → one_int (stack_of state.stage) ≡ Some t → IsTerm state.nodes t) where
+module _ (world : World) (state : State) (top : (t : TermId) → an_int (stack_of state.stage) ≡ Some t → IsTerm state.nodes t) where
   abbrev PlanLeaves : Planned → Type 0
-  PlanLeaves plan = LeavesIn world (with_nodes state plan.nodes) plan.way
+  PlanLeaves plan = LeavesIn world plan.state plan.way
 
   planned_leaves : {A : Type 0} (it : Option A) (f : A → Planned) → ((x : A) → PlanLeaves (f x)) → PlanLeaves (planned state it f)
   planned_leaves it f h = option_has PlanLeaves it f (plain state Fails) h tt
@@ -103,48 +106,45 @@ module _ (world : World) (state : State) (top : (t : TermId) → one_int (stack_
   switch_leaves keys default rest choices.Default = tt
   switch_leaves keys default rest _ = tt
 
-  kept_leaves : (t : TermId) → IsTerm state.nodes t → (type : Option JType) → PlanLeaves (planned state (option_and_then (kept_int state t) type) leaves_with)
-  kept_leaves t there None = tt
-  kept_leaves t there (Some types.Bool) =
+  kept_leaves : (t : TermId) → IsTerm state.nodes t → (type : JType) → PlanLeaves (leaves_with (kept_in type (Int t) state))
+  kept_leaves t there types.Bool =
       let one = interned state.nodes (Const (pos 1)) in
       interned_is_term one.0 (made_node one.0 And t (Some one.1))
-  kept_leaves t there (Some types.Int) = there
-  kept_leaves t there (Some _) = tt
+  kept_leaves t there _ = there
 
-  returns_leaves : (it : Option TermId) → one_int (stack_of state.stage) ≡ it
-      → PlanLeaves (planned state it (λ t. planned state (option_and_then (kept_int state t) (result_of world (method_now state.method state.stage))) leaves_with))
+  returns_leaves : (it : Option TermId) → an_int (stack_of state.stage) ≡ it → PlanLeaves (planned state it (λ t. returns_value world state (Int t)))
   returns_leaves None e = tt
-  returns_leaves (Some t) e = kept_leaves t (top t e) (result_of world (method_now state.method state.stage))
+  returns_leaves (Some t) e = returns_has PlanLeaves world state (Int t) (kept_leaves t (top t e)) tt
 
-  plan_leaves : (choice : Choice) (instr : Instr) → PlanLeaves (plan_of world state choice instr)
-  plan_leaves choice (instrs.Ldc entry) =
+  effect_leaves : (choice : Choice) (instr : Instr) → PlanLeaves (effect_of world state choice instr)
+  effect_leaves choice (instrs.Ldc entry) =
       planned_leaves (int_entry_of world (class_number world (method_now state.method state.stage)) entry) (pushes_int state) (λ z. tt)
-  plan_leaves choice (instrs.LoadInt k) = planned_leaves (int_local world state k) _ (λ t. tt)
-  plan_leaves choice (instrs.StoreInt k) = planned_leaves (one_int (stack_of state.stage)) _ (λ t. local_leaves state.nodes k t _)
-  plan_leaves choice (instrs.Inc k by) = planned_leaves (int_local world state k) _ (λ t. local_leaves _ k _ (stack_of state.stage))
-  plan_leaves choice instrs.Pop = rearranges_leaves 1 []
-  plan_leaves choice instrs.Pop2 = rearranges_leaves 2 []
-  plan_leaves choice instrs.Dup = rearranges_leaves 1 (0 ∷ 0 ∷ [])
-  plan_leaves choice instrs.DupX1 = rearranges_leaves 2 (0 ∷ 1 ∷ 0 ∷ [])
-  plan_leaves choice instrs.DupX2 = rearranges_leaves 3 (0 ∷ 1 ∷ 2 ∷ 0 ∷ [])
-  plan_leaves choice instrs.Dup2 = rearranges_leaves 2 (0 ∷ 1 ∷ 0 ∷ 1 ∷ [])
-  plan_leaves choice instrs.Dup2X1 = rearranges_leaves 3 (0 ∷ 1 ∷ 2 ∷ 0 ∷ 1 ∷ [])
-  plan_leaves choice instrs.Dup2X2 = rearranges_leaves 4 (0 ∷ 1 ∷ 2 ∷ 3 ∷ 0 ∷ 1 ∷ [])
-  plan_leaves choice instrs.Swap = rearranges_leaves 2 (1 ∷ 0 ∷ [])
-  plan_leaves choice (instrs.Int2 op) = planned_leaves (two_ints (stack_of state.stage)) _ (λ t. computes_by_leaves op t choice)
-  plan_leaves choice instrs.Neg = planned_leaves (one_int (stack_of state.stage)) _ (λ t. tt)
-  plan_leaves choice (instrs.Narrow cut) = planned_leaves (one_int (stack_of state.stage)) _ (λ t. tt)
-  plan_leaves choice (instrs.IfInt cond target) =
-      if_has (LeavesIn world state) (is_some (one_int (stack_of state.stage))) _ _ (branch_leaves target _ choice) tt
-  plan_leaves choice (instrs.IfPair cond target) =
+  effect_leaves choice (instrs.LoadInt k) = planned_leaves (int_local world state k) _ (λ t. tt)
+  effect_leaves choice (instrs.StoreInt k) = planned_leaves (an_int (stack_of state.stage)) _ (λ t. local_leaves state.nodes k t _)
+  effect_leaves choice (instrs.Inc k by) = planned_leaves (int_local world state k) _ (λ t. local_leaves _ k _ (stack_of state.stage))
+  effect_leaves choice instrs.Pop = rearranges_leaves 1 []
+  effect_leaves choice instrs.Pop2 = rearranges_leaves 2 []
+  effect_leaves choice instrs.Dup = rearranges_leaves 1 (0 ∷ 0 ∷ [])
+  effect_leaves choice instrs.DupX1 = rearranges_leaves 2 (0 ∷ 1 ∷ 0 ∷ [])
+  effect_leaves choice instrs.DupX2 = rearranges_leaves 3 (0 ∷ 1 ∷ 2 ∷ 0 ∷ [])
+  effect_leaves choice instrs.Dup2 = rearranges_leaves 2 (0 ∷ 1 ∷ 0 ∷ 1 ∷ [])
+  effect_leaves choice instrs.Dup2X1 = rearranges_leaves 3 (0 ∷ 1 ∷ 2 ∷ 0 ∷ 1 ∷ [])
+  effect_leaves choice instrs.Dup2X2 = rearranges_leaves 4 (0 ∷ 1 ∷ 2 ∷ 3 ∷ 0 ∷ 1 ∷ [])
+  effect_leaves choice instrs.Swap = rearranges_leaves 2 (1 ∷ 0 ∷ [])
+  effect_leaves choice (instrs.Int2 op) = planned_leaves (two_ints (stack_of state.stage)) _ (λ t. computes_by_leaves op t choice)
+  effect_leaves choice instrs.Neg = planned_leaves (an_int (stack_of state.stage)) _ (λ t. tt)
+  effect_leaves choice (instrs.Narrow cut) = planned_leaves (an_int (stack_of state.stage)) _ (λ t. tt)
+  effect_leaves choice (instrs.IfInt cond target) =
+      if_has (LeavesIn world state) (is_some (an_int (stack_of state.stage))) _ _ (branch_leaves target _ choice) tt
+  effect_leaves choice (instrs.IfPair cond target) =
       if_has (LeavesIn world state) (is_some (two_ints (stack_of state.stage))) _ _ (branch_leaves target _ choice) tt
-  plan_leaves choice (instrs.Table low default targets) =
-      if_has (LeavesIn world state) (is_some (one_int (stack_of state.stage))) _ _ (switch_leaves (table_keys low targets) default _ choice) tt
-  plan_leaves choice (instrs.Lookup default keys) =
-      if_has (LeavesIn world state) (is_some (one_int (stack_of state.stage))) _ _ (switch_leaves keys default _ choice) tt
-  plan_leaves choice instrs.ReturnInt = returns_leaves (one_int (stack_of state.stage)) refl
-  plan_leaves choice instrs.Return = if_has (LeavesIn world state) (is_some (result_of world (method_now state.method state.stage))) _ _ tt tt
-  plan_leaves choice _ = tt
+  effect_leaves choice (instrs.Table low default targets) =
+      if_has (LeavesIn world state) (is_some (an_int (stack_of state.stage))) _ _ (switch_leaves (table_keys low targets) default _ choice) tt
+  effect_leaves choice (instrs.Lookup default keys) =
+      if_has (LeavesIn world state) (is_some (an_int (stack_of state.stage))) _ _ (switch_leaves keys default _ choice) tt
+  effect_leaves choice instrs.ReturnInt = returns_leaves (an_int (stack_of state.stage)) refl
+  effect_leaves choice instrs.Return = if_has (LeavesIn world state) (is_some (result_of world (method_now state.method state.stage))) _ _ tt tt
+  effect_leaves choice _ = tt
 
 -- ---- endings
 
@@ -185,30 +185,30 @@ module _ (world : World) (bounds : Bounds) where
   went_ends next state Fails there = ill_ends state
 
   abbrev HasTop : State → Type 0
-  HasTop state = (t : TermId) → one_int (stack_of state.stage) ≡ Some t → IsTerm state.nodes t
+  HasTop state = (t : TermId) → an_int (stack_of state.stage) ≡ Some t → IsTerm state.nodes t
 
-  answers_end : (choice : Choice) (state : State) (found : Instr × ℕ) → HasTop state → Ending (answered world bounds choice state found)
+  answers_end : (choice : Choice) (state : State) (found : Instr × ℕ) → HasTop state → Ending (carried_out plan_of world bounds choice state found)
   answers_end choice state found top =
       let conditions = conditions_of found.0 (stack_of state.stage) choice in
       let asked : State = all_asked state conditions in
       let grown : Grows state asked = all_asked_grows conditions state in
       let same : asked.stage ≡ state.stage = ap (λ (s : State). s.stage) grown.rest in
-      let plan = plan_of world asked choice found.0 in
-      went_ends found.1 (with_nodes asked plan.nodes) plan.way
-      (plan_leaves world asked (λ t e. IsTerm-extends state.nodes asked.nodes t grown.terms (top t (ap (λ stage. one_int (stack_of stage)) (sym same) ∙ e))) choice found.0)
+      let effect = effect_of world asked choice found.0 in
+      went_ends found.1 effect.state effect.way
+      (effect_leaves world asked (λ t e. IsTerm-extends state.nodes asked.nodes t grown.terms (top t (ap (λ stage. an_int (stack_of stage)) (sym same) ∙ e))) choice found.0)
 
-  takes_up_ends : (choice : Choice) (state : State) → HasTop state → Ending (takes_up world bounds choice state)
+  takes_up_ends : (choice : Choice) (state : State) → HasTop state → Ending (takes_up plan_of world bounds choice state)
   takes_up_ends choice state top =
-      option_has Ending (instruction_at world (method_now state.method state.stage) (offset_now state.stage)) (answered world bounds choice state) (ill_typed world state)
+      option_has Ending (instruction_at world (method_now state.method state.stage) (offset_now state.stage)) (carried_out plan_of world bounds choice state) (ill_typed world state)
       (λ found. answers_end choice state found top) (ill_ends state)
 
-  takes_next_ends : (choice : Choice) (state : State) → IsStage world state state.stage → Ending (takes_next world bounds choice state)
+  takes_next_ends : (choice : Choice) (state : State) → IsStage world state state.stage → Ending (takes_next plan_of world bounds choice state)
   takes_next_ends choice state is =
       if_has Ending (nat_le bounds.run.steps state.carried) _ _ tt (takes_up_ends choice (begun world state) (λ t e. begun_top world state state.stage t is e))
 
   taken_ends : (choice : Choice) (state : State) → IsStage world state state.stage → Ending (taken world bounds state choice)
   taken_ends choice state is =
-      option_has Ending (argument_next world state.method state.stage) _ (takes_next world bounds choice state) (λ type. tt) (takes_next_ends choice state is)
+      option_has Ending (argument_next world state.method state.stage) _ (takes_next plan_of world bounds choice state) (λ type. tt) (takes_next_ends choice state is)
 
 -- An ending states what is there, and what is thrown is an object.
 pub endings_there : OfTakes (λ world bounds state take. EndsIn world take.state take.outcome)

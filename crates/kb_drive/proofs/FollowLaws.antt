@@ -20,7 +20,7 @@ use Rattle.kb_frames.specs.declared.value.Outcome.TheVariants.{Asks, Goes, Ends,
 use Rattle.kb_frames.specs.Paths.{path_of}
 use Rattle.kb_frames.specs.StandsFor.{IsInstanceOf}
 use Rattle.kb_frames.specs.State.{State}
-use Rattle.kb_stepint.specs.Ways.{Take}
+use Rattle.kb_ways.specs.Ways.{Take}
 use Rattle.kb_drive.specs.declared.piece.Piece.{Piece}
 use Rattle.kb_drive.specs.declared.follow.Known.{Known}
 use Rattle.kb_drive.specs.declared.follow.Known.TheVariants.{Open, Met, Answered}
@@ -32,10 +32,10 @@ use Rattle.kb_drive.specs.Explorable.{IsExplorable}
 use Rattle.kb_drive.specs.Parts.{Alternative, IsInPart, Waits, decisions_of_part, taken_of}
 use Rattle.kb_drive.specs.Pieces.{AreValuesFor, IsBehind, IsPiece}
 use Rattle.kb_drive.specs.StatePaths.{IsPathOf}
-use Rattle.kb_frames.specs.Endings.{EndingsMean, HasNoLocBeyond, ended_in}
-use Rattle.kb_frames.proofs.EndingLaws.{none_beyond}
+use Rattle.kb_frames_laws.specs.Endings.{EndingsMean, HasNoLocBeyond, ended_in}
+use Rattle.kb_frames_laws.proofs.EndingLaws.{none_beyond}
 use Rattle.kb_picture.specs.declared.path.SymEnding.{SymEnding}
-use Rattle.kb_stepref.specs.Reached.{IsHeapReached}
+use Rattle.kb_drive.specs.Reached.{IsHeapReached}
 use Rattle.kb_drive.specs.Steps.{GoesOn, StepsLead, StepsLeadOn}
 use Rattle.kb_drive.specs.Taking.{choices_at}
 use Rattle.kb_drive.specs.Walks.{AreRising, BeginWith, IsRightPath, IsWaiting, size_behind, size_left, size_of, size_of_choices}

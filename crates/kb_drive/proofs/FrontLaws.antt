@@ -11,7 +11,7 @@ use Rattle.kb_terms.specs.declared.node.TermId.{TermId}
 use Rattle.kb_terms.specs.declared.node.VarKind.{VarKind}
 use Rattle.kb_terms.specs.declared.node.VarKind.TheVariants.{Int as IntKind, Bool as BoolKind}
 use Rattle.kb_terms.proofs.Values.{value_of-extends}
-use Rattle.kb_stepint.proofs.IntMethodLaws.{and_both}
+use Rattle.kb_ways.proofs.MethodLaws.{and_both}
 use Rattle.kb_drive.specs.Pieces.{AreValuesFor}
 
 -- ---- lists

@@ -29,7 +29,7 @@ use Rattle.kb_picture.specs.WellFormed.{variable_seen, variables_seen}
 use Rattle.kb_frames.specs.State.{State}
 use Rattle.kb_frames.specs.States.{IsState}
 use Rattle.kb_frames.specs.Comparing.{comparison_of}
-use Rattle.kb_frames.proofs.PathLaws.{variable-below}
+use Rattle.kb_numbered.proofs.PathLaws.{variable-below}
 use Rattle.kb_drive.specs.Steps.{StaysAtInputs}
 use Rattle.kb_drive.proofs.FrontLaws.{conditions_both, front_at, passes_term}
 

@@ -1,5 +1,5 @@
 -- The int steps lead on, by the laws of kb_stepint: what is seen of an input stays, and fewer takes can follow.
-use Rattle.std.proofs.Common.{◌≡◌, ℕ, ◌+◌, ◌-◌, ◌*◌, ◌<◌, ◌≤◌, ℤ, Bool, true, false, List, [], ◌∷◌, ◌++◌, length, take, nat_le, Some, refl, sym, ap, subst, ◌∙◌, if◌then◌else◌, arith}
+use Rattle.std.proofs.Common.{◌≡◌, ℕ, ◌+◌, ◌-◌, ◌*◌, ◌<◌, ◌≤◌, ℤ, Bool, true, false, List, [], ◌∷◌, ◌++◌, length, take, nat_le, refl, sym, ap, subst, ◌∙◌, if◌then◌else◌, arith}
 use Rattle.std.specs.List.{filter_map}
 use Rattle.std.specs.Option.{option_map_or}
 use Rattle.std.proofs.lemmas.Bool.{leb-false}
@@ -11,22 +11,20 @@ use Rattle.kb_heap.specs.declared.bounds.Bound.TheVariants.{Steps}
 use Rattle.kb_heap.specs.declared.bounds.Bounds.{Bounds}
 use Rattle.kb_heap.specs.declared.heap.Input.{Input}
 use Rattle.kb_link.specs.World.{World}
-use Rattle.kb_names.specs.declared.types.JType.{JType}
 use Rattle.kb_semantics.specs.Config.{has_room, instruction_at}
 use Rattle.kb_semantics.specs.Ways.{counted}
-use Rattle.kb_terms.specs.Terms.{variables_of}
 use Rattle.kb_picture.specs.declared.choice.Choice.{Choice}
 use Rattle.kb_picture.specs.declared.picture.Origin.{Origin}
 use Rattle.kb_picture.specs.declared.picture.Origin.TheVariants.{Arg}
 use Rattle.kb_picture.specs.declared.picture.Picture.{Picture}
 use Rattle.kb_picture.specs.declared.picture.PlaceLists.{PlaceLists}
 use Rattle.kb_picture.specs.declared.picture.Seen.{Seen}
-use Rattle.kb_picture.specs.declared.picture.Seen.TheVariants as seens
+use Rattle.kb_picture.specs.Growth.{after_int_read}
 use Rattle.kb_picture.specs.Instances.{variable_value, variable_values}
 use Rattle.kb_picture.specs.Laws.{with_seen}
 use Rattle.kb_picture.specs.Places.{slot_value}
-use Rattle.kb_picture.specs.Queries.{kind_for}
 use Rattle.kb_picture.specs.Shapes.{HasShape}
+use Rattle.kb_picture.specs.WellFormed.{variables_seen}
 use Rattle.kb_picture.proofs.ShapeLaws.{same_places}
 use Rattle.kb_picture.proofs.PlaceLaws.{places_seen}
 use Rattle.kb_frames.specs.declared.frame.SymFrame.{SymFrame}
@@ -34,29 +32,32 @@ use Rattle.kb_frames.specs.declared.state.Stage.{Stage}
 use Rattle.kb_frames.specs.declared.state.Stage.TheVariants.{Begins, Runs}
 use Rattle.kb_frames.specs.declared.value.Outcome.{Outcome}
 use Rattle.kb_frames.specs.declared.value.Outcome.TheVariants.{Asks, Goes, Ends, Cut}
-use Rattle.kb_frames.specs.Lent.{begun, begun_stage, read_count, read_int, stack_of, transfers_of, with_frame, with_nodes}
-use Rattle.kb_frames.specs.Measure.{choices_left, left_of, questions_of, unread_at}
+use Rattle.kb_frames.specs.Lent.{begun, begun_stage, read_count, stack_of, transfers_of, with_frame}
+use Rattle.kb_ways.specs.Measure.{choices_left, left_of, questions_of, unread_at}
 use Rattle.kb_frames.specs.Next.{argument_next, instruction_next, method_now, next_is_int, offset_now}
 use Rattle.kb_frames.specs.State.{State}
-use Rattle.kb_stepint.specs.Asked.{all_asked}
+use Rattle.kb_ways.specs.Asked.{all_asked}
 use Rattle.kb_stepint.specs.Choices.{choices_of, conditions_of}
-use Rattle.kb_stepint.specs.Effects.{plan_of}
+use Rattle.kb_stepint.specs.Effects.{plan_of, effect_of}
 use Rattle.kb_stepint.specs.Laws.{IsAtInts}
-use Rattle.kb_stepint.specs.Simulation.{GetsOn}
-use Rattle.kb_stepint.specs.Takes.{answered, taken, takes_next, takes_up}
-use Rattle.kb_stepint.specs.Ways.{Take, Way, Goes as WayGoes, Jumps, Leaves, Throws, Fails, carries_out, ill_typed, went}
-use Rattle.kb_stepint.proofs.GrowLaws.{Grows, all_asked_grows, front_itself, if_has, option_has}
+use Rattle.kb_ways.specs.Simulation.{GetsOn}
+use Rattle.kb_stepint.specs.Takes.{taken, reads_argument}
+use Rattle.kb_ways.specs.Plans.{takes_next, takes_up, carried_out}
+use Rattle.kb_ways.specs.Ways.{Take, Way, Goes as WayGoes, Jumps, Leaves, Throws, Fails, carries_out, ill_typed, went}
+use Rattle.kb_ways.proofs.GrowLaws.{Grows, all_asked_grows, front_itself, if_has, option_has, HasMore}
 use Rattle.kb_stepint.proofs.AddedLaws.{adds}
-use Rattle.kb_stepint.proofs.KeepLaws.{kept, reads, takes_next_stays}
-use Rattle.kb_stepint.proofs.MeasureLaws.{few_next, gets_on}
+use Rattle.kb_stepint.proofs.KeepLaws.{kept, reads, takes_next_stays, effect_makes}
+use Rattle.kb_ways.proofs.MeasureLaws.{few_next}
+use Rattle.kb_stepint.proofs.MeasureLaws.{gets_on}
 use Rattle.kb_stepint.proofs.OutcomeLaws.{follows}
 use Rattle.kb_stepint.proofs.ReachedLaws.{has_input}
-use Rattle.kb_stepref.specs.Laws.{GoesOnReached}
-use Rattle.kb_stepref.specs.Reached.{IsHeapReached}
-use Rattle.kb_stepref.proofs.ReachedLaws.{ints_keep}
+use Rattle.kb_drive.specs.Reached.{GoesOnReached, IsHeapReached}
+use Rattle.kb_drive.proofs.IntsStay.{ints_keep}
 use Rattle.kb_drive.specs.Steps.{GoesOn, LeadsOn, StaysAtInputs, rank_of}
 use Rattle.kb_drive.proofs.EndLaws.{endings_there}
 use Rattle.kb_drive.proofs.FrontLaws.{take_append}
+use Rattle.kb_drive.proofs.HeapLaws.{at_ints}
+use Rattle.kb_picture.specs.declared.picture.Seen.TheVariants as seens
 
 -- ---- what stays at inputs
 
@@ -97,11 +98,14 @@ module _ (picture : Picture) (slot : Origin × Seen) where
         ∙ take_append (variable_values picture input before.places.objects) (further input before.places.objects);
   }
 
+pub stays_int : (picture : Picture) (slot : Origin) → StaysAtInputs picture (after_int_read picture slot)
+unfolding after_int_read
+stays_int picture slot = stays_seen picture (slot, seens.Int (length (variables_seen picture)))
+
 stays_behind : (world : World) (bounds : Bounds) (old : State) (choice : Choice) → StaysAtInputs old.picture (taken world bounds old choice).state.picture
 stays_behind world bounds old choice =
     option_has (λ (take : Take). StaysAtInputs old.picture take.state.picture) (argument_next world old.method old.stage)
-    (λ (type : JType). record { state = read_int old (kind_for (Some type)); outcome = Asks }) (takes_next world bounds choice old)
-    (λ type. stays_seen old.picture (Arg (read_count old.stage), seens.Int (variables_of old.nodes)))
+    (reads_argument old) (takes_next plan_of world bounds choice old) (λ type. stays_int old.picture (Arg (read_count old.stage)))
     (subst (StaysAtInputs old.picture) (sym (takes_next_stays world bounds choice old).picture) (stays_itself old.picture))
 
 -- ---- how many takes can follow
@@ -150,28 +154,30 @@ module _ (world : World) (bounds : Bounds) (old : State) where
     went_few next state (Throws class) running = tt
     went_few next state Fails running = tt
 
-    answers_few : (choice : Choice) (state : State) (found : Instr × ℕ) → IsRunning state.stage → Few (answered world bounds choice state found)
+    answers_few : (choice : Choice) (state : State) (found : Instr × ℕ) → IsRunning state.stage → Few (carried_out plan_of world bounds choice state found)
     answers_few choice state found running =
         let conditions = conditions_of found.0 (stack_of state.stage) choice in
         let grown : Grows state (all_asked state conditions) = all_asked_grows conditions state in
         let same : (all_asked state conditions).stage ≡ state.stage = ap (λ (s : State). s.stage) grown.rest in
-        let plan = plan_of world (all_asked state conditions) choice found.0 in
-        went_few found.1 (with_nodes (all_asked state conditions) plan.nodes) plan.way (subst IsRunning (sym same) running)
+        let effect = effect_of world (all_asked state conditions) choice found.0 in
+        let more : HasMore (all_asked state conditions) effect.state = effect_makes world (all_asked state conditions) choice found.0 in
+        let now : effect.state.stage ≡ state.stage = ap (λ (s : State). s.stage) more.rest ∙ same in
+        went_few found.1 effect.state effect.way (subst IsRunning (sym now) running)
 
-    takes_up_few : (choice : Choice) (state : State) → IsRunning state.stage → Few (takes_up world bounds choice state)
+    takes_up_few : (choice : Choice) (state : State) → IsRunning state.stage → Few (takes_up plan_of world bounds choice state)
     takes_up_few choice state running =
-        option_has Few (instruction_at world (method_now state.method state.stage) (offset_now state.stage)) (answered world bounds choice state) (ill_typed world state)
+        option_has Few (instruction_at world (method_now state.method state.stage) (offset_now state.stage)) (carried_out plan_of world bounds choice state) (ill_typed world state)
         (λ found. answers_few choice state found running) tt
 
-  takes_next_few : (choice : Choice) → Few (takes_next world bounds choice old)
+  takes_next_few : (choice : Choice) → Few (takes_next plan_of world bounds choice old)
   takes_next_few choice = go (nat_le bounds.run.steps old.carried) refl where
-    go : (b : Bool) → nat_le bounds.run.steps old.carried ≡ b → Few (if b then record { state = old; outcome = Cut Steps } else takes_up world bounds choice (begun world old))
+    go : (b : Bool) → nat_le bounds.run.steps old.carried ≡ b → Few (if b then record { state = old; outcome = Cut Steps } else takes_up plan_of world bounds choice (begun world old))
     go true e = tt
     go false e = takes_up_few (leb-false bounds.run.steps old.carried e) choice (begun world old) (begun_runs world old old.stage)
 
   taken_few : (choice : Choice) → Few (taken world bounds old choice)
   taken_few choice =
-      option_has Few (argument_next world old.method old.stage) (λ (type : JType). record { state = read_int old (kind_for (Some type)); outcome = Asks }) (takes_next world bounds choice old)
+      option_has Few (argument_next world old.method old.stage) (reads_argument old) (takes_next plan_of world bounds choice old)
       (λ type. tt) (takes_next_few choice)
 
 asks_less : (steps was now before after : ℕ) → now ≡ was → after < before → 6 * (steps - now) + after < 6 * (steps - was) + before
@@ -200,7 +206,7 @@ goes_reached world state (Cut bound) is = tt
 pub ints_lead : (world : World) (bounds : Bounds) (state : State) (choice : Choice) → IsHeapReached world state → next_is_int world state ≡ true → Has (choices_of world state bounds) choice
     → LeadsOn world bounds state (taken world bounds state choice)
 ints_lead world bounds state choice is ints has =
-    let at : IsAtInts world state = record { reached = is.reached; next = ints } in
+    let at : IsAtInts world state = at_ints world state is ints in
     let after : Take = taken world bounds state choice in
     record {
       outcome = follows world bounds state choice at has;

@@ -24,10 +24,11 @@ use Rattle.kb_picture.specs.Queries.{query_of_path}
 use Rattle.kb_picture.specs.WellFormed.{IsWellFormed}
 use Rattle.kb_frames.specs.declared.value.Outcome.TheVariants.{Ends, Cut}
 use Rattle.kb_frames.specs.Cuts.{IsLicensed, setting_of}
-use Rattle.kb_frames.specs.Paths.{numbered_ended, path_numbering, path_of}
+use Rattle.kb_numbered.specs.Numbered.{numbered_ended}
+use Rattle.kb_frames.specs.Paths.{path_numbering, path_of}
 use Rattle.kb_frames.specs.StandsFor.{IsInstanceOf, reading_at}
 use Rattle.kb_frames.specs.Comparing.{comparison_at, comparison_of}
-use Rattle.kb_stepint.specs.Ways.{Take}
+use Rattle.kb_ways.specs.Ways.{Take}
 use Rattle.kb_drive.specs.Compared.{ComparesAsRuns, IsComparisonMade, IsSuchComparison}
 use Rattle.kb_drive.specs.EmittedLaws.{InputsAreOfStates, IsOfState, input_for}
 use Rattle.kb_drive.specs.Explorable.{IsExplorable}
@@ -35,7 +36,7 @@ use Rattle.kb_drive.specs.Pieces.{IsBehind}
 use Rattle.kb_drive.specs.ReadFirst.{AreReadFirst, SeesWhatIsRead}
 use Rattle.kb_drive.specs.Runs.{starts_of}
 use Rattle.kb_drive.specs.StatePaths.{IsPathOf}
-use Rattle.kb_frames.specs.Endings.{EndingMeans, EndingsMean, ended_in}
+use Rattle.kb_frames_laws.specs.Endings.{EndingMeans, EndingsMean, ended_in}
 use Rattle.kb_drive.specs.Stops.{IsUnserved}
 use Rattle.kb_drive.specs.Walks.{IsRightPath}
 use Rattle.kb_drive.proofs.RunLaws.{run_ends}

@@ -32,3 +32,6 @@ pub mod ValuedLaws
 pub mod WaitLaws
 pub mod WalkLaws
 pub mod WholeLaws
+pub mod IntsStay
+pub mod HeapMethodLaws
+pub mod HeapLaws

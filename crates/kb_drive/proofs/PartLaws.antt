@@ -9,7 +9,6 @@ use Rattle.kb_link.specs.World.{World}
 use Rattle.kb_picture.specs.declared.choice.Choice.{Choice}
 use Rattle.kb_picture.specs.declared.path.Path.{Path}
 use Rattle.kb_frames.specs.StandsFor.{IsInstanceOf}
-use Rattle.kb_stepint.specs.Simulation.{ExactlyOneIs, NoneIs}
 use Rattle.kb_drive.specs.declared.piece.Piece.{Piece}
 use Rattle.kb_drive.specs.declared.waiting.Waiting.{Waiting}
 use Rattle.kb_drive.specs.declared.follow.Next.{Next}
@@ -75,15 +74,15 @@ parts_with listed waiting Leaves = refl
 -- ---- inputs of the alternatives of a piece
 
 module _ (world : World) (bounds : Bounds) (piece : Piece) (input : Input) where
-  abbrev Takes : Choice → Type 0
-  Takes choice = IsInstanceOf (taken_at world bounds piece.state choice).state input
+  abbrev Takes : Choice → Input → Type 0
+  Takes choice i = IsInstanceOf (taken_at world bounds piece.state choice).state i
 
-  pub none_of : (offered number : ℕ) (choices : List Choice) → NoneIs Takes choices
+  pub none_of : (offered number : ℕ) (choices : List Choice) → NoneHas Takes choices input
       → NoneHas (IsInPart world bounds) (map Waits (alternatives_from piece offered number choices)) input
   none_of offered number [] none = tt
   none_of offered number (choice ∷ others) none = (none.0, none_of offered (suc number) others none.1)
 
-  pub one_of : (offered number : ℕ) (choices : List Choice) → ExactlyOneIs Takes choices
+  pub one_of : (offered number : ℕ) (choices : List Choice) → ExactlyOneHas Takes choices input
       → ExactlyOneHas (IsInPart world bounds) (map Waits (alternatives_from piece offered number choices)) input
   one_of offered number [] one = absurd one
   one_of offered number (choice ∷ others) one = elim one [
@@ -92,7 +91,7 @@ module _ (world : World) (bounds : Bounds) (piece : Piece) (input : Input) where
   ]
 
   -- where no alternative has it
-  pub none_taken : (choices : List Choice) → ((choice : Choice) → Has choices choice → Takes choice → ⊥) → NoneIs Takes choices
+  pub none_taken : (choices : List Choice) → ((choice : Choice) → Has choices choice → Takes choice input → ⊥) → NoneHas Takes choices input
   none_taken [] none = tt
   none_taken (choice ∷ others) none = (none choice (0, refl), none_taken others (λ other has. none other (suc has.0, has.1)))
 

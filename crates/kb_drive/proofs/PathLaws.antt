@@ -5,7 +5,7 @@ use Rattle.kb_picture.specs.declared.path.Leaf.{Leaf}
 use Rattle.kb_frames.specs.State.{State}
 use Rattle.kb_frames.specs.States.{IsLeafIn, IsState}
 use Rattle.kb_frames.proofs.FormedPaths.{roots_are_terms, well_formed}
-use Rattle.kb_frames.proofs.MeaningLaws.{means}
+use Rattle.kb_frames_laws.proofs.MeaningLaws.{means}
 use Rattle.kb_drive.specs.StatePaths.{IsPathOf}
 
 pub path_is : (world : World) (state : State) (decisions : List ℕ) (leaf : Leaf) → IsState world state → IsLeafIn world state leaf

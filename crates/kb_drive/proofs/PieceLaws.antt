@@ -21,19 +21,18 @@ use Rattle.kb_frames.specs.Cuts.{setting_of}
 use Rattle.kb_frames.specs.StandsFor.{IsInstanceOf, StandsFor, written_by}
 use Rattle.kb_frames.specs.State.{State}
 use Rattle.kb_frames.specs.Comparing.{comparison_of}
-use Rattle.kb_stepint.specs.Simulation.{IsComparedBy as IsComparedByStep, IsRead as IsReadByStep, IsReadAt}
-use Rattle.kb_stepint.specs.Ways.{Take}
+use Rattle.kb_ways.specs.Simulation.{IsComparedBy as IsComparedByStep, IsRead as IsReadByStep, IsReadAt}
+use Rattle.kb_ways.specs.Ways.{Take}
 use Rattle.kb_drive.specs.declared.piece.Piece.{Piece}
-use Rattle.kb_stepint.specs.Reached.{IsReached}
+use Rattle.kb_ways.specs.Reached.{IsReached}
 use Rattle.kb_drive.specs.Compared.{IsComparisonMade, IsSuchComparison}
 use Rattle.kb_drive.specs.Pieces.{AreMadeIn, AreValuesFor, HasOutcome, IsBehind, IsPiece}
 use Rattle.kb_drive.specs.ReadFirst.{AreReadFirst, IsReadFirst, SomeReadsAt}
 use Rattle.kb_drive.specs.Runs.{starts_of}
-use Rattle.kb_frames.specs.Meant.{with_first}
+use Rattle.kb_frames_laws.specs.Meant.{with_first}
 use Rattle.kb_drive.specs.Steps.{LeadsOn}
-use Rattle.kb_drive.proofs.FrontLaws.{at_front, front_at, front_length, values_stay, within_or_not}
+use Rattle.kb_drive.proofs.FrontLaws.{at_front, front_at, front_length, values_stay, within_or_not, condition_term}
 use Rattle.kb_drive.proofs.GrowLaws.{comparison_stays, met_before, seen_argument}
-use Rattle.kb_drive.proofs.FrontLaws.{condition_term}
 
 module _ (world : World) (target : MethodId) (bounds : Bounds) (piece : Piece) (is : IsPiece world target bounds piece) (after : Take)
     (leads : LeadsOn world bounds piece.state after) where

@@ -1,5 +1,5 @@
 -- Where a take of a step on references ends a run, the ending states what is there in the state.
-use Rattle.std.proofs.Common.{◌≡◌, ℕ, ◌<◌, Bool, List, [], ◌∷◌, length, drop, slice_get, nat_le, Option, Some, None, cond, refl, ap, subst, option_and_then, if◌then◌else◌, arith}
+use Rattle.std.proofs.Common.{◌≡◌, ℕ, ◌<◌, Bool, List, [], ◌∷◌, length, drop, slice_get, nat_le, Option, Some, None, cond, refl, ap, if◌then◌else◌, arith, ◌∙◌}
 use Rattle.std.specs.Option.{option_map_or}
 use Rattle.kb_class.specs.Naming.{Has}
 use Rattle.kb_code.specs.declared.instruction.Instr.{Instr}
@@ -8,9 +8,7 @@ use Rattle.kb_heap.specs.declared.bounds.Bound.{Bound}
 use Rattle.kb_heap.specs.declared.bounds.Bounds.{Bounds}
 use Rattle.kb_link.specs.World.{World}
 use Rattle.kb_link.specs.declared.slots.FieldSlot.{FieldSlot}
-use Rattle.kb_names.specs.declared.types.JType.{JType}
-use Rattle.kb_names.specs.declared.types.JType.TheVariants as types
-use Rattle.kb_semantics.specs.Config.{has_room, instruction_at, result_of}
+use Rattle.kb_semantics.specs.Config.{has_room, instruction_at}
 use Rattle.kb_picture.specs.declared.picture.Origin.{Origin}
 use Rattle.kb_picture.specs.declared.picture.Origin.TheVariants.{Arg, Field, Element}
 use Rattle.kb_frames.specs.declared.state.Stage.{Stage}
@@ -22,22 +20,27 @@ use Rattle.kb_frames.specs.Next.{method_now, offset_now}
 use Rattle.kb_frames.specs.StandsFor.{out_of}
 use Rattle.kb_frames.specs.State.{State}
 use Rattle.kb_frames.specs.States.{Each, IsOutIn, IsStage, IsSymValue}
-use Rattle.kb_stepint.specs.Effects.{with_stack}
-use Rattle.kb_stepint.specs.Ways.{Take, Leaves, Fails, ill_typed}
-use Rattle.kb_stepint.proofs.GrowLaws.{if_has, option_has}
-use Rattle.kb_stepint.proofs.ItemLaws.{option_has_at}
-use Rattle.kb_stepint.proofs.SoundLaws.{begun_sound, sound_reached}
+use Rattle.kb_ways.specs.Ways.{with_stack, Take, Fails, ill_typed}
+use Rattle.kb_ways.proofs.GrowLaws.{if_has, option_has}
+use Rattle.kb_ways.proofs.ItemLaws.{option_has_at}
+use Rattle.kb_ways.proofs.SoundLaws.{begun_sound, sound_reached}
 use Rattle.kb_stepref.specs.Choices.{alternatives, only}
-use Rattle.kb_stepref.specs.Effects.{Planned, branch_where, got, in_local, is_local, plain, plan_of, planned, put, put_where, result_in}
+use Rattle.kb_ways.specs.Plans.{Planned, plain, planned, carried_out, takes_next, takes_up, returns_value}
+use Rattle.kb_stepref.specs.Effects.{branch_where, got, in_local, is_local, plan_of, put, put_where, puts_kept}
 use Rattle.kb_stepref.specs.Fields.{field_named, has_place, held}
 use Rattle.kb_stepref.specs.Laws.{IsAtReferences, OfTakes}
-use Rattle.kb_stepref.specs.Operands.{object_and_value, one_reference, reference, two_references}
-use Rattle.kb_stepref.specs.Questions.{Question, Reads, question_of}
-use Rattle.kb_stepref.specs.Takes.{answered, answers, carried_out, cut_where, goes_behind, passed_by, takes_next, takes_up}
-use Rattle.kb_stepref.proofs.ReachedLaws.{now_heap}
-use Rattle.kb_stepref.proofs.SoundLaws.{none_asked, reference_is}
+use Rattle.kb_ways.specs.Operands.{an_object_and_value, a_reference, reference, two_references}
+use Rattle.kb_ways.specs.declared.question.Question.{Question}
+use Rattle.kb_ways.specs.declared.question.Question.TheVariants.{Reads}
+use Rattle.kb_stepref.specs.Questions.{question_of}
+use Rattle.kb_ways.specs.Questions.{answered, answers, cut_where, goes_behind, passed_by}
+use Rattle.kb_stepref.proofs.ReachedLaws.{now_known}
+use Rattle.kb_ways.proofs.KeptLaws.{reference_is, returns_has, kept_more, kept_there}
+use Rattle.kb_stepref.proofs.SoundLaws.{none_asked}
 use Rattle.kb_drive.specs.Steps.{EndsIn}
 use Rattle.kb_drive.proofs.EndLaws.{LeavesIn, ill_ends, went_ends}
+use Rattle.kb_picture.specs.declared.choice.Choice.TheVariants.{Only}
+use Rattle.kb_ways.specs.Kept.{kept, kept_in}
 
 -- a value that is there is stated as what is there, where no location is
 sym_in : (world : World) (state : State) (value : SymValue) → state.picture.locs ≡ [] → IsSymValue world state value → IsOutIn world state (length state.made) (out_of value)
@@ -54,20 +57,6 @@ sym_in world state (Loc number) none is =
 stack_there : (world : World) (state : State) (stage : Stage) → IsStage world state stage → Each (IsSymValue world state) (stack_of stage)
 stack_there world state (Begins read) is = λ i value at. absurd cc
 stack_there world state (Runs frame callers) is = is.0.stack
-
--- what a reference is returned as is itself
-result_same : (value : SymValue) (type : Option JType) (result : SymValue) → option_and_then (result_in value) type ≡ Some result → value ≡ result
-result_same value None result e = absurd cc
-result_same value (Some (types.Class name)) result e = cc
-result_same value (Some (types.Array component)) result e = cc
-result_same value (Some types.Bool) result e = absurd cc
-result_same value (Some types.Byte) result e = absurd cc
-result_same value (Some types.Char) result e = absurd cc
-result_same value (Some types.Short) result e = absurd cc
-result_same value (Some types.Int) result e = absurd cc
-result_same value (Some types.Long) result e = absurd cc
-result_same value (Some types.Float) result e = absurd cc
-result_same value (Some types.Double) result e = absurd cc
 
 -- ---- ways out of the method
 
@@ -97,7 +86,8 @@ module _ (world : World) (state : State) (none : state.picture.locs ≡ []) (sta
 
   where_leaves : (field : FieldSlot) (object value : SymValue) → PlanLeaves (put_where world state field object value)
   where_leaves field object value =
-      if_has PlanLeaves (has_room world (method_now state.method state.stage) (length (drop 2 (stack_of state.stage)))) _ (plain state Fails) tt tt
+      if_has PlanLeaves (has_room world (method_now state.method state.stage) (length (drop 2 (stack_of state.stage)))) _ (plain state Fails)
+      (planned_leaves (kept field.kind value state) (puts_kept state object field.slot) (λ it. tt)) tt
 
   there_leaves : (field : FieldSlot) (object value : SymValue) → PlanLeaves (if has_place world state field object then put_where world state field object value else plain state Fails)
   there_leaves field object value = if_has PlanLeaves (has_place world state field object) _ (plain state Fails) (where_leaves field object value) tt
@@ -110,23 +100,22 @@ module _ (world : World) (state : State) (none : state.picture.locs ≡ []) (sta
   put_leaves field (New number) value = there_leaves field (New number) value
   put_leaves field (Loc number) value = there_leaves field (Loc number) value
 
-  returned_leaves : (value : SymValue) → one_reference (stack_of state.stage) ≡ Some value
-      → PlanLeaves (planned state (option_and_then (result_in value) (result_of world (method_now state.method state.stage))) (λ result. plain state (Leaves (Some result))))
+  returned_leaves : (value : SymValue) → a_reference (stack_of state.stage) ≡ Some value → PlanLeaves (returns_value world state value)
   returned_leaves value e =
-      option_has_at PlanLeaves (option_and_then (result_in value) (result_of world (method_now state.method state.stage))) (λ result. plain state (Leaves (Some result))) (plain state Fails)
-      (λ result at. subst (λ (v : SymValue). IsOutIn world state (length state.made) (out_of v)) (result_same value (result_of world (method_now state.method state.stage)) result at)
-      (sym_in world state value none (stack 0 value (reference_is (slice_get (stack_of state.stage) 0) value e)))) tt
+      let there : IsSymValue world state value = stack 0 value (reference_is (slice_get (stack_of state.stage) 0) value e) in
+      returns_has PlanLeaves world state value
+      (λ type. sym_in world (kept_in type value state).0 (kept_in type value state).1 (ap (λ (s : State). s.picture.locs) (kept_more type value state).rest ∙ none) (kept_there world state type value there)) tt
 
-  plan_leaves : (instr : Instr) → PlanLeaves (plan_of world state instr)
+  plan_leaves : (instr : Instr) → PlanLeaves (plan_of world state Only instr)
   plan_leaves (instrs.LoadRef k) = planned_leaves (reference (cond (is_local world state k) (local_in state.stage k) None)) _ (λ value. tt)
-  plan_leaves (instrs.StoreRef k) = planned_leaves (one_reference (stack_of state.stage)) _ (λ value. local_leaves k value _)
+  plan_leaves (instrs.StoreRef k) = planned_leaves (a_reference (stack_of state.stage)) _ (λ value. local_leaves k value _)
   plan_leaves (instrs.IfSame want target) = planned_leaves (two_references (stack_of state.stage)) _ (λ t. branch_leaves _ target 2)
-  plan_leaves (instrs.IfNull want target) = planned_leaves (one_reference (stack_of state.stage)) _ (λ value. branch_leaves _ target 1)
-  plan_leaves instrs.ReturnRef = option_has_at PlanLeaves (one_reference (stack_of state.stage)) _ (plain state Fails) returned_leaves tt
+  plan_leaves (instrs.IfNull want target) = planned_leaves (a_reference (stack_of state.stage)) _ (λ value. branch_leaves _ target 1)
+  plan_leaves instrs.ReturnRef = option_has_at PlanLeaves (a_reference (stack_of state.stage)) _ (plain state Fails) returned_leaves tt
   plan_leaves (instrs.GetField entry) =
-      planned_leaves (field_named world state entry) _ (λ field. planned_leaves (one_reference (stack_of state.stage)) (got world state field) (got_leaves field))
+      planned_leaves (field_named world state entry) _ (λ field. planned_leaves (a_reference (stack_of state.stage)) (got world state field) (got_leaves field))
   plan_leaves (instrs.PutField entry) =
-      planned_leaves (field_named world state entry) _ (λ field. planned_leaves (object_and_value field.kind (stack_of state.stage)) _ (λ t. put_leaves field t.0 t.1))
+      planned_leaves (field_named world state entry) _ (λ field. planned_leaves (an_object_and_value field.kind (stack_of state.stage)) _ (λ t. put_leaves field t.0 t.1))
   plan_leaves _ = tt
 
 -- ---- endings
@@ -135,10 +124,10 @@ module _ (world : World) (bounds : Bounds) where
   abbrev Ends : Take → Type 0
   Ends take = EndsIn world take.state take.outcome
 
-  takes_up_ends : (state : State) → state.picture.locs ≡ [] → IsStage world state state.stage → Ends (takes_up world bounds state)
+  takes_up_ends : (state : State) → state.picture.locs ≡ [] → IsStage world state state.stage → Ends (takes_up plan_of world bounds Only state)
   takes_up_ends state none is =
-      option_has Ends (instruction_at world (method_now state.method state.stage) (offset_now state.stage)) (carried_out world bounds state) (ill_typed world state)
-      (λ found. went_ends world bounds found.1 (plan_of world state found.0).state (plan_of world state found.0).way
+      option_has Ends (instruction_at world (method_now state.method state.stage) (offset_now state.stage)) (carried_out plan_of world bounds Only state) (ill_typed world state)
+      (λ found. went_ends world bounds found.1 (plan_of world state Only found.0).state (plan_of world state Only found.0).way
       (plan_leaves world state none (stack_there world state state.stage is) found.0))
       (ill_ends world bounds state)
 
@@ -146,12 +135,12 @@ module _ (world : World) (bounds : Bounds) where
   cut_ends None state take h = h refl
   cut_ends (Some bound) state take h = tt
 
-  takes_next_ends : (state : State) → IsAtReferences world state → question_of world state bounds ≡ None → Ends (takes_next world bounds state)
+  takes_next_ends : (state : State) → IsAtReferences world state → question_of world state bounds ≡ None → Ends (takes_next plan_of world bounds Only state)
   takes_next_ends state at asks =
-      if_has Ends (nat_le bounds.run.steps state.carried) _ (takes_up world bounds (begun world state)) tt
-      (takes_up_ends (begun world state) at.reached.known (begun_sound world state (sound_reached world state at.reached.reached) (none_asked world bounds state asks)).stage)
+      if_has Ends (nat_le bounds.run.steps state.carried) _ (takes_up plan_of world bounds Only (begun world state)) tt
+      (takes_up_ends (begun world state) at.known (begun_sound world state (sound_reached world state at.reached at.alone at.unhandled) (none_asked world bounds state asks)).stage)
 
-  behind_ends : (slot : Origin) (state : State) → state.picture.locs ≡ [] → IsStage world state state.stage → Ends (goes_behind world bounds slot state)
+  behind_ends : (slot : Origin) (state : State) → state.picture.locs ≡ [] → IsStage world state state.stage → Ends (goes_behind plan_of world bounds slot state)
   behind_ends (Arg number) state none is = tt
   behind_ends (Field object place) state none is = takes_up_ends state none is
   behind_ends (Element array index) state none is = takes_up_ends state none is
@@ -160,9 +149,9 @@ module _ (world : World) (bounds : Bounds) where
 pub references_end : OfTakes (λ world bounds state take. EndsIn world take.state take.outcome)
 references_end world bounds state choice range at has = go (question_of world state bounds) refl has where
   go : (question : Option Question) → question_of world state bounds ≡ question → Has (option_map_or (alternatives world state bounds) question only) choice
-      → Ends world bounds (option_map_or (answers world bounds choice state) question (takes_next world bounds state))
+      → Ends world bounds (option_map_or (answers plan_of world bounds choice state) question (takes_next plan_of world bounds Only state))
   go None asks offered = takes_next_ends world bounds state at asks
   go (Some (Reads slot type)) asks offered =
       let told : State = answered world choice state (Reads slot type) in
-      cut_ends world bounds (passed_by choice) told (goes_behind world bounds slot told)
-      (λ passed. let heap = now_heap world bounds state at slot type asks choice range offered passed in behind_ends world bounds slot told heap.known heap.sound.stage)
+      cut_ends world bounds (passed_by choice) told (goes_behind plan_of world bounds slot told)
+      (λ passed. let heap = now_known world bounds state at slot type asks choice range offered passed in behind_ends world bounds slot told heap.known heap.sound.stage)

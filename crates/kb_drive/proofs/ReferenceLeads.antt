@@ -10,7 +10,6 @@ use Rattle.kb_heap.specs.declared.bounds.Bounds.{Bounds}
 use Rattle.kb_link.specs.World.{World}
 use Rattle.kb_names.specs.declared.types.JType.{JType}
 use Rattle.kb_semantics.specs.Config.{instruction_at}
-use Rattle.kb_terms.specs.Terms.{variables_of}
 use Rattle.kb_picture.specs.declared.choice.Choice.{Choice}
 use Rattle.kb_picture.specs.declared.choice.Choice.TheVariants as choices
 use Rattle.kb_picture.specs.declared.picture.Origin.{Origin}
@@ -23,30 +22,39 @@ use Rattle.kb_picture.specs.Growth.{after_read}
 use Rattle.kb_picture.specs.Instances.{variable_values}
 use Rattle.kb_picture.specs.Queries.{kind_for}
 use Rattle.kb_picture.proofs.GrownShapes.{as_many, choice_places}
+use Rattle.kb_picture.specs.WellTyped.{is_reference_type}
 use Rattle.kb_frames.specs.declared.value.Outcome.TheVariants.{Cut}
 use Rattle.kb_frames.specs.FirstReads.{first_int, first_reference}
 use Rattle.kb_frames.specs.Lent.{begun}
-use Rattle.kb_frames.specs.Next.{is_reference, method_now, offset_now}
+use Rattle.kb_frames.specs.Next.{method_now, offset_now}
 use Rattle.kb_frames.specs.State.{State}
-use Rattle.kb_stepint.specs.Ways.{Take, ill_typed}
-use Rattle.kb_stepint.proofs.GrowLaws.{front_itself, if_has, option_has}
+use Rattle.kb_ways.specs.Ways.{Take, ill_typed}
+use Rattle.kb_ways.proofs.GrowLaws.{front_itself, if_has, option_has}
 use Rattle.kb_stepref.specs.Choices.{choices_of}
 use Rattle.kb_stepref.specs.Effects.{plan_of}
-use Rattle.kb_stepref.specs.Laws.{AreInRange, IsAtReferences}
-use Rattle.kb_stepref.specs.Questions.{Question, Reads, question_of}
-use Rattle.kb_stepref.specs.Takes.{answered, answers, carried_out, cut_where, goes_behind, passed_by, taken, takes_next, takes_up}
+use Rattle.kb_lazy.specs.Laws.{AreInRange}
+use Rattle.kb_stepref.specs.Laws.{IsAtReferences}
+use Rattle.kb_ways.specs.declared.question.Question.{Question}
+use Rattle.kb_ways.specs.declared.question.Question.TheVariants.{Reads}
+use Rattle.kb_stepref.specs.Questions.{question_of}
+use Rattle.kb_ways.specs.Questions.{answered, answers, cut_where, goes_behind, passed_by}
+use Rattle.kb_stepref.specs.Takes.{taken}
+use Rattle.kb_ways.specs.Plans.{carried_out, takes_next, takes_up}
 use Rattle.kb_stepref.proofs.FirstReadLaws.{IsAskedAt, asked}
 use Rattle.kb_stepref.proofs.FollowLaws.{follows}
 use Rattle.kb_stepref.proofs.KeepLaws.{answers_untold, compared, int_tells, kept, plan_writes, reference_tells, takes_next_untold}
 use Rattle.kb_stepref.proofs.MeasureLaws.{gets_on}
-use Rattle.kb_stepref.proofs.ReachedLaws.{goes_on_reached, has_input}
+use Rattle.kb_drive.proofs.HeapLaws.{goes_on_reached}
+use Rattle.kb_stepref.proofs.ReachedLaws.{has_input}
 use Rattle.kb_stepref.proofs.ReadInstances.{told_values}
 use Rattle.kb_stepref.proofs.SeenLaws.{read}
 use Rattle.kb_stepref.proofs.SoundLaws.{answered_stage}
 use Rattle.kb_drive.specs.Steps.{LeadsOn, StaysAtInputs}
 use Rattle.kb_drive.proofs.FrontLaws.{take_append}
-use Rattle.kb_drive.proofs.LeadLaws.{Few, IsRunning, begun_runs, less_rank, stays_itself, stays_seen, went_few}
+use Rattle.kb_drive.proofs.LeadLaws.{Few, IsRunning, begun_runs, less_rank, stays_int, stays_itself, went_few}
 use Rattle.kb_drive.proofs.ReferenceEnds.{references_end}
+use Rattle.kb_picture.specs.declared.choice.Choice.TheVariants.{Only}
+use Rattle.kb_drive.specs.Reached.{IsHeapReached}
 
 -- ---- what stays at inputs
 
@@ -76,33 +84,33 @@ stays_read world params picture slot choice unread =
 module _ (world : World) (bounds : Bounds) (old : State) (at : IsAtReferences world old) (choice : Choice) where
   stays_told : (slot : Origin) (type : JType) → question_of world old bounds ≡ Some (Reads slot type) → StaysAtInputs old.picture (answered world choice old (Reads slot type)).picture
   stays_told slot type asks =
-      if_has (λ (s : State). StaysAtInputs old.picture s.picture) (is_reference type) (first_reference world slot choice old) (first_int slot (kind_for (Some type)) old)
+      if_has (λ (s : State). StaysAtInputs old.picture s.picture) (is_reference_type type) (first_reference world slot choice old) (first_int slot (kind_for (Some type)) old)
       (subst (StaysAtInputs old.picture) (sym (reference_tells world slot choice old).picture) (stays_read world _ old.picture slot choice (asked world bounds old at slot type asks).unread))
-      (subst (StaysAtInputs old.picture) (sym (int_tells slot (kind_for (Some type)) old).picture) (stays_seen old.picture (slot, seens.Int (variables_of old.nodes))))
+      (subst (StaysAtInputs old.picture) (sym (int_tells slot (kind_for (Some type)) old).picture) (stays_int old.picture slot))
 
   stays_behind : StaysAtInputs old.picture (taken world bounds old choice).state.picture
   stays_behind = go (question_of world old bounds) refl where
     go : (question : Option Question) → question_of world old bounds ≡ question
-        → StaysAtInputs old.picture (option_map_or (answers world bounds choice old) question (takes_next world bounds old)).state.picture
+        → StaysAtInputs old.picture (option_map_or (answers plan_of world bounds choice old) question (takes_next plan_of world bounds Only old)).state.picture
     go None asks = subst (StaysAtInputs old.picture) (sym (takes_next_untold world bounds old).stays.picture) (stays_itself old.picture)
     go (Some (Reads slot type)) asks =
         subst (StaysAtInputs old.picture) (sym (answers_untold world bounds choice old (Reads slot type)).stays.picture) (stays_told slot type asks)
 
   -- ---- how many takes can follow
 
-  takes_up_few : old.carried < bounds.run.steps → (state : State) → IsRunning state.stage → Few world bounds old (takes_up world bounds state)
+  takes_up_few : old.carried < bounds.run.steps → (state : State) → IsRunning state.stage → Few world bounds old (takes_up plan_of world bounds Only state)
   takes_up_few within state running =
-      option_has (Few world bounds old) (instruction_at world (method_now state.method state.stage) (offset_now state.stage)) (carried_out world bounds state) (ill_typed world state)
-      (λ found. let plan = plan_of world state found.0 in
+      option_has (Few world bounds old) (instruction_at world (method_now state.method state.stage) (offset_now state.stage)) (carried_out plan_of world bounds Only state) (ill_typed world state)
+      (λ found. let plan = plan_of world state Only found.0 in
       went_few world bounds old within found.1 plan.state plan.way (subst IsRunning (sym (plan_writes world state found.0).stage) running)) tt
 
-  takes_next_few : Few world bounds old (takes_next world bounds old)
+  takes_next_few : Few world bounds old (takes_next plan_of world bounds Only old)
   takes_next_few = go (nat_le bounds.run.steps old.carried) refl where
-    go : (b : Bool) → nat_le bounds.run.steps old.carried ≡ b → Few world bounds old (if b then record { state = old; outcome = Cut Steps } else takes_up world bounds (begun world old))
+    go : (b : Bool) → nat_le bounds.run.steps old.carried ≡ b → Few world bounds old (if b then record { state = old; outcome = Cut Steps } else takes_up plan_of world bounds Only (begun world old))
     go true e = tt
     go false e = takes_up_few (leb-false bounds.run.steps old.carried e) (begun world old) (begun_runs world old old.stage)
 
-  behind_few : (slot : Origin) (type : JType) → IsAskedAt world bounds old slot type → Few world bounds old (goes_behind world bounds slot (answered world choice old (Reads slot type)))
+  behind_few : (slot : Origin) (type : JType) → IsAskedAt world bounds old slot type → Few world bounds old (goes_behind plan_of world bounds slot (answered world choice old (Reads slot type)))
   behind_few (Arg number) type from = tt
   behind_few (Field number place) type from =
       takes_up_few (leb-false bounds.run.steps old.carried from.within) (answered world choice old (Reads (Field number place) type))
@@ -115,16 +123,16 @@ module _ (world : World) (bounds : Bounds) (old : State) (at : IsAtReferences wo
 
   taken_few : Few world bounds old (taken world bounds old choice)
   taken_few = go (question_of world old bounds) refl where
-    go : (question : Option Question) → question_of world old bounds ≡ question → Few world bounds old (option_map_or (answers world bounds choice old) question (takes_next world bounds old))
+    go : (question : Option Question) → question_of world old bounds ≡ question → Few world bounds old (option_map_or (answers plan_of world bounds choice old) question (takes_next plan_of world bounds Only old))
     go None asks = takes_next_few
     go (Some (Reads slot type)) asks =
-        cut_few (passed_by choice) (answered world choice old (Reads slot type)) (goes_behind world bounds slot (answered world choice old (Reads slot type)))
+        cut_few (passed_by choice) (answered world choice old (Reads slot type)) (goes_behind plan_of world bounds slot (answered world choice old (Reads slot type)))
         (behind_few slot type (asked world bounds old at slot type asks).from)
 
   -- ---- all of it
 
-  pub references_lead : AreInRange bounds → Has (choices_of world old bounds) choice → LeadsOn world bounds old (taken world bounds old choice)
-  references_lead range has =
+  pub references_lead : IsHeapReached world old → AreInRange bounds → Has (choices_of world old bounds) choice → LeadsOn world bounds old (taken world bounds old choice)
+  references_lead reached range has =
       let after : Take = taken world bounds old choice in
       record {
         outcome = follows world bounds old choice range at has;
@@ -134,6 +142,6 @@ module _ (world : World) (bounds : Bounds) (old : State) (at : IsAtReferences wo
         picture = has_input world bounds old choice range at has;
         stays = stays_behind;
         ending = references_end world bounds old choice range at has;
-        leads = λ reached. goes_on_reached world bounds old choice range at has reached.sound.pool;
+        leads = λ behind. goes_on_reached world bounds old choice range reached at.next has behind.sound.pool;
         fewer = less_rank world bounds old after.state after.outcome (gets_on world bounds old choice at) taken_few;
       }

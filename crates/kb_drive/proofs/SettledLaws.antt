@@ -18,12 +18,11 @@ use Rattle.kb_frames.specs.Cuts.{setting_of}
 use Rattle.kb_frames.specs.StandsFor.{IsInstanceOf}
 use Rattle.kb_frames.specs.State.{State, start_state}
 use Rattle.kb_frames.proofs.StartLaws.{start_stands}
-use Rattle.kb_stepint.specs.Ways.{Take}
-use Rattle.kb_stepref.specs.Laws.{GoesOnReached}
-use Rattle.kb_stepref.specs.Reached.{IsHeapReached}
+use Rattle.kb_ways.specs.Ways.{Take}
+use Rattle.kb_drive.specs.Reached.{GoesOnReached, IsHeapReached}
 use Rattle.kb_drive.specs.declared.piece.Piece.{Piece}
 use Rattle.kb_drive.specs.Pieces.{AreValuesFor, HasOutcome, IsBehind, IsExplored, IsPiece, StandsForEach}
-use Rattle.kb_frames.specs.Meant.{with_first}
+use Rattle.kb_frames_laws.specs.Meant.{with_first}
 use Rattle.kb_drive.specs.Steps.{GoesOn}
 
 nothing : {A : Type 0} (i : ℕ) (x : A) → slice_get [] i ≡ Some x → ⊥

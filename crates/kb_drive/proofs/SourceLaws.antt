@@ -31,7 +31,7 @@ use Rattle.kb_drive.specs.Covers.{input_carried}
 use Rattle.kb_input.specs.Emitted.{emitted_input}
 use Rattle.kb_drive.specs.Values.{followed_by_zeros}
 use Rattle.kb_drive.specs.Following.{follows, follows_outcome, given_after, has_more, input_of_piece, path_of_piece, waits_at, waits_on, walk_with}
-use Rattle.kb_frames.specs.Endings.{ended_in}
+use Rattle.kb_frames_laws.specs.Endings.{ended_in}
 use Rattle.kb_drive.specs.Taking.{choices_at}
 use Rattle.kb_drive.specs.Values.{AreGiven, CarriesGiven, HaveValuesFrom, OfGiven, log_of, logs_given, logs_of}
 use Rattle.kb_drive.specs.Walks.{EachWaiting, IsFrom}

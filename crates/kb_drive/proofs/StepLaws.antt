@@ -12,9 +12,9 @@ use Rattle.kb_drive.specs.declared.walk.Walk.{Walk}
 use Rattle.kb_drive.specs.EmittedLaws.{InputsAreOfStates}
 use Rattle.kb_drive.specs.Following.{IsAskedWithin, IsKnown, IsTakenFrom, IsTakenOf, alternative_next, follows, taken_from, waits_on, walk_with}
 use Rattle.kb_drive.specs.Taking.{taken_at}
-use Rattle.kb_stepint.specs.Reached.{IsReached}
+use Rattle.kb_ways.specs.Reached.{IsReached}
 use Rattle.kb_drive.specs.Explorable.{IsExplorable}
-use Rattle.kb_frames.specs.Endings.{EndingsMean}
+use Rattle.kb_frames_laws.specs.Endings.{EndingsMean}
 use Rattle.kb_drive.specs.Steps.{StepsLeadOn}
 use Rattle.kb_drive.specs.Walks.{CanBeTaken, EachWaiting, IsFurther, IsRefined, IsWaiting, IsWalk}
 use Rattle.kb_drive.proofs.WalkLaws.{step_further, step_refined, step_walk}

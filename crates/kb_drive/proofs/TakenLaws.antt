@@ -15,9 +15,9 @@ use Rattle.kb_frames.specs.declared.value.Outcome.{Outcome}
 use Rattle.kb_frames.specs.declared.value.Outcome.TheVariants.{Asks, Goes, Ends, Cut}
 use Rattle.kb_frames.specs.Paths.{path_of, path_roots}
 use Rattle.kb_frames.proofs.FormedPaths.{roots_are_terms}
-use Rattle.kb_stepint.specs.Reached.{IsReached}
-use Rattle.kb_stepint.specs.Ways.{Take}
-use Rattle.kb_stepref.specs.Reached.{IsHeapReached}
+use Rattle.kb_ways.specs.Reached.{IsReached}
+use Rattle.kb_ways.specs.Ways.{Take}
+use Rattle.kb_drive.specs.Reached.{IsHeapReached}
 use Rattle.kb_drive.specs.declared.follow.Known.{Known}
 use Rattle.kb_drive.specs.declared.follow.Known.TheVariants.{Open, Met, Answered}
 use Rattle.kb_drive.specs.declared.follow.Next.{Next}
@@ -27,7 +27,7 @@ use Rattle.kb_drive.specs.declared.walk.Walk.{Walk}
 use Rattle.kb_drive.specs.Explorable.{IsExplorable}
 use Rattle.kb_drive.specs.Following.{CanFollow, CanFollowOutcome, IsAskedWithin, IsKnown, IsTakenFrom, IsTakenOf, StoodMet, alternative_next, follows, given_after, path_of_piece, taken_from, waits_on, walk_with}
 use Rattle.kb_drive.specs.Pieces.{IsBehind}
-use Rattle.kb_frames.specs.Endings.{ended_in}
+use Rattle.kb_frames_laws.specs.Endings.{ended_in}
 use Rattle.kb_drive.specs.Steps.{LeadsOn}
 use Rattle.kb_drive.specs.declared.stop.DriveStop.{DriveStop}
 use Rattle.kb_drive.specs.declared.stop.DriveStop.TheVariants.{Oracle, NoMemory}
@@ -35,7 +35,7 @@ use Rattle.kb_drive.specs.Stops.{IfOracle, IsRefused, IsUnserved}
 use Rattle.kb_drive.specs.Taking.{taken_at}
 use Rattle.kb_drive.specs.Values.{AreGiven, OfGiven}
 use Rattle.kb_drive.specs.Walks.{EachWaiting, IsFrom, IsRefined, IsWaiting, IsWalk, KeepsSources}
-use Rattle.kb_frames.proofs.EndingLaws.{endings_mean, none_beyond}
+use Rattle.kb_frames_laws.proofs.EndingLaws.{endings_mean, none_beyond}
 use Rattle.kb_drive.proofs.GivenLaws.{one_places}
 use Rattle.kb_drive.proofs.InputLaws.{inputs_of_states}
 use Rattle.kb_drive.proofs.EachLeads.{steps_lead}

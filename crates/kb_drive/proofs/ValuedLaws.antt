@@ -7,10 +7,10 @@ use Rattle.kb_frames.specs.declared.value.Outcome.{Outcome}
 use Rattle.kb_heap.specs.declared.bounds.Bounds.{Bounds}
 use Rattle.kb_link.specs.World.{World}
 use Rattle.kb_picture.specs.declared.choice.Choice.{Choice}
-use Rattle.kb_stepint.specs.Turns.{told}
-use Rattle.kb_stepint.specs.Ways.{Take}
-use Rattle.kb_stepref.specs.Laws.{AreInRange}
-use Rattle.kb_stepref.specs.Reached.{IsHeapReached}
+use Rattle.kb_ways.specs.Turns.{told}
+use Rattle.kb_ways.specs.Ways.{Take}
+use Rattle.kb_lazy.specs.Laws.{AreInRange}
+use Rattle.kb_drive.specs.Reached.{IsHeapReached}
 use Rattle.kb_terms.specs.Terms.{AreFirstValues, Extends, node_value, values}
 use Rattle.kb_terms.specs.declared.node.Node.{Node}
 use Rattle.kb_terms.proofs.Computing.{first-few}

@@ -7,10 +7,10 @@ use Rattle.kb_link.specs.World.{World}
 use Rattle.kb_semantics.specs.Inputs.{IsTypeCorrect}
 use Rattle.kb_picture.specs.declared.choice.Choice.{Choice}
 use Rattle.kb_picture.specs.declared.path.Leaf.{Leaf}
+use Rattle.kb_picture.specs.Exactly.{ExactlyOneHas, NoneHas}
 use Rattle.kb_frames.specs.Paths.{path_of}
 use Rattle.kb_frames.specs.StandsFor.{IsInstanceOf}
-use Rattle.kb_stepint.specs.Simulation.{ExactlyOneIs, NoneIs}
-use Rattle.kb_stepint.specs.Ways.{Take}
+use Rattle.kb_ways.specs.Ways.{Take}
 use Rattle.kb_drive.specs.declared.piece.Piece.{Piece}
 use Rattle.kb_drive.specs.Following.{waits_at}
 use Rattle.kb_drive.specs.Parts.{Alternative, IsInPart, Listed, Waits, alternatives_from, taken_of}
@@ -50,18 +50,18 @@ module _ (world : World) (target : MethodId) (bounds : Bounds) (alternative : Al
       correct_here : IsTypeCorrect world after.state.method input
       correct_here = subst (λ (m : MethodId). IsTypeCorrect world m input) (sym piece.explored.method) correct
 
-      one : IsInstanceOf after.state input → ExactlyOneIs (λ choice. IsInstanceOf (taken_at world bounds after.state choice).state input) (choices_at world bounds after.state)
+      one : IsInstanceOf after.state input → ExactlyOneHas (λ choice i. IsInstanceOf (taken_at world bounds after.state choice).state i) (choices_at world bounds after.state) input
       one instance_of = let stands = piece.stands input correct instance_of in leads.one input stands.0 correct_here stands.1
 
       -- whoever is an instance behind an alternative of the state is one of the state
-      none : (IsInstanceOf after.state input → ⊥) → NoneIs (λ choice. IsInstanceOf (taken_at world bounds after.state choice).state input) (choices_at world bounds after.state)
+      none : (IsInstanceOf after.state input → ⊥) → NoneHas (λ choice i. IsInstanceOf (taken_at world bounds after.state choice).state i) (choices_at world bounds after.state) input
       none not =
           none_taken world bounds here input (choices_at world bounds after.state)
           (λ choice has takes. not (instance_before world target bounds here piece (taken_at world bounds after.state choice) (leads.each choice has) input takes))
 
       by_choices : (choices : List Choice)
-          → (IsInstanceOf after.state input → ExactlyOneIs (λ choice. IsInstanceOf (taken_at world bounds after.state choice).state input) choices)
-          → ((IsInstanceOf after.state input → ⊥) → NoneIs (λ choice. IsInstanceOf (taken_at world bounds after.state choice).state input) choices)
+          → (IsInstanceOf after.state input → ExactlyOneHas (λ choice i. IsInstanceOf (taken_at world bounds after.state choice).state i) choices input)
+          → ((IsInstanceOf after.state input → ⊥) → NoneHas (λ choice i. IsInstanceOf (taken_at world bounds after.state choice).state i) choices input)
           → Replaces (IsInPart world bounds) input (Waits alternative ∷ []) (parts_behind (waits_at here choices))
       by_choices [] one none = no_thing (IsInPart world bounds) input (Waits alternative) (λ has. one has)
       by_choices (choice ∷ others) one none =

@@ -12,7 +12,7 @@ use Rattle.kb_frames.specs.State.{State}
 use Rattle.kb_frames.specs.States.{IsState}
 use Rattle.kb_input.specs.Emitted.{emitted_input}
 use Rattle.kb_drive.specs.Values.{followed_by_zeros}
-use Rattle.kb_stepint.specs.Simulation.{HasInputOfState}
+use Rattle.kb_ways.specs.Simulation.{HasInputOfState}
 use Rattle.kb_drive.specs.Explorable.{IsExplorable}
 use Rattle.kb_drive.specs.Pieces.{AreValuesFor}
 

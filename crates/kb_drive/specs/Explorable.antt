@@ -5,8 +5,8 @@ use Rattle.kb_heap.specs.declared.bounds.Bounds.{Bounds}
 use Rattle.kb_link.specs.Links.{IsLinked}
 use Rattle.kb_link.specs.World.{World}
 use Rattle.kb_world.specs.Reach.{IsAccepted}
-use Rattle.kb_stepref.specs.HeapMethods.{is_heap_method}
-use Rattle.kb_stepref.specs.Laws.{AreInRange}
+use Rattle.kb_drive.specs.HeapMethods.{is_heap_method}
+use Rattle.kb_lazy.specs.Laws.{AreInRange}
 
 -- Of a world that is linked, one that reach accepts, and whose runs are of int steps and steps on references alone. A further
 -- kind of step is a further case of `steps`.

@@ -17,7 +17,7 @@ use Rattle.kb_terms.specs.Terms.{AreTerms, variables_of}
 use Rattle.kb_frames.specs.declared.value.Outcome.{Outcome}
 use Rattle.kb_frames.specs.declared.value.Outcome.TheVariants.{Asks, Goes, Ends, Cut}
 use Rattle.kb_frames.specs.Paths.{path_of, path_roots}
-use Rattle.kb_stepref.specs.Reached.{IsHeapReached}
+use Rattle.kb_drive.specs.Reached.{IsHeapReached}
 use Rattle.kb_drive.specs.declared.piece.Piece.{Piece}
 use Rattle.kb_drive.specs.declared.waiting.Waiting.{Waiting}
 use Rattle.kb_drive.specs.declared.waiting.Taken.{Taken}
@@ -30,7 +30,7 @@ use Rattle.kb_drive.specs.Covers.{is_open}
 use Rattle.kb_input.specs.Emitted.{emitted_input}
 use Rattle.kb_drive.specs.Values.{followed_by_zeros}
 use Rattle.kb_drive.specs.Parts.{Alternative, decided, taken_of}
-use Rattle.kb_frames.specs.Endings.{ended_in}
+use Rattle.kb_frames_laws.specs.Endings.{ended_in}
 use Rattle.kb_drive.specs.Taking.{choices_at}
 
 -- ---- an alternative that is taken

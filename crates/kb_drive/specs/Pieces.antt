@@ -20,12 +20,11 @@ use Rattle.kb_frames.specs.StandsFor.{StandsFor, IsInstanceOf}
 use Rattle.kb_frames.specs.State.{State}
 use Rattle.kb_frames.specs.States.{IsState}
 use Rattle.kb_frames.specs.Comparing.{comparison_of}
-use Rattle.kb_frames.specs.Meant.{with_first}
-use Rattle.kb_stepint.specs.Reached.{IsReached}
-use Rattle.kb_stepint.specs.Simulation.{HasInputOfState, IsOutcome}
-use Rattle.kb_stepint.specs.Ways.{Take}
-use Rattle.kb_stepref.specs.Laws.{GoesOnReached}
-use Rattle.kb_stepref.specs.Reached.{IsHeapReached}
+use Rattle.kb_frames_laws.specs.Meant.{with_first}
+use Rattle.kb_ways.specs.Reached.{IsReached}
+use Rattle.kb_ways.specs.Simulation.{HasInputOfState, IsOutcome}
+use Rattle.kb_ways.specs.Ways.{Take}
+use Rattle.kb_drive.specs.Reached.{GoesOnReached, IsHeapReached}
 use Rattle.kb_drive.specs.declared.piece.Piece.{Piece}
 use Rattle.kb_drive.specs.Compared.{IsComparisonMade, IsSuchComparison}
 use Rattle.kb_drive.specs.ReadFirst.{AreReadFirst}

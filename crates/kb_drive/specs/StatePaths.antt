@@ -4,7 +4,7 @@ use Rattle.kb_link.specs.World.{World}
 use Rattle.kb_terms.specs.Terms.{AreTerms}
 use Rattle.kb_picture.specs.declared.path.Leaf.{Leaf}
 use Rattle.kb_picture.specs.WellFormed.{IsWellFormed}
-use Rattle.kb_frames.specs.Meant.{PathMeans}
+use Rattle.kb_frames_laws.specs.Meant.{PathMeans}
 use Rattle.kb_frames.specs.Paths.{path_of, path_roots}
 use Rattle.kb_frames.specs.State.{State}
 

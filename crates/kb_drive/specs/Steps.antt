@@ -11,14 +11,14 @@ use Rattle.kb_picture.specs.Instances.{variable_values}
 use Rattle.kb_picture.specs.Shapes.{HasShape}
 use Rattle.kb_frames.specs.declared.value.Outcome.{Outcome}
 use Rattle.kb_frames.specs.declared.value.Outcome.TheVariants.{Asks, Goes, Ends, Cut}
-use Rattle.kb_frames.specs.Endings.{IsEndingIn}
-use Rattle.kb_frames.specs.Measure.{choices_left}
+use Rattle.kb_frames_laws.specs.Endings.{IsEndingIn}
+use Rattle.kb_ways.specs.Measure.{choices_left}
 use Rattle.kb_frames.specs.State.{State}
-use Rattle.kb_stepint.specs.Reached.{IsReached}
-use Rattle.kb_stepint.specs.Simulation.{AddsComparisons, FollowsStep, HasInputOfState, Keeps, ReadsWhatItSees, TakesOneWay}
-use Rattle.kb_stepint.specs.Ways.{Take}
-use Rattle.kb_stepref.specs.Laws.{AreInRange, GoesOnReached}
-use Rattle.kb_stepref.specs.Reached.{IsHeapReached}
+use Rattle.kb_ways.specs.Reached.{IsReached}
+use Rattle.kb_ways.specs.Simulation.{AddsComparisons, FollowsStep, HasInputOfState, Keeps, ReadsWhatItSees, TakesOneWay}
+use Rattle.kb_ways.specs.Ways.{Take}
+use Rattle.kb_lazy.specs.Laws.{AreInRange}
+use Rattle.kb_drive.specs.Reached.{GoesOnReached, IsHeapReached}
 use Rattle.kb_drive.specs.Taking.{choices_at, taken_at}
 
 -- ---- outcomes

@@ -8,7 +8,7 @@ use Rattle.kb_frames.specs.Next.{next_is_int}
 use Rattle.kb_frames.specs.State.{State}
 use Rattle.kb_stepint.specs.Choices.{choices_of as int_choices}
 use Rattle.kb_stepint.specs.Takes.{taken as int_taken}
-use Rattle.kb_stepint.specs.Ways.{Take}
+use Rattle.kb_ways.specs.Ways.{Take}
 use Rattle.kb_stepref.specs.Choices.{choices_of as reference_choices}
 use Rattle.kb_stepref.specs.Takes.{taken as reference_taken}
 

@@ -12,8 +12,8 @@ use Rattle.kb_picture.specs.WellFormed.{IsWellFormed}
 use Rattle.kb_frames.specs.declared.value.Outcome.{Outcome}
 use Rattle.kb_frames.specs.declared.value.Outcome.TheVariants.{Asks, Goes, Ends, Cut}
 use Rattle.kb_frames.specs.State.{State}
-use Rattle.kb_stepref.specs.Laws.{AreInRange}
-use Rattle.kb_stepref.specs.Reached.{IsHeapReached}
+use Rattle.kb_lazy.specs.Laws.{AreInRange}
+use Rattle.kb_drive.specs.Reached.{IsHeapReached}
 use Rattle.kb_drive.specs.declared.waiting.Waiting.{Waiting}
 use Rattle.kb_drive.specs.declared.walk.Walk.{Walk}
 use Rattle.kb_drive.specs.Counts.{RoseBy, undecided_count}

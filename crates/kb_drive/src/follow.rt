@@ -1,7 +1,7 @@
 //! What follows an alternative that was taken.
 ghost use Rattle.std.specs.Prelude.{◌≡◌, IfOk};
 ghost use Rattle.kb_frames.specs.Paths.{path_roots};
-ghost use Rattle.kb_stepref.specs.Reached.{IsHeapReached};
+ghost use Rattle.kb_drive.specs.Reached.{IsHeapReached};
 ghost use Rattle.kb_terms.specs.Terms.{AreTerms};
 ghost use Rattle.kb_drive.specs.Following.{CanFollow, CanFollowOutcome, follows, follows_answer, follows_outcome, path_of_piece, waits_at};
 ghost use Rattle.kb_drive.specs.declared.follow.Next.TheVariants as nexts;

@@ -5,7 +5,7 @@ ghost use Rattle.kb_picture.specs.declared.path.Leaf.TheVariants.{Cut, Ended as 
 ghost use Rattle.kb_frames.specs.Paths.{path_roots};
 ghost use Rattle.kb_drive.specs.Values.{followed_by_zeros};
 ghost use Rattle.kb_drive.specs.Following.{input_of_piece, path_of_piece};
-ghost use Rattle.kb_frames.specs.Endings.{ended_in};
+ghost use Rattle.kb_frames_laws.specs.Endings.{ended_in};
 ghost use Rattle.kb_frames.specs.Stated.{made_of, writes_of};
 
 use crate::NoMemory;

@@ -9,6 +9,7 @@
 mod ask;
 mod explore;
 mod follow;
+mod heap_methods;
 mod laws;
 mod leaf;
 mod met;
@@ -21,8 +22,9 @@ mod waiting;
 mod walk;
 
 pub use explore::explore_from;
+pub use heap_methods::is_heap_method;
 pub use kb_rows::Row;
-pub use laws::{inputs_within_the_bounds_end, none_throws_within_the_bounds};
+pub use laws::{heap_methods_stay, inputs_within_the_bounds_end, none_throws_within_the_bounds};
 pub use piece::Piece;
 pub(crate) use std::alloc::AllocError as NoMemory;
 pub use stop::DriveStop;

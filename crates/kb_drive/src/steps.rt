@@ -1,10 +1,10 @@
 //! What comes next in a state, and how it goes on.
 ghost use Rattle.std.specs.Prelude.{◌≡◌, IfOk, OnOk};
 ghost use Rattle.kb_class.specs.Naming.{Has};
-ghost use Rattle.kb_stepint.specs.Reached.{IsReached};
-ghost use Rattle.kb_stepint.specs.Turns.{told};
-ghost use Rattle.kb_stepref.specs.Laws.{AreInRange};
-ghost use Rattle.kb_stepref.specs.Reached.{IsHeapReached};
+ghost use Rattle.kb_ways.specs.Reached.{IsReached};
+ghost use Rattle.kb_ways.specs.Turns.{told};
+ghost use Rattle.kb_lazy.specs.Laws.{AreInRange};
+ghost use Rattle.kb_drive.specs.Reached.{IsHeapReached};
 ghost use Rattle.kb_terms.specs.Terms.{Extends};
 ghost use Rattle.kb_drive.specs.Taking.{choices_at, taken_at};
 

@@ -1,6 +1,6 @@
 //! The taking of an alternative.
 ghost use Rattle.std.specs.Prelude.{◌≡◌, length, slice_get, IfOk, OnOk};
-ghost use Rattle.kb_stepint.specs.Reached.{IsReached};
+ghost use Rattle.kb_ways.specs.Reached.{IsReached};
 ghost use Rattle.kb_terms.specs.Terms.{Extends};
 ghost use Rattle.kb_drive.specs.Following.{IsTakenOf};
 ghost use Rattle.kb_drive.specs.Parts.{decided};

@@ -1,7 +1,7 @@
 //! Pieces with the values of their terms.
 ghost use Rattle.std.specs.Prelude.{◌≡◌, ◌↔◌, IsTrue, IfOk, length, slice_get};
 ghost use Rattle.kb_blast.specs.Meaning.{AreMetInPool};
-ghost use Rattle.kb_stepint.specs.Reached.{IsReached};
+ghost use Rattle.kb_ways.specs.Reached.{IsReached};
 ghost use Rattle.kb_drive.specs.Following.{HaveMetFirst, IsTakenOf};
 ghost use Rattle.kb_drive.specs.Walks.{CanBeTaken};
 

@@ -1,6 +1,6 @@
 //! Choices that wait, and the taking of their alternatives.
 ghost use Rattle.std.specs.Prelude.{◌≡◌, suc, [], ◌∷◌, length, slice_get, IfOk, IfSome, OnOk};
-ghost use Rattle.kb_stepint.specs.Reached.{IsReached};
+ghost use Rattle.kb_ways.specs.Reached.{IsReached};
 ghost use Rattle.kb_drive.specs.Following.{IsTakenFrom, IsTakenOf, has_more};
 ghost use Rattle.kb_drive.specs.Walks.{CanBeTaken, EachWaiting};
 

@@ -1,8 +1,7 @@
 //! Which inputs are type-correct for a method.
 
-ghost use Rattle.std.specs.Prelude.{◌≡◌, ◌↔◌, ◌<◌, ◌^◌, IsTrue, length, map};
+ghost use Rattle.std.specs.Prelude.{◌↔◌, ◌<◌, ◌^◌, IsTrue, length, map};
 ghost use Rattle.std.specs.List.{AllByRecursion};
-ghost use Rattle.kb_names.specs.declared.types.JType.{JType};
 ghost use Rattle.kb_names.specs.declared.types.JType.TheVariants as types;
 ghost use Rattle.kb_class.specs.Members.{is_static};
 ghost use Rattle.kb_heap.specs.Heap.{object_at};
@@ -11,32 +10,9 @@ ghost use Rattle.kb_semantics.specs.Values.{AreValuesOf, IsObjectOf, IsValueOf};
 
 use kb_class::{MethodId, MethodInfo, is_static};
 use kb_heap::{Heap, Input, Object, Value};
+use kb_lookups::Typed;
 use kb_names::{ExactType, JType};
-use kb_world::{FieldSlot, World};
-
-// What has a type: a slot, or the type itself.
-trait Typed {
-    ghost kind: { Self → JType };
-
-    fn kind(&self) -> &JType
-        ensures { result.now ≡ kind self.now };
-}
-
-impl Typed for JType {
-    ghost kind = { λ of. of };
-
-    fn kind(&self) -> &JType {
-        self
-    }
-}
-
-impl Typed for FieldSlot {
-    ghost kind = { λ slot. slot.kind };
-
-    fn kind(&self) -> &JType {
-        &self.kind
-    }
-}
+use kb_world::World;
 
 /// Whether the input is type-correct for the method: as many arguments as parameters, each a value of its parameter's type, before
 /// them a receiver where the method is not static, and each object one of a type of the world's universe with values of the types

@@ -32,12 +32,13 @@ use Rattle.kb_picture.specs.declared.path.Path.{Path}
 use Rattle.kb_picture.specs.Numbering.{ended_outs, leaf_outs, met_from}
 use Rattle.kb_picture.specs.Queries.{kind_for, type_of_slot, kinds_seen}
 use Rattle.kb_picture.specs.WellFormed.{variable_seen, variables_seen, IsSlot, IsOut, IsObjectOut, IsThrown, written_slot, written_slots, AreWrites, HasValues, IsEnded, IsLeaf, IsWellFormed}
+use Rattle.kb_numbered.specs.Numbered.{term_id, terms_stated, numbered_out, numbered_ending, numbered_write, numbered_made, numbered_ended, numbered_leaf, numbered_path}
+use Rattle.kb_numbered.proofs.Renumbering.{met-is}
+use Rattle.kb_numbered.proofs.OnceLaws.{terms-once}
+use Rattle.kb_numbered.proofs.PathLaws.{comparison-shape, operand-in, terms-there, root-below, conditions-there, ended-outs, roots-same}
 use Rattle.kb_frames.specs.State.{State}
 use Rattle.kb_frames.specs.States.{IsState, IsOutIn, IsEndedIn, IsLeafIn}
-use Rattle.kb_frames.specs.Paths.{term_id, terms_stated, path_roots, path_numbering, numbered_out, numbered_ending, numbered_write, numbered_made, numbered_ended, numbered_leaf, numbered_path, path_of}
-use Rattle.kb_frames.proofs.Renumbering.{met-is}
-use Rattle.kb_frames.proofs.OnceLaws.{terms-once}
-use Rattle.kb_frames.proofs.PathLaws.{comparison-shape, operand-in, terms-there, root-below, conditions-there, ended-outs, roots-same}
+use Rattle.kb_frames.specs.Paths.{path_roots, path_numbering, path_of}
 
 -- ---- the variables of a pool are those that are seen
 
@@ -173,7 +174,7 @@ module _ (world : World) (state : State) (decisions : List ℕ) (leaf : Leaf) (s
   numbered = path_numbering state leaf
 
   abbrev path : Path
-  path = numbered_path state decisions leaf numbered
+  path = numbered_path state.picture state.nodes state.when decisions leaf numbered
 
   inside : (i : ℕ) (t : TermId) → slice_get (path_roots state leaf) i ≡ Some t → IsTerm state.nodes t
   inside i t at = term-at state.nodes (path_roots state leaf) i t terms at

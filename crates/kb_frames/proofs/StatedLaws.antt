@@ -1,18 +1,12 @@
 -- Lists of what is written, that grow at their ends.
-use Rattle.std.proofs.Common.{◌≡◌, ℕ, ◌+◌, ◌-◌, ◌≤◌, List, [], ◌∷◌, ◌++◌, length, take, drop, get_or, Option, Some, None, ap, ◌∙◌, arith, append_assoc}
+use Rattle.std.proofs.Common.{◌≡◌, ℕ, ◌+◌, ◌-◌, ◌≤◌, List, [], ◌∷◌, ◌++◌, length, take, drop, get_or, Option, ap, ◌∙◌, arith, append_assoc}
 use Rattle.std.specs.Prelude.{slice_get}
-use Rattle.std.specs.List.{cons_option}
-use Rattle.std.proofs.lemmas.List.{append-nil, take_all}
+use Rattle.std.proofs.lemmas.List.{take_all}
 use Rattle.kb_picture.specs.declared.picture.PicLoc.{PicLoc}
 use Rattle.kb_picture.specs.declared.picture.PicObject.{PicObject}
 use Rattle.kb_picture.specs.declared.path.Write.{Write}
 use Rattle.kb_frames.specs.declared.value.Cell.{Cell}
 use Rattle.kb_frames.specs.Stated.{object_writes, writes_from}
-
--- an item that may be there, at the end of those before it
-pub push_option : {A : Type 0} (before : List A) (item : Option A) (rest : List A) → (before ++ cons_option item []) ++ rest ≡ before ++ cons_option item rest
-push_option {A} before None rest = ap (λ (l : List A). l ++ rest) (append-nil before)
-push_option before (Some item) rest = append_assoc before (item ∷ []) rest
 
 -- the first item, and the others
 front_is : {X : Type 0} (rest : List X) (item : X) → 1 ≤ length rest → item ≡ get_or rest 0 item → item ∷ take (length rest - 1) (drop 1 rest) ≡ rest

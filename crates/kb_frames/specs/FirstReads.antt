@@ -1,7 +1,7 @@
 -- A slot is read for the first time: the picture grows by what is found there, and the slot keeps it. Of a reference that is
 -- what was chosen (null, an object of the picture, a new one: Khurshid, Păsăreanu and Visser, TACAS 2003; some object: Deng,
 -- Lee and Robby, ASE 2006), of an int or a boolean a new variable.
-use Rattle.std.specs.Prelude.{ℕ, List, [], ◌∷◌, ◌++◌, length, replicate}
+use Rattle.std.specs.Prelude.{List, [], ◌∷◌, ◌++◌, length, replicate}
 use Rattle.kb_link.specs.World.{World}
 use Rattle.kb_names.specs.declared.types.ExactType.{ExactType}
 use Rattle.kb_names.specs.declared.types.ExactType.TheVariants as exact
@@ -15,10 +15,8 @@ use Rattle.kb_picture.specs.declared.picture.Length.{Length}
 use Rattle.kb_picture.specs.declared.picture.Length.TheVariants.{Is}
 use Rattle.kb_picture.specs.declared.picture.Origin.{Origin}
 use Rattle.kb_picture.specs.declared.picture.Origin.TheVariants.{Arg, Field, Element}
-use Rattle.kb_picture.specs.declared.picture.Seen.TheVariants as seens
 use Rattle.kb_picture.specs.declared.picture.Picture.{Picture}
-use Rattle.kb_picture.specs.Growth.{after_read}
-use Rattle.kb_picture.specs.Laws.{with_seen}
+use Rattle.kb_picture.specs.Growth.{after_read, after_int_read}
 use Rattle.kb_frames.specs.declared.value.SymValue.{SymValue}
 use Rattle.kb_frames.specs.declared.value.SymValue.TheVariants.{Int, Null, Obj, Loc}
 use Rattle.kb_frames.specs.declared.value.Cell.{Cell}
@@ -72,11 +70,8 @@ first_reference world slot choice state =
     found_in slot (value_chosen state.picture choice)
     (record state { picture = after_read state.picture slot choice; cells = state.cells ++ cells_chosen world choice })
 
-abbrev pub saw_variable : Picture → Origin → ℕ → Picture
-saw_variable picture slot variable = with_seen picture (slot, seens.Int variable)
-
 -- An int or a boolean is read for the first time: a new variable.
 abbrev pub first_int : Origin → VarKind → State → State
 first_int slot kind state =
     found_in slot (Int (record { 0 = length state.nodes }))
-    (record state { picture = saw_variable state.picture slot (variables_of state.nodes); nodes = state.nodes ++ Var (variables_of state.nodes) kind ∷ [] })
+    (record state { picture = after_int_read state.picture slot; nodes = state.nodes ++ Var (variables_of state.nodes) kind ∷ [] })

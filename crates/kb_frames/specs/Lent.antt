@@ -3,15 +3,11 @@
 use Rattle.std.specs.Prelude.{ℕ, ◌+◌, ◌-◌, List, [], ◌∷◌, ◌++◌, length, map, drop, replicate, Option, Some, None, option_and_then, slice_get, slice_set}
 use Rattle.kb_link.specs.World.{World}
 use Rattle.kb_semantics.specs.Config.{max_locals_of}
-use Rattle.kb_terms.specs.declared.node.VarKind.{VarKind}
 use Rattle.kb_terms.specs.declared.node.Node.{Node}
-use Rattle.kb_picture.specs.declared.picture.Origin.TheVariants.{Arg}
-use Rattle.kb_picture.specs.declared.picture.Picture.{Picture}
 use Rattle.kb_frames.specs.declared.value.SymValue.{SymValue}
 use Rattle.kb_frames.specs.declared.frame.SymFrame.{SymFrame}
 use Rattle.kb_frames.specs.declared.state.Stage.{Stage}
 use Rattle.kb_frames.specs.declared.state.Stage.TheVariants.{Begins, Runs}
-use Rattle.kb_frames.specs.FirstReads.{first_int, saw_variable}
 use Rattle.kb_frames.specs.State.{State}
 
 -- ---- what is read
@@ -77,14 +73,6 @@ with_nodes state nodes = record state { nodes = nodes }
 abbrev pub read_count : Stage → ℕ
 read_count (Begins read) = length read
 read_count (Runs frame callers) = 0
-
--- the next argument is seen as that variable
-abbrev pub saw_argument : Picture → ℕ → ℕ → Picture
-saw_argument picture argument variable = saw_variable picture (Arg argument) variable
-
--- The next argument is read, an int or a boolean: a new variable.
-abbrev pub read_int : State → VarKind → State
-read_int state kind = first_int (Arg (read_count state.stage)) kind state
 
 abbrev pub begun_locals : List SymValue → ℕ → List (Option SymValue)
 begun_locals read limit = map (λ (value : SymValue). Some value) read ++ replicate (limit - length read) None

@@ -2,7 +2,6 @@ pub mod State
 pub mod StandsFor
 pub mod Truths
 pub mod Cuts
-pub mod Code
 pub mod Next
 pub mod Stated
 pub mod States
@@ -11,7 +10,4 @@ pub mod FirstReads
 pub mod Lent
 pub mod Paths
 pub mod Comparing
-pub mod Meant
-pub mod Measure
 pub mod Making
-pub mod Endings

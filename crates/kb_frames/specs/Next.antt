@@ -13,6 +13,7 @@ use Rattle.kb_semantics.specs.Config.{info_of, class_name, instruction_at}
 use Rattle.kb_semantics.specs.Inputs.{argument_types}
 use Rattle.kb_terms.specs.declared.node.VarKind.{VarKind}
 use Rattle.kb_picture.specs.Queries.{kind_for}
+use Rattle.kb_picture.specs.WellTyped.{is_reference_type}
 use Rattle.kb_frames.specs.declared.next.Argument.{Argument}
 use Rattle.kb_frames.specs.declared.next.Argument.TheVariants.{Receiver, Typed}
 use Rattle.kb_frames.specs.declared.state.Stage.{Stage}
@@ -29,11 +30,6 @@ type_of world class (Typed kind) = kind.now
 -- the kind of the variable that an argument of the type is to be
 abbrev pub kind_of : JType → VarKind
 kind_of kind = kind_for (Some kind)
-
-abbrev pub is_reference : JType → Bool
-is_reference (types.Class name) = true
-is_reference (types.Array component) = true
-is_reference _ = false
 
 -- the type of the argument that is read next: None where all are read
 abbrev pub argument_next : World → MethodId → Stage → Option JType
@@ -104,5 +100,5 @@ is_int None at_int = at_int
 -- The next step of a state is one of ints.
 abbrev pub next_is_int : World → State → Bool
 next_is_int world state =
-    is_int (option_map is_reference (argument_next world state.method state.stage))
+    is_int (option_map is_reference_type (argument_next world state.method state.stage))
     (is_int_next world (method_now state.method state.stage) (instruction_next world state.method state.stage))

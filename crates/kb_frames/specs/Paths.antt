@@ -1,97 +1,21 @@
 -- The path of a state: its picture and its conditions, with decisions and a leaf that are given. The terms are those that the
 -- conditions and the leaf meet, in the order of a walk from them; before that the leaf has the numbers of the pool.
-use Rattle.std.specs.Prelude.{ℕ, List, ◌++◌, map, option_map}
-use Rattle.std.specs.List.{flat_map}
-use Rattle.kb_blast.specs.Query.{roots_of as condition_roots, operand_of, listed, numbered_conditions}
-use Rattle.kb_terms.specs.Numbering.{numbering}
+use Rattle.std.specs.Prelude.{ℕ, List}
 use Rattle.kb_terms.specs.declared.node.TermId.{TermId}
-use Rattle.kb_terms.specs.declared.node.Node.{Node}
-use Rattle.kb_terms.specs.declared.listing.Operand.{Operand}
-use Rattle.kb_terms.specs.declared.listing.Operand.TheVariants.{Const, Var, Term as TermOperand}
-use Rattle.kb_picture.specs.declared.path.Out.{Out}
-use Rattle.kb_picture.specs.declared.path.Out.TheVariants.{Int, Null, Loc, Obj, Literal, New}
-use Rattle.kb_picture.specs.declared.path.Write.{Write}
-use Rattle.kb_picture.specs.declared.path.Made.{Made}
-use Rattle.kb_picture.specs.declared.path.SymEnding.{SymEnding}
-use Rattle.kb_picture.specs.declared.path.SymEnding.TheVariants.{Returned, Threw, IllTyped}
-use Rattle.kb_picture.specs.declared.path.Ended.{Ended}
+use Rattle.kb_terms.specs.Numbering.{numbering}
 use Rattle.kb_picture.specs.declared.path.Leaf.{Leaf}
-use Rattle.kb_picture.specs.declared.path.Leaf.TheVariants.{Ended as EndedLeaf, Cut, Undecided, Open}
 use Rattle.kb_picture.specs.declared.path.Path.{Path}
-use Rattle.kb_picture.specs.Numbering.{leaf_outs, terms_of_out}
+use Rattle.kb_numbered.specs.Numbered.{numbered_path, walk_roots}
 use Rattle.kb_frames.specs.State.{State}
 
--- ---- from what the walk begins
-
-abbrev pub term_id : ℕ → TermId
-term_id number = record { 0 = number }
-
--- the terms of the pool that values state
-abbrev pub terms_stated : List Out → List TermId
-terms_stated values = map term_id (flat_map terms_of_out values)
-
+-- from what the walk begins
 abbrev pub path_roots : State → Leaf → List TermId
-path_roots state leaf = condition_roots state.when ++ terms_stated (leaf_outs leaf)
+path_roots state leaf = walk_roots state.when leaf
 
 -- the terms of the path, in its order
 abbrev pub path_numbering : State → Leaf → List TermId
 path_numbering state leaf = numbering state.nodes (path_roots state leaf)
 
--- ---- the numbers of the path
-
-abbrev pub numbered_operand : List Node → List TermId → Operand → Operand
-numbered_operand nodes numbered (TermOperand number) = operand_of nodes numbered (term_id number)
-numbered_operand nodes numbered (Const c) = Const c
-numbered_operand nodes numbered (Var v) = Var v
-
-abbrev pub numbered_out : List Node → List TermId → Out → Out
-numbered_out nodes numbered (Int operand) = Int (numbered_operand nodes numbered operand)
-numbered_out nodes numbered Null = Null
-numbered_out nodes numbered (Loc number) = Loc number
-numbered_out nodes numbered (Obj number) = Obj number
-numbered_out nodes numbered (Literal number) = Literal number
-numbered_out nodes numbered (New number) = New number
-
-abbrev pub numbered_outs : List Node → List TermId → List Out → List Out
-numbered_outs nodes numbered values = map (numbered_out nodes numbered) values
-
-abbrev pub numbered_ending : List Node → List TermId → SymEnding → SymEnding
-numbered_ending nodes numbered (Returned value) = Returned (option_map (numbered_out nodes numbered) value)
-numbered_ending nodes numbered (Threw value) = Threw (numbered_out nodes numbered value)
-numbered_ending nodes numbered (IllTyped place) = IllTyped place
-
-abbrev pub numbered_write : List Node → List TermId → Write → Write
-numbered_write nodes numbered write = record { slot = write.slot; value = numbered_out nodes numbered write.value }
-
-abbrev pub numbered_made : List Node → List TermId → Made → Made
-numbered_made nodes numbered made = record { kind = made.kind; values = numbered_outs nodes numbered made.values }
-
-abbrev pub numbered_ended : List Node → List TermId → Ended → Ended
-numbered_ended nodes numbered ended =
-    record {
-      ending = numbered_ending nodes numbered ended.ending;
-      writes = map (numbered_write nodes numbered) ended.writes;
-      made = map (numbered_made nodes numbered) ended.made;
-      input = ended.input;
-    }
-
-abbrev pub numbered_leaf : List Node → List TermId → Leaf → Leaf
-numbered_leaf nodes numbered (EndedLeaf ended) = EndedLeaf (numbered_ended nodes numbered ended)
-numbered_leaf nodes numbered (Cut bound input) = Cut bound input
-numbered_leaf nodes numbered (Undecided log) = Undecided log
-numbered_leaf nodes numbered Open = Open
-
--- the path with the terms `numbered` of the pool
-abbrev pub numbered_path : State → List ℕ → Leaf → List TermId → Path
-numbered_path state decisions leaf numbered =
-    record {
-      decisions = decisions;
-      picture = state.picture;
-      terms = listed state.nodes numbered numbered;
-      when = numbered_conditions numbered state.when;
-      leaf = numbered_leaf state.nodes numbered leaf;
-    }
-
 -- The path of a state.
 unfoldable pub path_of : State → List ℕ → Leaf → Path
-path_of state decisions leaf = numbered_path state decisions leaf (path_numbering state leaf)
+path_of state decisions leaf = numbered_path state.picture state.nodes state.when decisions leaf (path_numbering state leaf)

@@ -1,28 +1,19 @@
 //! How a run begins: its arguments are read, and it has its first frame.
 ghost use Rattle.std.specs.Prelude.{◌≡◌, ◌++◌, map, replicate, Some, IfOk, OnOk};
-ghost use Rattle.kb_frames.specs.Lent.{begun, begun_locals, read_count, read_int};
+ghost use Rattle.kb_frames.specs.Lent.{begun, begun_locals, read_count};
 
 use crate::NoMemory;
 use crate::first_reads::numbered;
 use crate::frame::{SymCallers, SymFrame, SymStack};
 use crate::state::{Stage, SymState};
 use crate::value::SymValue;
-use kb_picture::Origin;
+use kb_lookups::max_locals;
 use kb_rows::Row;
-use kb_terms::VarKind;
 use kb_world::World;
 use std::alloc::Global;
 
 impl SymState {
-    /// Reads the next argument, an int or a boolean: it is a new variable. After memory ran out the state is only dropped.
-    pub fn read_int(&mut self, kind: VarKind) -> Result<(), NoMemory>
-        ensures { OnOk result (self.new ≡ read_int self.old kind) }
-    {
-        let argument = self.read_count()?;
-        self.first_int(Origin::Arg(argument), kind)
-    }
-
-    /// How many arguments were read, while they are.
+    /// How many arguments were read, while they are: the number of the next one.
     pub fn read_count(&self) -> Result<u32, NoMemory>
         ensures { IfOk result (λ count. count ≡ read_count self.now.stage) }
     {
@@ -38,10 +29,7 @@ impl SymState {
     {
         let alloc = self.alloc;
         if let Stage::Begins(read) = &self.stage {
-            let limit = match world.find_code(self.method) {
-                Some(code) => code.max_locals as usize,
-                None => 0,
-            };
+            let limit = usize::from(max_locals(world, self.method));
             let locals = begun_locals(alloc, read.as_slice(), limit)?;
             let frame = SymFrame {
                 method: self.method,

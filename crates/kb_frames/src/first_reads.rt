@@ -1,6 +1,6 @@
 //! Slots that are read for the first time.
 ghost use Rattle.std.specs.Prelude.{◌≡◌, [], ◌∷◌, ◌++◌, replicate, IfOk, OnOk};
-ghost use Rattle.kb_picture.specs.Growth.{after_read};
+ghost use Rattle.kb_picture.specs.Growth.{after_read, after_int_read};
 ghost use Rattle.kb_picture.specs.Laws.{with_seen};
 ghost use Rattle.kb_picture.specs.declared.choice.Choice.TheVariants.{Fresh, Location};
 ghost use Rattle.kb_frames.specs.declared.value.Cell.TheVariants.{Untouched};
@@ -41,9 +41,8 @@ impl SymState {
     pub fn first_int(&mut self, slot: Origin, kind: VarKind) -> Result<(), NoMemory>
         ensures { OnOk result (self.new ≡ first_int slot kind self.old) }
     {
-        let variable = self.pool.variables();
         let term = self.pool.variable(kind)?;
-        self.see(slot, Seen::Int(variable))?;
+        self.see_variable(slot)?;
         self.keep_found(slot, SymValue::Int(term))
     }
 
@@ -51,12 +50,11 @@ impl SymState {
     fn value_chosen(&self, choice: &Choice) -> Result<SymValue, NoMemory>
         ensures { IfOk result (λ value. value ≡ value_chosen self.now.picture choice.now) }
     {
+        let picture = self.picture.get();
         match choice {
             Choice::Alias(number) => Ok(SymValue::Obj(*number)),
-            Choice::Fresh(..) => Ok(SymValue::Obj(numbered(
-                self.picture.objects.as_slice().len(),
-            )?)),
-            Choice::Location => Ok(SymValue::Loc(numbered(self.picture.locs.as_slice().len())?)),
+            Choice::Fresh(..) => Ok(SymValue::Obj(numbered(picture.objects.as_slice().len())?)),
+            Choice::Location => Ok(SymValue::Loc(numbered(picture.locs.as_slice().len())?)),
             _ => Ok(SymValue::Null),
         }
     }
@@ -80,8 +78,14 @@ impl SymState {
     fn see(&mut self, slot: Origin, seen: Seen) -> Result<(), NoMemory>
         ensures { OnOk result (self.new ≡ record self.old { picture = with_seen self.old.picture (slot, seen) }) }
     {
-        self.picture.seen.push((slot, seen))?;
-        Ok(())
+        self.picture.see(slot, seen)
+    }
+
+    // The slot is seen as the next variable.
+    fn see_variable(&mut self, slot: Origin) -> Result<(), NoMemory>
+        ensures { OnOk result (self.new ≡ record self.old { picture = after_int_read self.old.picture slot }) }
+    {
+        self.picture.see_variable(slot)
     }
 
     // A location is found in the slot.
@@ -89,8 +93,8 @@ impl SymState {
     fn find_location(&mut self, slot: Origin) -> Result<(), NoMemory>
         ensures { OnOk result (self.new ≡ record self.old { picture = after_read self.old.picture slot Location }) }
     {
-        let number = numbered(self.picture.locs.as_slice().len())?;
-        self.picture.locs.push(PicLoc {
+        let number = numbered(self.picture.get().locs.as_slice().len())?;
+        self.picture.add_location(PicLoc {
             origin: slot,
             standing: Standing::Open,
         })?;
@@ -109,8 +113,8 @@ impl SymState {
         ensures { OnOk result (self.new ≡ record self.old { picture = after_read self.old.picture slot (Fresh kind.now length); cells = self.old.cells ++ new_cells world.now kind.now length ∷ [] }) }
     {
         let alloc = self.alloc;
-        let number = numbered(self.picture.objects.as_slice().len())?;
-        self.picture.objects.push(PicObject {
+        let number = numbered(self.picture.get().objects.as_slice().len())?;
+        self.picture.add_object(PicObject {
             kind: kind.copied(alloc)?,
             length,
             origin: slot,

@@ -14,8 +14,9 @@ impl SymState {
     pub fn exact_type_of(&self, value: SymValue) -> Option<&ExactType>
         ensures { option_copied result ≡ exact_type_of self.now value }
     {
+        let objects = self.picture.get().objects.as_slice();
         match value {
-            SymValue::Obj(number) => match self.picture.objects.as_slice().get(number as usize) {
+            SymValue::Obj(number) => match objects.get(number as usize) {
                 Some(object) => Some(&object.kind),
                 None => None,
             },

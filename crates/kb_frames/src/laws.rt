@@ -8,8 +8,6 @@ ghost use Rattle.kb_terms.specs.Terms.{AreTerms};
 ghost use Rattle.kb_picture.specs.declared.choice.Init.{Init};
 ghost use Rattle.kb_picture.specs.declared.path.Leaf.{Leaf};
 ghost use Rattle.kb_picture.specs.WellFormed.{IsWellFormed};
-ghost use Rattle.kb_frames.specs.Endings.{EndingsMean};
-ghost use Rattle.kb_frames.specs.Meant.{PathMeans};
 ghost use Rattle.kb_frames.specs.Paths.{path_roots, path_of};
 ghost use Rattle.kb_frames.specs.State.{State, start_state};
 ghost use Rattle.kb_frames.specs.States.{IsState, IsLeafIn};
@@ -24,18 +22,4 @@ pub fn states_begin()
 pub fn paths_are_well_formed()
     ensures terms { (world : World) (state : State) (leaf : Leaf) → IsState world state → IsLeafIn world state leaf → AreTerms state.nodes (path_roots state leaf) }
     ensures formed { (world : World) (state : State) (decisions : List ℕ) (leaf : Leaf) → IsState world state → IsLeafIn world state leaf → IsWellFormed world state.method (path_of state decisions leaf) }
-{}
-
-/// The path of a state says of inputs what the state says: it has the state's instances, also with the first so many conditions
-/// alone, what is asked about it is what the state asks, and its conditions make the comparisons that the state's make.
-pub fn paths_mean_their_states()
-    ensures { (world : World) (state : State) (decisions : List ℕ) (leaf : Leaf) → IsState world state → IsLeafIn world state leaf → PathMeans world state decisions leaf }
-{}
-
-/// The path of a state that has ended states that ending, and the heap that the run leaves: for each heap for which the state
-/// stands, all objects of the input with what the run wrote into them, the literals, and the objects that the run made. It is a
-/// leaf that a path of the state may have. Of a state with a location that is known to be beyond a bound nothing is said: its
-/// path is cut.
-pub fn endings_mean_their_states()
-    ensures { EndingsMean }
 {}

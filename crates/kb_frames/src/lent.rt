@@ -36,7 +36,7 @@ impl SymState {
     pub fn picture(&self) -> &Picture
         ensures { result.now ≡ self.now.picture }
     {
-        &self.picture
+        self.picture.get()
     }
 
     pub fn pool(&self) -> &Pool

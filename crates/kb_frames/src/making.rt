@@ -8,6 +8,8 @@ ghost use Rattle.kb_frames.specs.Making.{default_sym, new_sym_object, with_made}
 use crate::NoMemory;
 use crate::state::{SymObject, SymState};
 use crate::value::SymValue;
+use kb_heap::Value;
+use kb_lookups::default_of;
 use kb_names::{ExactType, JType};
 use kb_rows::Row;
 use kb_terms::TermId;
@@ -72,11 +74,13 @@ fn default_values(
     Ok(values)
 }
 
+// The default value of a slot of the type, the term of 0 standing for 0.
+#[tactic(auto, using(crate::proofs::MakingLaws::default_null, crate::proofs::MakingLaws::default_int, crate::proofs::MakingLaws::default_object))]
 fn default_sym(of: &JType, zero: TermId) -> SymValue
     ensures { result ≡ default_sym zero of.now }
 {
-    match of {
-        JType::Class(_) | JType::Array(_) => SymValue::Null,
-        _ => SymValue::Int(zero),
+    match default_of(of) {
+        Value::Null => SymValue::Null,
+        Value::Int(_) | Value::Ref(_) => SymValue::Int(zero),
     }
 }

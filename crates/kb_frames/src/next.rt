@@ -3,13 +3,14 @@ ghost use Rattle.std.specs.Prelude.{◌≡◌, Some, IfOk, option_map, slice_get
 ghost use Rattle.kb_semantics.specs.Config.{class_number};
 ghost use Rattle.kb_semantics.specs.Inputs.{argument_types};
 ghost use Rattle.kb_picture.specs.Queries.{kind_for};
-ghost use Rattle.kb_frames.specs.Next.{type_of, kind_of, is_reference, argument_next, method_now, offset_now, instruction_next, is_int_entry, is_int_instruction, is_int_next, next_is_int};
+ghost use Rattle.kb_picture.specs.WellTyped.{is_reference_type};
+ghost use Rattle.kb_frames.specs.Next.{type_of, kind_of, argument_next, method_now, offset_now, instruction_next, is_int_entry, is_int_instruction, is_int_next, next_is_int};
 
 use crate::NoMemory;
-use crate::code::{declaring_class, instruction_at};
 use crate::state::{Stage, SymState};
 use kb_class::{MethodId, MethodInfo, is_static};
 use kb_code::Instr;
+use kb_lookups::{declaring_class, instruction_at};
 use kb_names::{JType, Name};
 use kb_terms::VarKind;
 use kb_world::World;
@@ -118,7 +119,7 @@ fn argument_at<'w>(_world: &World, info: &'w MethodInfo, number: usize) -> Optio
 
 /// Whether the type is one of references (JVMS 8 section 2.4).
 pub fn is_reference(kind: &JType) -> bool
-    ensures { result ≡ is_reference kind.now }
+    ensures { result ≡ is_reference_type kind.now }
 {
     matches!(kind, JType::Class(_) | JType::Array(_))
 }

@@ -8,12 +8,12 @@ ghost use Rattle.kb_frames.specs.State.{start_state};
 ghost use Rattle.kb_frames.specs.StandsFor.{StandsFor};
 
 use crate::NoMemory;
-use crate::conditions::Conditions;
 use crate::frame::{SymCallers, SymFrame};
 use crate::value::{Cell, SymValue};
 use kb_class::MethodId;
 use kb_names::ExactType;
-use kb_picture::{Init, Picture};
+use kb_numbered::Conditions;
+use kb_picture::{GrowingPicture, Init};
 use kb_rows::{Held, Row};
 use kb_terms::Pool;
 use kb_world::World;
@@ -88,7 +88,7 @@ impl Stage {
 struct HeapParts {
     cells: Row<Row<Cell>>,
     made: Row<SymObject>,
-    picture: Picture,
+    picture: GrowingPicture,
 }
 
 /// What a state keeps of terms and of their truths.
@@ -107,7 +107,7 @@ pub struct SymState {
     pub(crate) stage: Stage,
     /// How many instructions were carried out.
     pub(crate) carried: u32,
-    pub(crate) picture: Picture,
+    pub(crate) picture: GrowingPicture,
     /// Of each object of the picture what its slots or elements hold.
     pub(crate) cells: Row<Row<Cell>>,
     /// The objects that the run has made.
@@ -148,7 +148,7 @@ fn first_state(alloc: Global, method: MethodId, init: Init) -> SymState
         method,
         stage: Stage::Begins(Row::new(alloc)),
         carried: 0,
-        picture: Picture::new(alloc),
+        picture: GrowingPicture::new(alloc),
         cells: Row::new(alloc),
         made: Row::new(alloc),
         pool: Pool::new(alloc),

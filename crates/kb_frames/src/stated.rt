@@ -19,8 +19,9 @@ impl SymState {
     pub fn writes(&self) -> Result<Row<Write>, NoMemory>
         ensures { IfOk result (λ writes. writes ≡ writes_of self.now) }
     {
-        let locs = self.picture.locs.as_slice();
-        let objects = self.picture.objects.as_slice();
+        let picture = self.picture.get();
+        let locs = picture.locs.as_slice();
+        let objects = picture.objects.as_slice();
         let mut writes = Row::new(self.alloc);
         let mut number: u32 = 0;
         let mut rest = self.cells.as_slice();
@@ -37,7 +38,7 @@ impl SymState {
     pub fn made(&self) -> Result<Row<Made>, NoMemory>
         ensures { IfOk result (λ made. made ≡ made_of self.now) }
     {
-        let locs = self.picture.locs.as_slice();
+        let locs = self.picture.get().locs.as_slice();
         let mut made = Row::new(self.alloc);
         for object in self.made.as_slice() {
             made.push(stated_object(self.alloc, locs, object)?)?;
@@ -70,7 +71,7 @@ fn add_object(
 }
 
 // Adds the written slots of an object of the exact type.
-#[tactic(auto, using(crate::proofs::StatedLaws::push_option))]
+#[tactic(auto, using(kb_numbered::proofs::PathSteps::push_option))]
 fn add_slots(
     locs: &[PicLoc],
     kind: &ExactType,

@@ -1,15 +1,13 @@
 //! The arguments of a method, and the declared types of slots.
-ghost use Rattle.std.specs.Prelude.{◌≡◌, [], ◌++◌, map, IfOk, OnOk};
+ghost use Rattle.std.specs.Prelude.{◌≡◌, [], ◌++◌, IfOk, OnOk};
 ghost use Rattle.std.specs.Option.{option_copied};
 ghost use Rattle.kb_class.specs.declared.ids.MethodId.{MethodId as PlainId};
 ghost use Rattle.kb_semantics.specs.Inputs.{argument_types};
-ghost use Rattle.kb_semantics.specs.Values.{default_of};
 ghost use Rattle.kb_picture.specs.Queries.{slot_of_class, component_of, type_of_slot};
 ghost use Rattle.kb_input.specs.Emitted.{arguments_of};
 
 use crate::NoMemory;
 use kb_class::{MethodId, MethodInfo, is_static};
-use kb_heap::Value;
 use kb_names::{ExactType, JType, Name};
 use kb_picture::{Origin, PicObject};
 use kb_rows::Row;
@@ -54,27 +52,6 @@ fn push_copies(alloc: Global, params: &[JType], types: &mut Row<JType>) -> Resul
         rest = others;
     }
     Ok(())
-}
-
-/// The default value of each of these types.
-pub(crate) fn default_values(alloc: Global, types: &[JType]) -> Result<Row<Value>, NoMemory>
-    ensures { IfOk result (λ values. values ≡ map default_of types.now) }
-{
-    let mut values = Row::new(alloc);
-    for of in types {
-        values.push(default_of(of))?;
-    }
-    Ok(values)
-}
-
-/// The default value of a slot or an element of the type.
-pub(crate) fn default_of(of: &JType) -> Value
-    ensures { result ≡ default_of of.now }
-{
-    match of {
-        JType::Class(_) | JType::Array(_) => Value::Null,
-        _ => Value::Int(0),
-    }
 }
 
 /// The declared type of a slot, where the method's arguments have these types.

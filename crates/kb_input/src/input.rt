@@ -3,11 +3,12 @@ ghost use Rattle.std.specs.Prelude.{◌≡◌, IfOk};
 ghost use Rattle.kb_input.specs.Emitted.{emitted_input, unread_input};
 
 use crate::NoMemory;
-use crate::arguments::{argument_types, default_values};
+use crate::arguments::argument_types;
 use crate::held::put_seen;
 use crate::objects::unread_objects;
 use kb_class::MethodId;
 use kb_heap::{Heap, Input};
+use kb_lookups::default_values;
 use kb_picture::Picture;
 use kb_world::World;
 use std::alloc::Global;

@@ -1,20 +1,19 @@
 //! The objects of an input in which nothing was read.
 ghost use Rattle.std.specs.Prelude.{◌≡◌, [], ◌∷◌, ◌++◌, map, option_and_then, IfOk, OnOk};
-ghost use Rattle.kb_link.specs.declared.slots.FieldSlot.{FieldSlot as PlainSlot};
 ghost use Rattle.std.specs.Option.{option_copied};
-ghost use Rattle.kb_semantics.specs.Values.{default_of};
 ghost use Rattle.kb_input.specs.Emitted.{arguments_of, count_of, first_fitting, has_own, is_apart_at, own_kind, own_objects, unread_object, unread_objects, unread_of};
 ghost use Rattle.kb_input.specs.Fitting.{AreFitting};
 
 use crate::NoMemory;
-use crate::arguments::{default_of, type_of_slot};
+use crate::arguments::type_of_slot;
 use crate::fitting::{Fitting, first_kept};
 use kb_class::MethodId;
 use kb_heap::{Object, Value};
+use kb_lookups::{default_of, default_values};
 use kb_names::{ExactType, JType};
 use kb_picture::{Length, Origin, PicLoc, PicObject, Picture, Seen, Standing};
 use kb_rows::Row;
-use kb_world::{FieldSlot, World};
+use kb_world::World;
 use std::alloc::Global;
 
 /// The objects of the picture, by their numbers, and behind them one for each slot that holds an object of its own, in the
@@ -98,23 +97,12 @@ fn unread_values(
     ensures { IfOk result (λ values. values ≡ (unread_object world.now kind.now count).values) }
 {
     match kind {
-        ExactType::Class(name) => default_slots(alloc, world.slots_named(name)),
+        ExactType::Class(name) => default_values(alloc, world.slots_named(name)),
         ExactType::Array(component) => {
             let values = vec![in alloc; default_of(component); count as usize]?;
             Ok(Row::from_vec(values))
         }
     }
-}
-
-// The default value of each slot.
-fn default_slots(alloc: Global, slots: &[FieldSlot]) -> Result<Row<Value>, NoMemory>
-    ensures { IfOk result (λ values. values ≡ map (λ (slot : PlainSlot). default_of slot.kind) slots.now) }
-{
-    let mut values = Row::new(alloc);
-    for slot in slots {
-        values.push(default_of(&slot.kind))?;
-    }
-    Ok(values)
 }
 
 // ---- those that stand for themselves

@@ -28,6 +28,7 @@ use Rattle.kb_semantics.specs.Values.{IsValueOf, IsObjectOf}
 use Rattle.kb_picture.proofs.GrownPictures.{item_there}
 use Rattle.kb_picture.proofs.GrownShapes.{at_no_place, as_many}
 use Rattle.kb_picture.proofs.HeldLaws.{HeldValue, held_value, all_at}
+use Rattle.kb_picture.proofs.ReceiverLaws.{receiver_is_first}
 use Rattle.kb_picture.proofs.Taking.{HoldsNew, seen_back, seen_forth, fresh_back, fresh_forth, location_back, location_forth}
 use Rattle.kb_picture.specs.declared.choice.Choice.{Choice}
 use Rattle.kb_picture.specs.declared.choice.Choice.TheVariants.{Null, Location, Alias, Fresh, Beyond}
@@ -41,7 +42,7 @@ use Rattle.kb_picture.specs.declared.picture.Picture.{Picture}
 use Rattle.kb_picture.specs.declared.picture.Seen.TheVariants as seens
 use Rattle.kb_picture.specs.Depths.{depth_at}
 use Rattle.kb_picture.specs.Exactly.{NoneHas, ExactlyOneHas}
-use Rattle.kb_picture.specs.Growing.{IsReceiver, params_of}
+use Rattle.kb_picture.specs.Growing.{params_of}
 use Rattle.kb_picture.specs.Growth.{after_read}
 use Rattle.kb_picture.specs.Places.{slot_value}
 use Rattle.kb_picture.specs.Shapes.{HasShape, IsNoPlace, IsSuch, HasLength}
@@ -297,14 +298,12 @@ module _ (world : World) (id : MethodId) (picture : Picture) (slot : Origin) (ty
   held = slot_value input shape.places.objects slot
 
   no_receiver : held ≡ Some NullValue → receiver ≡ true → ⊥
-  no_receiver null is = from (first.receives.0 is)
-    where
-      from : IsReceiver world id slot → ⊥
-      from r =
-          let same : r.0 ≡ correct.method = same_Some r.0 correct.method (sym r.1 ∙ correct.method_is) in
-          let dynamic : is_static correct.method.access ≡ false = ap (λ (m : MethodInfo). is_static m.access) (sym same) ∙ r.2 in
-          let has : HasReceiver false input.args = subst (λ (b : Bool). HasReceiver b input.args) dynamic correct.receiver in
-          receiver_held input.args has (ap (slot_value input shape.places.objects) (sym r.3) ∙ null)
+  no_receiver null is =
+      let r = receiver_is_first world id slot (first.receives.0 is) in
+      let same : r.0 ≡ correct.method = same_Some r.0 correct.method (sym r.1 ∙ correct.method_is) in
+      let dynamic : is_static correct.method.access ≡ false = ap (λ (m : MethodInfo). is_static m.access) (sym same) ∙ r.2 in
+      let has : HasReceiver false input.args = subst (λ (b : Bool). HasReceiver b input.args) dynamic correct.receiver in
+      receiver_held input.args has (ap (slot_value input shape.places.objects) (sym r.3) ∙ null)
 
   alias_means : (n : ℕ) → Takes picture slot (Alias n) input → (place : ℕ) × (slice_get shape.places.objects n ≡ Some place) × (held ≡ Some (Ref place))
   unfolding after_read

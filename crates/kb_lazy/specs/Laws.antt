@@ -2,6 +2,7 @@
 use Rattle.std.specs.Prelude.{◌≡◌, ◌↔◌, ℕ, ◌<◌, ◌^◌, suc, Bool, true, Some, slice_get}
 use Rattle.kb_class.specs.declared.ids.MethodId.{MethodId}
 use Rattle.kb_class.specs.declared.members.MethodInfo.{MethodInfo}
+use Rattle.kb_heap.specs.declared.bounds.Bounds.{Bounds}
 use Rattle.kb_heap.specs.declared.heap.Input.{Input}
 use Rattle.kb_link.specs.Links.{IsLinked}
 use Rattle.kb_link.specs.World.{World}
@@ -24,6 +25,13 @@ use Rattle.kb_lazy.specs.Choices.{read_choices_of}
 -- no slot and no location of the picture is beyond
 abbrev pub HasNoBeyond : Picture → Type 0
 HasNoBeyond picture = (slot : Origin) → IsBeyond picture slot → ⊥
+
+-- an array within the bound, and one more element, is one that an int can count
+abbrev pub IsInRange : ℕ → Type 0
+IsInRange array = suc array < 2 ^ 31
+
+abbrev pub AreInRange : Bounds → Type 0
+AreInRange bounds = IsInRange bounds.array
 
 -- In a well-formed picture of a method a slot of that declared type, a reference, is read for the first time; it is the
 -- receiver's exactly where `receiver` is true.
@@ -51,6 +59,6 @@ TakesExactlyOne =
 abbrev pub ChoicesFit : Type 0
 ChoicesFit =
     (init : Init) (world : World) (id : MethodId) (picture : Picture) (slot : Origin) (type : JType) (receiver : Bool) (k array i : ℕ) (choice : Choice)
-    → IsFirstRead world id picture slot type receiver → suc array < 2 ^ 31
+    → IsFirstRead world id picture slot type receiver → IsInRange array
     → slice_get (read_choices_of init world picture slot type receiver k array) i ≡ Some choice
     → IsChoiceFor world id picture slot choice

@@ -1,12 +1,14 @@
 -- How a run goes on from a state.
-use Rattle.std.proofs.Common.{◌≡◌, ℕ, suc, ◌+◌, ◌-◌, ◌<◌, ◌≤◌, Some, None, Result, Ok, Err, IfOk, refl, sym, ap, ◌∙◌, arith}
+use Rattle.std.proofs.Common.{◌≡◌, ℕ, suc, ◌+◌, ◌-◌, ◌<◌, ◌≤◌, Option, Some, None, Result, Ok, Err, IfOk, refl, sym, ap, ◌∙◌, arith}
 use Rattle.std.proofs.lemmas.Bool.{lt-leb, le-leb}
+use Rattle.kb_class.specs.declared.ids.MethodId.{MethodId}
 use Rattle.kb_code.specs.declared.instruction.Instr.{Instr}
+use Rattle.kb_link.specs.World.{World}
 use Rattle.kb_heap.specs.declared.bounds.Bound.TheVariants.{Steps}
 use Rattle.kb_heap.specs.declared.ending.Ending.{Ending}
 use Rattle.kb_heap.specs.declared.ending.Ending.TheVariants.{Past}
 use Rattle.kb_heap.specs.declared.heap.Heap.{Heap}
-use Rattle.kb_semantics.specs.Config.{Setting, Config, Ended, Outcome, instruction_at}
+use Rattle.kb_semantics.specs.Config.{Setting, Config, Ended, Frame, Outcome, instruction_at}
 use Rattle.kb_semantics.specs.Step.{effect, follow, run, step}
 use Rattle.kb_semantics.specs.Ways.{ill_typed, past}
 use Rattle.kb_machine.specs.Turns.{setting_of, config_of, config_at, told, ending_told}
@@ -14,6 +16,12 @@ use Rattle.kb_machine.specs.declared.state.State.{State}
 use Rattle.kb_machine.specs.declared.turn.Turn.{Turn}
 use Rattle.kb_machine.specs.declared.turn.Step.{Step}
 use Rattle.kb_machine.specs.declared.turn.Step.TheVariants as steps
+
+-- the instruction at a frame's offset
+pub found_at_frame : (world : World) (frame : Frame) (method : MethodId) (at : ℕ) (found : Option (Instr × ℕ)) → method ≡ frame.method → at ≡ frame.at →
+    instruction_at world method at ≡ found → instruction_at world frame.method frame.at ≡ found
+found_at_frame world frame method at found same there is =
+    ap (λ (m : MethodId). instruction_at world m frame.at) (sym same) ∙ (ap (λ (n : ℕ). instruction_at world method n) (sym there) ∙ is)
 
 -- ---- one step
 

@@ -7,7 +7,7 @@ ghost use Rattle.kb_semantics.specs.Instructions.{invoke, invokes, invokes_on, o
 ghost use Rattle.kb_semantics.specs.Operands.{receiver_of};
 ghost use Rattle.kb_semantics.specs.Ways.{enters};
 ghost use Rattle.kb_world.specs.Lookup.{selected_special};
-ghost use Rattle.kb_values.specs.Callees.{plain_callee};
+ghost use Rattle.kb_lookups.specs.Callees.{plain_callee};
 ghost use Rattle.kb_stack.specs.Taken.{kind_of};
 ghost use Rattle.kb_machine.specs.Turns.{config_of, setting_of, told};
 
@@ -17,8 +17,9 @@ use crate::throwing::NULL_POINTER;
 use crate::turn::{Step, Turn};
 use kb_class::{ClassId, MethodId};
 use kb_heap::{Bound, Value};
+use kb_lookups::{Callee, callee_at, selected_at};
 use kb_stack::{Call, Frame};
-use kb_values::{Callee, callee_at, platform_result, receiver_of, selected_at};
+use kb_values::{platform_result, receiver_of};
 use std::mem;
 
 impl State {

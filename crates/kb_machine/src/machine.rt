@@ -2,7 +2,6 @@
 
 ghost use Rattle.std.specs.Prelude.{◌≡◌, suc, IfOk};
 ghost use Rattle.kb_heap.specs.Heap.{literal};
-ghost use Rattle.kb_semantics.specs.Config.{no_target, target_of};
 ghost use Rattle.kb_semantics.specs.Step.{first_heap, run, run_of};
 ghost use Rattle.kb_world.specs.Reach.{IsAccepted};
 ghost use Rattle.kb_machine.specs.Turns.{begun, ending_told};
@@ -12,8 +11,8 @@ use crate::state::State;
 use crate::turn::{Step, Turn};
 use kb_class::MethodId;
 use kb_heap::{Bound, Ending, Heap, Input, Object, Place, RunBounds};
-use kb_names::{MethodType, Name, SharedRow, Target};
-use kb_stack::{Callers, Frame, instruction_at};
+use kb_lookups::{instruction_at, target_of};
+use kb_stack::{Callers, Frame};
 use kb_world::World;
 use std::alloc::Global;
 
@@ -57,7 +56,7 @@ fn run_from(
     ensures { IfOk result (λ ending. run (suc bounds.now.steps) (record { world = world.now; bounds = bounds.now }) (begun inputs state.old) ≡ record { ending = ending; heap = state.new.heap }) }
 {
     for carried in 0..bounds.steps {
-        let Some(found) = instruction_at(world, &state.frame) else {
+        let Some(found) = instruction_at(world, state.frame.method(), state.frame.at()) else {
             return ending_of(alloc, world, state.ill_typed());
         };
         let turn = Turn {
@@ -89,34 +88,6 @@ fn ending_of(alloc: Global, world: &World, step: Step) -> Result<Ending, NoMemor
             Ok(Ending::IllTyped(Place { method, at }))
         }
         Step::Past(bound) => Ok(Ending::Past(bound)),
-    }
-}
-
-// The method by its class's name, its name and its type.
-fn target_of(alloc: Global, world: &World, method: MethodId) -> Result<Target, NoMemory>
-    ensures { IfOk result (λ target. target ≡ target_of world.now method) }
-{
-    let Some(info) = world.find_method(method) else {
-        return Ok(no_target(alloc));
-    };
-    Ok(Target {
-        class: Name::from_slice(alloc, world.find_name(info.class))?,
-        name: info.name.copied(alloc)?,
-        kind: info.kind.copied(alloc)?,
-    })
-}
-
-// What stands for a method that is none.
-fn no_target(alloc: Global) -> Target
-    ensures { result ≡ no_target }
-{
-    Target {
-        class: Name::new(alloc),
-        name: Name::new(alloc),
-        kind: MethodType {
-            params: SharedRow::new(),
-            result: None,
-        },
     }
 }
 

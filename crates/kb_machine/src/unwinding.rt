@@ -4,13 +4,12 @@ ghost use Rattle.std.specs.Prelude.{◌≡◌, [], ◌∷◌, ℕ, List};
 ghost use Rattle.kb_heap.specs.declared.heap.Heap.{Heap as PlainHeap};
 ghost use Rattle.kb_semantics.specs.Config.{Config, Frame as PlainFrame};
 ghost use Rattle.kb_heap.specs.declared.heap.Value.TheVariants.{Ref};
-ghost use Rattle.kb_semantics.specs.Ways.{goes_to, handler_among, handler_at, is_taken_by};
+ghost use Rattle.kb_semantics.specs.Ways.{goes_to, handler_at};
 ghost use Rattle.kb_machine.specs.Turns.{setting_of};
 ghost use Rattle.kb_machine.specs.Landings.{landed, unwound};
 
 use crate::turn::Turn;
-use kb_class::ClassId;
-use kb_code::Handler;
+use kb_lookups::handler_at;
 use kb_names::ExactType;
 use kb_stack::{Callers, Frame};
 use kb_world::World;
@@ -36,13 +35,13 @@ pub(crate) fn unwind(
 ) -> Landing
     ensures { (c : Config) (heap : PlainHeap) (object : ℕ) → unwound (setting_of turn.now) c heap object kind.now (frame.old ∷ callers.old) ≡ landed turn.now result c heap object frame.new callers.new }
 {
-    let mut target = handler_at(turn.world, frame, kind);
+    let mut target = handler_of(turn.world, frame, kind);
     while target.is_none() {
         let Some(caller) = callers.pop() else {
             return Landing::Uncaught;
         };
         *frame = caller;
-        target = handler_at(turn.world, frame, kind);
+        target = handler_of(turn.world, frame, kind);
     }
     match target {
         Some(target) => land(turn, frame, target),
@@ -65,52 +64,8 @@ fn land(turn: &Turn<'_>, frame: &mut Frame, target: u32) -> Landing
 }
 
 // Where the first handler of the frame goes on that takes an object of the exact type.
-fn handler_at(world: &World, frame: &Frame, kind: &ExactType) -> Option<u32>
+fn handler_of(world: &World, frame: &Frame, kind: &ExactType) -> Option<u32>
     ensures { result ≡ handler_at world.now frame.now.method frame.now.at kind.now }
 {
-    match world.find_code(frame.method()) {
-        Some(code) => {
-            let class = frame.class(world);
-            handler_among(world, class, frame.at(), kind, code.handlers.as_slice())
-        }
-        None => None,
-    }
-}
-
-fn handler_among(
-    world: &World,
-    class: ClassId,
-    at: u32,
-    kind: &ExactType,
-    handlers: &[Handler],
-) -> Option<u32>
-    ensures { result ≡ handler_among world.now class.0 at kind.now handlers.now }
-{
-    let mut rest = handlers;
-    while let [handler, others @ ..] = rest {
-        if is_taken_by(world, class, at, kind, handler) {
-            return Some(u32::from(handler.target));
-        }
-        rest = others;
-    }
-    None
-}
-
-// Whether the handler covers the offset and takes an object of the exact type.
-fn is_taken_by(world: &World, class: ClassId, at: u32, kind: &ExactType, handler: &Handler) -> bool
-    ensures { result ≡ is_taken_by world.now class.0 at kind.now handler.now }
-{
-    if at < u32::from(handler.start) {
-        return false;
-    }
-    if at >= u32::from(handler.end) {
-        return false;
-    }
-    if handler.catch == 0 {
-        return true;
-    }
-    match world.find_type(class, handler.catch) {
-        Some(high) => world.exact_subtype(kind, high),
-        None => false,
-    }
+    handler_at(world, frame.method(), frame.at(), kind)
 }

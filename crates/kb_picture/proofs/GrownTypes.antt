@@ -10,6 +10,7 @@ use Rattle.kb_link.specs.World.{World}
 use Rattle.kb_names.specs.declared.types.ExactType.{ExactType}
 use Rattle.kb_names.specs.declared.types.JType.{JType}
 use Rattle.kb_picture.proofs.GrownPictures.{IsFrontOf, Extends, GrowsBy, grown_formed, by_seen, by_int, by_location, by_fresh, leads_seen}
+use Rattle.kb_picture.proofs.ReceiverLaws.{first_is_receiver}
 use Rattle.kb_picture.specs.declared.choice.Choice.{Choice}
 use Rattle.kb_picture.specs.declared.choice.Choice.TheVariants as choices
 use Rattle.kb_picture.specs.declared.picture.Length.{Length}
@@ -153,7 +154,7 @@ module _ (world : World) (id : MethodId) (old new : Picture) (slot : Origin) (ho
       not_null_there instance_method h =
           elim (get_pushed old.seen (slot, how) h.0 (Arg 0, seens.Null) (ap (λ (xs : List (Origin × Seen)). slice_get xs h.0) (sym grows.seen_is) ∙ h.1)) [
             | inl a ↦ typed.receiver instance_method (h.0, a)
-            | inr b ↦ not_null (typed.method, typed.method_is, instance_method, ap (λ (x : Origin × Seen). x.0) b.1) (ap (λ (x : Origin × Seen). x.1) b.1)
+            | inr b ↦ not_null (first_is_receiver world id typed.method typed.method_is instance_method slot (ap (λ (x : Origin × Seen). x.0) b.1)) (ap (λ (x : Origin × Seen). x.1) b.1)
           ]
 
 -- ---- the choices

@@ -5,6 +5,8 @@ pub mod ChainLaws
 pub mod EndingLaws
 pub mod WriteLaws
 pub mod InstanceLaws
+pub mod GrowingLaws
+pub mod ReceiverLaws
 pub mod GrownPictures
 pub mod GrownShapes
 pub mod GrownTypes

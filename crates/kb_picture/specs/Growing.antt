@@ -1,6 +1,7 @@
 -- What holds of each picture that grows: it stays well-formed and keeps its types, whoever has its shape had the one before,
 -- and earlier objects and locations keep their places.
-use Rattle.std.specs.Prelude.{◌≡◌, ℕ, true, false, length, take, Some, slice_get}
+use Rattle.std.specs.Prelude.{◌≡◌, ℕ, nat_eq, Bool, true, false, not, ◌&&◌, length, take, Some, slice_get}
+use Rattle.std.specs.Option.{option_map_or}
 use Rattle.kb_class.specs.Naming.{Has}
 use Rattle.kb_class.specs.declared.ids.MethodId.{MethodId}
 use Rattle.kb_class.specs.declared.members.MethodInfo.{MethodInfo}
@@ -15,7 +16,7 @@ use Rattle.kb_semantics.specs.Inputs.{argument_types}
 use Rattle.kb_picture.specs.declared.choice.Choice.{Choice}
 use Rattle.kb_picture.specs.declared.choice.Choice.TheVariants.{Null, Location, Alias, Fresh, Beyond}
 use Rattle.kb_picture.specs.declared.picture.Origin.{Origin}
-use Rattle.kb_picture.specs.declared.picture.Origin.TheVariants.{Arg}
+use Rattle.kb_picture.specs.declared.picture.Origin.TheVariants.{Arg, Field, Element}
 use Rattle.kb_picture.specs.declared.picture.Length.{Length}
 use Rattle.kb_picture.specs.declared.picture.PicObject.{PicObject}
 use Rattle.kb_picture.specs.declared.picture.Picture.{Picture}
@@ -38,9 +39,15 @@ pub record IsUnread (world : World) (params : ℕ) (picture : Picture) (slot : O
   pub there : IsSlot world params picture.objects slot
   pub unread : Has (slots_seen picture) slot → ⊥
 
--- the slot is that of a receiver
+-- whether the slot is that of a receiver (JVMS 8 section 2.6.1), which is never null: a call on null throws (section 6.5,
+-- invokevirtual)
+abbrev pub is_receiver : World → MethodId → Origin → Bool
+is_receiver world id (Arg number) = nat_eq number 0 && option_map_or (λ (method : MethodInfo). not (is_static method.access)) (info_of world id) false
+is_receiver world id (Field object slot) = false
+is_receiver world id (Element array index) = false
+
 abbrev pub IsReceiver : World → MethodId → Origin → Type 0
-IsReceiver world id slot = (method : MethodInfo) × (info_of world id ≡ Some method) × (is_static method.access ≡ false) × (slot ≡ Arg 0)
+IsReceiver world id slot = is_receiver world id slot ≡ true
 
 -- the choice speaks of an object of the picture, or of a new one whose length goes with its type
 abbrev pub IsChoiceIn : Picture → Choice → Type 0

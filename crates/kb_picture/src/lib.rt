@@ -8,6 +8,7 @@
 
 mod choice;
 mod ending;
+mod growing;
 mod growth;
 mod instance;
 mod laws;
@@ -19,6 +20,7 @@ mod values;
 
 pub use choice::{Choice, Init};
 pub use ending::ending_at;
+pub use growing::GrowingPicture;
 pub use growth::{pictures_grow, pictures_grow_by_ints};
 pub use instance::is_instance;
 pub use kb_rows::Row;

@@ -2,17 +2,17 @@
 
 ghost use Rattle.std.specs.Prelude.{◌≡◌, IsTrue, [], ◌∷◌, ◌++◌, suc, length, drop, nat_le, reverse, take, false, Some, None, OnOk, OnSome, IfOk, IfSome, IfNone};
 ghost use Rattle.std.specs.Option.{option_copied};
-ghost use Rattle.kb_semantics.specs.Config.{behind, class_number, code_of, first_frame, local_of, max_locals_of, max_stack_of, has_room, with_local};
+ghost use Rattle.kb_semantics.specs.Config.{behind, class_number, first_frame, local_of, has_room, with_local};
 ghost use Rattle.kb_semantics.specs.Operands.{top_of};
 ghost use Rattle.kb_semantics.specs.Ways.{counted, pushed};
 ghost use Rattle.kb_world.specs.Lookup.{only_where};
 
 use crate::NoMemory;
-use crate::listing::behind;
 use crate::locals::Locals;
 use crate::value_stack::ValueStack;
-use kb_class::{ClassId, MethodCode, MethodId};
+use kb_class::{ClassId, MethodId};
 use kb_heap::{Row, RunBounds, Value};
+use kb_lookups::{behind, declaring_class, max_locals, max_stack};
 use kb_world::World;
 use std::alloc::Global;
 use std::marker::Model;
@@ -72,7 +72,7 @@ impl Frame {
     pub fn class(&self, world: &World) -> ClassId
         ensures { result.0 ≡ class_number world.now self.now.method }
     {
-        class_of_method(world, self.method)
+        declaring_class(world, self.method)
     }
 
     /// Whether the method may have the frame's stack.
@@ -236,39 +236,12 @@ impl Frame {
         ensures room { IfOk result (λ room. room ≡ has_room world.now self.old.method (length (pushed value self.old.stack))) }
         ensures frame { IfOk result (λ room. IsTrue room → self.new ≡ record self.old { at = behind world.now self.old.method self.old.at; stack = pushed value self.old.stack }) }
     {
-        let next = behind(world, self);
+        let next = behind(world, self.method, self.at);
         self.give(value)?;
         if !self.is_allowed(world) {
             return Ok(false);
         }
         self.go(next);
         Ok(true)
-    }
-}
-
-fn class_of_method(world: &World, method: MethodId) -> ClassId
-    ensures { result.0 ≡ class_number world.now method }
-{
-    match world.find_method(method) {
-        Some(info) => info.class,
-        None => ClassId(0),
-    }
-}
-
-fn max_stack(world: &World, method: MethodId) -> u16
-    ensures { result ≡ max_stack_of world.now method }
-{
-    match world.find_code(method) {
-        Some(code) => code.max_stack,
-        None => 0,
-    }
-}
-
-fn max_locals(world: &World, method: MethodId) -> u16
-    ensures { result ≡ max_locals_of world.now method }
-{
-    match world.find_code(method) {
-        Some(code) => code.max_locals,
-        None => 0,
     }
 }

@@ -1,5 +1,4 @@
-//! Frames of the concrete machine: operand stacks, locals, what instructions take off a stack, and which instruction a frame
-//! stands at.
+//! Frames of the concrete machine: operand stacks, locals, and what instructions take off a stack.
 //!
 //! `specs/` of kb_semantics says what each is.
 #![tactic(auto)]
@@ -7,7 +6,6 @@
 mod call;
 mod callers;
 mod frame;
-mod listing;
 mod locals;
 mod operands;
 mod value_stack;
@@ -15,5 +13,4 @@ mod value_stack;
 pub use call::Call;
 pub use callers::Callers;
 pub use frame::Frame;
-pub use listing::{Found, instruction_at};
 pub use std::alloc::AllocError as NoMemory;

@@ -1,53 +1,51 @@
 -- Each condition that the take of an alternative adds is on a comparison by which the step goes on.
-use Rattle.std.proofs.Common.{◌≡◌, ℕ, ◌<◌, ◌≤◌, ℤ, Bool, true, false, List, [], length, nat_le, slice_get, Option, Some, None, refl, sym, ap, subst, ◌∙◌, if◌then◌else◌, arith}
+use Rattle.std.proofs.Common.{◌≡◌, ℕ, ℤ, Bool, true, false, List, [], nat_le, slice_get, Option, Some, None, refl, sym, ap, subst, ◌∙◌, if◌then◌else◌}
 use Rattle.std.specs.Option.{option_map, option_map_or}
-use Rattle.std.proofs.lemmas.Option.{slice_get_within}
 use Rattle.kb_code.specs.declared.instruction.Instr.{Instr}
-use Rattle.kb_code.specs.declared.instruction.Instr.TheVariants as instrs
 use Rattle.kb_heap.specs.declared.bounds.Bounds.{Bounds}
 use Rattle.kb_heap.specs.declared.heap.Input.{Input}
 use Rattle.kb_heap.specs.declared.heap.Value.TheVariants.{Int as IntValue}
 use Rattle.kb_link.specs.World.{World}
-use Rattle.kb_names.specs.declared.types.JType.{JType}
-use Rattle.kb_semantics.specs.Config.{Setting, Config, has_room, instruction_at}
+use Rattle.kb_semantics.specs.Config.{Setting, Config, instruction_at}
 use Rattle.kb_semantics.specs.Comparisons.{Comparison}
 use Rattle.kb_semantics.specs.Looks.{taken_up}
-use Rattle.kb_semantics.specs.Ways.{counted}
 use Rattle.kb_terms.specs.declared.node.TermId.{TermId}
 use Rattle.kb_terms.specs.declared.node.Node.{Node}
 use Rattle.kb_terms.specs.Terms.{Extends, value_of}
 use Rattle.kb_picture.specs.declared.choice.Choice.{Choice}
 use Rattle.kb_picture.specs.declared.picture.PlaceLists.{PlaceLists}
 use Rattle.kb_picture.specs.Instances.{variable_values}
-use Rattle.kb_picture.specs.Queries.{kind_for}
 use Rattle.kb_frames.specs.declared.frame.SymFrame.{SymFrame}
 use Rattle.kb_frames.specs.declared.state.Stage.{Stage}
 use Rattle.kb_frames.specs.declared.state.Stage.TheVariants.{Begins, Runs}
-use Rattle.kb_frames.specs.declared.value.Outcome.TheVariants.{Asks, Cut}
+use Rattle.kb_frames.specs.declared.value.Outcome.TheVariants.{Cut}
 use Rattle.kb_heap.specs.declared.bounds.Bound.TheVariants.{Steps}
 use Rattle.kb_frames.specs.declared.value.SymValue.{SymValue}
 use Rattle.kb_frames.specs.declared.value.SymValue.TheVariants.{Int, Null, Obj, Literal, New, Loc}
 use Rattle.kb_frames.specs.Cuts.{setting_of}
-use Rattle.kb_frames.specs.Lent.{begun, begun_stage, read_int, stack_of, transfers_of, with_nodes}
+use Rattle.kb_frames.specs.Lent.{begun, begun_stage, stack_of}
 use Rattle.kb_frames.specs.Next.{argument_next, method_now, offset_now}
 use Rattle.kb_frames.specs.StandsFor.{StandsFor, StageStandsFor, FrameStandsFor, reading_at, value_of_sym}
 use Rattle.kb_frames.specs.State.{State}
 use Rattle.kb_frames.specs.States.{IsSymValue, IsStage}
 use Rattle.kb_frames.proofs.RunLaws.{counters_agree}
-use Rattle.kb_stepint.specs.Asked.{all_asked}
+use Rattle.kb_ways.specs.Asked.{all_asked}
 use Rattle.kb_stepint.specs.Choices.{conditions_of}
-use Rattle.kb_stepint.specs.Effects.{plan_of}
-use Rattle.kb_stepint.specs.Needs.{IsTermOf}
-use Rattle.kb_stepint.specs.Reached.{IsReached}
+use Rattle.kb_stepint.specs.Effects.{plan_of, effect_of}
+use Rattle.kb_ways.specs.Needs.{IsTermOf}
+use Rattle.kb_ways.specs.Reached.{IsReached}
 use Rattle.kb_frames.specs.Comparing.{comparison_of}
-use Rattle.kb_stepint.specs.Simulation.{AddsComparisons, IsComparedBy}
-use Rattle.kb_stepint.specs.Takes.{answered, taken, takes_next, takes_up}
-use Rattle.kb_stepint.specs.Ways.{Take, Way, Goes, Jumps, Leaves, Throws, Fails, ill_typed, went}
-use Rattle.kb_stepint.proofs.AskedLaws.{AreAskable, all_asked_adds}
+use Rattle.kb_ways.specs.Simulation.{AddsComparisons, IsComparedBy}
+use Rattle.kb_stepint.specs.Takes.{taken, reads_argument}
+use Rattle.kb_ways.specs.Plans.{takes_next, takes_up, carried_out}
+use Rattle.kb_ways.specs.Ways.{Take, ill_typed, went}
+use Rattle.kb_ways.proofs.AskedLaws.{AreAskable, all_asked_adds}
 use Rattle.kb_stepint.proofs.ComparedLaws.{instr_askable}
-use Rattle.kb_stepint.proofs.GrowLaws.{if_has, option_has, nodes_grow}
-use Rattle.kb_stepint.proofs.OneInstances.{same_variables}
-use Rattle.kb_stepint.proofs.KeepLaws.{Stays, plan_makes, stays_grown, stays_on, takes_next_stays, went_stays}
+use Rattle.kb_ways.proofs.GrowLaws.{option_has, HasMore, more_grows}
+use Rattle.kb_ways.proofs.OneInstances.{same_variables}
+use Rattle.kb_ways.proofs.KeepLaws.{Stays, stays_grown, stays_on, went_stays, went_when, same_when}
+use Rattle.kb_stepint.proofs.KeepLaws.{effect_makes, takes_next_stays}
+use Rattle.kb_code.specs.declared.instruction.Instr.TheVariants as instrs
 
 -- an empty stack asks for nothing
 none_askable : (P : Option Comparison → Type 0) (nodes : List Node) (variables : List ℤ) (instr : Instr) (choice : Choice) → AreAskable P nodes variables (conditions_of instr [] choice)
@@ -58,26 +56,9 @@ none_askable P nodes variables (instrs.Lookup default keys) choice = tt
 none_askable P nodes variables (instrs.Int2 op) choice = tt
 none_askable P nodes variables _ choice = tt
 
-pub went_when : (world : World) (bounds : Bounds) (next : ℕ) (state : State) (way : Way) → (went world bounds next state way).state.when ≡ state.when
-went_when world bounds next state (Goes locals stack) =
-    if_has (λ (take : Take). take.state.when ≡ state.when) (has_room world (method_now state.method state.stage) (length stack)) _ _ refl refl
-went_when world bounds next state (Jumps target stack) =
-    if_has (λ (take : Take). take.state.when ≡ state.when) (has_room world (method_now state.method state.stage) (length stack)) _ _
-    (option_has (λ (take : Take). take.state.when ≡ state.when) (counted bounds.run (offset_now state.stage) target (transfers_of state.stage)) _ _ (λ n. refl) refl) refl
-went_when world bounds next state (Leaves value) = refl
-went_when world bounds next state (Throws class) = refl
-went_when world bounds next state Fails = refl
-
-past : (n i : ℕ) → n ≤ i → i < n → ⊥
-past n i le lt = omega (arith, le, lt)
-
 module _ (world : World) (bounds : Bounds) (old : State) where
   abbrev s : Setting
   s = setting_of world bounds
-
-  pub same_when : (new : State) → new.when ≡ old.when → AddsComparisons world bounds old new
-  same_when new same input c correct stands shape i condition from at =
-      absurd (past (length old.when) i from (slice_get_within old.when i condition (ap (λ (l : List (TermId × Bool)). slice_get l i) (sym same) ∙ at)))
 
   -- the ints of a stack of the state are terms
   stack_terms : (stack : List SymValue) → ((i : ℕ) (item : SymValue) → slice_get stack i ≡ Some item → IsSymValue world old item) → (depth : ℕ) → IsTermOf old.nodes (slice_get stack depth)
@@ -122,40 +103,40 @@ module _ (world : World) (bounds : Bounds) (old : State) where
 
   answered_adds : (choice : Choice) (found : Instr × ℕ) → IsReached world old → nat_le bounds.run.steps old.carried ≡ false
       → instruction_at world (method_now old.method (begun_stage world old old.stage)) (offset_now (begun_stage world old old.stage)) ≡ Some found
-      → Stays old (answered world bounds choice (begun world old) found).state → AddsComparisons world bounds old (answered world bounds choice (begun world old) found).state
+      → Stays old (carried_out plan_of world bounds choice (begun world old) found).state → AddsComparisons world bounds old (carried_out plan_of world bounds choice (begun world old) found).state
   answered_adds choice found reached within up stays input c correct stands shape i condition from at =
       let conditions = conditions_of found.0 (stack_of (begun_stage world old old.stage)) choice in
       let grown : State = all_asked (begun world old) conditions in
-      let plan = plan_of world grown choice found.0 in
-      let new : State = (went world bounds found.1 (with_nodes grown plan.nodes) plan.way).state in
+      let effect = effect_of world grown choice found.0 in
+      let new : State = (went world bounds found.1 effect.state effect.way).state in
+      let more : HasMore grown effect.state = effect_makes world grown choice found.0 in
       let extends : Extends grown.nodes new.nodes =
-      (stays_on grown (with_nodes grown plan.nodes) new (stays_grown grown (with_nodes grown plan.nodes) (nodes_grow grown plan.nodes (plan_makes world grown choice found.0)))
-      (went_stays world bounds found.1 (with_nodes grown plan.nodes) plan.way)).terms in
-      let early : slice_get grown.when i ≡ Some condition =
-      ap (λ (l : List (TermId × Bool)). slice_get l i) (sym (went_when world bounds found.1 (with_nodes grown plan.nodes) plan.way)) ∙ at in
+      (stays_on grown effect.state new (stays_grown grown effect.state (more_grows grown effect.state more)) (went_stays world bounds found.1 effect.state effect.way)).terms in
+      let same : new.when ≡ grown.when = went_when world bounds found.1 effect.state effect.way ∙ ap (λ (s : State). s.when) more.rest in
+      let early : slice_get grown.when i ≡ Some condition = ap (λ (l : List (TermId × Bool)). slice_get l i) (sym same) ∙ at in
       let compared = all_asked_adds (IsComparedBy s c) (variables input c stands reached within) conditions (begun world old)
       (askable input c stands reached within old.stage found choice refl up) i condition from early new.nodes extends in
       subst (λ (values : List ℤ). IsComparedBy s c (comparison_of new.nodes values condition.0)) (same_variables old.picture input stands.instance_of.shape new.picture stays.picture shape) compared
 
-  takes_up_adds : (choice : Choice) → IsReached world old → nat_le bounds.run.steps old.carried ≡ false → Stays old (takes_up world bounds choice (begun world old)).state
-      → AddsComparisons world bounds old (takes_up world bounds choice (begun world old)).state
+  takes_up_adds : (choice : Choice) → IsReached world old → nat_le bounds.run.steps old.carried ≡ false → Stays old (takes_up plan_of world bounds choice (begun world old)).state
+      → AddsComparisons world bounds old (takes_up plan_of world bounds choice (begun world old)).state
   takes_up_adds choice reached within = go (instruction_at world (method_now old.method (begun_stage world old old.stage)) (offset_now (begun_stage world old old.stage))) refl where
     go : (it : Option (Instr × ℕ)) → instruction_at world (method_now old.method (begun_stage world old old.stage)) (offset_now (begun_stage world old old.stage)) ≡ it
-        → Stays old (option_map_or (answered world bounds choice (begun world old)) it (ill_typed world (begun world old))).state
-        → AddsComparisons world bounds old (option_map_or (answered world bounds choice (begun world old)) it (ill_typed world (begun world old))).state
-    go None e stays = same_when (ill_typed world (begun world old)).state refl
+        → Stays old (option_map_or (carried_out plan_of world bounds choice (begun world old)) it (ill_typed world (begun world old))).state
+        → AddsComparisons world bounds old (option_map_or (carried_out plan_of world bounds choice (begun world old)) it (ill_typed world (begun world old))).state
+    go None e stays = same_when world bounds old (ill_typed world (begun world old)).state refl
     go (Some found) e stays = answered_adds choice found reached within e stays
 
   abbrev next_take : Choice → Bool → Take
-  next_take choice b = if b then record { state = old; outcome = Cut Steps } else takes_up world bounds choice (begun world old)
+  next_take choice b = if b then record { state = old; outcome = Cut Steps } else takes_up plan_of world bounds choice (begun world old)
 
-  takes_next_adds : (choice : Choice) → IsReached world old → AddsComparisons world bounds old (takes_next world bounds choice old).state
+  takes_next_adds : (choice : Choice) → IsReached world old → AddsComparisons world bounds old (takes_next plan_of world bounds choice old).state
   takes_next_adds choice reached = go (nat_le bounds.run.steps old.carried) refl (takes_next_stays world bounds choice old) where
     go : (b : Bool) → nat_le bounds.run.steps old.carried ≡ b → Stays old (next_take choice b).state → AddsComparisons world bounds old (next_take choice b).state
-    go true e stays = same_when old refl
+    go true e stays = same_when world bounds old old refl
     go false e stays = takes_up_adds choice reached e stays
 
   pub adds : (choice : Choice) → IsReached world old → AddsComparisons world bounds old (taken world bounds old choice).state
   adds choice reached =
-      option_has (λ (take : Take). AddsComparisons world bounds old take.state) (argument_next world old.method old.stage) (λ (type : JType). record { state = read_int old (kind_for (Some type)); outcome = Asks })
-      (takes_next world bounds choice old) (λ type. same_when (read_int old (kind_for (Some type))) refl) (takes_next_adds choice reached)
+      option_has (λ (take : Take). AddsComparisons world bounds old take.state) (argument_next world old.method old.stage) (reads_argument old)
+      (takes_next plan_of world bounds choice old) (λ type. same_when world bounds old (reads_argument old type).state refl) (takes_next_adds choice reached)

@@ -6,9 +6,9 @@ use Rattle.kb_terms.specs.declared.node.TermId.{TermId}
 use Rattle.kb_picture.specs.declared.choice.Choice.{Choice}
 use Rattle.kb_picture.specs.declared.choice.Choice.TheVariants.{Key, Default}
 use Rattle.kb_frames.specs.State.{State}
-use Rattle.kb_stepint.specs.declared.condition.Condition.{Condition}
-use Rattle.kb_stepint.specs.declared.condition.Side.TheVariants.{Term, Number}
-use Rattle.kb_stepint.specs.Asked.{all_asked, asked, asked_truth, equal_sides, is_against, is_refuted}
+use Rattle.kb_ways.specs.declared.condition.Condition.{Condition}
+use Rattle.kb_ways.specs.declared.condition.Side.TheVariants.{Term, Number}
+use Rattle.kb_ways.specs.Asked.{all_asked, asked, asked_truth, equal_sides, is_against, is_refuted}
 use Rattle.kb_stepint.specs.Choices.{keys_from}
 use Rattle.kb_stepint.proofs.KeyLaws.{all_keys, drop_at, filter_first, one_key_more}
 

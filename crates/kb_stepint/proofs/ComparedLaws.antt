@@ -13,8 +13,7 @@ use Rattle.kb_heap.specs.declared.heap.Value.TheVariants.{Int as IntValue}
 use Rattle.kb_semantics.specs.Config.{Setting, Config}
 use Rattle.kb_semantics.specs.Comparisons.{Comparison, equal, compared, compared_keys, table_keys}
 use Rattle.kb_semantics.specs.Looks.{compares, compared_by, compared_divisor, if_some, taken_up}
-use Rattle.kb_semantics.specs.Operands.{Taken, an_int, int_of, taken}
-use Rattle.kb_semantics.specs.Operands.{two_ints as two_of, behind_it}
+use Rattle.kb_semantics.specs.Operands.{Taken, an_int, int_of, taken, two_ints as two_of, behind_it}
 use Rattle.kb_terms.specs.declared.node.TermId.{TermId}
 use Rattle.kb_terms.specs.declared.node.Node.{Node}
 use Rattle.kb_terms.specs.Terms.{IsTerm, value_of}
@@ -22,16 +21,18 @@ use Rattle.kb_picture.specs.declared.choice.Choice.{Choice}
 use Rattle.kb_picture.specs.declared.choice.Choice.TheVariants as choices
 use Rattle.kb_frames.specs.declared.value.SymValue.{SymValue}
 use Rattle.kb_frames.specs.declared.value.SymValue.TheVariants.{Int, Null, Obj, Literal, New, Loc}
-use Rattle.kb_stepint.specs.declared.condition.Condition.{Condition}
-use Rattle.kb_stepint.specs.declared.condition.Side.{Side}
-use Rattle.kb_stepint.specs.declared.condition.Side.TheVariants.{Term, Number}
-use Rattle.kb_stepint.specs.Asked.{branch_condition, equal_sides}
+use Rattle.kb_ways.specs.declared.condition.Condition.{Condition}
+use Rattle.kb_ways.specs.declared.condition.Side.{Side}
+use Rattle.kb_ways.specs.declared.condition.Side.TheVariants.{Term, Number}
+use Rattle.kb_ways.specs.Asked.{branch_condition, equal_sides}
 use Rattle.kb_stepint.specs.Choices.{branch_conditions, conditions_of, division_conditions, divisor_conditions, key_conditions}
-use Rattle.kb_stepint.specs.Operands.{int_term, one_int, two_ints}
-use Rattle.kb_stepint.specs.Needs.{IsTermOf, IsSide}
-use Rattle.kb_stepint.specs.Simulation.{IsComparedBy}
-use Rattle.kb_stepint.proofs.AskedLaws.{AreAskable, asks_for, side_value}
-use Rattle.kb_stepint.proofs.SideLaws.{branch_sides, key_sides}
+use Rattle.kb_ways.specs.Operands.{int_term, an_int as one_int, two_ints}
+use Rattle.kb_ways.specs.Needs.{IsTermOf, IsSide}
+use Rattle.kb_ways.specs.Simulation.{IsComparedBy}
+use Rattle.kb_ways.proofs.AskedLaws.{AreAskable, asks_for, side_value}
+use Rattle.kb_ways.proofs.SideLaws.{branch_sides, key_sides}
+use Rattle.kb_ways.proofs.ItemLaws.{two_parts}
+use Rattle.kb_ways.proofs.OperandLaws.{int_is_term}
 
 -- ---- operands
 
@@ -67,22 +68,6 @@ module _ (f : SymValue → Value) (v : TermId → ℤ) (ints : (t : TermId) → 
   two_ints_are (Literal n ∷ stack) p e = absurd cc
   two_ints_are (New n ∷ stack) p e = absurd cc
   two_ints_are (Loc n ∷ stack) p e = absurd cc
-
--- the ints of a stack are terms
-pub int_is_term : (nodes : List Node) (it : Option SymValue) (x : TermId) → IsTermOf nodes it → int_term it ≡ Some x → IsTerm nodes x
-int_is_term nodes None x is e = absurd cc
-int_is_term nodes (Some (Int t)) x is e = let same : t ≡ x = cc in subst (IsTerm nodes) same is
-int_is_term nodes (Some Null) x is e = absurd cc
-int_is_term nodes (Some (Obj n)) x is e = absurd cc
-int_is_term nodes (Some (Literal n)) x is e = absurd cc
-int_is_term nodes (Some (New n)) x is e = absurd cc
-int_is_term nodes (Some (Loc n)) x is e = absurd cc
-
--- both of two operands are
-pub two_parts : {A B : Type 0} (first : Option A) (second : Option B) (p : B × A) → option_and_then (λ right. option_map (λ left. (left, right)) second) first ≡ Some p → (first ≡ Some p.1) × (second ≡ Some p.0)
-two_parts None second p e = absurd cc
-two_parts (Some r) None p e = absurd cc
-two_parts (Some r) (Some l) p e = let same : (l, r) ≡ p = cc in (ap (λ q. Some q.1) same, ap (λ q. Some q.0) same)
 
 -- ---- what is askable
 

@@ -6,8 +6,8 @@ use Rattle.kb_picture.specs.declared.choice.Choice.{Choice}
 use Rattle.kb_picture.specs.declared.choice.Choice.TheVariants.{Key, Default}
 use Rattle.kb_semantics.specs.Comparisons.{table_keys}
 use Rattle.kb_terms.specs.declared.node.TermId.{TermId}
-use Rattle.kb_stepint.specs.declared.condition.Side.TheVariants.{Term, Number}
-use Rattle.kb_stepint.specs.Asked.{equal_sides}
+use Rattle.kb_ways.specs.declared.condition.Side.TheVariants.{Term, Number}
+use Rattle.kb_ways.specs.Asked.{equal_sides}
 use Rattle.kb_stepint.specs.Choices.{keys_from}
 
 -- the entry at a place, and what is behind it

@@ -1,137 +1,49 @@
 -- Each take of an int step leaves fewer choices before the same instruction, or has carried out one more.
-use Rattle.std.proofs.Common.{◌≡◌, ℕ, zero, suc, ◌+◌, ◌-◌, ◌<◌, ◌≤◌, List, [], ◌∷◌, ◌++◌, length, length-append, slice_get, nat_le, Option, Some, None, refl, sym, ap, subst, ◌∙◌, option_and_then, arith}
+use Rattle.std.proofs.Common.{◌≡◌, ℕ, nat_le, Option, Some, None, refl, ap, ◌∙◌}
 use Rattle.std.specs.Option.{option_map_or}
-use Rattle.std.proofs.lemmas.Option.{slice_get_within}
-use Rattle.kb_class.specs.declared.ids.MethodId.{MethodId}
-use Rattle.kb_class.specs.declared.members.MethodInfo.{MethodInfo}
 use Rattle.kb_code.specs.declared.instruction.Instr.{Instr}
-use Rattle.kb_code.specs.declared.instruction.Instr.TheVariants as instrs
-use Rattle.kb_code.specs.declared.instruction.IntOp.{IntOp}
-use Rattle.kb_code.specs.declared.instruction.IntOp.TheVariants as ops
 use Rattle.kb_heap.specs.declared.bounds.Bounds.{Bounds}
 use Rattle.kb_link.specs.World.{World}
 use Rattle.kb_names.specs.declared.types.JType.{JType}
-use Rattle.kb_semantics.specs.Config.{info_of, has_room, instruction_at}
-use Rattle.kb_semantics.specs.Inputs.{argument_types}
-use Rattle.kb_semantics.specs.Ways.{counted}
+use Rattle.kb_semantics.specs.Config.{instruction_at}
 use Rattle.kb_picture.specs.declared.choice.Choice.{Choice}
-use Rattle.kb_picture.specs.Queries.{kind_for}
-use Rattle.kb_frames.specs.declared.frame.SymFrame.{SymFrame}
-use Rattle.kb_frames.specs.declared.state.Stage.{Stage}
-use Rattle.kb_frames.specs.declared.state.Stage.TheVariants.{Begins, Runs}
-use Rattle.kb_frames.specs.declared.value.SymValue.{SymValue}
-use Rattle.kb_frames.specs.declared.value.SymValue.TheVariants.{Int}
-use Rattle.kb_frames.specs.declared.value.Outcome.TheVariants.{Asks}
 use Rattle.kb_frames.specs.State.{State}
-use Rattle.kb_frames.specs.FirstReads.{with_read}
-use Rattle.kb_frames.specs.Lent.{begun, read_int, stack_of, transfers_of, with_nodes}
-use Rattle.kb_frames.specs.Measure.{questions_of, questions_of_op, unread_at, left_of, choices_left}
-use Rattle.kb_frames.specs.Next.{argument_next, instruction_next, method_now, offset_now}
-use Rattle.kb_stepint.specs.Asked.{all_asked}
+use Rattle.kb_frames.specs.Lent.{begun, stack_of}
+use Rattle.kb_frames.specs.Next.{argument_next, method_now, offset_now}
+use Rattle.kb_ways.specs.Asked.{all_asked}
 use Rattle.kb_stepint.specs.Choices.{conditions_of}
-use Rattle.kb_stepint.specs.Effects.{plan_of}
-use Rattle.kb_stepint.specs.Simulation.{GetsOn}
-use Rattle.kb_stepint.specs.Takes.{answered, taken, takes_next, takes_up}
-use Rattle.kb_stepint.specs.Ways.{Take, Way, Goes, Jumps, Leaves, Throws, Fails, carries_out, ill_typed, went}
-use Rattle.kb_stepint.proofs.GrowLaws.{Grows, if_has, option_has, all_asked_grows}
-
--- ---- instructions
-
-few_of_op : (op : IntOp) → questions_of_op op ≤ 5
-few_of_op ops.Add = omega arith
-few_of_op ops.Sub = omega arith
-few_of_op ops.Mul = omega arith
-few_of_op ops.Div = omega arith
-few_of_op ops.Rem = omega arith
-few_of_op ops.Shl = omega arith
-few_of_op ops.Shr = omega arith
-few_of_op ops.Ushr = omega arith
-few_of_op ops.And = omega arith
-few_of_op ops.Or = omega arith
-few_of_op ops.Xor = omega arith
-
--- no instruction needs more than five choices
-pub few : (instr : Instr) → questions_of instr ≤ 5
-few (instrs.IfInt cond target) = omega arith
-few (instrs.IfPair cond target) = omega arith
-few (instrs.Table low default targets) = omega arith
-few (instrs.Lookup default keys) = omega arith
-few (instrs.Int2 op) = few_of_op op
-few (instrs.GetField entry) = omega arith
-few _ = omega arith
-
-pub few_next : (found : Option Instr) → option_map_or questions_of found 0 ≤ 5
-few_next None = omega arith
-few_next (Some instr) = few instr
+use Rattle.kb_stepint.specs.Effects.{plan_of, effect_of}
+use Rattle.kb_stepint.specs.Takes.{taken, reads_argument}
+use Rattle.kb_ways.specs.Plans.{takes_next, takes_up, carried_out}
+use Rattle.kb_ways.specs.Ways.{ill_typed}
+use Rattle.kb_ways.proofs.GrowLaws.{Grows, if_has, option_has, all_asked_grows, HasMore}
+use Rattle.kb_ways.proofs.MeasureLaws.{Gets, reads_on, went_on}
+use Rattle.kb_stepint.proofs.KeepLaws.{effect_makes}
 
 -- ---- arguments
 
-fewer : (n questions before : ℕ) → questions ≤ 5 → left_of n questions < left_of (suc n) before
-fewer zero questions before h = omega (arith, h)
-fewer (suc n) questions before h = omega arith
-
--- one more argument is read
-module _ (world : World) (method : MethodId) (read : List SymValue) (value : SymValue) where
-  fewer_unread : (type : JType) → argument_next world method (Begins read) ≡ Some type → unread_at world method (Begins read) ≡ suc (unread_at world method (Begins (read ++ value ∷ [])))
-  fewer_unread type e = go (info_of world method) refl e where
-    go : (info : Option MethodInfo) → info_of world method ≡ info → option_and_then (λ (i : MethodInfo). slice_get (argument_types world i) (length read)) info ≡ Some type
-        → option_map_or (λ (i : MethodInfo). length (argument_types world i)) info 0 - length read ≡ suc (option_map_or (λ (i : MethodInfo). length (argument_types world i)) info 0 - length (read ++ value ∷ []))
-    go None is h = absurd cc
-    go (Some i) is h =
-        let inside : length read < length (argument_types world i) = slice_get_within (argument_types world i) (length read) type h in
-        omega (arith, inside, length-append read (value ∷ []))
-
 module _ (world : World) (bounds : Bounds) (old : State) where
-  abbrev Gets : Take → Type 0
-  Gets take = GetsOn world old take.state take.outcome
-
-  pub reads_on : (stage : Stage) (type : JType) → old.stage ≡ stage → argument_next world old.method old.stage ≡ Some type → choices_left world (read_int old (kind_for (Some type))) < choices_left world old
-  reads_on (Begins read) type is e =
-      let value = Int (record { 0 = length old.nodes }) in
-      let next : argument_next world old.method (Begins read) ≡ Some type = subst (λ (s : Stage). argument_next world old.method s ≡ Some type) is e in
-      let one : unread_at world old.method (Begins read) ≡ suc (unread_at world old.method (Begins (read ++ value ∷ []))) = fewer_unread world old.method read value type next in
-      let less = fewer (unread_at world old.method (Begins (read ++ value ∷ []))) (option_map_or questions_of (instruction_next world old.method (Begins (read ++ value ∷ []))) 0)
-      (option_map_or questions_of (instruction_next world old.method (Begins read)) 0) (few_next (instruction_next world old.method (Begins (read ++ value ∷ [])))) in
-      subst (λ (s : Stage). left_of (unread_at world old.method (with_read s value)) (option_map_or questions_of (instruction_next world old.method (with_read s value)) 0)
-      < left_of (unread_at world old.method s) (option_map_or questions_of (instruction_next world old.method s) 0)) (sym is)
-      (subst (λ n. left_of (unread_at world old.method (Begins (read ++ value ∷ []))) (option_map_or questions_of (instruction_next world old.method (Begins (read ++ value ∷ []))) 0)
-      < left_of n (option_map_or questions_of (instruction_next world old.method (Begins read)) 0)) (sym one) less)
-  reads_on (Runs frame callers) type is e = absurd (none (subst (λ (s : Stage). argument_next world old.method s ≡ Some type) is e)) where
-    none : None ≡ Some type → ⊥
-    none h = cc
-
   -- ---- ways on
 
-  carries : (state : State) (f : SymFrame → SymFrame) → state.carried ≡ old.carried → Gets (carries_out state f)
-  carries state f e = ap (λ n. n + 1) e
-
-  pub went_on : (next : ℕ) (state : State) (way : Way) → state.carried ≡ old.carried → Gets (went world bounds next state way)
-  went_on next state (Goes locals stack) e = if_has Gets (has_room world (method_now state.method state.stage) (length stack)) _ _ (carries state (λ (frame : SymFrame). record frame { at = next; locals = locals; stack = stack }) e) tt
-  went_on next state (Jumps target stack) e =
-      if_has Gets (has_room world (method_now state.method state.stage) (length stack)) _ _
-      (option_has Gets (counted bounds.run (offset_now state.stage) target (transfers_of state.stage)) _ _ (λ n. carries state (λ (frame : SymFrame). record frame { at = target; stack = stack; transfers = n }) e) tt) tt
-  went_on next state (Leaves value) e = tt
-  went_on next state (Throws class) e = tt
-  went_on next state Fails e = tt
-
-  answers_on : (choice : Choice) (state : State) (found : Instr × ℕ) → state.carried ≡ old.carried → Gets (answered world bounds choice state found)
+  answers_on : (choice : Choice) (state : State) (found : Instr × ℕ) → state.carried ≡ old.carried → Gets world bounds old (carried_out plan_of world bounds choice state found)
   answers_on choice state found e =
       let conditions = conditions_of found.0 (stack_of state.stage) choice in
       let grown : Grows state (all_asked state conditions) = all_asked_grows conditions state in
       let same : (all_asked state conditions).carried ≡ state.carried = ap (λ (s : State). s.carried) grown.rest in
-      let plan = plan_of world (all_asked state conditions) choice found.0 in
-      went_on found.1 (with_nodes (all_asked state conditions) plan.nodes) plan.way (same ∙ e)
+      let effect = effect_of world (all_asked state conditions) choice found.0 in
+      let more : HasMore (all_asked state conditions) effect.state = effect_makes world (all_asked state conditions) choice found.0 in
+      went_on world bounds old found.1 effect.state effect.way (ap (λ (s : State). s.carried) more.rest ∙ same ∙ e)
 
-  takes_up_on : (choice : Choice) (state : State) → state.carried ≡ old.carried → Gets (takes_up world bounds choice state)
+  takes_up_on : (choice : Choice) (state : State) → state.carried ≡ old.carried → Gets world bounds old (takes_up plan_of world bounds choice state)
   takes_up_on choice state e =
-      option_has Gets (instruction_at world (method_now state.method state.stage) (offset_now state.stage)) (answered world bounds choice state) (ill_typed world state)
+      option_has (Gets world bounds old) (instruction_at world (method_now state.method state.stage) (offset_now state.stage)) (carried_out plan_of world bounds choice state) (ill_typed world state)
       (λ found. answers_on choice state found e) tt
 
-  takes_next_on : (choice : Choice) → Gets (takes_next world bounds choice old)
-  takes_next_on choice = if_has Gets (nat_le bounds.run.steps old.carried) _ _ tt (takes_up_on choice (begun world old) refl)
+  takes_next_on : (choice : Choice) → Gets world bounds old (takes_next plan_of world bounds choice old)
+  takes_next_on choice = if_has (Gets world bounds old) (nat_le bounds.run.steps old.carried) _ _ tt (takes_up_on choice (begun world old) refl)
 
-  pub gets_on : (choice : Choice) → Gets (taken world bounds old choice)
+  pub gets_on : (choice : Choice) → Gets world bounds old (taken world bounds old choice)
   gets_on choice = go (argument_next world old.method old.stage) refl where
-    go : (next : Option JType) → argument_next world old.method old.stage ≡ next → Gets (option_map_or (λ (type : JType). record { state = read_int old (kind_for (Some type)); outcome = Asks }) next (takes_next world bounds choice old))
+    go : (next : Option JType) → argument_next world old.method old.stage ≡ next → Gets world bounds old (option_map_or (reads_argument old) next (takes_next plan_of world bounds choice old))
     go None e = takes_next_on choice
-    go (Some type) e = (refl, reads_on old.stage type refl e)
+    go (Some type) e = (refl, reads_on world bounds old old.stage type refl e)

@@ -3,7 +3,6 @@
 use Rattle.std.proofs.Common.{◌≡◌, ℕ, ℤ, Bool, true, false, not, ◌||◌, List, [], ◌∷◌, filter, length, nat_le, slice_get, Option, Some, None, refl, sym, ap, subst, ◌∙◌, inl, inr, if◌then◌else◌, is_some}
 use Rattle.std.specs.Option.{option_map, option_map_or, option_and_then}
 use Rattle.std.proofs.lemmas.Bool.{not-true}
-use Rattle.kb_class.specs.declared.ids.MethodId.{MethodId}
 use Rattle.kb_class.specs.declared.members.MethodInfo.{MethodInfo}
 use Rattle.kb_code.specs.Listing.{HasRisingKeys}
 use Rattle.kb_code.specs.declared.instruction.Instr.{Instr}
@@ -20,39 +19,41 @@ use Rattle.kb_terms.specs.declared.node.Node.{Node}
 use Rattle.kb_terms.specs.Terms.{IsTerm, Extends}
 use Rattle.kb_terms.proofs.Values.{Extends-trans}
 use Rattle.kb_picture.specs.declared.choice.Choice.{Choice}
+use Rattle.kb_picture.specs.Exactly.{ExactlyOneHas, NoneHas}
 use Rattle.kb_picture.specs.Instances.{variable_values}
 use Rattle.kb_picture.specs.Queries.{kind_for}
+use Rattle.kb_picture.specs.WellTyped.{is_reference_type}
 use Rattle.kb_frames.specs.declared.state.Stage.{Stage}
 use Rattle.kb_frames.specs.declared.state.Stage.TheVariants.{Begins, Runs}
 use Rattle.kb_frames.specs.declared.value.Outcome.TheVariants.{Cut}
 use Rattle.kb_frames.specs.declared.value.SymValue.{SymValue}
-use Rattle.kb_frames.specs.declared.value.SymValue.TheVariants.{Int, Null, Obj, Literal, New, Loc}
 use Rattle.kb_frames.specs.Cuts.{setting_of}
-use Rattle.kb_frames.specs.Lent.{begun, begun_stage, read_count, stack_of, with_nodes}
-use Rattle.kb_frames.specs.Next.{argument_next, instruction_next, is_int, is_int_next, is_reference, method_now, offset_now}
+use Rattle.kb_frames.specs.Lent.{begun, begun_stage, read_count, stack_of}
+use Rattle.kb_frames.specs.Next.{argument_next, instruction_next, is_int, is_int_next, method_now, offset_now}
 use Rattle.kb_frames.specs.StandsFor.{IsInstanceOf, StandsFor}
 use Rattle.kb_frames.specs.State.{State}
-use Rattle.kb_frames.specs.States.{Each, IsStage, IsSymValue}
-use Rattle.kb_stepint.specs.declared.condition.Condition.{Condition}
-use Rattle.kb_stepint.specs.Asked.{all_asked, is_refuted}
+use Rattle.kb_ways.specs.declared.condition.Condition.{Condition}
+use Rattle.kb_ways.specs.Asked.{all_asked, is_refuted}
 use Rattle.kb_stepint.specs.Choices.{choices_of, conditions_of, listed, offered, only}
-use Rattle.kb_stepint.specs.Effects.{Planned, plan_of}
+use Rattle.kb_ways.specs.Plans.{Planned, takes_next, takes_up, carried_out}
+use Rattle.kb_stepint.specs.Effects.{plan_of, effect_of}
 use Rattle.kb_stepint.specs.Laws.{IsAtInts}
-use Rattle.kb_stepint.specs.Operands.{int_term, one_int, two_ints}
-use Rattle.kb_stepint.specs.Needs.{IsTermOf}
-use Rattle.kb_stepint.specs.Reached.{IsAlone, IsReached}
-use Rattle.kb_stepint.specs.Simulation.{ExactlyOneIs, NoneIs, TakesOneWay}
-use Rattle.kb_stepint.specs.Takes.{answered, reads_argument, taken, takes_next, takes_up}
-use Rattle.kb_stepint.specs.Ways.{ill_typed}
-use Rattle.kb_stepint.proofs.AddedLaws.{went_when}
-use Rattle.kb_stepint.proofs.ComparedLaws.{int_is_term, two_parts}
-use Rattle.kb_stepint.proofs.GrowLaws.{Grows, all_asked_grows}
-use Rattle.kb_stepint.proofs.KeepLaws.{plan_makes, went_stays}
-use Rattle.kb_stepint.proofs.OneAsked.{AllHold, AllSides, IsReady, conditions_there}
-use Rattle.kb_stepint.proofs.OneDecided.{all_hold, all_met, all_open, all_ready, not_refuted}
-use Rattle.kb_stepint.proofs.OneInstances.{argument_is, instance_of_met, int_argument, met_of_instance, read_instance}
+use Rattle.kb_ways.specs.Operands.{int_term, an_int, two_ints}
+use Rattle.kb_ways.specs.Reached.{IsReached}
+use Rattle.kb_ways.specs.Simulation.{TakesOneWay}
+use Rattle.kb_stepint.specs.Takes.{reads_argument, taken}
+use Rattle.kb_ways.specs.Ways.{ill_typed}
+use Rattle.kb_ways.proofs.KeepLaws.{went_when, went_stays}
+use Rattle.kb_ways.proofs.OperandLaws.{int_is_term}
+use Rattle.kb_ways.proofs.ItemLaws.{two_parts}
+use Rattle.kb_ways.proofs.GrowLaws.{Grows, all_asked_grows, HasMore}
+use Rattle.kb_stepint.proofs.KeepLaws.{effect_makes}
+use Rattle.kb_ways.proofs.OneAsked.{AllHold, AllSides, IsReady, conditions_there}
+use Rattle.kb_ways.proofs.OneDecided.{all_hold, all_met, all_open, all_ready, not_refuted}
+use Rattle.kb_ways.proofs.OneInstances.{argument_is, instance_of_met, int_argument, met_of_instance, read_instance}
 use Rattle.kb_stepint.proofs.OneListed.{conditions_alike, conditions_sides, listed_one, wanted_of}
-use Rattle.kb_stepint.proofs.ValueLaws.{pool_ordered}
+use Rattle.kb_ways.proofs.ValueLaws.{pool_ordered}
+use Rattle.kb_ways.proofs.BegunLaws.{AreStackTerms, begun_terms, place_same, stack_same}
 
 -- ---- one of those that are left
 
@@ -62,73 +63,34 @@ filter_kept keep x xs e = rw e refl
 filter_dropped : {A : Type 0} (keep : A → Bool) (x : A) (xs : List A) → keep x ≡ false → filter keep (x ∷ xs) ≡ filter keep xs
 filter_dropped keep x xs e = rw e refl
 
-module _ {A : Type 0} (P Q : A → Type 0) (keep : A → Bool) (kept : (x : A) → P x → keep x ≡ true) (there : (x : A) → P x → Q x) (back : (x : A) → keep x ≡ true → Q x → P x) where
-  none_left : (xs : List A) → NoneIs P xs → NoneIs Q (filter keep xs)
+module _ {A B C : Type 0} (P : A → B → Type 0) (Q : A → C → Type 0) (values : B) (input : C) (keep : A → Bool) (kept : (x : A) → P x values → keep x ≡ true)
+    (there : (x : A) → P x values → Q x input) (back : (x : A) → keep x ≡ true → Q x input → P x values) where
+  none_left : (xs : List A) → NoneHas P xs values → NoneHas Q (filter keep xs) input
   none_left [] none = tt
   none_left (x ∷ xs) none = go (none_left xs none.1) (keep x) refl where
-    go : NoneIs Q (filter keep xs) → (b : Bool) → keep x ≡ b → NoneIs Q (filter keep (x ∷ xs))
-    go rest true e = subst (NoneIs Q) (sym (filter_kept keep x xs e)) ((λ q. none.0 (back x e q)), rest)
-    go rest false e = subst (NoneIs Q) (sym (filter_dropped keep x xs e)) rest
+    go : NoneHas Q (filter keep xs) input → (b : Bool) → keep x ≡ b → NoneHas Q (filter keep (x ∷ xs)) input
+    go rest true e = subst (λ (left : List A). NoneHas Q left input) (sym (filter_kept keep x xs e)) ((λ q. none.0 (back x e q)), rest)
+    go rest false e = subst (λ (left : List A). NoneHas Q left input) (sym (filter_dropped keep x xs e)) rest
 
-  one_left : (xs : List A) → ExactlyOneIs P xs → ExactlyOneIs Q (filter keep xs)
+  one_left : (xs : List A) → ExactlyOneHas P xs values → ExactlyOneHas Q (filter keep xs) input
   one_left [] one = one
   one_left (x ∷ xs) one = elim one [
-    | inl here ↦ subst (ExactlyOneIs Q) (sym (filter_kept keep x xs (kept x here.0))) (inl (there x here.0, none_left xs here.1))
+    | inl here ↦ subst (λ (left : List A). ExactlyOneHas Q left input) (sym (filter_kept keep x xs (kept x here.0))) (inl (there x here.0, none_left xs here.1))
     | inr later ↦ go (one_left xs later.1) (keep x) refl later.0
   ] where
-    go : ExactlyOneIs Q (filter keep xs) → (b : Bool) → keep x ≡ b → (P x → ⊥) → ExactlyOneIs Q (filter keep (x ∷ xs))
-    go rest true e never = subst (ExactlyOneIs Q) (sym (filter_kept keep x xs e)) (inr ((λ q. never (back x e q)), rest))
-    go rest false e never = subst (ExactlyOneIs Q) (sym (filter_dropped keep x xs e)) rest
+    go : ExactlyOneHas Q (filter keep xs) input → (b : Bool) → keep x ≡ b → (P x values → ⊥) → ExactlyOneHas Q (filter keep (x ∷ xs)) input
+    go rest true e never = subst (λ (left : List A). ExactlyOneHas Q left input) (sym (filter_kept keep x xs e)) (inr ((λ q. never (back x e q)), rest))
+    go rest false e never = subst (λ (left : List A). ExactlyOneHas Q left input) (sym (filter_dropped keep x xs e)) rest
 
 -- ---- the operands are terms
 
--- each int of a stack is a term of the pool
-abbrev pub AreStackTerms : List Node → List SymValue → Type 0
-AreStackTerms nodes stack = (depth : ℕ) → IsTermOf nodes (slice_get stack depth)
-
-pub one_term : (nodes : List Node) (stack : List SymValue) (x : TermId) → AreStackTerms nodes stack → one_int stack ≡ Some x → IsTerm nodes x
+pub one_term : (nodes : List Node) (stack : List SymValue) (x : TermId) → AreStackTerms nodes stack → an_int stack ≡ Some x → IsTerm nodes x
 one_term nodes stack x terms e = int_is_term nodes (slice_get stack 0) x (terms 0) e
 
 pub two_terms : (nodes : List Node) (stack : List SymValue) (p : TermId × TermId) → AreStackTerms nodes stack → two_ints stack ≡ Some p → IsTerm nodes p.0 × IsTerm nodes p.1
 two_terms nodes stack p terms e =
     let parts = two_parts (int_term (slice_get stack 0)) (int_term (slice_get stack 1)) p e in
     (int_is_term nodes (slice_get stack 1) p.0 (terms 1) parts.1, int_is_term nodes (slice_get stack 0) p.1 (terms 0) parts.0)
-
-pub sym_term : (world : World) (state : State) (value : SymValue) → IsSymValue world state value → IsTermOf state.nodes (Some value)
-sym_term world state (Int t) is = is
-sym_term world state Null is = tt
-sym_term world state (Obj n) is = tt
-sym_term world state (Literal n) is = tt
-sym_term world state (New n) is = tt
-sym_term world state (Loc n) is = tt
-
-pub sym_terms : (world : World) (state : State) (stack : List SymValue) → Each (IsSymValue world state) stack → AreStackTerms state.nodes stack
-sym_terms world state stack each depth = go (slice_get stack depth) refl where
-  go : (it : Option SymValue) → slice_get stack depth ≡ it → IsTermOf state.nodes it
-  go None e = tt
-  go (Some value) e = sym_term world state value (each depth value e)
-
--- those of the frame with which a run goes on
-pub begun_terms : (world : World) (state : State) → IsStage world state state.stage → AreStackTerms state.nodes (stack_of (begun_stage world state state.stage))
-begun_terms world state = go state.stage where
-  go : (stage : Stage) → IsStage world state stage → AreStackTerms state.nodes (stack_of (begun_stage world state stage))
-  go (Begins read) is = λ depth. tt
-  go (Runs frame callers) is = sym_terms world state frame.stack is.0.stack
-
--- ---- where a run stands
-
-pub place_same : (world : World) (old : State) (stage : Stage)
-    → instruction_at world (method_now old.method (begun_stage world old stage)) (offset_now (begun_stage world old stage)) ≡ instruction_at world (method_now old.method stage) (offset_now stage)
-place_same world old (Begins read) = refl
-place_same world old (Runs frame callers) = refl
-
-pub stack_same : (world : World) (old : State) (stage : Stage) → stack_of (begun_stage world old stage) ≡ stack_of stage
-stack_same world old (Begins read) = refl
-stack_same world old (Runs frame callers) = refl
-
-pub method_same : (world : World) (old : State) (stage : Stage) → IsAlone old.method stage → method_now old.method (begun_stage world old stage) ≡ old.method
-method_same world old (Begins read) alone = refl
-method_same world old (Runs frame callers) alone = alone.0
 
 -- ---- an instruction that is taken up
 
@@ -148,11 +110,14 @@ module _ (world : World) (bounds : Bounds) (old : State) (reached : IsReached wo
   abbrev grown : Choice → State
   grown choice = all_asked start (cs choice)
 
-  abbrev plan : Choice → Planned
-  plan choice = plan_of world (grown choice) choice found.0
+  abbrev effect : Choice → Planned
+  effect choice = effect_of world (grown choice) choice found.0
+
+  more : (choice : Choice) → HasMore (grown choice) (effect choice).state
+  more choice = effect_makes world (grown choice) choice found.0
 
   abbrev new : Choice → State
-  new choice = (answered world bounds choice start found).state
+  new choice = (carried_out plan_of world bounds choice start found).state
 
   ready : IsReady start
   ready = record { ordered = pool_ordered old.nodes reached.sound.pool; terms = conditions_there old.nodes old.when reached.sound.conditions }
@@ -166,21 +131,28 @@ module _ (world : World) (bounds : Bounds) (old : State) (reached : IsReached wo
   grows choice = all_asked_grows (cs choice) start
 
   pub answered_picture : (choice : Choice) → (new choice).picture ≡ old.picture
-  answered_picture choice = (went_stays world bounds found.1 (with_nodes (grown choice) (plan choice).nodes) (plan choice).way).picture ∙ ap (λ (s : State). s.picture) (grows choice).rest
+  answered_picture choice =
+      (went_stays world bounds found.1 (effect choice).state (effect choice).way).picture ∙ ap (λ (s : State). s.picture) (more choice).rest ∙ ap (λ (s : State). s.picture) (grows choice).rest
 
   pub answered_when : (choice : Choice) → (new choice).when ≡ (grown choice).when
-  answered_when choice = went_when world bounds found.1 (with_nodes (grown choice) (plan choice).nodes) (plan choice).way
+  answered_when choice = went_when world bounds found.1 (effect choice).state (effect choice).way ∙ ap (λ (s : State). s.when) (more choice).rest
 
   pub answered_terms : (choice : Choice) → Extends (grown choice).nodes (new choice).nodes
   answered_terms choice =
-      Extends-trans (grown choice).nodes (plan choice).nodes (new choice).nodes (plan_makes world (grown choice) choice found.0).terms
-      (went_stays world bounds found.1 (with_nodes (grown choice) (plan choice).nodes) (plan choice).way).terms
+      Extends-trans (grown choice).nodes (effect choice).state.nodes (new choice).nodes (more choice).on.terms
+      (went_stays world bounds found.1 (effect choice).state (effect choice).way).terms
+
+  abbrev HeldAt : Choice → List ℤ → Type 0
+  HeldAt choice values = AllHold old.nodes values (cs choice)
 
   abbrev Held : Choice → Type 0
-  Held choice = AllHold old.nodes variables (cs choice)
+  Held choice = HeldAt choice variables
+
+  abbrev InstanceAt : Choice → Input → Type 0
+  InstanceAt choice i = IsInstanceOf (new choice) i
 
   abbrev Instance : Choice → Type 0
-  Instance choice = IsInstanceOf (new choice) input
+  Instance choice = InstanceAt choice input
 
   abbrev keep : Choice → Bool
   keep choice = not (is_refuted old (cs choice))
@@ -202,10 +174,10 @@ module _ (world : World) (bounds : Bounds) (old : State) (reached : IsReached wo
       (met_of_instance old.picture (grown choice).nodes (grown choice).when (all_ready (cs choice) start (sides choice) ready).terms (new choice) input
       (answered_picture choice) (answered_when choice) (answered_terms choice) instance_of.shape i)
 
-  pub one_answered : HasRisingKeys found.0 → ExactlyOneIs Instance (offered old (stack_of old.stage) found.0)
+  pub one_answered : HasRisingKeys found.0 → ExactlyOneHas InstanceAt (offered old (stack_of old.stage) found.0) input
   one_answered rising =
-      subst (λ (s : List SymValue). ExactlyOneIs Instance (offered old s found.0)) (stack_same world old old.stage)
-      (one_left Held Instance keep held_kept held_instance instance_held (listed found.0 stack) (listed_one old.nodes variables found.0 stack rising))
+      subst (λ (s : List SymValue). ExactlyOneHas InstanceAt (offered old s found.0) input) (stack_same world old old.stage)
+      (one_left HeldAt InstanceAt variables input keep held_kept held_instance instance_held (listed found.0 stack) (listed_one old.nodes variables found.0 stack rising))
 
 -- ---- all takes
 
@@ -219,32 +191,31 @@ module _ (world : World) (bounds : Bounds) (old : State) (at : IsAtInts world ol
 
   rising : (found : Instr × ℕ) → place ≡ Some found → HasRisingKeys found.0
   rising found e =
-      at.reached.keys (offset_now (begun_stage world old old.stage)) found
-      (ap (λ (m : MethodId). instruction_at world m (offset_now (begun_stage world old old.stage))) (sym (method_same world old old.stage at.reached.alone)) ∙ e)
+      at.reached.keys (method_now old.method (begun_stage world old old.stage)) (offset_now (begun_stage world old old.stage)) found e
 
-  one_taken_up : ExactlyOneIs (λ (choice : Choice). IsInstanceOf (takes_up world bounds choice (begun world old)).state input)
-      (option_map_or (offered old (stack_of old.stage)) (instruction_next world old.method old.stage) only)
+  one_taken_up : ExactlyOneHas (λ (choice : Choice) (i : Input). IsInstanceOf (takes_up plan_of world bounds choice (begun world old)).state i)
+      (option_map_or (offered old (stack_of old.stage)) (instruction_next world old.method old.stage) only) input
   one_taken_up =
-      subst (λ (found : Option (Instr × ℕ)). ExactlyOneIs (λ (choice : Choice). IsInstanceOf (takes_up world bounds choice (begun world old)).state input)
-      (option_map_or (offered old (stack_of old.stage)) (option_map (λ (f : Instr × ℕ). f.0) found) only)) (place_same world old old.stage) (go place refl)
+      subst (λ (found : Option (Instr × ℕ)). ExactlyOneHas (λ (choice : Choice) (i : Input). IsInstanceOf (takes_up plan_of world bounds choice (begun world old)).state i)
+      (option_map_or (offered old (stack_of old.stage)) (option_map (λ (f : Instr × ℕ). f.0) found) only) input) (place_same world old old.stage) (go place refl)
     where
-      go : (it : Option (Instr × ℕ)) → place ≡ it → ExactlyOneIs (λ (choice : Choice). IsInstanceOf (option_map_or (answered world bounds choice (begun world old)) it (ill_typed world (begun world old))).state input)
-          (option_map_or (offered old (stack_of old.stage)) (option_map (λ (f : Instr × ℕ). f.0) it) only)
+      go : (it : Option (Instr × ℕ)) → place ≡ it → ExactlyOneHas (λ (choice : Choice) (i : Input). IsInstanceOf (option_map_or (carried_out plan_of world bounds choice (begun world old)) it (ill_typed world (begun world old))).state i)
+          (option_map_or (offered old (stack_of old.stage)) (option_map (λ (f : Instr × ℕ). f.0) it) only) input
       go None e = inl (begun_instance, tt)
       go (Some found) e = one_answered world bounds old at.reached input stands.instance_of found (rising found e)
 
   -- an argument that is read is an int
   argument_int : (type : JType) → argument_next world old.method old.stage ≡ Some type → (z : ℤ) × (slice_get input.args (read_count old.stage) ≡ Some (IntValue z))
   argument_int type e = by_stage old.stage e (plain_next (argument_next world old.method old.stage) (is_int_next world (method_now old.method old.stage) (instruction_next world old.method old.stage)) at.next e) where
-    plain_next : (next : Option JType) (else_int : Bool) → is_int (option_map is_reference next) else_int ≡ true → next ≡ Some type → not (is_reference type) ≡ true
+    plain_next : (next : Option JType) (else_int : Bool) → is_int (option_map is_reference_type next) else_int ≡ true → next ≡ Some type → not (is_reference_type type) ≡ true
     plain_next None else_int int same = absurd cc
-    plain_next (Some kind) else_int int same = (let one : kind ≡ type = cc in subst (λ (t : JType). not (is_reference t) ≡ true) one int)
+    plain_next (Some kind) else_int int same = (let one : kind ≡ type = cc in subst (λ (t : JType). not (is_reference_type t) ≡ true) one int)
 
     some_same : (one other : MethodInfo) → Some one ≡ Some other → one ≡ other
     some_same one other both = cc
 
     by_info : (n : ℕ) (info : Option MethodInfo) → info_of world old.method ≡ info → option_and_then (λ (i : MethodInfo). slice_get (argument_types world i) n) info ≡ Some type
-        → is_reference type ≡ false → (z : ℤ) × (slice_get input.args n ≡ Some (IntValue z))
+        → is_reference_type type ≡ false → (z : ℤ) × (slice_get input.args n ≡ Some (IntValue z))
     by_info n None is h plain = absurd cc
     by_info n (Some info) is h plain =
         let same : correct.method ≡ info = some_same correct.method info (sym correct.method_is ∙ is) in
@@ -253,20 +224,20 @@ module _ (world : World) (bounds : Bounds) (old : State) (at : IsAtInts world ol
         let int = int_argument world input.heap type found.0 plain found.2 in
         (int.0, found.1 ∙ ap Some int.1)
 
-    by_stage : (stage : Stage) → argument_next world old.method stage ≡ Some type → not (is_reference type) ≡ true → (z : ℤ) × (slice_get input.args (read_count stage) ≡ Some (IntValue z))
-    by_stage (Begins read) h plain = by_info (length read) (info_of world old.method) refl h (not-true (is_reference type) plain)
+    by_stage : (stage : Stage) → argument_next world old.method stage ≡ Some type → not (is_reference_type type) ≡ true → (z : ℤ) × (slice_get input.args (read_count stage) ≡ Some (IntValue z))
+    by_stage (Begins read) h plain = by_info (length read) (info_of world old.method) refl h (not-true (is_reference_type type) plain)
     by_stage (Runs frame callers) h plain = absurd cc
 
-  pub one_taken : ExactlyOneIs (λ (choice : Choice). IsInstanceOf (taken world bounds old choice).state input) (choices_of world old bounds)
+  pub one_taken : ExactlyOneHas (λ (choice : Choice) (i : Input). IsInstanceOf (taken world bounds old choice).state i) (choices_of world old bounds) input
   one_taken = go (argument_next world old.method old.stage) refl where
-    by_steps : (b : Bool) → ExactlyOneIs (λ (choice : Choice). IsInstanceOf (if b then record { state = old; outcome = Cut Steps } else takes_up world bounds choice (begun world old)).state input)
-        (if b then only else option_map_or (offered old (stack_of old.stage)) (instruction_next world old.method old.stage) only)
+    by_steps : (b : Bool) → ExactlyOneHas (λ (choice : Choice) (i : Input). IsInstanceOf (if b then record { state = old; outcome = Cut Steps } else takes_up plan_of world bounds choice (begun world old)).state i)
+        (if b then only else option_map_or (offered old (stack_of old.stage)) (instruction_next world old.method old.stage) only) input
     by_steps true = inl (stands.instance_of, tt)
     by_steps false = one_taken_up
 
     go : (next : Option JType) → argument_next world old.method old.stage ≡ next
-        → ExactlyOneIs (λ (choice : Choice). IsInstanceOf (option_map_or (reads_argument old) next (takes_next world bounds choice old)).state input)
-        (if is_some next || nat_le bounds.run.steps old.carried then only else option_map_or (offered old (stack_of old.stage)) (instruction_next world old.method old.stage) only)
+        → ExactlyOneHas (λ (choice : Choice) (i : Input). IsInstanceOf (option_map_or (reads_argument old) next (takes_next plan_of world bounds choice old)).state i)
+        (if is_some next || nat_le bounds.run.steps old.carried then only else option_map_or (offered old (stack_of old.stage)) (instruction_next world old.method old.stage) only) input
     go None e = by_steps (nat_le bounds.run.steps old.carried)
     go (Some type) e =
         let int = argument_int type e in

@@ -20,19 +20,19 @@ use Rattle.kb_terms.specs.declared.node.Node.{Node}
 use Rattle.kb_terms.specs.Terms.{IsTerm, value_of}
 use Rattle.kb_picture.specs.declared.choice.Choice.{Choice}
 use Rattle.kb_picture.specs.declared.choice.Choice.TheVariants.{Branch, Key, Default, Zero, NotZero}
+use Rattle.kb_picture.specs.Exactly.{NoneHas, ExactlyOneHas}
 use Rattle.kb_frames.specs.declared.value.SymValue.{SymValue}
-use Rattle.kb_stepint.specs.declared.condition.Condition.{Condition}
-use Rattle.kb_stepint.specs.declared.condition.Side.{Side}
-use Rattle.kb_stepint.specs.declared.condition.Side.TheVariants.{Term, Number}
-use Rattle.kb_stepint.specs.Asked.{branch_condition, equal_sides}
+use Rattle.kb_ways.specs.declared.condition.Condition.{Condition}
+use Rattle.kb_ways.specs.declared.condition.Side.{Side}
+use Rattle.kb_ways.specs.declared.condition.Side.TheVariants.{Term, Number}
+use Rattle.kb_ways.specs.Asked.{branch_condition, equal_sides}
 use Rattle.kb_stepint.specs.Choices.{only, both_ways, keys_from, divisors, listed, branch_conditions, key_conditions, divisor_conditions, division_conditions, conditions_of}
-use Rattle.kb_stepint.specs.Needs.{IsSide}
-use Rattle.kb_stepint.specs.Operands.{one_int, two_ints}
-use Rattle.kb_stepint.specs.Simulation.{NoneIs, ExactlyOneIs}
-use Rattle.kb_stepint.proofs.AskedLaws.{side_value}
-use Rattle.kb_stepint.proofs.OneAsked.{Holds, AllHold, AllSides, IsTruth}
-use Rattle.kb_stepint.proofs.SideLaws.{branch_sides, key_sides}
-use Rattle.kb_stepint.proofs.OneDecided.{AreAlike, truth_same}
+use Rattle.kb_ways.specs.Needs.{IsSide}
+use Rattle.kb_ways.specs.Operands.{an_int, two_ints}
+use Rattle.kb_ways.proofs.AskedLaws.{side_value}
+use Rattle.kb_ways.proofs.OneAsked.{Holds, AllHold, AllSides, IsTruth}
+use Rattle.kb_ways.proofs.SideLaws.{branch_sides, key_sides}
+use Rattle.kb_ways.proofs.OneDecided.{AreAlike, truth_same}
 
 -- ---- keys that rise
 
@@ -76,9 +76,10 @@ rising_none z key keys e rising =
 
 -- ---- one of two
 
-two_ways : (P : Choice → Type 0) (a b : Choice) (v : Bool) → (v ≡ false → P a) → (v ≡ false → P b → ⊥) → (v ≡ true → P b) → (v ≡ true → P a → ⊥) → ExactlyOneIs P (a ∷ b ∷ [])
-two_ways P a b false p q r s = inl (p refl, (q refl, tt))
-two_ways P a b true p q r s = inr (s refl, inl (r refl, tt))
+two_ways : (P : Choice → List ℤ → Type 0) (values : List ℤ) (a b : Choice) (v : Bool) → (v ≡ false → P a values) → (v ≡ false → P b values → ⊥) → (v ≡ true → P b values)
+    → (v ≡ true → P a values → ⊥) → ExactlyOneHas P (a ∷ b ∷ []) values
+two_ways P values a b false p q r s = inl (p refl, (q refl, tt))
+two_ways P values a b true p q r s = inr (s refl, inl (r refl, tt))
 
 not_not : (b : Bool) → not (not b) ≡ b
 not_not true = refl
@@ -109,9 +110,9 @@ module _ (nodes : List Node) (variables : List ℤ) where
   so_branch conds.Gt a b so e = ap truth e
   so_branch conds.Le a b so e = ap truth (sym (not_not (int_lt (W b) (W a))) ∙ ap not e)
 
-  branch_one : (cond : Cond) (a b : Side) → ExactlyOneIs (λ (choice : Choice). AllHold nodes variables (branch_conditions cond a b choice)) both_ways
+  branch_one : (cond : Cond) (a b : Side) → ExactlyOneHas (λ (choice : Choice) (values : List ℤ). AllHold nodes values (branch_conditions cond a b choice)) both_ways variables
   branch_one cond a b =
-      two_ways (λ (choice : Choice). AllHold nodes variables (branch_conditions cond a b choice)) (Branch false) (Branch true) (holds cond (W a) (W b))
+      two_ways (λ (choice : Choice) (values : List ℤ). AllHold nodes values (branch_conditions cond a b choice)) variables (Branch false) (Branch true) (holds cond (W a) (W b))
       (λ e. (so_branch cond a b false e, tt)) (λ e h. true≢false (sym (branch_so cond a b true h.0) ∙ e))
       (λ e. (so_branch cond a b true e, tt)) (λ e h. true≢false (sym e ∙ branch_so cond a b false h.0))
 
@@ -128,13 +129,13 @@ module _ (nodes : List Node) (variables : List ℤ) where
   abbrev is_zero : TermId → Bool
   is_zero x = int_eq (value_of nodes x variables) (pos 0)
 
-  divisor_one : (x : TermId) → ExactlyOneIs (λ (choice : Choice). AllHold nodes variables (divisor_conditions x choice)) (Zero ∷ NotZero ∷ [])
+  divisor_one : (x : TermId) → ExactlyOneHas (λ (choice : Choice) (values : List ℤ). AllHold nodes values (divisor_conditions x choice)) (Zero ∷ NotZero ∷ []) variables
   divisor_one x =
-      two_ways (λ (choice : Choice). AllHold nodes variables (divisor_conditions x choice)) Zero NotZero (not (is_zero x))
+      two_ways (λ (choice : Choice) (values : List ℤ). AllHold nodes values (divisor_conditions x choice)) variables Zero NotZero (not (is_zero x))
       (λ e. (so_equal x (pos 0) true (not-false (is_zero x) e), tt)) (λ e h. true≢false (sym (not-false (is_zero x) e) ∙ equal_so x (pos 0) false h.0))
       (λ e. (so_equal x (pos 0) false (not-true (is_zero x) e), tt)) (λ e h. true≢false (sym (equal_so x (pos 0) true h.0) ∙ not-true (is_zero x) e))
 
-  division_one : (op : IntOp) (x : TermId) → ExactlyOneIs (λ (choice : Choice). AllHold nodes variables (division_conditions op x choice)) (divisors op)
+  division_one : (op : IntOp) (x : TermId) → ExactlyOneHas (λ (choice : Choice) (values : List ℤ). AllHold nodes values (division_conditions op x choice)) (divisors op) variables
   division_one ops.Div x = divisor_one x
   division_one ops.Rem x = divisor_one x
   division_one _ x = inl (tt, tt)
@@ -142,8 +143,11 @@ module _ (nodes : List Node) (variables : List ℤ) where
   -- ---- switches
 
   module _ (x : TermId) (all : List (ℤ × ℕ)) where
+    abbrev FitsAt : Choice → List ℤ → Type 0
+    FitsAt choice values = AllHold nodes values (key_conditions x all choice)
+
     abbrev Fits : Choice → Type 0
-    Fits choice = AllHold nodes variables (key_conditions x all choice)
+    Fits choice = FitsAt choice variables
 
     abbrev z : ℤ
     z = value_of nodes x variables
@@ -178,50 +182,50 @@ module _ (nodes : List Node) (variables : List ℤ) where
     first_at : (place : ℕ) (key : ℤ × ℕ) (keys : List (ℤ × ℕ)) → AreAt place (key ∷ keys) → slice_get all place ≡ Some key
     first_at place key keys at = at 0 place key refl (omega arith)
 
-    none_of : (place : ℕ) (keys : List (ℤ × ℕ)) → AreAt place keys → IsNoKey z keys → (Fits Default → ⊥) → NoneIs Fits (keys_from place keys)
+    none_of : (place : ℕ) (keys : List (ℤ × ℕ)) → AreAt place keys → IsNoKey z keys → (Fits Default → ⊥) → NoneHas FitsAt (keys_from place keys) variables
     none_of place [] at none never = (never, tt)
     none_of place (key ∷ keys) at none never =
         ((λ fits. true≢false (sym (fits_key place key (first_at place key keys at) fits) ∙ none.0)), none_of (place + 1) keys (next_at place key keys at) none.1 never)
 
     one_of : (place : ℕ) (keys : List (ℤ × ℕ)) → AreAt place keys → AreRising keys → (IsNoKey z keys → Fits Default) → (Fits Default → IsNoKey z keys)
-        → ExactlyOneIs Fits (keys_from place keys)
+        → ExactlyOneHas FitsAt (keys_from place keys) variables
     one_of place [] at rising gives has = inl (gives tt, tt)
     one_of place (key ∷ keys) at rising gives has =
         go (one_of (place + 1) keys (next_at place key keys at) (rising_rest key keys rising)) (int_eq z key.0) refl
       where
-        go : ((IsNoKey z keys → Fits Default) → (Fits Default → IsNoKey z keys) → ExactlyOneIs Fits (keys_from (place + 1) keys))
-            → (b : Bool) → int_eq z key.0 ≡ b → ExactlyOneIs Fits (keys_from place (key ∷ keys))
+        go : ((IsNoKey z keys → Fits Default) → (Fits Default → IsNoKey z keys) → ExactlyOneHas FitsAt (keys_from (place + 1) keys) variables)
+            → (b : Bool) → int_eq z key.0 ≡ b → ExactlyOneHas FitsAt (keys_from place (key ∷ keys)) variables
         go later true e =
             inl (key_fits place key (first_at place key keys at) e, none_of (place + 1) keys (next_at place key keys at) (rising_none z key keys e rising) (λ fits. true≢false (sym e ∙ (has fits).0)))
         go later false e =
             inr ((λ fits. true≢false (sym (fits_key place key (first_at place key keys at) fits) ∙ e)), later (λ none. gives (e, none)) (λ fits. (has fits).1))
 
-    keys_one : AreRising all → ExactlyOneIs Fits (keys_from 0 all)
+    keys_one : AreRising all → ExactlyOneHas FitsAt (keys_from 0 all) variables
     keys_one rising = one_of 0 all whole rising (λ none. none_hold all none) (λ fits. hold_none all fits) where
       whole : AreAt 0 all
       whole i n key e same = ap (slice_get all) (let number : n ≡ i = omega (arith, same) in number) ∙ e
 
   -- ---- instructions
 
-  pub listed_one : (instr : Instr) (stack : List SymValue) → HasRisingKeys instr → ExactlyOneIs (λ (choice : Choice). AllHold nodes variables (conditions_of instr stack choice)) (listed instr stack)
-  listed_one (instrs.IfInt cond target) stack rising = go (one_int stack) where
-    go : (it : Option TermId) → ExactlyOneIs (λ (choice : Choice). AllHold nodes variables (if_some it (λ x. branch_conditions cond (Term x) (Number (pos 0)) choice))) (if is_some it then both_ways else only)
+  pub listed_one : (instr : Instr) (stack : List SymValue) → HasRisingKeys instr → ExactlyOneHas (λ (choice : Choice) (values : List ℤ). AllHold nodes values (conditions_of instr stack choice)) (listed instr stack) variables
+  listed_one (instrs.IfInt cond target) stack rising = go (an_int stack) where
+    go : (it : Option TermId) → ExactlyOneHas (λ (choice : Choice) (values : List ℤ). AllHold nodes values (if_some it (λ x. branch_conditions cond (Term x) (Number (pos 0)) choice))) (if is_some it then both_ways else only) variables
     go None = inl (tt, tt)
     go (Some x) = branch_one cond (Term x) (Number (pos 0))
   listed_one (instrs.IfPair cond target) stack rising = go (two_ints stack) where
-    go : (it : Option (TermId × TermId)) → ExactlyOneIs (λ (choice : Choice). AllHold nodes variables (if_some it (λ t. branch_conditions cond (Term t.0) (Term t.1) choice))) (if is_some it then both_ways else only)
+    go : (it : Option (TermId × TermId)) → ExactlyOneHas (λ (choice : Choice) (values : List ℤ). AllHold nodes values (if_some it (λ t. branch_conditions cond (Term t.0) (Term t.1) choice))) (if is_some it then both_ways else only) variables
     go None = inl (tt, tt)
     go (Some t) = branch_one cond (Term t.0) (Term t.1)
-  listed_one (instrs.Table low default targets) stack rising = go (one_int stack) where
-    go : (it : Option TermId) → ExactlyOneIs (λ (choice : Choice). AllHold nodes variables (if_some it (λ x. key_conditions x (table_keys low targets) choice))) (if is_some it then keys_from 0 (table_keys low targets) else only)
+  listed_one (instrs.Table low default targets) stack rising = go (an_int stack) where
+    go : (it : Option TermId) → ExactlyOneHas (λ (choice : Choice) (values : List ℤ). AllHold nodes values (if_some it (λ x. key_conditions x (table_keys low targets) choice))) (if is_some it then keys_from 0 (table_keys low targets) else only) variables
     go None = inl (tt, tt)
     go (Some x) = keys_one x (table_keys low targets) (table_rising low targets)
-  listed_one (instrs.Lookup default keys) stack rising = go (one_int stack) where
-    go : (it : Option TermId) → ExactlyOneIs (λ (choice : Choice). AllHold nodes variables (if_some it (λ x. key_conditions x keys choice))) (if is_some it then keys_from 0 keys else only)
+  listed_one (instrs.Lookup default keys) stack rising = go (an_int stack) where
+    go : (it : Option TermId) → ExactlyOneHas (λ (choice : Choice) (values : List ℤ). AllHold nodes values (if_some it (λ x. key_conditions x keys choice))) (if is_some it then keys_from 0 keys else only) variables
     go None = inl (tt, tt)
     go (Some x) = keys_one x keys rising
   listed_one (instrs.Int2 op) stack rising = go (two_ints stack) where
-    go : (it : Option (TermId × TermId)) → ExactlyOneIs (λ (choice : Choice). AllHold nodes variables (if_some it (λ t. division_conditions op t.1 choice))) (if is_some it then divisors op else only)
+    go : (it : Option (TermId × TermId)) → ExactlyOneHas (λ (choice : Choice) (values : List ℤ). AllHold nodes values (if_some it (λ t. division_conditions op t.1 choice))) (if is_some it then divisors op else only) variables
     go None = inl (tt, tt)
     go (Some t) = division_one op t.1
   listed_one _ stack rising = inl (tt, tt)
@@ -285,16 +289,16 @@ some_alike b (Some x) f h = h x
 
 pub conditions_alike : (instr : Instr) (stack : List SymValue) (choice : Choice) → AreAlike (wanted_of instr choice) (conditions_of instr stack choice)
 conditions_alike (instrs.IfInt cond target) stack choice =
-    some_alike (wanted_of (instrs.IfInt cond target) choice) (one_int stack) (λ x. branch_conditions cond (Term x) (Number (pos 0)) choice)
+    some_alike (wanted_of (instrs.IfInt cond target) choice) (an_int stack) (λ x. branch_conditions cond (Term x) (Number (pos 0)) choice)
     (λ x. branches_alike cond (Term x) (Number (pos 0)) choice (instrs.IfInt cond target) (λ so. refl))
 conditions_alike (instrs.IfPair cond target) stack choice =
     some_alike (wanted_of (instrs.IfPair cond target) choice) (two_ints stack) (λ t. branch_conditions cond (Term t.0) (Term t.1) choice)
     (λ t. branches_alike cond (Term t.0) (Term t.1) choice (instrs.IfPair cond target) (λ so. refl))
 conditions_alike (instrs.Table low default targets) stack choice =
-    some_alike (wanted_of (instrs.Table low default targets) choice) (one_int stack) (λ x. key_conditions x (table_keys low targets) choice)
+    some_alike (wanted_of (instrs.Table low default targets) choice) (an_int stack) (λ x. key_conditions x (table_keys low targets) choice)
     (λ x. keys_alike x (table_keys low targets) choice (instrs.Table low default targets) (λ place. refl) refl)
 conditions_alike (instrs.Lookup default keys) stack choice =
-    some_alike (wanted_of (instrs.Lookup default keys) choice) (one_int stack) (λ x. key_conditions x keys choice)
+    some_alike (wanted_of (instrs.Lookup default keys) choice) (an_int stack) (λ x. key_conditions x keys choice)
     (λ x. keys_alike x keys choice (instrs.Lookup default keys) (λ place. refl) refl)
 conditions_alike (instrs.Int2 op) stack choice =
     some_alike (wanted_of (instrs.Int2 op) choice) (two_ints stack) (λ t. division_conditions op t.1 choice) (λ t. division_alike op t.1 choice)
@@ -331,12 +335,12 @@ module _ (nodes : List Node) where
   division_sides _ x choice is = tt
 
   -- where the ints of the stack are
-  module _ (stack : List SymValue) (one : (x : TermId) → one_int stack ≡ Some x → IsTerm nodes x) (two : (p : TermId × TermId) → two_ints stack ≡ Some p → IsTerm nodes p.0 × IsTerm nodes p.1) where
+  module _ (stack : List SymValue) (one : (x : TermId) → an_int stack ≡ Some x → IsTerm nodes x) (two : (p : TermId × TermId) → two_ints stack ≡ Some p → IsTerm nodes p.0 × IsTerm nodes p.1) where
     pub conditions_sides : (instr : Instr) (choice : Choice) → AllSides nodes (conditions_of instr stack choice)
-    conditions_sides (instrs.IfInt cond target) choice = some_sides (one_int stack) (λ x. branch_conditions cond (Term x) (Number (pos 0)) choice) (λ x e. branches_sides cond (Term x) (Number (pos 0)) choice (one x e) tt)
+    conditions_sides (instrs.IfInt cond target) choice = some_sides (an_int stack) (λ x. branch_conditions cond (Term x) (Number (pos 0)) choice) (λ x e. branches_sides cond (Term x) (Number (pos 0)) choice (one x e) tt)
     conditions_sides (instrs.IfPair cond target) choice =
         some_sides (two_ints stack) (λ t. branch_conditions cond (Term t.0) (Term t.1) choice) (λ t e. branches_sides cond (Term t.0) (Term t.1) choice (two t e).0 (two t e).1)
-    conditions_sides (instrs.Table low default targets) choice = some_sides (one_int stack) (λ x. key_conditions x (table_keys low targets) choice) (λ x e. keys_sides x (table_keys low targets) choice (one x e))
-    conditions_sides (instrs.Lookup default keys) choice = some_sides (one_int stack) (λ x. key_conditions x keys choice) (λ x e. keys_sides x keys choice (one x e))
+    conditions_sides (instrs.Table low default targets) choice = some_sides (an_int stack) (λ x. key_conditions x (table_keys low targets) choice) (λ x e. keys_sides x (table_keys low targets) choice (one x e))
+    conditions_sides (instrs.Lookup default keys) choice = some_sides (an_int stack) (λ x. key_conditions x keys choice) (λ x e. keys_sides x keys choice (one x e))
     conditions_sides (instrs.Int2 op) choice = some_sides (two_ints stack) (λ t. division_conditions op t.1 choice) (λ t e. division_sides op t.1 choice (two t e).1)
     conditions_sides _ choice = tt

@@ -16,7 +16,6 @@ use Rattle.kb_semantics.specs.Config.{Setting, Config, instruction_at}
 use Rattle.kb_semantics.specs.Inputs.{IsTypeCorrect}
 use Rattle.kb_semantics.specs.Looks.{if_some, stored_by, stores}
 use Rattle.kb_semantics.specs.Step.{effect, step}
-use Rattle.kb_semantics.specs.Ways.{past}
 use Rattle.kb_semantics.specs.Ways.{ill_typed as ill_typed_step}
 use Rattle.kb_terms.specs.declared.node.TermId.{TermId}
 use Rattle.kb_terms.specs.declared.node.Node.{Node}
@@ -26,6 +25,7 @@ use Rattle.kb_picture.specs.declared.choice.Choice.{Choice}
 use Rattle.kb_picture.specs.declared.picture.PlaceLists.{PlaceLists}
 use Rattle.kb_picture.specs.Endings.{Reading}
 use Rattle.kb_picture.specs.Instances.{variable_values}
+use Rattle.kb_picture.specs.WellTyped.{is_reference_type}
 use Rattle.kb_frames.specs.declared.state.Stage.{Stage}
 use Rattle.kb_frames.specs.declared.state.Stage.TheVariants.{Begins, Runs}
 use Rattle.kb_frames.specs.declared.value.Outcome.TheVariants.{Cut}
@@ -33,34 +33,37 @@ use Rattle.kb_frames.specs.declared.value.SymValue.{SymValue}
 use Rattle.kb_frames.specs.declared.value.SymValue.TheVariants.{Int}
 use Rattle.kb_frames.specs.Cuts.{setting_of}
 use Rattle.kb_frames.specs.Lent.{begun, begun_stage, stack_of}
-use Rattle.kb_frames.specs.Next.{argument_next, instruction_next, is_int, is_int_instruction, is_int_next, is_reference, method_now, offset_now}
+use Rattle.kb_frames.specs.Next.{argument_next, instruction_next, is_int, is_int_instruction, is_int_next, method_now, offset_now}
 use Rattle.kb_frames.specs.StandsFor.{FrameStandsFor, IsInstanceOf, StandsFor, reading_at}
 use Rattle.kb_frames.specs.State.{State}
 use Rattle.kb_frames.proofs.RunLaws.{counters_agree}
-use Rattle.kb_stepint.specs.declared.condition.Condition.{Condition}
-use Rattle.kb_stepint.specs.Asked.{all_asked, is_refuted}
+use Rattle.kb_ways.specs.declared.condition.Condition.{Condition}
+use Rattle.kb_ways.specs.Asked.{all_asked, is_refuted}
 use Rattle.kb_stepint.specs.Choices.{choices_of, conditions_of, listed, offered, only}
-use Rattle.kb_stepint.specs.Effects.{Planned, plan_of}
+use Rattle.kb_ways.specs.Plans.{Planned, carried_out, takes_next, takes_up, followed}
+use Rattle.kb_stepint.specs.Effects.{plan_of, effect_of}
 use Rattle.kb_stepint.specs.Laws.{IsAtInts}
-use Rattle.kb_stepint.specs.Needs.{IsTermOf}
-use Rattle.kb_stepint.specs.Reached.{IsAlone}
-use Rattle.kb_stepint.specs.Simulation.{FollowsStep, IsOutcome}
-use Rattle.kb_stepint.specs.Takes.{answered, carried_out, reads_argument, taken, takes_next, takes_up}
-use Rattle.kb_stepint.specs.Ways.{Take, ill_typed}
-use Rattle.kb_stepint.proofs.GrowLaws.{Grows, all_asked_grows}
-use Rattle.kb_stepint.proofs.KeepLaws.{plan_makes}
-use Rattle.kb_stepint.proofs.OneAsked.{AllHold, AllSides, IsReady, conditions_there, hold_later}
-use Rattle.kb_stepint.proofs.OneDecided.{all_ready}
-use Rattle.kb_stepint.proofs.OneLaws.{begun_terms, instance_held, method_same, one_term, place_same, stack_same, sym_term, sym_terms, two_terms}
+use Rattle.kb_ways.specs.Needs.{IsTermOf}
+use Rattle.kb_ways.specs.Reached.{IsAlone}
+use Rattle.kb_ways.specs.Simulation.{FollowsStep, IsOutcome}
+use Rattle.kb_stepint.specs.Takes.{reads_argument, taken}
+use Rattle.kb_ways.specs.Ways.{Take, ill_typed, went}
+use Rattle.kb_ways.proofs.GrowLaws.{Grows, all_asked_grows, HasMore}
+use Rattle.kb_stepint.proofs.KeepLaws.{effect_makes}
+use Rattle.kb_ways.proofs.OneAsked.{AllHold, AllSides, IsReady, conditions_there, hold_later}
+use Rattle.kb_ways.proofs.OneDecided.{all_ready}
+use Rattle.kb_ways.proofs.BegunLaws.{begun_terms, place_same, stack_same, sym_term, sym_terms}
+use Rattle.kb_stepint.proofs.OneLaws.{instance_held, one_term, two_terms}
 use Rattle.kb_stepint.proofs.OneListed.{conditions_sides}
 use Rattle.kb_stepint.proofs.OutcomePlans.{HasFrameTerms, Reads, plan_is}
 use Rattle.kb_stepint.proofs.OutcomeReads.{reads_is}
-use Rattle.kb_stepint.proofs.OutcomeStands.{Running, running}
-use Rattle.kb_stepint.proofs.OutcomeValues.{frame_later, reading_int, reading_later}
-use Rattle.kb_stepint.proofs.OutcomeWays.{ill_typed_is, went_is}
-use Rattle.kb_stepint.proofs.PastLaws.{cut_by_steps}
-use Rattle.kb_stepint.proofs.SoundLaws.{sound_reached}
-use Rattle.kb_stepint.proofs.ValueLaws.{IsOrdered, pool_ordered}
+use Rattle.kb_ways.proofs.OutcomeStands.{Running, running}
+use Rattle.kb_ways.proofs.OutcomeValues.{frame_later, reading_int, reading_later}
+use Rattle.kb_ways.proofs.OutcomeWays.{ill_typed_is, went_is}
+use Rattle.kb_ways.proofs.PastLaws.{cut_by_steps}
+use Rattle.kb_ways.proofs.SoundLaws.{sound_reached}
+use Rattle.kb_ways.proofs.ValueLaws.{IsOrdered, pool_ordered}
+use Rattle.kb_ways.proofs.StepLaws.{step_taken, stores_taken}
 
 -- what is left of a list stands in it, and was to be kept
 has_kept : {A : Type 0} (keep : A → Bool) (xs : List A) (x : A) → Has (filter keep xs) x → Has xs x × (keep x ≡ true)
@@ -83,21 +86,6 @@ stores_nothing world method (instrs.PutField entry) s c e = absurd cc
 stores_nothing world method (instrs.StoreElem elem) s c e = absurd cc
 stores_nothing world method _ s c e = refl
 
--- ---- what a configuration takes up
-
-module _ (s : Setting) (c : Config) (within : nat_le s.bounds.steps c.carried ≡ false) (found : Option (Instr × ℕ)) (at : instruction_at s.world c.frame.method c.frame.at ≡ found) where
-  pub step_taken : step s c ≡ option_map_or (λ (f : Instr × ℕ). effect f.0 s f.1 c) found (ill_typed_step s c)
-  unfolding step
-  step_taken =
-      ap (λ (b : Bool). if b then past c Steps else option_map_or (λ (f : Instr × ℕ). effect f.0 s f.1 c) (instruction_at s.world c.frame.method c.frame.at) (ill_typed_step s c)) within
-      ∙ ap (λ (it : Option (Instr × ℕ)). option_map_or (λ (f : Instr × ℕ). effect f.0 s f.1 c) it (ill_typed_step s c)) at
-
-  pub stores_taken : stores s c ≡ if_some (option_map (λ (f : Instr × ℕ). f.0) found) (λ (instr : Instr). stored_by instr s c)
-  unfolding stores
-  stores_taken =
-      ap (λ (b : Bool). if_some (if b then None else option_map (λ (f : Instr × ℕ). f.0) (instruction_at s.world c.frame.method c.frame.at)) (λ (instr : Instr). stored_by instr s c)) within
-      ∙ ap (λ (it : Option (Instr × ℕ)). if_some (option_map (λ (f : Instr × ℕ). f.0) it) (λ (instr : Instr). stored_by instr s c)) at
-
 -- ---- a run that goes on
 
 module _ (world : World) (bounds : Bounds) (old : State) (at : IsAtInts world old) (input : Input) (c : Config) (correct : IsTypeCorrect world old.method input)
@@ -112,7 +100,7 @@ module _ (world : World) (bounds : Bounds) (old : State) (at : IsAtInts world ol
   variables = variable_values old.picture input places.objects
 
   run : Running world old old.stage (reading_at world old input places) c
-  run = running s old input c (reading_at world old input places) correct stands.run old.stage at.reached.sound.stage at.reached.alone stands.stage none
+  run = running s old input c (reading_at world old input places) correct stands.run old.stage at.reached.sound.stage at.alone stands.stage none
 
   -- the state with other terms and conditions, in the frame with which it goes on
   abbrev canon : List Node → List (TermId × Bool) → State
@@ -144,7 +132,7 @@ module _ (world : World) (bounds : Bounds) (old : State) (at : IsAtInts world ol
   runs_off : instruction_at world c.frame.method c.frame.at ≡ None → Follows (ill_typed world (begun world old))
   runs_off e =
       subst (λ (stage : Stage). Follows (ill_typed world (record old { stage = stage }))) (sym run.is)
-      (ill_typed_is world bounds old (sound_reached world old at.reached) input c stands run.frame run.method run.callers 0 old.nodes (Extends-refl old.nodes) old.when
+      (ill_typed_is world bounds old (sound_reached world old at.reached at.alone at.unhandled) input c stands run.frame run.method run.callers 0 old.nodes (Extends-refl old.nodes) old.when
       (framed old.nodes old.when (Extends-refl old.nodes)) (step_at None e))
 
   -- ---- an instruction is carried out
@@ -165,7 +153,7 @@ module _ (world : World) (bounds : Bounds) (old : State) (at : IsAtInts world ol
       R later = reading_at world (canon later when) input places
 
       abbrev plan : Planned
-      plan = plan_of world (canon nodes when) choice found.0
+      plan = effect_of world (canon nodes when) choice found.0
 
       reads : Reads R nodes variables run.frame c
       reads = record {
@@ -173,12 +161,14 @@ module _ (world : World) (bounds : Bounds) (old : State) (at : IsAtInts world ol
         ints = λ later t. reading_int world (canon later when) input places t;
       }
 
-      canon_follows : Follows (carried_out world bounds choice found (canon nodes when))
+      canon_follows : Follows (followed world bounds found.1 plan)
       canon_follows =
-          let on : Extends old.nodes plan.nodes = Extends-trans old.nodes nodes plan.nodes more (plan_makes world (canon nodes when) choice found.0).terms in
+          let made : HasMore (canon nodes when) plan.state = effect_makes world (canon nodes when) choice found.0 in
+          let on : Extends old.nodes plan.state.nodes = Extends-trans old.nodes nodes plan.state.nodes more made.on.terms in
           let effect_is = plan_is s c found.1 (record old { when = when }) run.frame nodes variables R reads ordered (frame_terms nodes more) found.0 choice int has held rising in
-          went_is world bounds old (sound_reached world old at.reached) input c stands run.frame run.method run.callers found.1
-          plan.nodes on when (framed plan.nodes when on) (stores_at (Some found) there ∙ stores_nothing world run.frame.method found.0 s c int) plan.way (step_at (Some found) there ∙ effect_is)
+          subst (λ (st : State). Follows (went world bounds found.1 st plan.way)) (sym made.rest)
+          (went_is world bounds old (sound_reached world old at.reached at.alone at.unhandled) input c stands run.frame run.method run.callers found.1
+          plan.state.nodes on when (framed plan.state.nodes when on) (stores_at (Some found) there ∙ stores_nothing world run.frame.method found.0 s c int) plan.way (step_at (Some found) there ∙ effect_is))
 
     -- ---- it is taken up
 
@@ -188,7 +178,7 @@ module _ (world : World) (bounds : Bounds) (old : State) (at : IsAtInts world ol
     stack_is : stack ≡ run.frame.stack
     stack_is = ap stack_of run.is
 
-    answered_follows : (choice : Choice) → Has (offered old (stack_of old.stage) found.0) choice → Follows (answered world bounds choice (begun world old) found)
+    answered_follows : (choice : Choice) → Has (offered old (stack_of old.stage) found.0) choice → Follows (carried_out plan_of world bounds choice (begun world old) found)
     answered_follows choice has i =
         let cs : List Condition = conditions_of found.0 stack choice in
         let start : State = begun world old in
@@ -203,7 +193,7 @@ module _ (world : World) (bounds : Bounds) (old : State) (at : IsAtInts world ol
         let held : AllHold old.nodes variables cs = instance_held world bounds old at.reached input stands.instance_of found choice both.1 i in
         let held_now : AllHold grown.nodes variables cs = hold_later old.nodes grown.nodes variables cs grows.terms sides held in
         let is : grown ≡ canon grown.nodes grown.when = grows.rest ∙ ap (λ (stage : Stage). record old { stage = stage; nodes = grown.nodes; when = grown.when }) run.is in
-        subst (λ (st : State). Follows (carried_out world bounds choice found st)) (sym is)
+        subst (λ (st : State). Follows (followed world bounds found.1 (effect_of world st choice found.0))) (sym is)
         (canon_follows grown.nodes grows.terms ready.ordered grown.when choice (subst (λ (l : List SymValue). Has (listed found.0 l) choice) stack_is both.0)
         (subst (λ (l : List SymValue). AllHold grown.nodes variables (conditions_of found.0 l choice)) stack_is held_now)) i
 
@@ -217,11 +207,11 @@ module _ (world : World) (bounds : Bounds) (old : State) (at : IsAtInts world ol
       let now : is_int_next world (method_now old.method old.stage) (instruction_next world old.method old.stage) ≡ true =
       int_next (argument_next world old.method old.stage) (is_int_next world (method_now old.method old.stage) (instruction_next world old.method old.stage)) none at.next in
       let next : instruction_next world old.method old.stage ≡ Some found.0 = ap (option_map (λ (f : Instr × ℕ). f.0)) (sym (place_same world old old.stage) ∙ e) in
-      let method : run.frame.method ≡ method_now old.method old.stage = run.method ∙ sym (stands_at old.stage at.reached.alone) in
+      let method : run.frame.method ≡ method_now old.method old.stage = run.method ∙ sym (stands_at old.stage at.alone) in
       ap (λ (m : MethodId). is_int_instruction world m found.0) method
       ∙ ap (is_int_next world (method_now old.method old.stage)) (sym next) ∙ now
     where
-      int_next : (next : Option JType) (at_int : Bool) → next ≡ None → is_int (option_map is_reference next) at_int ≡ true → at_int ≡ true
+      int_next : (next : Option JType) (at_int : Bool) → next ≡ None → is_int (option_map is_reference_type next) at_int ≡ true → at_int ≡ true
       int_next None at_int none int = int
       int_next (Some kind) at_int none int = absurd cc
 
@@ -231,13 +221,12 @@ module _ (world : World) (bounds : Bounds) (old : State) (at : IsAtInts world ol
 
   rising_here : (found : Instr × ℕ) → place ≡ Some found → HasRisingKeys found.0
   rising_here found e =
-      at.reached.keys (offset_now (begun_stage world old old.stage)) found
-      (ap (λ (m : MethodId). instruction_at world m (offset_now (begun_stage world old old.stage))) (sym (method_same world old old.stage at.reached.alone)) ∙ e)
+      at.reached.keys (method_now old.method (begun_stage world old old.stage)) (offset_now (begun_stage world old old.stage)) found e
 
-  pub takes_up_follows : (choice : Choice) → Has (option_map_or (offered old (stack_of old.stage)) (instruction_next world old.method old.stage) only) choice → Follows (takes_up world bounds choice (begun world old))
+  pub takes_up_follows : (choice : Choice) → Has (option_map_or (offered old (stack_of old.stage)) (instruction_next world old.method old.stage) only) choice → Follows (takes_up plan_of world bounds choice (begun world old))
   takes_up_follows choice has = go place refl (subst (λ (it : Option (Instr × ℕ)). Has (option_map_or (offered old (stack_of old.stage)) (option_map (λ (f : Instr × ℕ). f.0) it) only) choice) (sym (place_same world old old.stage)) has) where
     go : (it : Option (Instr × ℕ)) → place ≡ it → Has (option_map_or (offered old (stack_of old.stage)) (option_map (λ (f : Instr × ℕ). f.0) it) only) choice
-        → Follows (option_map_or (answered world bounds choice (begun world old)) it (ill_typed world (begun world old)))
+        → Follows (option_map_or (carried_out plan_of world bounds choice (begun world old)) it (ill_typed world (begun world old)))
     go None e h = runs_off (place_is ∙ e)
     go (Some found) e h = answered_follows found (place_is ∙ e) (int_here found e) (rising_here found e) choice h
 
@@ -247,15 +236,15 @@ pub follows : (world : World) (bounds : Bounds) (old : State) (choice : Choice) 
 follows world bounds old choice at has input c correct stands = go (argument_next world old.method old.stage) refl has where
   by_steps : argument_next world old.method old.stage ≡ None → (b : Bool) → nat_le bounds.run.steps old.carried ≡ b
       → Has (if b then only else option_map_or (offered old (stack_of old.stage)) (instruction_next world old.method old.stage) only) choice
-      → (i : IsInstanceOf (if b then record { state = old; outcome = Cut Steps } else takes_up world bounds choice (begun world old)).state input)
-      → IsOutcome world bounds c (if b then record { state = old; outcome = Cut Steps } else takes_up world bounds choice (begun world old)).state input i
-      (if b then record { state = old; outcome = Cut Steps } else takes_up world bounds choice (begun world old)).outcome
+      → (i : IsInstanceOf (if b then record { state = old; outcome = Cut Steps } else takes_up plan_of world bounds choice (begun world old)).state input)
+      → IsOutcome world bounds c (if b then record { state = old; outcome = Cut Steps } else takes_up plan_of world bounds choice (begun world old)).state input i
+      (if b then record { state = old; outcome = Cut Steps } else takes_up plan_of world bounds choice (begun world old)).outcome
   by_steps none true e h i = cut_by_steps world bounds old input c stands (leb-true bounds.run.steps old.carried e)
   by_steps none false e h i = takes_up_follows world bounds old at input c correct stands none e choice h i
 
   go : (next : Option JType) → argument_next world old.method old.stage ≡ next
       → Has (if is_some next || nat_le bounds.run.steps old.carried then only else option_map_or (offered old (stack_of old.stage)) (instruction_next world old.method old.stage) only) choice
-      → (i : IsInstanceOf (option_map_or (reads_argument old) next (takes_next world bounds choice old)).state input)
-      → IsOutcome world bounds c (option_map_or (reads_argument old) next (takes_next world bounds choice old)).state input i (option_map_or (reads_argument old) next (takes_next world bounds choice old)).outcome
+      → (i : IsInstanceOf (option_map_or (reads_argument old) next (takes_next plan_of world bounds choice old)).state input)
+      → IsOutcome world bounds c (option_map_or (reads_argument old) next (takes_next plan_of world bounds choice old)).state input i (option_map_or (reads_argument old) next (takes_next plan_of world bounds choice old)).outcome
   go None e h i = by_steps e (nat_le bounds.run.steps old.carried) refl h i
   go (Some type) e h i = reads_is world bounds old input c type at.reached.sound stands e i

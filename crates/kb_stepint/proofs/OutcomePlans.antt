@@ -1,6 +1,6 @@
 -- What an instruction does to a state is what it does to the configuration, with each symbolic value in the place of its value:
 -- one lemma for each kind of effect.
-use Rattle.std.proofs.Common.{◌≡◌, ◌⊎◌, ℕ, zero, suc, ◌+◌, ℤ, pos, Bool, true, false, List, [], ◌∷◌, ◌++◌, length, map, drop, nat_le, nat_lt, slice_get, slice_set, Option, Some, None, cond, refl, sym, ap, subst, ◌∙◌, inl, inr, if◌then◌else◌, is_some, true≢false, arith, int_eq}
+use Rattle.std.proofs.Common.{◌≡◌, ◌⊎◌, ℕ, zero, suc, ◌+◌, ℤ, pos, Bool, true, false, List, [], ◌∷◌, ◌++◌, length, map, drop, nat_le, nat_lt, slice_get, Option, Some, None, cond, refl, sym, ap, subst, ◌∙◌, inl, inr, if◌then◌else◌, is_some, true≢false, arith, int_eq}
 use Rattle.std.specs.List.{cons_option, filter_map}
 use Rattle.std.specs.Option.{option_map, option_map_or, option_and_then}
 use Rattle.std.proofs.lemmas.List.{length-map, map-append, drop-map}
@@ -20,15 +20,14 @@ use Rattle.kb_code.specs.declared.instruction.IntOp.TheVariants as ops
 use Rattle.kb_heap.specs.declared.heap.Value.{Value}
 use Rattle.kb_heap.specs.declared.heap.Value.TheVariants.{Int as IntValue, Ref}
 use Rattle.kb_link.specs.World.{int_entry_of, literal_entry_of}
-use Rattle.kb_world.specs.Lookup.{only_where, or_else}
+use Rattle.kb_world.specs.Lookup.{or_else}
 use Rattle.kb_names.specs.declared.types.JType.{JType}
 use Rattle.kb_names.specs.declared.types.JType.TheVariants as types
 use Rattle.kb_semantics.specs.Comparisons.{holds, switch_target, table_keys}
 use Rattle.kb_semantics.specs.Config.{Setting, Config, Outcome, class_number, info_of, local_of, max_locals_of, result_of}
 use Rattle.kb_semantics.specs.Instructions.{with, nop, push_int, load_constant, constant_at, load_int, store_int, sets_local, increase, without, copied_below, exchanged, rearrange, int2_value, apply_two, negate, narrowed, narrow, if_int, if_ints, goto, switch, return_int, return_nothing}
 use Rattle.kb_semantics.specs.Looks.{if_some}
-use Rattle.kb_semantics.specs.Operands.{Taken, an_int, int_of}
-use Rattle.kb_semantics.specs.Operands.{two_ints as two_of}
+use Rattle.kb_semantics.specs.Operands.{Taken, an_int, int_of, two_ints as two_of}
 use Rattle.kb_semantics.specs.Step.{effect}
 use Rattle.kb_semantics.specs.Values.{kept}
 use Rattle.kb_semantics.specs.Ways.{ill_typed, goes, goes_on, jumps, branches, throws, arithmetic, hands_over, returns_value, returns_nothing}
@@ -47,33 +46,32 @@ use Rattle.kb_frames.specs.declared.frame.SymFrame.{SymFrame}
 use Rattle.kb_frames.specs.declared.state.Stage.TheVariants.{Runs}
 use Rattle.kb_frames.specs.declared.value.SymValue.{SymValue}
 use Rattle.kb_frames.specs.declared.value.SymValue.TheVariants.{Int, Null, Obj, Literal, New, Loc}
-use Rattle.kb_frames.specs.Lent.{local_in}
+use Rattle.kb_frames.specs.Lent.{local_in, with_nodes}
 use Rattle.kb_frames.specs.Next.{is_int_instruction}
 use Rattle.kb_frames.specs.StandsFor.{FrameStandsFor, value_of_sym, values_of_sym}
 use Rattle.kb_frames.specs.State.{State}
-use Rattle.kb_stepint.specs.declared.condition.Side.{Side}
-use Rattle.kb_stepint.specs.declared.condition.Side.TheVariants.{Term, Number}
-use Rattle.kb_stepint.specs.Asked.{interned_op}
+use Rattle.kb_ways.specs.declared.condition.Side.{Side}
+use Rattle.kb_ways.specs.declared.condition.Side.TheVariants.{Term, Number}
+use Rattle.kb_ways.specs.Asked.{interned_op}
 use Rattle.kb_stepint.specs.Choices.{both_ways, branch_conditions, conditions_of, division_conditions, divisor_conditions, divisors, key_conditions, keys_from, listed, only}
-use Rattle.kb_stepint.specs.Effects.{Planned, plain, planned, pushes, with_stack, pushes_int, int_local, loads, in_local, stores, adds, increases, picked, rearranges, op_of, op_of_cut, computes, computes_by, computes_two, branch_way, switch_way, switches, masked, kept_int, leaves_with, returns_int, plan_of}
-use Rattle.kb_stepint.specs.Effects.{branches as branches_sym, returns_nothing as returns_nothing_sym}
-use Rattle.kb_stepint.specs.Needs.{IsTermOf}
-use Rattle.kb_stepint.specs.Operands.{int_term, one_int, two_ints}
-use Rattle.kb_stepint.specs.Ways.{Way, Goes, Jumps, Leaves, Throws, Fails}
+use Rattle.kb_ways.specs.Kept.{kept as sym_kept}
+use Rattle.kb_ways.specs.Plans.{returns_value as returns_value_sym, leaves_with, Planned, plain, planned}
+use Rattle.kb_stepint.specs.Effects.{pushes, pushes_int, int_local, loads, in_local, stores, adds, increases, picked, rearranges, op_of, op_of_cut, computes, computes_by, computes_two, branch_way, switch_way, switches, returns_int, branches as branches_sym, returns_nothing as returns_nothing_sym, effect_of}
+use Rattle.kb_ways.specs.Ways.{with_stack, Goes, Jumps, Leaves, Fails}
+use Rattle.kb_ways.specs.Kept.{masked}
+use Rattle.kb_ways.specs.Needs.{IsTermOf}
+use Rattle.kb_ways.specs.Operands.{int_term, an_int as one_int, two_ints}
 use Rattle.kb_stepint.proofs.ComparedLaws.{one_int_is, two_ints_are}
-use Rattle.kb_stepint.proofs.GrowLaws.{interned_extends, op_extends}
-use Rattle.kb_stepint.proofs.AskedLaws.{interned_is_term, side_value}
-use Rattle.kb_stepint.proofs.OneAsked.{AllHold}
+use Rattle.kb_ways.proofs.GrowLaws.{interned_extends, op_extends}
+use Rattle.kb_ways.proofs.AskedLaws.{interned_is_term, side_value}
+use Rattle.kb_ways.proofs.OneAsked.{AllHold}
 use Rattle.kb_stepint.proofs.OneListed.{AreRising, IsNoKey, branch_so, default_none, equal_so, fits_key, rising_none, rising_rest, table_rising}
-use Rattle.kb_stepint.proofs.OneLaws.{AreStackTerms, one_term, two_terms}
-use Rattle.kb_stepint.proofs.ValueLaws.{IsOrdered, constant_made, interned_ordered, low_made, op_made}
+use Rattle.kb_ways.proofs.BegunLaws.{AreStackTerms}
+use Rattle.kb_stepint.proofs.OneLaws.{one_term, two_terms}
+use Rattle.kb_ways.proofs.ValueLaws.{IsOrdered, constant_made, interned_ordered, low_made, op_made}
+use Rattle.kb_ways.proofs.LocalLaws.{led_to, local_value, local_set}
 
 -- ---- lists
-
-set-map : {A B : Type 0} (f : A → B) (xs : List A) (k : ℕ) (x : A) → slice_set (map f xs) k (f x) ≡ map f (slice_set xs k x)
-set-map f [] k x = refl
-set-map f (y ∷ xs) zero x = refl
-set-map f (y ∷ xs) (suc k) x = ap (λ (l : List _). f y ∷ l) (set-map f xs k x)
 
 picks-map : {A B : Type 0} (f : A → B) (xs : List A) (picks : List ℕ) → filter_map (λ (place : ℕ). slice_get (map f xs) place) picks ≡ map f (filter_map (λ (place : ℕ). slice_get xs place) picks)
 picks-map f xs [] = refl
@@ -193,56 +191,6 @@ target_of_none : (z : ℤ) (keys : List (ℤ × ℕ)) (default : ℕ) → IsNoKe
 target_of_none z [] default none = refl
 target_of_none z (key ∷ keys) default none = ap (λ (b : Bool). if b then key.1 else switch_target z keys default) none.0 ∙ target_of_none z keys default none.1
 
--- ---- ways
-
--- where a way leads the machine, with each symbolic value in the place of its value
-abbrev pub led_to : Setting → Config → ℕ → Reading → Way → Outcome
-led_to s c next r (Goes locals stack) = goes_on s c next (map (option_map (value_of_sym r)) locals) (values_of_sym r stack) c.heap
-led_to s c next r (Jumps target stack) = jumps s c target (values_of_sym r stack)
-led_to s c next r (Leaves value) = hands_over s c (option_map (value_of_sym r) value)
-led_to s c next r (Throws class) = throws s c class
-led_to s c next r Fails = ill_typed s c
-
--- ---- what locals hold
-
-module _ (s : Setting) (c : Config) (next : ℕ) (r : Reading) (symbolic : SymFrame) (stands : FrameStandsFor r symbolic c.frame) where
-  -- a local holds the value of the symbolic one
-  pub local_value : (k : ℕ)
-      → local_of s.world c.frame k ≡ option_map (value_of_sym r) (cond (nat_lt k (max_locals_of s.world symbolic.method)) (option_and_then (λ (v : Option SymValue). v) (slice_get symbolic.locals k)) None)
-  local_value k =
-      ap (λ (m : MethodId). cond (nat_lt k (max_locals_of s.world m)) (option_and_then (λ v. v) (slice_get c.frame.locals k)) None) stands.method
-      ∙ ap (λ (l : List (Option Value)). cond (nat_lt k (max_locals_of s.world symbolic.method)) (option_and_then (λ v. v) (slice_get l k)) None) stands.locals
-      ∙ ap (λ (it : Option (Option Value)). cond (nat_lt k (max_locals_of s.world symbolic.method)) (option_and_then (λ v. v) it) None) (slice_get-map (option_map (value_of_sym r)) symbolic.locals k)
-      ∙ go (nat_lt k (max_locals_of s.world symbolic.method)) (slice_get symbolic.locals k)
-    where
-      go : (b : Bool) (it : Option (Option SymValue)) → cond b (option_and_then (λ v. v) (option_map (option_map (value_of_sym r)) it)) None
-          ≡ option_map (value_of_sym r) (cond b (option_and_then (λ (v : Option SymValue). v) it) None)
-      go true None = refl
-      go true (Some None) = refl
-      go true (Some (Some v)) = refl
-      go false it = refl
-
-  -- one is set
-  pub local_set : (k : ℕ) (value : SymValue) (v : Value) → v ≡ value_of_sym r value → (stack : List SymValue) (values : List Value) → values ≡ values_of_sym r stack
-      → sets_local s next c k v values
-      ≡ led_to s c next r (if nat_lt k (max_locals_of s.world symbolic.method) then Goes (slice_set symbolic.locals k (Some value)) stack else Fails)
-  local_set k value v e stack values same =
-      ap (λ (m : MethodId). with s c (only_where (nat_lt k (max_locals_of s.world m)) (slice_set c.frame.locals k (Some v))) (λ locals. goes_on s c next locals values c.heap)) stands.method
-      ∙ go (nat_lt k (max_locals_of s.world symbolic.method))
-    where
-      locals_are : slice_set c.frame.locals k (Some v) ≡ map (option_map (value_of_sym r)) (slice_set symbolic.locals k (Some value))
-      locals_are =
-          ap (λ (l : List (Option Value)). slice_set l k (Some v)) stands.locals
-          ∙ ap (λ (x : Value). slice_set (map (option_map (value_of_sym r)) symbolic.locals) k (Some x)) e
-          ∙ set-map (option_map (value_of_sym r)) symbolic.locals k (Some value)
-
-      go : (b : Bool) → with s c (only_where b (slice_set c.frame.locals k (Some v))) (λ locals. goes_on s c next locals values c.heap)
-          ≡ led_to s c next r (if b then Goes (slice_set symbolic.locals k (Some value)) stack else Fails)
-      go true =
-          ap (λ (l : List (Option Value)). goes_on s c next l values c.heap) locals_are
-          ∙ ap (λ (vs : List Value). goes_on s c next (map (option_map (value_of_sym r)) (slice_set symbolic.locals k (Some value))) vs c.heap) same
-      go false = refl
-
 -- ---- effects
 
 -- what a reading of each pool that goes on has
@@ -264,7 +212,7 @@ module _ (s : Setting) (c : Config) (next : ℕ) (base : State) (frame : SymFram
   V t = value_of nodes t variables
 
   abbrev IsPlan : Outcome → Planned → Type 0
-  IsPlan outcome plan = outcome ≡ led_to s c next (R plan.nodes) plan.way
+  IsPlan outcome plan = outcome ≡ led_to s c next (R plan.state.nodes) plan.way
 
   itself : Extends nodes nodes
   itself = Extends-refl nodes
@@ -275,7 +223,7 @@ module _ (s : Setting) (c : Config) (next : ℕ) (base : State) (frame : SymFram
   -- ---- it goes on
 
   goes_is : (later : List Node) → Extends nodes later → (stack : List SymValue) (values : List Value) → values ≡ values_of_sym (R later) stack
-      → IsPlan (goes s c next values) (record { nodes = later; way = Goes frame.locals stack })
+      → IsPlan (goes s c next values) (record { state = with_nodes state later; way = Goes frame.locals stack })
   goes_is later more stack values e =
       ap (λ (l : List (Option Value)). goes_on s c next l values c.heap) (reads.stands later more).locals
       ∙ ap (λ (vs : List Value). goes_on s c next (map (option_map (value_of_sym (R later))) frame.locals) vs c.heap) e
@@ -337,7 +285,7 @@ module _ (s : Setting) (c : Config) (next : ℕ) (base : State) (frame : SymFram
       → IsPlan (with s c (an_int c.frame.stack) f) (plan (one_int frame.stack))
   with_one f plan fails h = go (one_int frame.stack) refl where
     go : (it : Option TermId) → one_int frame.stack ≡ it → IsPlan (with s c (an_int c.frame.stack) f) (plan it)
-    go None e = ap (λ (a : Option (Taken ℤ)). with s c a f) (int_none e) ∙ ap (λ (p : Planned). led_to s c next (R p.nodes) p.way) (sym fails)
+    go None e = ap (λ (a : Option (Taken ℤ)). with s c a f) (int_none e) ∙ ap (λ (p : Planned). led_to s c next (R p.state.nodes) p.way) (sym fails)
     go (Some x) e = ap (λ (a : Option (Taken ℤ)). with s c a f) (int_some x e) ∙ h x e
 
   with_two : (f : Taken (ℤ × ℤ) → Outcome) (plan : Option (TermId × TermId) → Planned) → plan None ≡ plain state Fails
@@ -345,7 +293,7 @@ module _ (s : Setting) (c : Config) (next : ℕ) (base : State) (frame : SymFram
       → IsPlan (with s c (two_of c.frame.stack) f) (plan (two_ints frame.stack))
   with_two f plan fails h = go (two_ints frame.stack) refl where
     go : (it : Option (TermId × TermId)) → two_ints frame.stack ≡ it → IsPlan (with s c (two_of c.frame.stack) f) (plan it)
-    go None e = ap (λ (a : Option (Taken (ℤ × ℤ))). with s c a f) (two_none e) ∙ ap (λ (p : Planned). led_to s c next (R p.nodes) p.way) (sym fails)
+    go None e = ap (λ (a : Option (Taken (ℤ × ℤ))). with s c a f) (two_none e) ∙ ap (λ (p : Planned). led_to s c next (R p.state.nodes) p.way) (sym fails)
     go (Some p) e = ap (λ (a : Option (Taken (ℤ × ℤ))). with s c a f) (two_some p e) ∙ h p e
 
   -- ---- constants
@@ -415,7 +363,7 @@ module _ (s : Setting) (c : Config) (next : ℕ) (base : State) (frame : SymFram
 
   -- a local is set
   sets_is : (later : List Node) → Extends nodes later → (k : ℕ) (t : TermId) (z : ℤ) → z ≡ value_of later t variables → (stack : List SymValue) (values : List Value)
-      → values ≡ values_of_sym (R later) stack → IsPlan (sets_local s next c k (IntValue z) values) (record { nodes = later; way = in_local s.world state k t stack })
+      → values ≡ values_of_sym (R later) stack → IsPlan (sets_local s next c k (IntValue z) values) (record { state = with_nodes state later; way = in_local s.world state k t stack })
   sets_is later more k t z e stack values same =
       local_set s c next (R later) frame (reads.stands later more) k (Int t) (IntValue z) (ap IntValue e ∙ sym (reads.ints later t)) stack values same
 
@@ -622,7 +570,7 @@ module _ (s : Setting) (c : Config) (next : ℕ) (base : State) (frame : SymFram
   -- ---- returns
 
   returned_is : (t : TermId) → IsTerm nodes t
-      → IsPlan (returns_value s c (IntValue (V t))) (planned state (option_and_then (kept_int state t) (result_of s.world frame.method)) leaves_with)
+      → IsPlan (returns_value s c (IntValue (V t))) (returns_value_sym s.world state (Int t))
   unfolding returns_value
   returned_is t is =
       ap (λ (m : MethodId). option_map_or (λ v. hands_over s c (Some v)) (option_and_then (λ type. kept type (IntValue (V t))) (result_of s.world m)) (ill_typed s c)) (reads.stands nodes itself).method
@@ -637,7 +585,7 @@ module _ (s : Setting) (c : Config) (next : ℕ) (base : State) (frame : SymFram
           ap (λ (v : Value). hands_over s c (Some v)) (ap IntValue (sym (low_made nodes t variables ordered is)) ∙ sym (reads.ints made.0 made.1))
 
       go : (result : Option JType) → option_map_or (λ v. hands_over s c (Some v)) (option_and_then (λ type. kept type (IntValue (V t))) result) (ill_typed s c)
-          ≡ led_to s c next (R (planned state (option_and_then (kept_int state t) result) leaves_with).nodes) (planned state (option_and_then (kept_int state t) result) leaves_with).way
+          ≡ led_to s c next (R (planned state (option_and_then (λ (type : JType). sym_kept type (Int t) state) result) leaves_with).state.nodes) (planned state (option_and_then (λ (type : JType). sym_kept type (Int t) state) result) leaves_with).way
       go None = refl
       go (Some types.Bool) = low
       go (Some types.Int) = whole
@@ -645,7 +593,7 @@ module _ (s : Setting) (c : Config) (next : ℕ) (base : State) (frame : SymFram
 
   returns_int_is : IsPlan (with s c (an_int c.frame.stack) (λ a. returns_value s c (IntValue a.it))) (returns_int s.world state)
   returns_int_is =
-      with_one (λ a. returns_value s c (IntValue a.it)) (λ it. planned state it (λ t. planned state (option_and_then (kept_int state t) (result_of s.world frame.method)) leaves_with)) refl
+      with_one (λ a. returns_value s c (IntValue a.it)) (λ it. planned state it (λ t. returns_value_sym s.world state (Int t))) refl
       (λ t e. returned_is t (one_term nodes frame.stack t terms.stack e))
 
   returns_nothing_is : IsPlan (returns_nothing s c) (returns_nothing_sym s.world state)
@@ -668,7 +616,7 @@ module _ (s : Setting) (c : Config) (next : ℕ) (base : State) (frame : SymFram
     go (Some info) h = h
 
   pub plan_is : (instr : Instr) (choice : Choice) → is_int_instruction s.world frame.method instr ≡ true → Has (listed instr frame.stack) choice
-      → AllHold nodes variables (conditions_of instr frame.stack choice) → HasRisingKeys instr → IsPlan (effect instr s next c) (plan_of s.world state choice instr)
+      → AllHold nodes variables (conditions_of instr frame.stack choice) → HasRisingKeys instr → IsPlan (effect instr s next c) (effect_of s.world state choice instr)
   unfolding effect nop push_int load_constant load_int store_int increase rearrange apply_two negate narrow if_int if_ints goto switch return_int return_nothing
   plan_is instrs.Nop choice int has held rising = goes_is nodes itself frame.stack c.frame.stack here
   plan_is (instrs.PushInt z) choice int has held rising = pushes_int_is z

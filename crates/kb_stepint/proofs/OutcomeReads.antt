@@ -20,22 +20,26 @@ use Rattle.kb_terms.proofs.Growth.{extends-more}
 use Rattle.kb_terms.proofs.Values.{value_of-extends, value_of-variable}
 use Rattle.kb_picture.specs.declared.picture.Origin.TheVariants.{Arg}
 use Rattle.kb_picture.specs.declared.picture.PlaceLists.{PlaceLists}
-use Rattle.kb_picture.specs.declared.picture.Seen.TheVariants as seens
 use Rattle.kb_picture.specs.Endings.{Reading}
+use Rattle.kb_picture.specs.Growth.{after_int_read}
 use Rattle.kb_picture.specs.Instances.{variable_values}
 use Rattle.kb_picture.specs.Queries.{kind_for}
+use Rattle.kb_picture.specs.WellFormed.{variables_seen}
 use Rattle.kb_frames.specs.declared.state.Stage.{Stage}
 use Rattle.kb_frames.specs.declared.state.Stage.TheVariants.{Begins, Runs}
 use Rattle.kb_frames.specs.declared.value.SymValue.{SymValue}
 use Rattle.kb_frames.specs.declared.value.SymValue.TheVariants.{Int}
 use Rattle.kb_frames.specs.Cuts.{setting_of}
-use Rattle.kb_frames.specs.Lent.{read_int, saw_argument}
+use Rattle.kb_frames.specs.FirstReads.{first_int}
+use Rattle.kb_frames.specs.Lent.{read_count}
 use Rattle.kb_frames.specs.Next.{argument_next}
 use Rattle.kb_frames.specs.StandsFor.{IsInstanceOf, StageStandsFor, StandsFor, reading_at, value_of_sym, values_of_sym}
 use Rattle.kb_frames.specs.State.{State}
 use Rattle.kb_frames.specs.States.{IsBeginning, IsStage, IsState}
-use Rattle.kb_stepint.proofs.OneInstances.{hold_last, many_values, read_met, shape_more, value_inputs, variables_more}
-use Rattle.kb_stepint.proofs.OutcomeValues.{IsLater, heap_later, values_later}
+use Rattle.kb_stepint.specs.Takes.{reads_argument}
+use Rattle.kb_ways.proofs.OneInstances.{hold_last, many_values, read_met, shape_more, value_inputs, variables_more}
+use Rattle.kb_ways.proofs.OutcomeValues.{IsLater, heap_later, values_later}
+use Rattle.kb_picture.specs.declared.picture.Seen.TheVariants as seens
 
 take_more : {A : Type 0} (xs : List A) (n : ℕ) (x : A) → slice_get xs n ≡ Some x → take n xs ++ x ∷ [] ≡ take (suc n) xs
 take_more [] n x e = absurd cc
@@ -60,11 +64,11 @@ module _ (world : World) (bounds : Bounds) (old : State) (sound : IsState world 
   variables = variable_values old.picture input places.objects
 
   abbrev new : State
-  new = record old { stage = Begins (read ++ Int term ∷ []); picture = saw_argument old.picture (length read) variable; nodes = nodes }
+  new = record old { stage = Begins (read ++ Int term ∷ []); picture = after_int_read old.picture (Arg (length read)); nodes = nodes }
 
   module _ (z : ℤ) (at : slice_get input.args (length read) ≡ Some (IntValue z)) where
     variables_are : variable_values new.picture input places.objects ≡ variables ++ z ∷ []
-    variables_are = variables_more old.picture input places.objects (length read) variable z at
+    variables_are = variables_more old.picture input places.objects (length read) z at
 
     later : IsLater (reading_at world old input places) (reading_at world new input places) old.nodes
     unfolding reading_at value_of
@@ -106,11 +110,11 @@ module _ (world : World) (bounds : Bounds) (old : State) (sound : IsState world 
         ∙ ap (λ (n : ℕ). take n input.args) count
 
     new_stands : StandsFor (setting_of world bounds) new input c
-    unfolding reading_at
+    unfolding after_int_read reading_at
     new_stands = record {
       run = stands.run;
       instance_of = record {
-        shape = shape_more old.picture input (length read) variable z at stands.instance_of.shape;
+        shape = shape_more old.picture input (length read) (length (variables_seen old.picture)) z at stands.instance_of.shape;
         conditions = read_met world old input kind (length read) z sound at stands.instance_of;
       };
       stage = (begins.0, read_values);
@@ -123,17 +127,19 @@ module _ (world : World) (bounds : Bounds) (old : State) (sound : IsState world 
 
   -- what an instance holds is the int
   new_is : IsInstanceOf new input → StandsFor (setting_of world bounds) new input c
-  new_is i = (let last = hold_last input i.shape.places.objects old.picture.seen (Arg (length read), seens.Int variable) i.shape.seen in new_stands last.0 last.1)
+  unfolding after_int_read
+  new_is i = (let last = hold_last input i.shape.places.objects old.picture.seen (Arg (length read), seens.Int (length (variables_seen old.picture))) i.shape.seen in new_stands last.0 last.1)
 
-  pub read_is : IsInstanceOf (read_int old kind) input → StandsFor (setting_of world bounds) (read_int old kind) input c
-  read_is i =
-      subst (λ (stage : Stage). IsInstanceOf (read_int (record old { stage = stage }) kind) input → StandsFor (setting_of world bounds) (read_int (record old { stage = stage }) kind) input c)
-      (sym is) new_is i
+  abbrev after : Stage → State
+  after stage = first_int (Arg (read_count stage)) kind (record old { stage = stage })
+
+  pub read_is : IsInstanceOf (after old.stage) input → StandsFor (setting_of world bounds) (after old.stage) input c
+  read_is i = subst (λ (stage : Stage). IsInstanceOf (after stage) input → StandsFor (setting_of world bounds) (after stage) input c) (sym is) new_is i
 
 -- Only a run that begins reads an argument.
 pub reads_is : (world : World) (bounds : Bounds) (old : State) (input : Input) (c : Config) (type : JType) → IsState world old → StandsFor (setting_of world bounds) old input c
-    → argument_next world old.method old.stage ≡ Some type → IsInstanceOf (read_int old (kind_for (Some type))) input → StandsFor (setting_of world bounds) (read_int old (kind_for (Some type))) input c
+    → argument_next world old.method old.stage ≡ Some type → IsInstanceOf (reads_argument old type).state input → StandsFor (setting_of world bounds) (reads_argument old type).state input c
 reads_is world bounds old input c type sound stands e i = go old.stage refl e where
-  go : (stage : Stage) → old.stage ≡ stage → argument_next world old.method stage ≡ Some type → StandsFor (setting_of world bounds) (read_int old (kind_for (Some type))) input c
+  go : (stage : Stage) → old.stage ≡ stage → argument_next world old.method stage ≡ Some type → StandsFor (setting_of world bounds) (reads_argument old type).state input c
   go (Begins read) is e = read_is world bounds old sound input c stands read is (kind_for (Some type)) i
   go (Runs frame callers) is e = absurd cc

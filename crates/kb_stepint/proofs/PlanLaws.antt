@@ -22,29 +22,17 @@ use Rattle.kb_frames.specs.Lent.{local_in, locals_of, stack_of, with_nodes}
 use Rattle.kb_frames.specs.Next.{method_now}
 use Rattle.kb_frames.specs.State.{State}
 use Rattle.kb_frames.specs.States.{Each, IsLocal, IsSymValue}
-use Rattle.kb_stepint.specs.Asked.{interned_op}
-use Rattle.kb_stepint.specs.Effects.{Planned, adds, branch_way, computes_by, in_local, int_local, kept_int, leaves_with, op_of, op_of_cut, plain, plan_of, planned, pushes, pushes_int, rearranges, switch_way, with_stack}
-use Rattle.kb_stepint.specs.Operands.{int_term, one_int, two_ints}
-use Rattle.kb_stepint.specs.Ways.{Way, Goes, Jumps, Leaves, Throws, Fails}
-use Rattle.kb_stepint.proofs.AskedLaws.{interned_is_term}
-use Rattle.kb_stepint.proofs.GrowLaws.{if_has, interned_extends, op_extends, option_has}
-use Rattle.kb_stepint.proofs.ItemLaws.{each_append, each_cons, each_drop, each_picked, each_set, option_has_at}
-use Rattle.kb_stepint.proofs.SoundLaws.{Still, locals_still, values_still}
-
--- ---- ways
-
--- A frame may go on with these locals and this stack.
-pub record CanGo (world : World) (state : State) (locals : List (Option SymValue)) (stack : List SymValue) : Type 0 where
-  pub room : max_locals_of world (method_now state.method state.stage) ≤ length locals
-  pub each_local : Each (IsLocal world state) locals
-  pub each_value : Each (IsSymValue world state) stack
-
-abbrev pub IsGood : World → State → Way → Type 0
-IsGood world state (Goes locals stack) = CanGo world state locals stack
-IsGood world state (Jumps target stack) = Each (IsSymValue world state) stack
-IsGood world state (Leaves value) = Unit {0}
-IsGood world state (Throws class) = Unit {0}
-IsGood world state Fails = Unit {0}
+use Rattle.kb_ways.specs.Asked.{interned_op}
+use Rattle.kb_ways.specs.Plans.{Planned, plain, planned, returns_value}
+use Rattle.kb_stepint.specs.Effects.{adds, branch_way, computes_by, in_local, int_local, op_of, op_of_cut, pushes, pushes_int, rearranges, switch_way, effect_of}
+use Rattle.kb_ways.specs.Ways.{with_stack, Goes, Jumps, Leaves, Fails}
+use Rattle.kb_ways.specs.Operands.{int_term, an_int, two_ints}
+use Rattle.kb_ways.proofs.AskedLaws.{interned_is_term}
+use Rattle.kb_ways.proofs.GrowLaws.{if_has, interned_extends, op_extends, option_has}
+use Rattle.kb_ways.proofs.ItemLaws.{each_append, each_cons, each_drop, each_picked, each_set, option_has_at}
+use Rattle.kb_ways.proofs.SoundLaws.{Still, locals_still, values_still}
+use Rattle.kb_ways.proofs.GoodWays.{CanGo, IsGood}
+use Rattle.kb_ways.proofs.KeptLaws.{returns_has}
 
 -- ---- operands
 
@@ -74,7 +62,7 @@ below_limit false it value e = absurd cc
 module _ (world : World) (state : State) (room : max_locals_of world (method_now state.method state.stage) ≤ length (locals_of state.stage))
     (locals : Each (IsLocal world state) (locals_of state.stage)) (stack : Each (IsSymValue world state) (stack_of state.stage)) where
   abbrev pub IsGoodPlan : Planned → Type 0
-  IsGoodPlan plan = IsGood world (with_nodes state plan.nodes) plan.way
+  IsGoodPlan plan = IsGood world plan.state plan.way
 
   -- more terms
   module _ (nodes : List Node) (extends : Extends state.nodes nodes) where
@@ -126,7 +114,7 @@ module _ (world : World) (state : State) (room : max_locals_of world (method_now
       (λ value at. local_there world state (slice_get (locals_of state.stage) k) value (λ local there. locals k local there)
       (below_limit (nat_lt k (max_locals_of world (method_now state.method state.stage))) (local_in state.stage k) value at)) e
 
-  top_term : (t : TermId) → one_int (stack_of state.stage) ≡ Some t → IsTerm state.nodes t
+  top_term : (t : TermId) → an_int (stack_of state.stage) ≡ Some t → IsTerm state.nodes t
   top_term t e = int_there world state (slice_get (stack_of state.stage) 0) t (λ value at. stack 0 value at) e
 
   load_good : (k : ℕ) (t : TermId) → int_local world state k ≡ Some t → IsGoodPlan (plain state (with_stack state (Int t ∷ stack_of state.stage)))
@@ -173,38 +161,34 @@ module _ (world : World) (state : State) (room : max_locals_of world (method_now
   switches_good : (there : Bool) (keys : List (ℤ × ℕ)) (default : ℕ) (choice : Choice) → IsGood world state (if there then switch_way keys default (drop 1 (stack_of state.stage)) choice else Fails)
   switches_good there keys default choice = if_has (IsGood world state) there (switch_way keys default (drop 1 (stack_of state.stage)) choice) Fails (switch_good keys default choice) tt
 
-  leaves_good : (it : Option (List Node × TermId)) → IsGoodPlan (planned state it leaves_with)
-  leaves_good it = planned_good it leaves_with (λ made e. tt)
-
-  pub plan_good : (choice : Choice) (instr : Instr) → IsGoodPlan (plan_of world state choice instr)
-  plan_good choice instrs.Nop = goes_good state.nodes same (stack_of state.stage) stack
-  plan_good choice (instrs.PushInt z) = int_good z
-  plan_good choice (instrs.Ldc entry) = planned_good (int_entry_of world (class_number world (method_now state.method state.stage)) entry) (pushes_int state) (λ z e. int_good z)
-  plan_good choice (instrs.LoadInt k) = planned_good (int_local world state k) (λ t. plain state (with_stack state (Int t ∷ stack_of state.stage))) (load_good k)
-  plan_good choice (instrs.StoreInt k) =
-      planned_good (one_int (stack_of state.stage)) (λ t. plain state (in_local world state k t (drop 1 (stack_of state.stage))))
+  pub effect_good : (choice : Choice) (instr : Instr) → IsGoodPlan (effect_of world state choice instr)
+  effect_good choice instrs.Nop = goes_good state.nodes same (stack_of state.stage) stack
+  effect_good choice (instrs.PushInt z) = int_good z
+  effect_good choice (instrs.Ldc entry) = planned_good (int_entry_of world (class_number world (method_now state.method state.stage)) entry) (pushes_int state) (λ z e. int_good z)
+  effect_good choice (instrs.LoadInt k) = planned_good (int_local world state k) (λ t. plain state (with_stack state (Int t ∷ stack_of state.stage))) (load_good k)
+  effect_good choice (instrs.StoreInt k) =
+      planned_good (an_int (stack_of state.stage)) (λ t. plain state (in_local world state k t (drop 1 (stack_of state.stage))))
       (λ t e. in_local_good state.nodes same k t (drop 1 (stack_of state.stage)) (top_term t e) (rest_good state.nodes same 1))
-  plan_good choice (instrs.Inc k by) = planned_good (int_local world state k) (λ t. adds world state k t (interned state.nodes (Const by))) (λ t e. adds_good k by t)
-  plan_good choice instrs.Pop = rearranges_good 1 []
-  plan_good choice instrs.Pop2 = rearranges_good 2 []
-  plan_good choice instrs.Dup = rearranges_good 1 (0 ∷ 0 ∷ [])
-  plan_good choice instrs.DupX1 = rearranges_good 2 (0 ∷ 1 ∷ 0 ∷ [])
-  plan_good choice instrs.DupX2 = rearranges_good 3 (0 ∷ 1 ∷ 2 ∷ 0 ∷ [])
-  plan_good choice instrs.Dup2 = rearranges_good 2 (0 ∷ 1 ∷ 0 ∷ 1 ∷ [])
-  plan_good choice instrs.Dup2X1 = rearranges_good 3 (0 ∷ 1 ∷ 2 ∷ 0 ∷ 1 ∷ [])
-  plan_good choice instrs.Dup2X2 = rearranges_good 4 (0 ∷ 1 ∷ 2 ∷ 3 ∷ 0 ∷ 1 ∷ [])
-  plan_good choice instrs.Swap = rearranges_good 2 (1 ∷ 0 ∷ [])
-  plan_good choice (instrs.Int2 op) = planned_good (two_ints (stack_of state.stage)) (λ t. computes_by state op t choice) (λ t e. computes_by_good op t choice)
-  plan_good choice instrs.Neg = planned_good (one_int (stack_of state.stage)) (λ t. pushes state (drop 1 (stack_of state.stage)) (interned_op state.nodes Neg t None)) (λ t e. op_good 1 Neg t None)
-  plan_good choice (instrs.Narrow cut) =
-      planned_good (one_int (stack_of state.stage)) (λ t. pushes state (drop 1 (stack_of state.stage)) (interned_op state.nodes (op_of_cut cut) t None)) (λ t e. op_good 1 (op_of_cut cut) t None)
-  plan_good choice (instrs.IfInt cond target) = branches_good (is_some (one_int (stack_of state.stage))) target 1 choice
-  plan_good choice (instrs.IfPair cond target) = branches_good (is_some (two_ints (stack_of state.stage))) target 2 choice
-  plan_good choice (instrs.Goto target) = stack
-  plan_good choice (instrs.Table low default targets) = switches_good (is_some (one_int (stack_of state.stage))) (table_keys low targets) default choice
-  plan_good choice (instrs.Lookup default keys) = switches_good (is_some (one_int (stack_of state.stage))) keys default choice
-  plan_good choice instrs.ReturnInt =
-      planned_good (one_int (stack_of state.stage)) (λ t. planned state (option_and_then (kept_int state t) (result_of world (method_now state.method state.stage))) leaves_with)
-      (λ t e. leaves_good (option_and_then (kept_int state t) (result_of world (method_now state.method state.stage))))
-  plan_good choice instrs.Return = if_has (IsGood world state) (is_some (result_of world (method_now state.method state.stage))) Fails (Leaves None) tt tt
-  plan_good choice _ = tt
+  effect_good choice (instrs.Inc k by) = planned_good (int_local world state k) (λ t. adds world state k t (interned state.nodes (Const by))) (λ t e. adds_good k by t)
+  effect_good choice instrs.Pop = rearranges_good 1 []
+  effect_good choice instrs.Pop2 = rearranges_good 2 []
+  effect_good choice instrs.Dup = rearranges_good 1 (0 ∷ 0 ∷ [])
+  effect_good choice instrs.DupX1 = rearranges_good 2 (0 ∷ 1 ∷ 0 ∷ [])
+  effect_good choice instrs.DupX2 = rearranges_good 3 (0 ∷ 1 ∷ 2 ∷ 0 ∷ [])
+  effect_good choice instrs.Dup2 = rearranges_good 2 (0 ∷ 1 ∷ 0 ∷ 1 ∷ [])
+  effect_good choice instrs.Dup2X1 = rearranges_good 3 (0 ∷ 1 ∷ 2 ∷ 0 ∷ 1 ∷ [])
+  effect_good choice instrs.Dup2X2 = rearranges_good 4 (0 ∷ 1 ∷ 2 ∷ 3 ∷ 0 ∷ 1 ∷ [])
+  effect_good choice instrs.Swap = rearranges_good 2 (1 ∷ 0 ∷ [])
+  effect_good choice (instrs.Int2 op) = planned_good (two_ints (stack_of state.stage)) (λ t. computes_by state op t choice) (λ t e. computes_by_good op t choice)
+  effect_good choice instrs.Neg = planned_good (an_int (stack_of state.stage)) (λ t. pushes state (drop 1 (stack_of state.stage)) (interned_op state.nodes Neg t None)) (λ t e. op_good 1 Neg t None)
+  effect_good choice (instrs.Narrow cut) =
+      planned_good (an_int (stack_of state.stage)) (λ t. pushes state (drop 1 (stack_of state.stage)) (interned_op state.nodes (op_of_cut cut) t None)) (λ t e. op_good 1 (op_of_cut cut) t None)
+  effect_good choice (instrs.IfInt cond target) = branches_good (is_some (an_int (stack_of state.stage))) target 1 choice
+  effect_good choice (instrs.IfPair cond target) = branches_good (is_some (two_ints (stack_of state.stage))) target 2 choice
+  effect_good choice (instrs.Goto target) = stack
+  effect_good choice (instrs.Table low default targets) = switches_good (is_some (an_int (stack_of state.stage))) (table_keys low targets) default choice
+  effect_good choice (instrs.Lookup default keys) = switches_good (is_some (an_int (stack_of state.stage))) keys default choice
+  effect_good choice instrs.ReturnInt =
+      planned_good (an_int (stack_of state.stage)) (λ t. returns_value world state (Int t)) (λ t e. returns_has IsGoodPlan world state (Int t) (λ type. tt) tt)
+  effect_good choice instrs.Return = if_has (IsGood world state) (is_some (result_of world (method_now state.method state.stage))) Fails (Leaves None) tt tt
+  effect_good choice _ = tt

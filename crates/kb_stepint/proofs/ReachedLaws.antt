@@ -3,51 +3,52 @@ use Rattle.std.proofs.Common.{◌≡◌, ℕ, ◌≤◌, ℤ, pos, Bool, true, f
 use Rattle.std.specs.Option.{option_map_or}
 use Rattle.kb_blast.specs.Query.{is_comparison}
 use Rattle.kb_code.specs.declared.instruction.Cond.{Cond}
-use Rattle.kb_code.specs.declared.instruction.Cond.TheVariants as conds
 use Rattle.kb_code.specs.declared.instruction.Instr.{Instr}
-use Rattle.kb_code.specs.declared.instruction.Instr.TheVariants as instrs
 use Rattle.kb_code.specs.declared.instruction.IntOp.{IntOp}
-use Rattle.kb_code.specs.declared.instruction.IntOp.TheVariants as ops
-use Rattle.kb_heap.specs.declared.bounds.Bound.TheVariants.{Loops, Steps}
+use Rattle.kb_heap.specs.declared.bounds.Bound.TheVariants.{Steps}
 use Rattle.kb_heap.specs.declared.bounds.Bounds.{Bounds}
 use Rattle.kb_link.specs.World.{World}
 use Rattle.kb_names.specs.declared.types.JType.{JType}
 use Rattle.kb_semantics.specs.Comparisons.{table_keys}
-use Rattle.kb_semantics.specs.Config.{has_room, instruction_at, max_locals_of}
+use Rattle.kb_semantics.specs.Config.{instruction_at, max_locals_of}
 use Rattle.kb_semantics.specs.Looks.{if_some}
-use Rattle.kb_semantics.specs.Ways.{counted}
 use Rattle.kb_terms.specs.declared.node.TermId.{TermId}
 use Rattle.kb_terms.specs.Terms.{IsPool}
 use Rattle.kb_picture.specs.declared.choice.Choice.{Choice}
-use Rattle.kb_picture.specs.declared.choice.Choice.TheVariants as choices
 use Rattle.kb_picture.specs.declared.picture.Picture.{Picture}
-use Rattle.kb_picture.specs.Queries.{kind_for}
 use Rattle.kb_picture.specs.WellTyped.{IsReceiverSeen}
 use Rattle.kb_frames.specs.declared.frame.SymFrame.{SymFrame}
 use Rattle.kb_frames.specs.declared.state.Stage.{Stage}
-use Rattle.kb_frames.specs.declared.state.Stage.TheVariants.{Begins, Runs}
+use Rattle.kb_frames.specs.declared.state.Stage.TheVariants.{Runs}
 use Rattle.kb_frames.specs.declared.value.SymValue.{SymValue}
-use Rattle.kb_frames.specs.declared.value.Outcome.TheVariants.{Asks, Cut}
-use Rattle.kb_frames.specs.Lent.{begun, begun_locals, begun_stage, locals_of, read_int, stack_of, transfers_of, with_nodes}
+use Rattle.kb_frames.specs.declared.value.Outcome.TheVariants.{Cut}
+use Rattle.kb_frames.specs.Lent.{begun, locals_of, stack_of}
 use Rattle.kb_frames.specs.Next.{argument_next, method_now, offset_now}
 use Rattle.kb_frames.specs.State.{State}
 use Rattle.kb_frames.specs.States.{Each, IsLocal, IsSymValue}
-use Rattle.kb_stepint.specs.declared.condition.Condition.{Condition}
-use Rattle.kb_stepint.specs.declared.condition.Side.{Side}
-use Rattle.kb_stepint.specs.declared.condition.Side.TheVariants.{Term, Number}
-use Rattle.kb_stepint.specs.Asked.{all_asked, branch_condition, equal_sides}
+use Rattle.kb_ways.specs.declared.condition.Condition.{Condition}
+use Rattle.kb_ways.specs.declared.condition.Side.{Side}
+use Rattle.kb_ways.specs.declared.condition.Side.TheVariants.{Term, Number}
+use Rattle.kb_ways.specs.Asked.{all_asked, branch_condition, equal_sides}
 use Rattle.kb_stepint.specs.Choices.{branch_conditions, conditions_of, division_conditions, divisor_conditions, key_conditions}
-use Rattle.kb_stepint.specs.Effects.{plan_of}
+use Rattle.kb_stepint.specs.Effects.{plan_of, effect_of}
 use Rattle.kb_stepint.specs.Laws.{IsAtInts}
-use Rattle.kb_stepint.specs.Operands.{one_int, two_ints}
-use Rattle.kb_stepint.specs.Reached.{IsReached}
-use Rattle.kb_stepint.specs.Simulation.{HasInputOfState}
-use Rattle.kb_stepint.specs.Takes.{answered, taken, takes_next, takes_up}
-use Rattle.kb_stepint.specs.Ways.{Take, Way, Goes, Jumps, Leaves, Throws, Fails, carries_out, ill_typed, went}
-use Rattle.kb_stepint.proofs.GrowLaws.{Grows, all_asked_grows, if_has, option_has}
-use Rattle.kb_stepint.proofs.KeepLaws.{Stays, plan_makes, takes_next_stays}
-use Rattle.kb_stepint.proofs.PlanLaws.{IsGood, plan_good}
-use Rattle.kb_stepint.proofs.SoundLaws.{AllCompare, Sound, asked_sound, begun_sound, carried_sound, frame_sound, int_receiver, int_sound, made_sound, nodes_sound, reached_sound, receiver_seen, sound_reached}
+use Rattle.kb_ways.specs.Operands.{an_int, two_ints}
+use Rattle.kb_ways.specs.Reached.{IsReached}
+use Rattle.kb_ways.specs.Simulation.{HasInputOfState}
+use Rattle.kb_stepint.specs.Takes.{taken, reads_argument}
+use Rattle.kb_ways.specs.Plans.{takes_next, takes_up, carried_out, followed}
+use Rattle.kb_ways.specs.Ways.{Take, ill_typed}
+use Rattle.kb_ways.proofs.GrowLaws.{Grows, all_asked_grows, if_has, option_has, HasMore}
+use Rattle.kb_ways.proofs.KeepLaws.{Stays}
+use Rattle.kb_stepint.proofs.KeepLaws.{effect_makes, takes_next_stays}
+use Rattle.kb_stepint.proofs.PlanLaws.{effect_good}
+use Rattle.kb_ways.proofs.SoundLaws.{AllCompare, Sound, asked_sound, begun_sound, frame_sound, int_receiver, int_sound, nodes_sound, reached_sound, receiver_seen, sound_reached}
+use Rattle.kb_ways.proofs.GoodWays.{went_sound, running_now}
+use Rattle.kb_code.specs.declared.instruction.Cond.TheVariants as conds
+use Rattle.kb_code.specs.declared.instruction.Instr.TheVariants as instrs
+use Rattle.kb_code.specs.declared.instruction.IntOp.TheVariants as ops
+use Rattle.kb_picture.specs.declared.choice.Choice.TheVariants as choices
 
 -- ---- what is asked for are comparisons
 
@@ -87,87 +88,59 @@ division_compares _ x choice = tt
 
 pub instr_compares : (instr : Instr) (stack : List SymValue) (choice : Choice) → AllCompare (conditions_of instr stack choice)
 instr_compares (instrs.IfInt cond target) stack choice =
-    if_some_compares (one_int stack) (λ x. branch_conditions cond (Term x) (Number (pos 0)) choice) (λ x. branch_compares cond (Term x) (Number (pos 0)) choice)
+    if_some_compares (an_int stack) (λ x. branch_conditions cond (Term x) (Number (pos 0)) choice) (λ x. branch_compares cond (Term x) (Number (pos 0)) choice)
 instr_compares (instrs.IfPair cond target) stack choice =
     if_some_compares (two_ints stack) (λ t. branch_conditions cond (Term t.0) (Term t.1) choice) (λ t. branch_compares cond (Term t.0) (Term t.1) choice)
 instr_compares (instrs.Table low default targets) stack choice =
-    if_some_compares (one_int stack) (λ x. key_conditions x (table_keys low targets) choice) (λ x. keys_compare x (table_keys low targets) choice)
-instr_compares (instrs.Lookup default keys) stack choice = if_some_compares (one_int stack) (λ x. key_conditions x keys choice) (λ x. keys_compare x keys choice)
+    if_some_compares (an_int stack) (λ x. key_conditions x (table_keys low targets) choice) (λ x. keys_compare x (table_keys low targets) choice)
+instr_compares (instrs.Lookup default keys) stack choice = if_some_compares (an_int stack) (λ x. key_conditions x keys choice) (λ x. keys_compare x keys choice)
 instr_compares (instrs.Int2 op) stack choice = if_some_compares (two_ints stack) (λ t. division_conditions op t.1 choice) (λ t. division_compares op t.1 choice)
 instr_compares _ stack choice = tt
-
--- ---- ways
-
-module _ (world : World) (bounds : Bounds) (next : ℕ) (state : State) (frame : SymFrame) (callers : List SymFrame) (running : state.stage ≡ Runs frame callers) (sound : Sound world state) where
-  abbrev SoundTo : Take → Type 0
-  SoundTo take = Sound world take.state
-
-  pub went_sound : (way : Way) → IsGood world state way → SoundTo (went world bounds next state way)
-  went_sound (Goes locals stack) good =
-      if_has SoundTo (has_room world (method_now state.method state.stage) (length stack)) _ (ill_typed world state)
-      (carried_sound world state frame callers running sound (λ (f : SymFrame). record f { at = next; locals = locals; stack = stack }) refl
-      (record { room = subst (λ (stage : Stage). max_locals_of world (method_now state.method stage) ≤ length locals) running good.room; locals = good.each_local; stack = good.each_value }))
-      sound
-  went_sound (Jumps target stack) good =
-      if_has SoundTo (has_room world (method_now state.method state.stage) (length stack)) _ (ill_typed world state)
-      (option_has SoundTo (counted bounds.run (offset_now state.stage) target (transfers_of state.stage))
-      (λ transfers. carries_out state (λ (f : SymFrame). record f { at = target; stack = stack; transfers = transfers })) (record { state = state; outcome = Cut Loops })
-      (λ transfers. carried_sound world state frame callers running sound (λ (f : SymFrame). record f { at = target; stack = stack; transfers = transfers }) refl
-      (record { room = (frame_sound world state frame callers running sound).0.room; locals = (frame_sound world state frame callers running sound).0.locals; stack = good })) sound)
-      sound
-  went_sound (Leaves value) good = sound
-  went_sound (Throws class) good = made_sound world state class sound
-  went_sound Fails good = sound
 
 -- ---- takes
 
 module _ (world : World) (bounds : Bounds) (choice : Choice) where
   -- an instruction is carried out
   carried : (state : State) (frame : SymFrame) (callers : List SymFrame) (found : Instr × ℕ) → state.stage ≡ Runs frame callers → Sound world state
-      → Sound world (went world bounds found.1 (with_nodes state (plan_of world state choice found.0).nodes) (plan_of world state choice found.0).way).state
+      → Sound world (followed world bounds found.1 (effect_of world state choice found.0)).state
   carried state frame callers found running sound =
-      let plan = plan_of world state choice found.0 in
+      let effect = effect_of world state choice found.0 in
       let here = frame_sound world state frame callers running sound in
       let back : Runs frame callers ≡ state.stage = sym running in
-      let good = plan_good world state
+      let good = effect_good world state
       (subst (λ (stage : Stage). max_locals_of world (method_now state.method stage) ≤ length (locals_of stage)) back here.0.room)
       (subst (λ (stage : Stage). Each (IsLocal world state) (locals_of stage)) back here.0.locals)
       (subst (λ (stage : Stage). Each (IsSymValue world state) (stack_of stage)) back here.0.stack) choice found.0 in
-      went_sound world bounds found.1 (with_nodes state plan.nodes) frame callers running (nodes_sound world state plan.nodes (plan_makes world state choice found.0) sound) plan.way good
+      let more : HasMore state effect.state = effect_makes world state choice found.0 in
+      went_sound world bounds found.1 effect.state frame callers (ap (λ (s : State). s.stage) more.rest ∙ running)
+      (subst (Sound world) (sym more.rest) (nodes_sound world state effect.state.nodes more.on sound)) effect.way good
 
   answered_sound : (state : State) (frame : SymFrame) (callers : List SymFrame) (found : Instr × ℕ) → state.stage ≡ Runs frame callers → Sound world state
-      → Sound world (answered world bounds choice state found).state
+      → Sound world (carried_out plan_of world bounds choice state found).state
   answered_sound state frame callers found running sound =
       let conditions = conditions_of found.0 (stack_of state.stage) choice in
       let grows : Grows state (all_asked state conditions) = all_asked_grows conditions state in
       carried (all_asked state conditions) frame callers found (ap (λ (s : State). s.stage) grows.rest ∙ running)
       (asked_sound world state conditions (instr_compares found.0 (stack_of state.stage) choice) sound)
 
-  takes_up_sound : (state : State) (frame : SymFrame) (callers : List SymFrame) → state.stage ≡ Runs frame callers → Sound world state → Sound world (takes_up world bounds choice state).state
+  takes_up_sound : (state : State) (frame : SymFrame) (callers : List SymFrame) → state.stage ≡ Runs frame callers → Sound world state → Sound world (takes_up plan_of world bounds choice state).state
   takes_up_sound state frame callers running sound =
-      option_has (λ (take : Take). Sound world take.state) (instruction_at world (method_now state.method state.stage) (offset_now state.stage)) (answered world bounds choice state) (ill_typed world state)
+      option_has (λ (take : Take). Sound world take.state) (instruction_at world (method_now state.method state.stage) (offset_now state.stage)) (carried_out plan_of world bounds choice state) (ill_typed world state)
       (λ found. answered_sound state frame callers found running sound) sound
 
-  -- the first frame is there once the arguments are read
-  pub running_now : (state : State) → (frame : SymFrame) × (callers : List SymFrame) × ((begun world state).stage ≡ Runs frame callers)
-  running_now state = go state.stage where
-    go : (stage : Stage) → (frame : SymFrame) × (callers : List SymFrame) × (begun_stage world state stage ≡ Runs frame callers)
-    go (Begins read) = (record { method = state.method; at = 0; locals = begun_locals read (max_locals_of world state.method); stack = []; transfers = 0 }, [], refl)
-    go (Runs frame callers) = (frame, callers, refl)
-
-  takes_next_sound : (old : State) → Sound world old → argument_next world old.method old.stage ≡ None → Sound world (takes_next world bounds choice old).state
+  takes_next_sound : (old : State) → Sound world old → argument_next world old.method old.stage ≡ None → Sound world (takes_next plan_of world bounds choice old).state
   takes_next_sound old sound none =
-      let run = running_now old in
-      if_has (λ (take : Take). Sound world take.state) (nat_le bounds.run.steps old.carried) (record { state = old; outcome = Cut Steps }) (takes_up world bounds choice (begun world old))
+      let run = running_now world bounds choice old in
+      if_has (λ (take : Take). Sound world take.state) (nat_le bounds.run.steps old.carried) (record { state = old; outcome = Cut Steps }) (takes_up plan_of world bounds choice (begun world old))
       sound (takes_up_sound (begun world old) run.0 run.1 run.2 (begun_sound world old sound none))
 
   abbrev after : State → Option JType → Take
-  after old next = option_map_or (λ (type : JType). record { state = read_int old (kind_for (Some type)); outcome = Asks }) next (takes_next world bounds choice old)
+  after old next = option_map_or (reads_argument old) next (takes_next plan_of world bounds choice old)
 
-  taken_sound : (old : State) → IsAtInts world old → Sound world (taken world bounds old choice).state
+  pub taken_sound : (old : State) → IsAtInts world old → Sound world (taken world bounds old choice).state
   taken_sound old at = go (argument_next world old.method old.stage) refl where
     sound : Sound world old
-    sound = sound_reached world old at.reached
+    sound = sound_reached world old at.reached at.alone at.unhandled
 
     go : (next : Option JType) → argument_next world old.method old.stage ≡ next → Sound world (after old next).state
     go None e = takes_next_sound old sound e
@@ -181,11 +154,11 @@ module _ (world : World) (bounds : Bounds) (choice : Choice) where
   pub has_input : (old : State) → IsAtInts world old → HasInputOfState world (taken world bounds old choice).state
   has_input old at = record { typed = (taken_sound old at).typed; receiver = go (argument_next world old.method old.stage) refl } where
     sound : Sound world old
-    sound = sound_reached world old at.reached
+    sound = sound_reached world old at.reached at.alone at.unhandled
 
     go : (next : Option JType) → argument_next world old.method old.stage ≡ next → IsReceiverSeen world (after old next).state.method (after old next).state.picture
     go None e =
-        let stays : Stays old (takes_next world bounds choice old).state = takes_next_stays world bounds choice old in
-        subst (λ m. IsReceiverSeen world m (takes_next world bounds choice old).state.picture) (sym stays.method)
+        let stays : Stays old (takes_next plan_of world bounds choice old).state = takes_next_stays world bounds choice old in
+        subst (λ m. IsReceiverSeen world m (takes_next plan_of world bounds choice old).state.picture) (sym stays.method)
         (subst (λ (p : Picture). IsReceiverSeen world old.method p) (sym stays.picture) (receiver_seen world old sound e))
     go (Some type) e = int_receiver world old sound type e at.next

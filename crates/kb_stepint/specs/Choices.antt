@@ -26,11 +26,11 @@ use Rattle.kb_frames.specs.declared.value.SymValue.{SymValue}
 use Rattle.kb_frames.specs.State.{State}
 use Rattle.kb_frames.specs.Lent.{stack_of}
 use Rattle.kb_frames.specs.Next.{argument_next, instruction_next}
-use Rattle.kb_stepint.specs.declared.condition.Side.{Side}
-use Rattle.kb_stepint.specs.declared.condition.Side.TheVariants.{Term, Number}
-use Rattle.kb_stepint.specs.declared.condition.Condition.{Condition}
-use Rattle.kb_stepint.specs.Operands.{one_int, two_ints}
-use Rattle.kb_stepint.specs.Asked.{equal_sides, branch_condition, is_refuted}
+use Rattle.kb_ways.specs.declared.condition.Side.{Side}
+use Rattle.kb_ways.specs.declared.condition.Side.TheVariants.{Term, Number}
+use Rattle.kb_ways.specs.declared.condition.Condition.{Condition}
+use Rattle.kb_ways.specs.Operands.{an_int, two_ints}
+use Rattle.kb_ways.specs.Asked.{equal_sides, branch_condition, is_refuted}
 
 abbrev pub only : List Choice
 only = Only ∷ []
@@ -52,10 +52,10 @@ divisors _ = only
 
 -- The alternatives of an instruction, whatever is decided: where its operands are no ints it is ill-typed, and chooses nothing.
 abbrev pub listed : Instr → List SymValue → List Choice
-listed (instrs.IfInt cond target) stack = if is_some (one_int stack) then both_ways else only
+listed (instrs.IfInt cond target) stack = if is_some (an_int stack) then both_ways else only
 listed (instrs.IfPair cond target) stack = if is_some (two_ints stack) then both_ways else only
-listed (instrs.Table low default targets) stack = if is_some (one_int stack) then keys_from 0 (table_keys low targets) else only
-listed (instrs.Lookup default keys) stack = if is_some (one_int stack) then keys_from 0 keys else only
+listed (instrs.Table low default targets) stack = if is_some (an_int stack) then keys_from 0 (table_keys low targets) else only
+listed (instrs.Lookup default keys) stack = if is_some (an_int stack) then keys_from 0 keys else only
 listed (instrs.Int2 op) stack = if is_some (two_ints stack) then divisors op else only
 listed _ stack = only
 
@@ -83,10 +83,10 @@ division_conditions _ x choice = []
 
 -- The conditions that an alternative of an instruction asks for, in order.
 abbrev pub conditions_of : Instr → List SymValue → Choice → List Condition
-conditions_of (instrs.IfInt cond target) stack choice = if_some (one_int stack) (λ x. branch_conditions cond (Term x) (Number (pos 0)) choice)
+conditions_of (instrs.IfInt cond target) stack choice = if_some (an_int stack) (λ x. branch_conditions cond (Term x) (Number (pos 0)) choice)
 conditions_of (instrs.IfPair cond target) stack choice = if_some (two_ints stack) (λ t. branch_conditions cond (Term t.0) (Term t.1) choice)
-conditions_of (instrs.Table low default targets) stack choice = if_some (one_int stack) (λ x. key_conditions x (table_keys low targets) choice)
-conditions_of (instrs.Lookup default keys) stack choice = if_some (one_int stack) (λ x. key_conditions x keys choice)
+conditions_of (instrs.Table low default targets) stack choice = if_some (an_int stack) (λ x. key_conditions x (table_keys low targets) choice)
+conditions_of (instrs.Lookup default keys) stack choice = if_some (an_int stack) (λ x. key_conditions x keys choice)
 conditions_of (instrs.Int2 op) stack choice = if_some (two_ints stack) (λ t. division_conditions op t.1 choice)
 conditions_of _ stack choice = []
 

@@ -1,11 +1,9 @@
 -- What the instructions on ints do to a state, by kinds of effect: which terms they make, and the way on. Each is the
 -- counterpart of the machine's effect of the same instruction (JVMS 8 section 6.5), with terms in the place of ints. Where a
 -- choice was made, the way is the alternative's.
-use Rattle.std.specs.Prelude.{ℕ, ℤ, pos, Bool, true, false, List, [], ◌∷◌, ◌++◌, length, drop, nat_lt, nat_le, Option, Some, None, cond, is_some, option_and_then, slice_get, slice_set, if◌then◌else◌}
+use Rattle.std.specs.Prelude.{ℕ, ℤ, Bool, true, false, List, [], ◌∷◌, ◌++◌, length, drop, nat_lt, nat_le, Option, Some, None, cond, is_some, slice_get, slice_set, if◌then◌else◌}
 use Rattle.std.specs.List.{filter_map}
 use Rattle.std.specs.Option.{option_map_or}
-use Rattle.kb_names.specs.declared.types.JType.{JType}
-use Rattle.kb_names.specs.declared.types.JType.TheVariants as types
 use Rattle.kb_code.specs.declared.instruction.Instr.{Instr}
 use Rattle.kb_code.specs.declared.instruction.Instr.TheVariants as instrs
 use Rattle.kb_code.specs.declared.instruction.IntCut.{IntCut}
@@ -27,34 +25,19 @@ use Rattle.kb_picture.specs.declared.choice.Choice.TheVariants.{Branch, Key, Def
 use Rattle.kb_frames.specs.declared.value.SymValue.{SymValue}
 use Rattle.kb_frames.specs.declared.value.SymValue.TheVariants.{Int}
 use Rattle.kb_frames.specs.State.{State}
-use Rattle.kb_frames.specs.Lent.{stack_of, locals_of, local_in}
+use Rattle.kb_frames.specs.Lent.{stack_of, locals_of, local_in, with_nodes}
 use Rattle.kb_frames.specs.Next.{method_now}
-use Rattle.kb_stepint.specs.Operands.{int_term, one_int, two_ints}
-use Rattle.kb_stepint.specs.Asked.{interned_op}
-use Rattle.kb_stepint.specs.Ways.{Way, Goes, Jumps, Leaves, Throws, Fails}
-
--- the pool with the terms that were made, and the way on
-pub record Planned : Type 0 where
-  pub nodes : List Node
-  pub way : Way
+use Rattle.kb_ways.specs.Operands.{int_term, an_int, two_ints}
+use Rattle.kb_ways.specs.Asked.{all_asked, interned_op}
+use Rattle.kb_ways.specs.Plans.{Planned, plain, planned, returns_value}
+use Rattle.kb_stepint.specs.Choices.{conditions_of}
+use Rattle.kb_ways.specs.Ways.{Way, Goes, Jumps, Leaves, Throws, Fails, with_stack}
 
 -- ---- parts
 
--- no term is made
-abbrev pub plain : State → Way → Planned
-plain state way = record { nodes = state.nodes; way = way }
-
--- with the same locals
-abbrev pub with_stack : State → List SymValue → Way
-with_stack state stack = Goes (locals_of state.stage) stack
-
 -- a term that was made stands on a stack
 abbrev pub pushes : State → List SymValue → List Node × TermId → Planned
-pushes state rest made = record { nodes = made.0; way = with_stack state (Int made.1 ∷ rest) }
-
--- where there is something, what it leads to; else it is ill-typed
-abbrev pub planned : {A : Type 0} → State → Option A → (A → Planned) → Planned
-planned state it f = option_map_or f it (plain state Fails)
+pushes state rest made = record { state = with_nodes state made.0; way = with_stack state (Int made.1 ∷ rest) }
 
 -- ---- constants and locals
 
@@ -76,10 +59,10 @@ in_local world state k t stack =
     if nat_lt k (max_locals_of world (method_now state.method state.stage)) then Goes (slice_set (locals_of state.stage) k (Some (Int t))) stack else Fails
 
 abbrev pub stores : World → State → ℕ → Planned
-stores world state k = planned state (one_int (stack_of state.stage)) (λ t. plain state (in_local world state k t (drop 1 (stack_of state.stage))))
+stores world state k = planned state (an_int (stack_of state.stage)) (λ t. plain state (in_local world state k t (drop 1 (stack_of state.stage))))
 
 abbrev pub sets : World → State → ℕ → List Node × TermId → Planned
-sets world state k made = record { nodes = made.0; way = in_local world state k made.1 (stack_of state.stage) }
+sets world state k made = record { state = with_nodes state made.0; way = in_local world state k made.1 (stack_of state.stage) }
 
 abbrev pub adds : World → State → ℕ → TermId → List Node × TermId → Planned
 adds world state k t by = sets world state k (interned_op by.0 Add t (Some by.1))
@@ -121,7 +104,7 @@ op_of_cut cuts.Short = Short
 
 -- an operation on one int: ineg, i2b, i2c, i2s
 abbrev pub computes : State → Op → Planned
-computes state op = planned state (one_int (stack_of state.stage)) (λ t. pushes state (drop 1 (stack_of state.stage)) (interned_op state.nodes op t None))
+computes state op = planned state (an_int (stack_of state.stage)) (λ t. pushes state (drop 1 (stack_of state.stage)) (interned_op state.nodes op t None))
 
 -- an operation on two ints, the lower one first; a divisor that is chosen to be 0 throws: iadd to ixor, idiv, irem
 abbrev pub computes_by : State → IntOp → TermId × TermId → Choice → Planned
@@ -153,27 +136,13 @@ switch_way keys default rest _ = Fails
 -- tableswitch, lookupswitch
 abbrev pub switches : State → List (ℤ × ℕ) → ℕ → Choice → Planned
 switches state keys default choice =
-    plain state (if is_some (one_int (stack_of state.stage)) then switch_way keys default (drop 1 (stack_of state.stage)) choice else Fails)
+    plain state (if is_some (an_int (stack_of state.stage)) then switch_way keys default (drop 1 (stack_of state.stage)) choice else Fails)
 
 -- ---- returns
 
--- what a method of the result type returns of an int: of a boolean the low bit
-abbrev pub masked : State → TermId → List Node × TermId → List Node × TermId
-masked state t one = interned_op one.0 And t (Some one.1)
-
-abbrev pub kept_int : State → TermId → JType → Option (List Node × TermId)
-kept_int state t types.Bool = Some (masked state t (interned state.nodes (Const (pos 1))))
-kept_int state t types.Int = Some (state.nodes, t)
-kept_int state t _ = None
-
-abbrev pub leaves_with : List Node × TermId → Planned
-leaves_with made = record { nodes = made.0; way = Leaves (Some (Int made.1)) }
-
 -- ireturn
 abbrev pub returns_int : World → State → Planned
-returns_int world state =
-    planned state (one_int (stack_of state.stage)) (λ t.
-    planned state (option_and_then (kept_int state t) (result_of world (method_now state.method state.stage))) leaves_with)
+returns_int world state = planned state (an_int (stack_of state.stage)) (λ t. returns_value world state (Int t))
 
 -- return
 abbrev pub returns_nothing : World → State → Planned
@@ -182,32 +151,37 @@ returns_nothing world state =
 
 -- ---- the instructions
 
--- What an instruction does to a state, by the alternative that was chosen. One that is no instruction on ints is left out.
-abbrev pub plan_of : World → State → Choice → Instr → Planned
-plan_of world state choice instrs.Nop = plain state (with_stack state (stack_of state.stage))
-plan_of world state choice (instrs.PushInt z) = pushes_int state z
-plan_of world state choice (instrs.Ldc entry) =
+-- What an instruction does to a state that has the conditions of the alternative that was chosen. One that is no instruction on
+-- ints is left out.
+abbrev pub effect_of : World → State → Choice → Instr → Planned
+effect_of world state choice instrs.Nop = plain state (with_stack state (stack_of state.stage))
+effect_of world state choice (instrs.PushInt z) = pushes_int state z
+effect_of world state choice (instrs.Ldc entry) =
     planned state (int_entry_of world (class_number world (method_now state.method state.stage)) entry) (pushes_int state)
-plan_of world state choice (instrs.LoadInt k) = loads world state k
-plan_of world state choice (instrs.StoreInt k) = stores world state k
-plan_of world state choice (instrs.Inc k by) = increases world state k by
-plan_of world state choice instrs.Pop = rearranges state 1 []
-plan_of world state choice instrs.Pop2 = rearranges state 2 []
-plan_of world state choice instrs.Dup = rearranges state 1 (0 ∷ 0 ∷ [])
-plan_of world state choice instrs.DupX1 = rearranges state 2 (0 ∷ 1 ∷ 0 ∷ [])
-plan_of world state choice instrs.DupX2 = rearranges state 3 (0 ∷ 1 ∷ 2 ∷ 0 ∷ [])
-plan_of world state choice instrs.Dup2 = rearranges state 2 (0 ∷ 1 ∷ 0 ∷ 1 ∷ [])
-plan_of world state choice instrs.Dup2X1 = rearranges state 3 (0 ∷ 1 ∷ 2 ∷ 0 ∷ 1 ∷ [])
-plan_of world state choice instrs.Dup2X2 = rearranges state 4 (0 ∷ 1 ∷ 2 ∷ 3 ∷ 0 ∷ 1 ∷ [])
-plan_of world state choice instrs.Swap = rearranges state 2 (1 ∷ 0 ∷ [])
-plan_of world state choice (instrs.Int2 op) = computes_two state op choice
-plan_of world state choice instrs.Neg = computes state Neg
-plan_of world state choice (instrs.Narrow cut) = computes state (op_of_cut cut)
-plan_of world state choice (instrs.IfInt cond target) = branches state (is_some (one_int (stack_of state.stage))) 1 target choice
-plan_of world state choice (instrs.IfPair cond target) = branches state (is_some (two_ints (stack_of state.stage))) 2 target choice
-plan_of world state choice (instrs.Goto target) = plain state (Jumps target (stack_of state.stage))
-plan_of world state choice (instrs.Table low default targets) = switches state (table_keys low targets) default choice
-plan_of world state choice (instrs.Lookup default keys) = switches state keys default choice
-plan_of world state choice instrs.ReturnInt = returns_int world state
-plan_of world state choice instrs.Return = returns_nothing world state
-plan_of world state choice _ = plain state Fails
+effect_of world state choice (instrs.LoadInt k) = loads world state k
+effect_of world state choice (instrs.StoreInt k) = stores world state k
+effect_of world state choice (instrs.Inc k by) = increases world state k by
+effect_of world state choice instrs.Pop = rearranges state 1 []
+effect_of world state choice instrs.Pop2 = rearranges state 2 []
+effect_of world state choice instrs.Dup = rearranges state 1 (0 ∷ 0 ∷ [])
+effect_of world state choice instrs.DupX1 = rearranges state 2 (0 ∷ 1 ∷ 0 ∷ [])
+effect_of world state choice instrs.DupX2 = rearranges state 3 (0 ∷ 1 ∷ 2 ∷ 0 ∷ [])
+effect_of world state choice instrs.Dup2 = rearranges state 2 (0 ∷ 1 ∷ 0 ∷ 1 ∷ [])
+effect_of world state choice instrs.Dup2X1 = rearranges state 3 (0 ∷ 1 ∷ 2 ∷ 0 ∷ 1 ∷ [])
+effect_of world state choice instrs.Dup2X2 = rearranges state 4 (0 ∷ 1 ∷ 2 ∷ 3 ∷ 0 ∷ 1 ∷ [])
+effect_of world state choice instrs.Swap = rearranges state 2 (1 ∷ 0 ∷ [])
+effect_of world state choice (instrs.Int2 op) = computes_two state op choice
+effect_of world state choice instrs.Neg = computes state Neg
+effect_of world state choice (instrs.Narrow cut) = computes state (op_of_cut cut)
+effect_of world state choice (instrs.IfInt cond target) = branches state (is_some (an_int (stack_of state.stage))) 1 target choice
+effect_of world state choice (instrs.IfPair cond target) = branches state (is_some (two_ints (stack_of state.stage))) 2 target choice
+effect_of world state choice (instrs.Goto target) = plain state (Jumps target (stack_of state.stage))
+effect_of world state choice (instrs.Table low default targets) = switches state (table_keys low targets) default choice
+effect_of world state choice (instrs.Lookup default keys) = switches state keys default choice
+effect_of world state choice instrs.ReturnInt = returns_int world state
+effect_of world state choice instrs.Return = returns_nothing world state
+effect_of world state choice _ = plain state Fails
+
+-- What an instruction does to a state, by the alternative that was chosen: what the alternative asks for is added first.
+abbrev pub plan_of : World → State → Choice → Instr → Planned
+plan_of world state choice instr = effect_of world (all_asked state (conditions_of instr (stack_of state.stage) choice)) choice instr

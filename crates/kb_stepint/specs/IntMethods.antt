@@ -1,6 +1,6 @@
 -- The methods whose runs are of int steps alone: static, over ints and booleans, with code that has no handlers and uses only
 -- the instructions on ints and the stack (JVMS 8 section 6.5).
-use Rattle.std.specs.Prelude.{ℕ, Bool, true, false, ◌&&◌, List, [], ◌∷◌, Option}
+use Rattle.std.specs.Prelude.{ℕ, Bool, true, false, ◌&&◌, Option}
 use Rattle.std.specs.List.{list_all}
 use Rattle.std.specs.Option.{option_map_or}
 use Rattle.kb_class.specs.declared.ids.MethodId.{MethodId}
@@ -8,25 +8,15 @@ use Rattle.kb_class.specs.declared.members.MethodCode.{MethodCode}
 use Rattle.kb_class.specs.declared.members.MethodInfo.{MethodInfo}
 use Rattle.kb_class.specs.Members.{is_static}
 use Rattle.kb_code.specs.declared.instruction.Instr.{Instr}
-use Rattle.kb_code.specs.declared.listing.Handler.{Handler}
 use Rattle.kb_link.specs.World.{World}
 use Rattle.kb_names.specs.declared.types.JType.{JType}
-use Rattle.kb_names.specs.declared.types.JType.TheVariants as types
 use Rattle.kb_semantics.specs.Config.{info_of}
 use Rattle.kb_frames.specs.Next.{is_int_instruction}
-
--- an int or a boolean
-abbrev pub is_int_type : JType → Bool
-is_int_type types.Int = true
-is_int_type types.Bool = true
-is_int_type _ = false
+use Rattle.kb_picture.specs.WellTyped.{is_int_type}
+use Rattle.kb_ways.specs.Reached.{has_none}
 
 abbrev pub is_none_or_int : Option JType → Bool
 is_none_or_int result = option_map_or is_int_type result true
-
-abbrev pub has_none : List Handler → Bool
-has_none [] = true
-has_none (handler ∷ others) = false
 
 abbrev pub is_int_code : World → MethodId → MethodCode → Bool
 is_int_code world id code = has_none code.handlers && list_all (λ (item : ℕ × Instr). is_int_instruction world id item.1) code.listing.items

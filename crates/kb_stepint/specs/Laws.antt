@@ -7,13 +7,16 @@ use Rattle.kb_picture.specs.declared.choice.Choice.{Choice}
 use Rattle.kb_frames.specs.State.{State}
 use Rattle.kb_frames.specs.Next.{next_is_int}
 use Rattle.kb_stepint.specs.Choices.{choices_of}
-use Rattle.kb_stepint.specs.Reached.{IsReached}
+use Rattle.kb_ways.specs.Reached.{HasNoHandlers, IsAlone, IsReached}
 use Rattle.kb_stepint.specs.Takes.{taken}
-use Rattle.kb_stepint.specs.Ways.{Take}
+use Rattle.kb_ways.specs.Ways.{Take}
 
--- the next step of the state is one of ints
+-- The next step of the state is one of ints, so its next instruction is one that is built. For now the frame has no callers, and
+-- the method has no handlers.
 pub record IsAtInts (world : World) (state : State) : Type 0 where
   pub reached : IsReached world state
+  pub alone : IsAlone state.method state.stage
+  pub unhandled : HasNoHandlers world state.method
   pub next : next_is_int world state ≡ true
 
 -- it holds of each such state

@@ -1,12 +1,6 @@
-pub mod Operands
-pub mod Asked
 pub mod Choices
-pub mod Ways
 pub mod Effects
 pub mod Takes
-pub mod Turns
-pub mod Needs
-pub mod Reached
 pub mod IntMethods
-pub mod Simulation
 pub mod Laws
+pub mod Keys

@@ -2,18 +2,15 @@
 ghost use Rattle.std.specs.Prelude.{◌≡◌, false, true, IfOk};
 ghost use Rattle.kb_terms.specs.Op.{is_binary};
 ghost use Rattle.kb_stepint.specs.Effects.{computes, computes_two, op_of, op_of_cut};
-ghost use Rattle.kb_stepint.specs.Needs.{CanStep};
-ghost use Rattle.kb_stepint.specs.Turns.{led_by, told};
+ghost use Rattle.kb_ways.specs.Needs.{CanStep};
+ghost use Rattle.kb_ways.specs.Turns.{told, led_by};
 
 use crate::NoMemory;
-use crate::operands::{one_int, two_ints};
-use crate::terms::make;
-use crate::turn::Turn;
-use crate::ways::{ill_typed, replaces, throws};
 use kb_code::{IntCut, IntOp};
 use kb_frames::{Outcome, SymState, SymValue};
 use kb_picture::Choice;
 use kb_terms::Op;
+use kb_ways::{Turn, an_int, ill_typed, make, replaces, throws, two_ints};
 
 const ARITHMETIC: &[u8] = b"java/lang/ArithmeticException";
 
@@ -52,9 +49,9 @@ pub(crate) fn op_of_cut(cut: IntCut) -> Op
 pub(crate) fn compute(turn: &Turn<'_>, state: &mut SymState, op: Op) -> Result<Outcome, NoMemory>
     requires step { CanStep turn.now.bounds state.old }
     requires unary { is_binary op ≡ false }
-    ensures { IfOk result (λ outcome. told state.new outcome ≡ led_by turn.now state.old (computes state.old op)) }
+    ensures { IfOk result (λ outcome. told state.new outcome ≡ led_by turn.now (computes state.old op)) }
 {
-    let Some(term) = one_int(state) else {
+    let Some(term) = an_int(state) else {
         return ill_typed(turn, state);
     };
     let value = make(state, op, term, None)?;
@@ -69,7 +66,7 @@ pub(crate) fn compute_two(
     choice: &Choice,
 ) -> Result<Outcome, NoMemory>
     requires { CanStep turn.now.bounds state.old }
-    ensures { IfOk result (λ outcome. told state.new outcome ≡ led_by turn.now state.old (computes_two state.old op choice.now)) }
+    ensures { IfOk result (λ outcome. told state.new outcome ≡ led_by turn.now (computes_two state.old op choice.now)) }
 {
     let Some((left, right)) = two_ints(state) else {
         return ill_typed(turn, state);

@@ -3,16 +3,15 @@ ghost use Rattle.std.specs.Prelude.{◌≡◌, ◌<◌, drop, is_some, IfOk};
 ghost use Rattle.kb_frames.specs.Lent.{stack_of};
 ghost use Rattle.kb_picture.specs.declared.choice.Choice.TheVariants.{Key};
 ghost use Rattle.kb_stepint.specs.Effects.{branch_way, branches, switch_way, switches};
-ghost use Rattle.kb_stepint.specs.Operands.{one_int, two_ints};
-ghost use Rattle.kb_stepint.specs.Turns.{keys_of, led, led_by, told};
+ghost use Rattle.kb_ways.specs.Operands.{an_int, two_ints};
+ghost use Rattle.kb_ways.specs.Turns.{led, told, led_by};
+ghost use Rattle.kb_stepint.specs.Keys.{keys_of};
 
 use crate::NoMemory;
 use crate::keys::Keys;
-use crate::operands::{one_int, two_ints};
-use crate::turn::Turn;
-use crate::ways::{ill_typed, jumps, replaces};
 use kb_frames::{Outcome, SymState};
 use kb_picture::Choice;
+use kb_ways::{Turn, an_int, ill_typed, jumps, replaces, two_ints};
 
 /// if<cond>
 pub(crate) fn if_int(
@@ -22,9 +21,9 @@ pub(crate) fn if_int(
     choice: &Choice,
 ) -> Result<Outcome, NoMemory>
     requires { state.old.carried < turn.now.bounds.run.steps }
-    ensures { IfOk result (λ outcome. told state.new outcome ≡ led_by turn.now state.old (branches state.old (is_some (one_int (stack_of state.old.stage))) 1 target choice.now)) }
+    ensures { IfOk result (λ outcome. told state.new outcome ≡ led_by turn.now (branches state.old (is_some (an_int (stack_of state.old.stage))) 1 target choice.now)) }
 {
-    match one_int(state) {
+    match an_int(state) {
         Some(_) => branch(turn, state, 1, target, choice),
         None => ill_typed(turn, state),
     }
@@ -38,7 +37,7 @@ pub(crate) fn if_pair(
     choice: &Choice,
 ) -> Result<Outcome, NoMemory>
     requires { state.old.carried < turn.now.bounds.run.steps }
-    ensures { IfOk result (λ outcome. told state.new outcome ≡ led_by turn.now state.old (branches state.old (is_some (two_ints (stack_of state.old.stage))) 2 target choice.now)) }
+    ensures { IfOk result (λ outcome. told state.new outcome ≡ led_by turn.now (branches state.old (is_some (two_ints (stack_of state.old.stage))) 2 target choice.now)) }
 {
     match two_ints(state) {
         Some(_) => branch(turn, state, 2, target, choice),
@@ -55,9 +54,9 @@ pub(crate) fn switch(
     choice: &Choice,
 ) -> Result<Outcome, NoMemory>
     requires { state.old.carried < turn.now.bounds.run.steps }
-    ensures { IfOk result (λ outcome. told state.new outcome ≡ led_by turn.now state.old (switches state.old (keys_of keys.now) default choice.now)) }
+    ensures { IfOk result (λ outcome. told state.new outcome ≡ led_by turn.now (switches state.old (keys_of keys.now) default choice.now)) }
 {
-    match one_int(state) {
+    match an_int(state) {
         Some(_) => switch_by(turn, state, keys, default, choice),
         None => ill_typed(turn, state),
     }

@@ -3,23 +3,22 @@ ghost use Rattle.std.specs.Prelude.{◌≡◌, ◌++◌, ◌∷◌, [], not, tru
 ghost use Rattle.kb_terms.specs.Terms.{IsTerm};
 ghost use Rattle.kb_frames.specs.Lent.{stack_of};
 ghost use Rattle.kb_frames.specs.Next.{next_is_int};
-ghost use Rattle.kb_stepint.specs.Asked.{asked_truth, is_against, is_refuted};
+ghost use Rattle.kb_ways.specs.Asked.{asked_truth, is_against, is_refuted};
 ghost use Rattle.kb_stepint.specs.Choices.{both_ways, branch_conditions, choices_of, division_conditions, divisor_conditions, divisors, key_conditions, keys_from, offered, only, takes_up_none};
-ghost use Rattle.kb_stepint.specs.Needs.{AreSides, HasTerms, IsSide};
-ghost use Rattle.kb_stepint.specs.Reached.{IsReached};
-ghost use Rattle.kb_stepint.specs.Turns.{keys_of};
+ghost use Rattle.kb_ways.specs.Needs.{AreSides, HasTerms, IsSide};
+ghost use Rattle.kb_ways.specs.Reached.{IsReached};
+ghost use Rattle.kb_stepint.specs.Keys.{keys_of};
 ghost use Rattle.kb_picture.specs.declared.choice.Choice.TheVariants.{Default, Key, NotZero, Zero};
 
 use crate::NoMemory;
-use crate::asked::is_against;
-use crate::condition::{Condition, Side, branch_condition, equals_number};
 use crate::keys::Keys;
-use crate::operands::{one_int, two_ints};
 use kb_code::{Cond, Instr, IntOp};
-use kb_frames::{SymState, instruction_at};
+use kb_frames::SymState;
 use kb_heap::Bounds;
+use kb_lookups::instruction_at;
 use kb_picture::Choice;
 use kb_terms::TermId;
+use kb_ways::{Condition, Side, an_int, branch_condition, equals_number, is_against, two_ints};
 use kb_world::World;
 use std::alloc::Global;
 
@@ -50,7 +49,7 @@ pub fn choices_int(
 }
 
 // Whether no instruction is taken up: an argument is read, or as many instructions were carried out as may be.
-#[tactic(auto, using(crate::proofs::TakeLaws::kind_is))]
+#[tactic(auto, using(kb_ways::proofs::TakeLaws::kind_is))]
 fn takes_up_none(world: &World, state: &SymState, bounds: &Bounds) -> bool
     ensures { result ≡ takes_up_none world.now state.now bounds.now }
 {
@@ -69,13 +68,13 @@ fn only(alloc: Global) -> Result<Vec<Choice>, NoMemory>
 }
 
 // Those of an instruction that ask for nothing that is decided as false.
-#[tactic(auto, using(crate::proofs::OperandLaws::one_there, crate::proofs::OperandLaws::left_there, crate::proofs::OperandLaws::right_there))]
+#[tactic(auto, using(kb_ways::proofs::OperandLaws::one_there, kb_ways::proofs::OperandLaws::left_there, kb_ways::proofs::OperandLaws::right_there))]
 fn offered(alloc: Global, state: &SymState, instr: &Instr) -> Result<Vec<Choice>, NoMemory>
     requires { HasTerms state.now }
     ensures { IfOk result (λ choices. choices.items ≡ offered state.now (stack_of state.now.stage) instr.now) }
 {
     match instr {
-        Instr::IfInt(cond, _) => match one_int(state) {
+        Instr::IfInt(cond, _) => match an_int(state) {
             Some(x) => branch_choices(alloc, state, *cond, Side::Term(x), Side::Number(0)),
             None => only(alloc),
         },
@@ -89,11 +88,11 @@ fn offered(alloc: Global, state: &SymState, instr: &Instr) -> Result<Vec<Choice>
             ),
             None => only(alloc),
         },
-        Instr::Table(low, _, targets) => match one_int(state) {
+        Instr::Table(low, _, targets) => match an_int(state) {
             Some(x) => key_choices(alloc, state, x, &Keys::Table(*low, targets.as_slice())),
             None => only(alloc),
         },
-        Instr::Lookup(_, keys) => match one_int(state) {
+        Instr::Lookup(_, keys) => match an_int(state) {
             Some(x) => key_choices(alloc, state, x, &Keys::Lookup(keys.as_slice())),
             None => only(alloc),
         },
@@ -123,7 +122,7 @@ fn offer(
 }
 
 // Whether a branch is taken.
-#[tactic(auto, using(crate::proofs::SideLaws::branch_sides))]
+#[tactic(auto, using(kb_ways::proofs::SideLaws::branch_sides))]
 fn branch_choices(
     alloc: Global,
     state: &SymState,
@@ -159,7 +158,7 @@ fn divisor_choices(
     }
 }
 
-#[tactic(auto, using(crate::proofs::SideLaws::key_sides))]
+#[tactic(auto, using(kb_ways::proofs::SideLaws::key_sides))]
 fn zero_choices(alloc: Global, state: &SymState, divisor: TermId) -> Result<Vec<Choice>, NoMemory>
     requires { IsTerm state.now.nodes divisor }
     ensures { IfOk result (λ choices. choices.items ≡ filter (λ choice. not (is_refuted state.now (divisor_conditions divisor choice))) (Zero ∷ NotZero ∷ [])) }
@@ -191,7 +190,7 @@ fn key_choices(
 }
 
 // Adds the key of that place, unless it is decided that the int is another.
-#[tactic(auto, using(crate::proofs::SideLaws::key_sides))]
+#[tactic(auto, using(kb_ways::proofs::SideLaws::key_sides))]
 fn offer_key(
     state: &SymState,
     x: TermId,
@@ -230,7 +229,7 @@ fn offer_default(
 }
 
 // Whether it is decided that the int is one of the keys.
-#[tactic(auto, using(crate::proofs::SideLaws::key_sides))]
+#[tactic(auto, using(kb_ways::proofs::SideLaws::key_sides))]
 fn is_default_refuted(state: &SymState, x: TermId, keys: &Keys<'_>) -> Result<bool, NoMemory>
     requires { IsTerm state.now.nodes x }
     ensures { IfOk result (λ refuted. refuted ≡ is_refuted state.now (key_conditions x (keys_of keys.now) Default)) }

@@ -3,15 +3,15 @@ ghost use Rattle.std.specs.Prelude.{◌≡◌, ◌<◌, IfOk};
 ghost use Rattle.kb_link.specs.World.{int_entry_of};
 ghost use Rattle.kb_semantics.specs.Config.{class_number};
 ghost use Rattle.kb_frames.specs.Next.{method_now};
-ghost use Rattle.kb_stepint.specs.Effects.{planned, pushes_int};
-ghost use Rattle.kb_stepint.specs.Turns.{led_by, told};
+ghost use Rattle.kb_ways.specs.Plans.{planned};
+ghost use Rattle.kb_stepint.specs.Effects.{pushes_int};
+ghost use Rattle.kb_ways.specs.Turns.{told, led_by};
 
 use crate::NoMemory;
-use crate::terms::constant;
-use crate::turn::Turn;
-use crate::ways::{ill_typed, replaces};
 use kb_class::MethodId;
 use kb_frames::{Outcome, SymState, SymValue};
+use kb_lookups::declaring_class;
+use kb_ways::{Turn, constant, ill_typed, replaces};
 use kb_world::World;
 
 /// iconst, bipush, sipush
@@ -21,7 +21,7 @@ pub(crate) fn push_int(
     value: i32,
 ) -> Result<Outcome, NoMemory>
     requires { state.old.carried < turn.now.bounds.run.steps }
-    ensures { IfOk result (λ outcome. told state.new outcome ≡ led_by turn.now state.old (pushes_int state.old value)) }
+    ensures { IfOk result (λ outcome. told state.new outcome ≡ led_by turn.now (pushes_int state.old value)) }
 {
     let term = constant(state, value)?;
     replaces(turn, state, 0, &[SymValue::Int(term)])
@@ -34,7 +34,7 @@ pub(crate) fn load_constant(
     entry: u16,
 ) -> Result<Outcome, NoMemory>
     requires { state.old.carried < turn.now.bounds.run.steps }
-    ensures { IfOk result (λ outcome. told state.new outcome ≡ led_by turn.now state.old (planned state.old (int_entry_of turn.now.world.now (class_number turn.now.world.now (method_now state.old.method state.old.stage)) entry) (pushes_int state.old))) }
+    ensures { IfOk result (λ outcome. told state.new outcome ≡ led_by turn.now (planned state.old (int_entry_of turn.now.world.now (class_number turn.now.world.now (method_now state.old.method state.old.stage)) entry) (pushes_int state.old))) }
 {
     let (method, _) = state.stands_at();
     match int_entry(turn.world, method, entry) {
@@ -47,9 +47,5 @@ pub(crate) fn load_constant(
 fn int_entry(world: &World, method: MethodId, entry: u16) -> Option<i32>
     ensures { result ≡ int_entry_of world.now (class_number world.now method) entry }
 {
-    let class = match world.find_method(method) {
-        Some(info) => info.class,
-        None => kb_class::ClassId(0),
-    };
-    world.find_int(class, entry)
+    world.find_int(declaring_class(world, method), entry)
 }

@@ -1,8 +1,8 @@
 //! What each instruction on ints does to a state (JVMS 8 section 6.5).
 ghost use Rattle.std.specs.Prelude.{◌≡◌, IfOk};
-ghost use Rattle.kb_stepint.specs.Effects.{plan_of};
-ghost use Rattle.kb_stepint.specs.Needs.{CanStep};
-ghost use Rattle.kb_stepint.specs.Turns.{led_by, told};
+ghost use Rattle.kb_ways.specs.Needs.{CanStep};
+ghost use Rattle.kb_ways.specs.Turns.{told, led_by};
+ghost use Rattle.kb_stepint.specs.Effects.{effect_of};
 
 use crate::NoMemory;
 use crate::arithmetic::{compute, compute_two, op_of_cut};
@@ -12,12 +12,11 @@ use crate::keys::Keys;
 use crate::locals::{increase, load, store};
 use crate::rearranging::{dup, dup_x1, dup_x2, dup2, dup2_x1, dup2_x2, pop, pop2, swap};
 use crate::returns::{return_int, return_nothing};
-use crate::turn::Turn;
-use crate::ways::{ill_typed, jumps, replaces};
 use kb_code::Instr;
 use kb_frames::{Outcome, SymState};
 use kb_picture::Choice;
 use kb_terms::Op;
+use kb_ways::{Turn, ill_typed, jumps, replaces};
 
 /// Carries out an instruction by the alternative that was chosen, whose conditions the state has.
 pub(crate) fn carry_out(
@@ -27,7 +26,7 @@ pub(crate) fn carry_out(
     instr: &Instr,
 ) -> Result<Outcome, NoMemory>
     requires { CanStep turn.now.bounds state.old }
-    ensures { IfOk result (λ outcome. told state.new outcome ≡ led_by turn.now state.old (plan_of turn.now.world.now state.old choice.now instr.now)) }
+    ensures { IfOk result (λ outcome. told state.new outcome ≡ led_by turn.now (effect_of turn.now.world.now state.old choice.now instr.now)) }
 {
     match instr {
         Instr::Nop => replaces(turn, state, 0, &[]),

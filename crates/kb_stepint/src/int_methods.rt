@@ -3,8 +3,9 @@ ghost use Rattle.std.specs.Prelude.{◌≡◌, true};
 ghost use Rattle.std.specs.List.{list_all};
 ghost use Rattle.kb_picture.specs.declared.choice.Init.{Init};
 ghost use Rattle.kb_frames.specs.State.{start_state};
-ghost use Rattle.kb_stepint.specs.Reached.{IsReached};
-ghost use Rattle.kb_stepint.specs.IntMethods.{has_none, is_int_code, is_int_info, is_int_method, is_int_type, is_none_or_int};
+ghost use Rattle.kb_ways.specs.Reached.{HasNoHandlers, IsReached};
+ghost use Rattle.kb_picture.specs.WellTyped.{is_int_type};
+ghost use Rattle.kb_stepint.specs.IntMethods.{is_int_code, is_int_info, is_int_method, is_none_or_int};
 
 use kb_class::{MethodCode, MethodId, MethodInfo, is_static};
 use kb_frames::is_int_instruction;
@@ -16,6 +17,7 @@ use kb_world::World;
 pub fn is_int_method(world: &World, method: MethodId) -> bool
     ensures is { result ≡ is_int_method world.now method }
     ensures begins { result ≡ true → (init : Init) → IsReached world.now (start_state init method) }
+    ensures unhandled { result ≡ true → HasNoHandlers world.now method }
 {
     match world.find_method(method) {
         Some(_) => is_int_info(world, method, world.method_of(method)),

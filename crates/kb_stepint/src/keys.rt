@@ -2,7 +2,7 @@
 ghost use Rattle.std.specs.Prelude.{◌≡◌, ◌+ℤ◌, pos, Some, length, slice_get, FitsSigned, IfOk};
 ghost use Rattle.std.specs.Int.{w32};
 ghost use Rattle.kb_semantics.specs.Comparisons.{table_keys};
-ghost use Rattle.kb_stepint.specs.Turns.{keys_of};
+ghost use Rattle.kb_stepint.specs.Keys.{keys_of};
 
 use crate::NoMemory;
 

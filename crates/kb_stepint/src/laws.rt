@@ -8,16 +8,17 @@ ghost use Rattle.kb_frames.specs.Next.{next_is_int};
 ghost use Rattle.kb_frames.specs.State.{State, start_state};
 ghost use Rattle.kb_stepint.specs.Choices.{choices_of};
 ghost use Rattle.kb_stepint.specs.IntMethods.{is_int_method};
-ghost use Rattle.kb_stepint.specs.Reached.{IsReached};
+ghost use Rattle.kb_ways.specs.Reached.{HasNoHandlers, IsAlone, IsReached};
 ghost use Rattle.kb_stepint.specs.Laws.{OfStates, OfTakes};
-ghost use Rattle.kb_stepint.specs.Simulation.{AddsComparisons, FollowsStep, GetsOn, HasInputOfState, Keeps, ReadsWhatItSees, TakesOneWay};
+ghost use Rattle.kb_ways.specs.Simulation.{AddsComparisons, FollowsStep, GetsOn, HasInputOfState, Keeps, ReadsWhatItSees, TakesOneWay};
 ghost use Rattle.kb_stepint.specs.Takes.{taken};
 
-/// A method that is one over ints begins with a state that is reached (`begins`), and each reached state of it comes to an int
-/// step next (`steps`).
+/// A method that is one over ints begins with a state that is reached (`begins`), it has no handlers (`unhandled`), and each
+/// reached state of it whose frame has no callers comes to an int step next (`steps`).
 pub fn int_methods_begin()
     ensures begins { (world : World) (init : Init) (method : MethodId) → IsLinked world → is_int_method world method ≡ true → IsReached world (start_state init method) }
-    ensures steps { (world : World) (state : State) → IsReached world state → is_int_method world state.method ≡ true → next_is_int world state ≡ true }
+    ensures unhandled { (world : World) (method : MethodId) → is_int_method world method ≡ true → HasNoHandlers world method }
+    ensures steps { (world : World) (state : State) → IsReached world state → IsAlone state.method state.stage → is_int_method world state.method ≡ true → next_is_int world state ≡ true }
 {}
 
 /// The int steps of a state simulate the step of the machine. Of each configuration that the state stands for exactly one

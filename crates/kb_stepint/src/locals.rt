@@ -1,24 +1,21 @@
 //! Instructions on locals that are ints (JVMS 8 section 6.5).
-ghost use Rattle.std.specs.Prelude.{◌≡◌, ◌<◌, drop, nat_lt, IfOk};
-ghost use Rattle.kb_semantics.specs.Config.{max_locals_of};
+ghost use Rattle.std.specs.Prelude.{◌≡◌, ◌<◌, drop, IfOk};
 ghost use Rattle.kb_frames.specs.Lent.{stack_of};
-ghost use Rattle.kb_frames.specs.Next.{method_now};
 ghost use Rattle.kb_stepint.specs.Effects.{in_local, increases, int_local, loads, stores};
-ghost use Rattle.kb_stepint.specs.Needs.{CanStep};
-ghost use Rattle.kb_stepint.specs.Turns.{led, led_by, told};
+ghost use Rattle.kb_ways.specs.Needs.{CanStep};
+ghost use Rattle.kb_ways.specs.Turns.{led, told, led_by};
 
 use crate::NoMemory;
-use crate::operands::{int_term, one_int};
-use crate::terms::{constant, make};
-use crate::turn::Turn;
-use crate::ways::{carry_on, has_room, ill_typed, replaces};
 use kb_frames::{Outcome, SymState, SymValue};
 use kb_terms::{Op, TermId};
+use kb_ways::{
+    Turn, an_int, carry_on, constant, has_room, ill_typed, int_term, is_local, make, replaces,
+};
 
 /// iload
 pub(crate) fn load(turn: &Turn<'_>, state: &mut SymState, local: u16) -> Result<Outcome, NoMemory>
     requires { state.old.carried < turn.now.bounds.run.steps }
-    ensures { IfOk result (λ outcome. told state.new outcome ≡ led_by turn.now state.old (loads turn.now.world.now state.old local)) }
+    ensures { IfOk result (λ outcome. told state.new outcome ≡ led_by turn.now (loads turn.now.world.now state.old local)) }
 {
     match int_local(turn, state, local) {
         Some(term) => replaces(turn, state, 0, &[SymValue::Int(term)]),
@@ -29,9 +26,9 @@ pub(crate) fn load(turn: &Turn<'_>, state: &mut SymState, local: u16) -> Result<
 /// istore
 pub(crate) fn store(turn: &Turn<'_>, state: &mut SymState, local: u16) -> Result<Outcome, NoMemory>
     requires { state.old.carried < turn.now.bounds.run.steps }
-    ensures { IfOk result (λ outcome. told state.new outcome ≡ led_by turn.now state.old (stores turn.now.world.now state.old local)) }
+    ensures { IfOk result (λ outcome. told state.new outcome ≡ led_by turn.now (stores turn.now.world.now state.old local)) }
 {
-    match one_int(state) {
+    match an_int(state) {
         Some(term) => set(turn, state, local, term, 1),
         None => ill_typed(turn, state),
     }
@@ -45,7 +42,7 @@ pub(crate) fn increase(
     by: i32,
 ) -> Result<Outcome, NoMemory>
     requires { CanStep turn.now.bounds state.old }
-    ensures { IfOk result (λ outcome. told state.new outcome ≡ led_by turn.now state.old (increases turn.now.world.now state.old local by)) }
+    ensures { IfOk result (λ outcome. told state.new outcome ≡ led_by turn.now (increases turn.now.world.now state.old local by)) }
 {
     let Some(term) = int_local(turn, state, local) else {
         return ill_typed(turn, state);
@@ -53,17 +50,6 @@ pub(crate) fn increase(
     let by = constant(state, by)?;
     let sum = make(state, Op::Add, term, Some(by))?;
     set(turn, state, local, sum, 0)
-}
-
-/// Whether a local of that number lies below the method's limit, max_locals (JVMS 8 section 4.7.3).
-pub fn is_local(turn: &Turn<'_>, state: &SymState, local: u16) -> bool
-    ensures { result ≡ nat_lt local (max_locals_of turn.now.world.now (method_now state.now.method state.now.stage)) }
-{
-    let (method, _) = state.stands_at();
-    match turn.world.find_code(method) {
-        Some(code) => local < code.max_locals,
-        None => false,
-    }
 }
 
 // The int of a local that lies below the limit.
@@ -96,6 +82,6 @@ fn set(
     }
     state.store(local, SymValue::Int(term));
     state.pop(count);
-    carry_on(state, turn.next, turn.bounds.run.steps);
+    carry_on(turn, state, turn.next);
     Ok(Outcome::Goes)
 }

@@ -2,17 +2,16 @@
 //! bottom up.
 ghost use Rattle.std.specs.Prelude.{◌≡◌, ◌<◌, ◌∷◌, [], IfOk};
 ghost use Rattle.kb_stepint.specs.Effects.{rearranges};
-ghost use Rattle.kb_stepint.specs.Turns.{led_by, told};
+ghost use Rattle.kb_ways.specs.Turns.{told, led_by};
 
 use crate::NoMemory;
-use crate::turn::Turn;
-use crate::ways::{ill_typed, replaces};
 use kb_frames::{Outcome, SymState};
+use kb_ways::{Turn, ill_typed, replaces};
 
 /// pop
 pub(crate) fn pop(turn: &Turn<'_>, state: &mut SymState) -> Result<Outcome, NoMemory>
     requires { state.old.carried < turn.now.bounds.run.steps }
-    ensures { IfOk result (λ outcome. told state.new outcome ≡ led_by turn.now state.old (rearranges state.old 1 [])) }
+    ensures { IfOk result (λ outcome. told state.new outcome ≡ led_by turn.now (rearranges state.old 1 [])) }
 {
     match state.value_at(0) {
         Some(_) => replaces(turn, state, 1, &[]),
@@ -23,7 +22,7 @@ pub(crate) fn pop(turn: &Turn<'_>, state: &mut SymState) -> Result<Outcome, NoMe
 /// pop2
 pub(crate) fn pop2(turn: &Turn<'_>, state: &mut SymState) -> Result<Outcome, NoMemory>
     requires { state.old.carried < turn.now.bounds.run.steps }
-    ensures { IfOk result (λ outcome. told state.new outcome ≡ led_by turn.now state.old (rearranges state.old 2 [])) }
+    ensures { IfOk result (λ outcome. told state.new outcome ≡ led_by turn.now (rearranges state.old 2 [])) }
 {
     match state.value_at(1) {
         Some(_) => replaces(turn, state, 2, &[]),
@@ -34,7 +33,7 @@ pub(crate) fn pop2(turn: &Turn<'_>, state: &mut SymState) -> Result<Outcome, NoM
 /// dup
 pub(crate) fn dup(turn: &Turn<'_>, state: &mut SymState) -> Result<Outcome, NoMemory>
     requires { state.old.carried < turn.now.bounds.run.steps }
-    ensures { IfOk result (λ outcome. told state.new outcome ≡ led_by turn.now state.old (rearranges state.old 1 (0 ∷ 0 ∷ []))) }
+    ensures { IfOk result (λ outcome. told state.new outcome ≡ led_by turn.now (rearranges state.old 1 (0 ∷ 0 ∷ []))) }
 {
     match state.value_at(0) {
         Some(first) => replaces(turn, state, 1, &[first, first]),
@@ -45,7 +44,7 @@ pub(crate) fn dup(turn: &Turn<'_>, state: &mut SymState) -> Result<Outcome, NoMe
 /// dup_x1
 pub(crate) fn dup_x1(turn: &Turn<'_>, state: &mut SymState) -> Result<Outcome, NoMemory>
     requires { state.old.carried < turn.now.bounds.run.steps }
-    ensures { IfOk result (λ outcome. told state.new outcome ≡ led_by turn.now state.old (rearranges state.old 2 (0 ∷ 1 ∷ 0 ∷ []))) }
+    ensures { IfOk result (λ outcome. told state.new outcome ≡ led_by turn.now (rearranges state.old 2 (0 ∷ 1 ∷ 0 ∷ []))) }
 {
     match (state.value_at(0), state.value_at(1)) {
         (Some(first), Some(second)) => replaces(turn, state, 2, &[first, second, first]),
@@ -56,7 +55,7 @@ pub(crate) fn dup_x1(turn: &Turn<'_>, state: &mut SymState) -> Result<Outcome, N
 /// dup_x2
 pub(crate) fn dup_x2(turn: &Turn<'_>, state: &mut SymState) -> Result<Outcome, NoMemory>
     requires { state.old.carried < turn.now.bounds.run.steps }
-    ensures { IfOk result (λ outcome. told state.new outcome ≡ led_by turn.now state.old (rearranges state.old 3 (0 ∷ 1 ∷ 2 ∷ 0 ∷ []))) }
+    ensures { IfOk result (λ outcome. told state.new outcome ≡ led_by turn.now (rearranges state.old 3 (0 ∷ 1 ∷ 2 ∷ 0 ∷ []))) }
 {
     match (state.value_at(0), state.value_at(1), state.value_at(2)) {
         (Some(first), Some(second), Some(third)) => {
@@ -69,7 +68,7 @@ pub(crate) fn dup_x2(turn: &Turn<'_>, state: &mut SymState) -> Result<Outcome, N
 /// dup2
 pub(crate) fn dup2(turn: &Turn<'_>, state: &mut SymState) -> Result<Outcome, NoMemory>
     requires { state.old.carried < turn.now.bounds.run.steps }
-    ensures { IfOk result (λ outcome. told state.new outcome ≡ led_by turn.now state.old (rearranges state.old 2 (0 ∷ 1 ∷ 0 ∷ 1 ∷ []))) }
+    ensures { IfOk result (λ outcome. told state.new outcome ≡ led_by turn.now (rearranges state.old 2 (0 ∷ 1 ∷ 0 ∷ 1 ∷ []))) }
 {
     match (state.value_at(0), state.value_at(1)) {
         (Some(first), Some(second)) => { replaces(turn, state, 2, &[second, first, second, first]) }
@@ -80,7 +79,7 @@ pub(crate) fn dup2(turn: &Turn<'_>, state: &mut SymState) -> Result<Outcome, NoM
 /// dup2_x1
 pub(crate) fn dup2_x1(turn: &Turn<'_>, state: &mut SymState) -> Result<Outcome, NoMemory>
     requires { state.old.carried < turn.now.bounds.run.steps }
-    ensures { IfOk result (λ outcome. told state.new outcome ≡ led_by turn.now state.old (rearranges state.old 3 (0 ∷ 1 ∷ 2 ∷ 0 ∷ 1 ∷ []))) }
+    ensures { IfOk result (λ outcome. told state.new outcome ≡ led_by turn.now (rearranges state.old 3 (0 ∷ 1 ∷ 2 ∷ 0 ∷ 1 ∷ []))) }
 {
     match (state.value_at(0), state.value_at(1), state.value_at(2)) {
         (Some(first), Some(second), Some(third)) => {
@@ -93,7 +92,7 @@ pub(crate) fn dup2_x1(turn: &Turn<'_>, state: &mut SymState) -> Result<Outcome, 
 /// dup2_x2
 pub(crate) fn dup2_x2(turn: &Turn<'_>, state: &mut SymState) -> Result<Outcome, NoMemory>
     requires { state.old.carried < turn.now.bounds.run.steps }
-    ensures { IfOk result (λ outcome. told state.new outcome ≡ led_by turn.now state.old (rearranges state.old 4 (0 ∷ 1 ∷ 2 ∷ 3 ∷ 0 ∷ 1 ∷ []))) }
+    ensures { IfOk result (λ outcome. told state.new outcome ≡ led_by turn.now (rearranges state.old 4 (0 ∷ 1 ∷ 2 ∷ 3 ∷ 0 ∷ 1 ∷ []))) }
 {
     let two = (state.value_at(0), state.value_at(1));
     match (two, state.value_at(2), state.value_at(3)) {
@@ -112,7 +111,7 @@ pub(crate) fn dup2_x2(turn: &Turn<'_>, state: &mut SymState) -> Result<Outcome, 
 /// swap
 pub(crate) fn swap(turn: &Turn<'_>, state: &mut SymState) -> Result<Outcome, NoMemory>
     requires { state.old.carried < turn.now.bounds.run.steps }
-    ensures { IfOk result (λ outcome. told state.new outcome ≡ led_by turn.now state.old (rearranges state.old 2 (1 ∷ 0 ∷ []))) }
+    ensures { IfOk result (λ outcome. told state.new outcome ≡ led_by turn.now (rearranges state.old 2 (1 ∷ 0 ∷ []))) }
 {
     match (state.value_at(0), state.value_at(1)) {
         (Some(first), Some(second)) => replaces(turn, state, 2, &[first, second]),

@@ -5,26 +5,27 @@ ghost use Rattle.kb_terms.specs.Terms.{IsTerm};
 ghost use Rattle.kb_frames.specs.Lent.{stack_of};
 ghost use Rattle.kb_frames.specs.Next.{next_is_int};
 ghost use Rattle.kb_picture.specs.declared.choice.Choice.TheVariants.{Default, Key};
-ghost use Rattle.kb_stepint.specs.Asked.{all_asked};
+ghost use Rattle.kb_ways.specs.Asked.{all_asked};
 ghost use Rattle.kb_stepint.specs.Choices.{branch_conditions, choices_of, conditions_of, division_conditions, divisor_conditions, key_conditions};
-ghost use Rattle.kb_stepint.specs.Needs.{CanStep, HasTerms, IsSide};
-ghost use Rattle.kb_stepint.specs.Reached.{IsReached};
-ghost use Rattle.kb_stepint.specs.Takes.{taken, takes_up};
-ghost use Rattle.kb_stepint.specs.Turns.{keys_of, told};
+ghost use Rattle.kb_ways.specs.Needs.{CanStep, HasTerms, IsSide};
+ghost use Rattle.kb_ways.specs.Reached.{HasNoHandlers, IsAlone, IsReached};
+ghost use Rattle.kb_stepint.specs.Laws.{IsAtInts};
+ghost use Rattle.kb_stepint.specs.Takes.{taken};
+ghost use Rattle.kb_ways.specs.Plans.{takes_up};
+ghost use Rattle.kb_ways.specs.Turns.{told};
+ghost use Rattle.kb_stepint.specs.Keys.{keys_of};
+ghost use Rattle.kb_stepint.specs.Effects.{plan_of};
 
 use crate::NoMemory;
-use crate::asked::ask;
-use crate::condition::{Side, branch_condition, equals_number};
 use crate::instructions::carry_out;
 use crate::keys::Keys;
-use crate::operands::{one_int, two_ints};
-use crate::place::place_of;
-use crate::turn::Turn;
 use kb_code::{Cond, Instr, IntOp};
-use kb_frames::{Outcome, SymState, instruction_at};
+use kb_frames::{Outcome, SymState};
 use kb_heap::{Bound, Bounds};
-use kb_picture::{Choice, SymEnding};
+use kb_lookups::instruction_at;
+use kb_picture::{Choice, Origin, SymEnding};
 use kb_terms::TermId;
+use kb_ways::{Side, Turn, an_int, ask, branch_condition, equals_number, place_of, two_ints};
 use kb_world::World;
 use std::alloc::Global;
 
@@ -32,8 +33,9 @@ use std::alloc::Global;
 /// state asks for its next choice. Else the conditions of the alternative are added, as far as they are not decided, and the
 /// instruction is carried out: it goes on, the run ends, or it is cut at a bound.
 ///
-/// After memory ran out the state is only dropped or undone. It takes time in proportion to the conditions that are added,
-/// whatever the state has met.
+/// After memory ran out the state is only dropped or undone. It takes time in proportion to the conditions that are added, and
+/// to the locals of the method where its first instruction is taken up, whatever the state has met; a throw fills the slots of
+/// its new object.
 pub fn take_int(
     alloc: Global,
     world: &World,
@@ -42,6 +44,8 @@ pub fn take_int(
     bounds: &Bounds,
 ) -> Result<Outcome, NoMemory>
     requires reached { IsReached world.now state.old }
+    requires alone { IsAlone state.old.method state.old.stage }
+    requires unhandled { HasNoHandlers world.now state.old.method }
     requires int { next_is_int world.now state.old ≡ true }
     requires listed { Has (choices_of world.now state.old bounds.now) choice.now }
     ensures take { IfOk result (λ outcome. told state.new outcome ≡ taken world.now bounds.now state.old choice.now) }
@@ -60,11 +64,12 @@ fn read_or_take_up(
     choice: &Choice,
     bounds: &Bounds,
 ) -> Result<Outcome, NoMemory>
-    requires { IsReached world.now state.old }
+    requires { IsAtInts world.now state.old }
     ensures { IfOk result (λ outcome. told state.new outcome ≡ taken world.now bounds.now state.old choice.now) }
 {
     if let Some(kind) = state.next_kind(world) {
-        state.read_int(kind)?;
+        let argument = state.read_count()?;
+        state.first_int(Origin::Arg(argument), kind)?;
         return Ok(Outcome::Asks);
     }
     if bounds.run.steps <= state.carried() {
@@ -83,7 +88,7 @@ fn take_up(
     bounds: &Bounds,
 ) -> Result<Outcome, NoMemory>
     requires { CanStep bounds.now state.old }
-    ensures { IfOk result (λ outcome. told state.new outcome ≡ takes_up world.now bounds.now choice.now state.old) }
+    ensures { IfOk result (λ outcome. told state.new outcome ≡ takes_up plan_of world.now bounds.now choice.now state.old) }
 {
     let (method, at) = state.stands_at();
     let Some(found) = instruction_at(world, method, at) else {
@@ -101,13 +106,13 @@ fn take_up(
 }
 
 // Adds the conditions that an alternative of an instruction asks for.
-#[tactic(auto, using(crate::proofs::OperandLaws::one_there, crate::proofs::OperandLaws::left_there, crate::proofs::OperandLaws::right_there))]
+#[tactic(auto, using(kb_ways::proofs::OperandLaws::one_there, kb_ways::proofs::OperandLaws::left_there, kb_ways::proofs::OperandLaws::right_there))]
 fn ask_for(state: &mut SymState, instr: &Instr, choice: &Choice) -> Result<(), NoMemory>
     requires { HasTerms state.old }
     ensures { OnOk result (state.new ≡ all_asked state.old (conditions_of instr.now (stack_of state.old.stage) choice.now)) }
 {
     match instr {
-        Instr::IfInt(cond, _) => match one_int(state) {
+        Instr::IfInt(cond, _) => match an_int(state) {
             Some(x) => ask_branch(state, *cond, Side::Term(x), Side::Number(0), choice),
             None => Ok(()),
         },
@@ -121,11 +126,11 @@ fn ask_for(state: &mut SymState, instr: &Instr, choice: &Choice) -> Result<(), N
             ),
             None => Ok(()),
         },
-        Instr::Table(low, _, targets) => match one_int(state) {
+        Instr::Table(low, _, targets) => match an_int(state) {
             Some(x) => ask_key(state, x, &Keys::Table(*low, targets.as_slice()), choice),
             None => Ok(()),
         },
-        Instr::Lookup(_, keys) => match one_int(state) {
+        Instr::Lookup(_, keys) => match an_int(state) {
             Some(x) => ask_key(state, x, &Keys::Lookup(keys.as_slice()), choice),
             None => Ok(()),
         },
@@ -137,7 +142,7 @@ fn ask_for(state: &mut SymState, instr: &Instr, choice: &Choice) -> Result<(), N
     }
 }
 
-#[tactic(auto, using(crate::proofs::SideLaws::branch_sides))]
+#[tactic(auto, using(kb_ways::proofs::SideLaws::branch_sides))]
 fn ask_branch(
     state: &mut SymState,
     cond: Cond,
@@ -170,7 +175,7 @@ fn ask_division(
     }
 }
 
-#[tactic(auto, using(crate::proofs::SideLaws::key_sides))]
+#[tactic(auto, using(kb_ways::proofs::SideLaws::key_sides))]
 fn ask_divisor(state: &mut SymState, divisor: TermId, choice: &Choice) -> Result<(), NoMemory>
     requires { IsTerm state.old.nodes divisor }
     ensures { OnOk result (state.new ≡ all_asked state.old (divisor_conditions divisor choice.now)) }
@@ -199,7 +204,7 @@ fn ask_key(
 }
 
 // That the int is the key of that place.
-#[tactic(auto, using(crate::proofs::SideLaws::key_sides))]
+#[tactic(auto, using(kb_ways::proofs::SideLaws::key_sides))]
 fn ask_one_key(
     state: &mut SymState,
     x: TermId,
@@ -217,7 +222,7 @@ fn ask_one_key(
 }
 
 // That the int is none of the keys.
-#[tactic(auto, using(crate::proofs::SideLaws::key_sides))]
+#[tactic(auto, using(kb_ways::proofs::SideLaws::key_sides))]
 fn ask_default(state: &mut SymState, x: TermId, keys: &Keys<'_>) -> Result<(), NoMemory>
     requires { IsTerm state.old.nodes x }
     ensures { OnOk result (state.new ≡ all_asked state.old (key_conditions x (keys_of keys.now) Default)) }

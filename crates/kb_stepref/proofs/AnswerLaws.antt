@@ -34,17 +34,19 @@ use Rattle.kb_picture.specs.declared.picture.PlaceLists.{PlaceLists}
 use Rattle.kb_picture.specs.declared.picture.Seen.TheVariants as seens
 use Rattle.kb_picture.specs.declared.picture.Standing.TheVariants as standings
 use Rattle.kb_picture.specs.Endings.{Reading}
-use Rattle.kb_picture.specs.Growing.{IsChoiceIn, IsUnread, params_of}
-use Rattle.kb_picture.specs.Growth.{after_read, with_open_loc}
+use Rattle.kb_picture.specs.Growing.{IsChoiceIn, IsUnread, is_receiver, params_of}
+use Rattle.kb_picture.specs.Growth.{after_read, after_int_read, with_open_loc}
 use Rattle.kb_picture.specs.Instances.{variable_values}
 use Rattle.kb_picture.specs.Laws.{loc_placed_behind}
 use Rattle.kb_picture.specs.Places.{place_of, places_of, slot_value, value_in}
 use Rattle.kb_picture.specs.Queries.{kind_for}
 use Rattle.kb_picture.specs.Shapes.{HasShape, IsObjectOfPicture}
+use Rattle.kb_picture.specs.WellFormed.{variables_seen}
 use Rattle.kb_picture.proofs.ChainLaws.{all_below, below_at}
-use Rattle.kb_picture.proofs.GrownShapes.{as_many, locs_many, seen_places}
+use Rattle.kb_picture.proofs.GrownShapes.{as_many, int_places, locs_many}
 use Rattle.kb_picture.proofs.PlaceLaws.{places_loc, places_seen}
 use Rattle.kb_picture.proofs.ShapeLaws.{place_inside}
+use Rattle.kb_picture.specs.WellTyped.{is_reference_type}
 use Rattle.kb_frames.specs.declared.state.Stage.{Stage}
 use Rattle.kb_frames.specs.declared.state.Stage.TheVariants.{Begins}
 use Rattle.kb_frames.specs.declared.value.Cell.{Cell}
@@ -52,21 +54,21 @@ use Rattle.kb_frames.specs.declared.value.Cell.TheVariants.{Untouched, Read}
 use Rattle.kb_frames.specs.declared.value.SymValue.{SymValue}
 use Rattle.kb_frames.specs.declared.value.SymValue.TheVariants.{Int}
 use Rattle.kb_frames.specs.Cuts.{setting_of}
-use Rattle.kb_frames.specs.FirstReads.{cells_chosen, first_int, first_reference, found_in, saw_variable, value_chosen, with_read}
+use Rattle.kb_frames.specs.FirstReads.{cells_chosen, first_int, first_reference, found_in, value_chosen, with_read}
 use Rattle.kb_frames.specs.Heaps.{find_cell, with_cell}
-use Rattle.kb_frames.specs.Next.{is_reference}
 use Rattle.kb_frames.specs.StandsFor.{IsInstanceOf, StageStandsFor, StandsFor, reading_at, value_of_sym}
 use Rattle.kb_frames.specs.State.{State, cell_at}
 use Rattle.kb_frames.specs.States.{IsBeginning, IsStage, IsState}
-use Rattle.kb_stepint.proofs.OneInstances.{hold_last, many_values, value_inputs}
-use Rattle.kb_stepint.proofs.OutcomeValues.{reading_int}
+use Rattle.kb_ways.proofs.OneInstances.{hold_last, many_values, value_inputs}
+use Rattle.kb_ways.proofs.OutcomeValues.{reading_int}
 use Rattle.kb_lazy.proofs.FitLaws.{fitting_choice}
 use Rattle.kb_lazy.specs.Choices.{read_choices_of}
-use Rattle.kb_stepref.specs.Choices.{alternatives, is_receiver, only}
-use Rattle.kb_stepref.specs.Laws.{AreInRange, IsAtReferences}
-use Rattle.kb_stepref.specs.Questions.{Reads}
-use Rattle.kb_stepref.specs.Takes.{answered, passed_by}
-use Rattle.kb_stepint.proofs.AlikeLaws.{AreAlike, stage_alike, values_alike}
+use Rattle.kb_stepref.specs.Choices.{alternatives, only}
+use Rattle.kb_lazy.specs.Laws.{AreInRange}
+use Rattle.kb_stepref.specs.Laws.{IsAtReferences}
+use Rattle.kb_ways.specs.declared.question.Question.TheVariants.{Reads}
+use Rattle.kb_ways.specs.Questions.{answered, passed_by}
+use Rattle.kb_ways.proofs.AlikeLaws.{AreAlike, stage_alike, values_alike}
 use Rattle.kb_stepref.proofs.CellLaws.{chosen_blank}
 use Rattle.kb_stepref.proofs.FindLaws.{Grows, grown_alike, learns_none, learns_slot, places_same, read_places}
 use Rattle.kb_stepref.proofs.ReadInstances.{int_values, told_values}
@@ -250,7 +252,7 @@ module _ (world : World) (old : State) (sound : IsState world old) (input : Inpu
     term = record { 0 = length old.nodes }
 
     abbrev int_picture : Picture
-    int_picture = saw_variable old.picture slot variable
+    int_picture = after_int_read old.picture slot
 
     abbrev variables : List ℤ
     variables = variable_values old.picture input earlier.places.objects
@@ -263,7 +265,7 @@ module _ (world : World) (old : State) (sound : IsState world old) (input : Inpu
       now = reading_at world int_grown input shape.places
 
       same : shape.places ≡ earlier.places
-      same = seen_places old.picture (slot, seens.Int variable) input earlier shape
+      same = int_places old.picture slot input earlier shape
 
       many : variable ≡ length variables
       many = many_values world old input earlier.places.objects sound
@@ -271,7 +273,7 @@ module _ (world : World) (old : State) (sound : IsState world old) (input : Inpu
       module _ (z : ℤ) (at : slot_value input shape.places.objects slot ≡ Some (IntValue z)) where
         variables_are : variable_values int_picture input shape.places.objects ≡ variables ++ z ∷ []
         variables_are =
-            int_values old.picture input shape.places.objects slot variable z at
+            int_values old.picture input shape.places.objects slot z at
             ∙ ap (λ (l : PlaceLists). variable_values old.picture input l.objects ++ z ∷ []) same
 
         -- the new variable has the value of the slot
@@ -307,10 +309,12 @@ module _ (world : World) (old : State) (sound : IsState world old) (input : Inpu
         int_is : Finds world old int_grown input reading slot (Int term) shape.places
         int_is = record { grows = int_grows; held = at ∙ ap (λ (v : Value). Some v) (sym int_value) }
 
+      int_held : (z : ℤ) × (slot_value input shape.places.objects slot ≡ Some (IntValue z))
+      unfolding after_int_read
+      int_held = hold_last input shape.places.objects old.picture.seen (slot, seens.Int (length (variables_seen old.picture))) shape.seen
+
       pub int_finds : Finds world old int_grown input reading slot (Int term) shape.places
-      int_finds =
-          let held : (z : ℤ) × (slot_value input shape.places.objects slot ≡ Some (IntValue z)) = hold_last input shape.places.objects old.picture.seen (slot, seens.Int variable) shape.seen in
-          int_is held.0 held.1
+      int_finds = int_is int_held.0 int_held.1
 
 -- ---- the answer
 
@@ -339,11 +343,11 @@ module _ (world : World) (bounds : Bounds) (old : State) (sound : IsState world 
     new_int = Int (record { 0 = length old.nodes })
 
     abbrev after : List (List Cell) → State
-    after cells = found_in slot new_int (record old { picture = saw_variable old.picture slot (variables_of old.nodes); cells = cells; nodes = nodes_now })
+    after cells = found_in slot new_int (record old { picture = after_int_read old.picture slot; cells = cells; nodes = nodes_now })
 
     with_none : IsInstanceOf (after (old.cells ++ [])) input → StandsFor (setting_of world bounds) (after (old.cells ++ [])) input c
     with_none =
-        found_stands world bounds old sound input c stands new_int (saw_variable old.picture slot (variables_of old.nodes)) [] (λ n s. refl) nodes_now
+        found_stands world bounds old sound input c stands new_int (after_int_read old.picture slot) [] (λ n s. refl) nodes_now
         slot blank (int_finds world old sound input shape_now slot kind (old.cells ++ []))
 
     -- an int or a boolean was
@@ -352,11 +356,11 @@ module _ (world : World) (bounds : Bounds) (old : State) (sound : IsState world 
 
 -- What was told is what the slot holds at the input: the state stands for the same configuration.
 pub answer_stands : (world : World) (bounds : Bounds) (params : ℕ) (old : State) (choice : Choice) (slot : Origin) (type : JType) (input : Input) (c : Config) → IsState world old
-    → IsUnread world params old.picture slot → IsBlank old slot → (is_reference type ≡ true → IsChoiceIn old.picture choice) → passed_by choice ≡ None
+    → IsUnread world params old.picture slot → IsBlank old slot → (is_reference_type type ≡ true → IsChoiceIn old.picture choice) → passed_by choice ≡ None
     → StandsFor (setting_of world bounds) old input c → IsInstanceOf (answered world choice old (Reads slot type)) input
     → StandsFor (setting_of world bounds) (answered world choice old (Reads slot type)) input c
-answer_stands world bounds params old choice slot type input c sound unread blank speaks passed stands = go (is_reference type) refl where
-  go : (b : Bool) → is_reference type ≡ b → IsInstanceOf (if b then first_reference world slot choice old else first_int slot (kind_for (Some type)) old) input
+answer_stands world bounds params old choice slot type input c sound unread blank speaks passed stands = go (is_reference_type type) refl where
+  go : (b : Bool) → is_reference_type type ≡ b → IsInstanceOf (if b then first_reference world slot choice old else first_int slot (kind_for (Some type)) old) input
       → StandsFor (setting_of world bounds) (if b then first_reference world slot choice old else first_int slot (kind_for (Some type)) old) input c
   go true e = reference_stands world bounds old sound input c stands slot blank params choice unread (speaks e) passed
   go false e = int_stands world bounds old sound input c stands slot blank (kind_for (Some type))
@@ -370,18 +374,18 @@ asked_blank world bounds state (Field object slot) type is = is.cell
 asked_blank world bounds state (Element array index) type is = absurd is
 
 module _ (world : World) (bounds : Bounds) (state : State) (choice : Choice) (small : AreInRange bounds) (at : IsAtReferences world state) (slot : Origin) (type : JType)
-    (is : IsAsked world bounds state at.reached.reached.typed slot type) where
+    (is : IsAsked world bounds state at.reached.typed slot type) where
   -- an alternative of a reference speaks of what is there
-  speaks : is_reference type ≡ true → Has (alternatives world state bounds (Reads slot type)) choice → IsChoiceIn state.picture choice
+  speaks : is_reference_type type ≡ true → Has (alternatives world state bounds (Reads slot type)) choice → IsChoiceIn state.picture choice
   speaks e has =
       let offered : Has (read_choices_of state.init world state.picture slot type (is_receiver world state.method slot) bounds.k bounds.array) choice =
       subst (λ (b : Bool). Has (if b then read_choices_of state.init world state.picture slot type (is_receiver world state.method slot) bounds.k bounds.array else only) choice) e has in
       (fitting_choice state.init world state.method state.picture slot type (is_receiver world state.method slot) bounds.k bounds.array offered.0 choice
-      (first_read world bounds state at.reached.reached.typed slot type is e) small offered.1).speaks
+      (first_read world bounds state at.reached.typed slot type is e) small offered.1).speaks
 
   -- The answer of an alternative that passes no bound stands for the same configuration.
   pub asked_stands : Has (alternatives world state bounds (Reads slot type)) choice → passed_by choice ≡ None → (input : Input) (c : Config) → StandsFor (setting_of world bounds) state input c
       → IsInstanceOf (answered world choice state (Reads slot type)) input → StandsFor (setting_of world bounds) (answered world choice state (Reads slot type)) input c
   asked_stands has passed input c stands =
-      answer_stands world bounds (params_of world at.reached.reached.typed.method) state choice slot type input c at.reached.reached.sound is.unread
+      answer_stands world bounds (params_of world at.reached.typed.method) state choice slot type input c at.reached.sound is.unread
       (asked_blank world bounds state slot type is.from) (λ e. speaks e has) passed stands

@@ -13,7 +13,6 @@ use Rattle.kb_heap.specs.declared.bounds.Bounds.{Bounds}
 use Rattle.kb_link.proofs.Places.{get_pushed}
 use Rattle.kb_link.specs.World.{World}
 use Rattle.kb_names.specs.declared.types.ExactType.{ExactType}
-use Rattle.kb_names.specs.declared.types.ExactType.TheVariants as exact
 use Rattle.kb_names.specs.declared.types.JType.{JType}
 use Rattle.kb_semantics.specs.Looks.{numbers_below}
 use Rattle.kb_semantics.specs.Values.{slots_of_class}
@@ -24,7 +23,6 @@ use Rattle.kb_terms.specs.Terms.{Extends, variables_of}
 use Rattle.kb_terms.proofs.Growth.{extends-more}
 use Rattle.kb_terms.proofs.Values.{Extends-refl}
 use Rattle.kb_picture.specs.declared.choice.Choice.{Choice}
-use Rattle.kb_picture.specs.declared.choice.Choice.TheVariants as choices
 use Rattle.kb_picture.specs.declared.picture.Length.{Length}
 use Rattle.kb_picture.specs.declared.picture.Length.TheVariants.{Plain, Is, Above}
 use Rattle.kb_picture.specs.declared.picture.Origin.{Origin}
@@ -32,17 +30,15 @@ use Rattle.kb_picture.specs.declared.picture.Origin.TheVariants.{Arg, Field, Ele
 use Rattle.kb_picture.specs.declared.picture.PicObject.{PicObject}
 use Rattle.kb_picture.specs.declared.picture.Picture.{Picture}
 use Rattle.kb_picture.specs.declared.picture.Seen.{Seen}
-use Rattle.kb_picture.specs.declared.picture.Seen.TheVariants as seens
-use Rattle.kb_picture.specs.declared.picture.Standing.TheVariants as standings
-use Rattle.kb_picture.specs.Growing.{IsChoiceFor, IsChoiceIn}
+use Rattle.kb_picture.specs.Growing.{IsChoiceFor, IsChoiceIn, is_receiver}
 use Rattle.kb_picture.specs.Growth.{after_int_read, after_read}
 use Rattle.kb_picture.specs.Queries.{kind_for, kind_seen, kinds_seen, type_of_slot}
 use Rattle.kb_picture.specs.WellFormed.{IsLengthOf, slots_seen, variable_seen, variables_seen}
-use Rattle.kb_picture.specs.WellTyped.{IsReceiverSeen, IsWellTyped, SeenFitsDeclared}
+use Rattle.kb_picture.specs.WellTyped.{IsReceiverSeen, IsWellTyped, SeenFitsDeclared, is_reference_type}
 use Rattle.kb_picture.proofs.GrownPictures.{IsFrontOf, slots_grown}
 use Rattle.kb_picture.proofs.GrownTypes.{choice_typed, int_typed, type_more}
 use Rattle.kb_lazy.specs.Choices.{read_choices_of}
-use Rattle.kb_lazy.specs.Laws.{IsFirstRead}
+use Rattle.kb_lazy.specs.Laws.{IsFirstRead, AreInRange}
 use Rattle.kb_lazy.proofs.FitLaws.{fitting_choice}
 use Rattle.kb_frames.specs.declared.frame.SymFrame.{SymFrame}
 use Rattle.kb_frames.specs.declared.state.Stage.{Stage}
@@ -51,23 +47,26 @@ use Rattle.kb_frames.specs.declared.value.Cell.{Cell}
 use Rattle.kb_frames.specs.declared.value.Cell.TheVariants.{Untouched, Read}
 use Rattle.kb_frames.specs.declared.value.SymValue.{SymValue}
 use Rattle.kb_frames.specs.declared.value.SymValue.TheVariants.{Int}
-use Rattle.kb_frames.specs.FirstReads.{cells_chosen, first_int, first_reference, found_in, new_cells, saw_variable, value_chosen, with_read}
+use Rattle.kb_frames.specs.FirstReads.{cells_chosen, first_int, first_reference, found_in, new_cells, value_chosen, with_read}
 use Rattle.kb_frames.specs.Heaps.{find_cell, with_cell}
-use Rattle.kb_frames.specs.Next.{is_reference}
 use Rattle.kb_frames.specs.State.{State, cell_at}
 use Rattle.kb_frames.specs.States.{Each, HasCells, IsBeginning, IsCell, IsStage, IsSymValue, IsTouched}
-use Rattle.kb_frames.proofs.FormedPaths.{variables-same}
-use Rattle.kb_stepint.specs.Reached.{HasReadReceiver}
-use Rattle.kb_stepint.proofs.ItemLaws.{each_append, each_cons, each_copy, no_items}
-use Rattle.kb_stepint.proofs.SoundLaws.{Sound, sound_reached}
-use Rattle.kb_stepref.specs.Choices.{alternatives, is_receiver}
-use Rattle.kb_stepref.specs.Laws.{AreInRange, IsAtReferences}
-use Rattle.kb_stepref.specs.Questions.{Reads, question_of}
-use Rattle.kb_stepref.specs.Takes.{answered}
+use Rattle.kb_ways.specs.Reached.{HasReadReceiver}
+use Rattle.kb_ways.proofs.ItemLaws.{each_append, each_cons, each_copy, no_items}
+use Rattle.kb_ways.proofs.SoundLaws.{Sound, sound_reached}
+use Rattle.kb_stepref.specs.Choices.{alternatives}
+use Rattle.kb_stepref.specs.Laws.{IsAtReferences}
+use Rattle.kb_ways.specs.declared.question.Question.TheVariants.{Reads}
+use Rattle.kb_stepref.specs.Questions.{question_of}
+use Rattle.kb_ways.specs.Questions.{answered}
 use Rattle.kb_stepref.proofs.CellLaws.{front_found, front_touched, with_cell_length, with_here, with_touched}
 use Rattle.kb_stepref.proofs.FieldSlots.{get_front}
 use Rattle.kb_stepref.proofs.FirstReadLaws.{IsAsked, IsAskedAt, asked, first_read, holds_int}
 use Rattle.kb_stepref.proofs.MoreLaws.{HaveRows, IsMore, changed, changed_sound, made_more, rows_joined, rows_more, rows_with, running_more, values_more}
+use Rattle.kb_names.specs.declared.types.ExactType.TheVariants as exact
+use Rattle.kb_picture.specs.declared.choice.Choice.TheVariants as choices
+use Rattle.kb_picture.specs.declared.picture.Seen.TheVariants as seens
+use Rattle.kb_picture.specs.declared.picture.Standing.TheVariants as standings
 
 -- ---- what a choice adds
 
@@ -323,29 +322,24 @@ module _ (world : World) (state : State) (sound : Sound world state) (slot : Ori
 
 -- ---- answers
 
--- the picture that sees a slot as the next variable is the one after a first read of an int
-saw_is_read : (picture : Picture) (slot : Origin) (v : ℕ) → v ≡ length (variables_seen picture) → saw_variable picture slot v ≡ after_int_read picture slot
-unfolding after_int_read
-saw_is_read picture slot v next = ap (saw_variable picture slot) next
-
 module _ (world : World) (bounds : Bounds) (state : State) (at : IsAtReferences world state) (slot : Origin) (type : JType) (asks : question_of world state bounds ≡ Some (Reads slot type)) where
   abbrev typed : IsWellTyped world state.method state.picture
-  typed = at.reached.reached.typed
+  typed = at.reached.typed
 
   sound : Sound world state
-  sound = sound_reached world state at.reached.reached
+  sound = sound_reached world state at.reached at.alone at.unhandled
 
   is_asked : IsAsked world bounds state typed slot type
   is_asked = asked world bounds state at slot type asks
 
   -- an alternative for a reference is a choice for the slot
-  pub offered_fits : (choice : Choice) → AreInRange bounds → is_reference type ≡ true → Has (alternatives world state bounds (Reads slot type)) choice
+  pub offered_fits : (choice : Choice) → AreInRange bounds → is_reference_type type ≡ true → Has (alternatives world state bounds (Reads slot type)) choice
       → IsChoiceFor world state.method state.picture slot choice
-  offered_fits choice range reference has = go (is_reference type) refl has where
+  offered_fits choice range reference has = go (is_reference_type type) refl has where
     first : IsFirstRead world state.method state.picture slot type (is_receiver world state.method slot)
     first = first_read world bounds state typed slot type is_asked reference
 
-    go : (b : Bool) → is_reference type ≡ b
+    go : (b : Bool) → is_reference_type type ≡ b
         → Has (if b then read_choices_of state.init world state.picture slot type (is_receiver world state.method slot) bounds.k bounds.array else choices.Only ∷ []) choice
         → IsChoiceFor world state.method state.picture slot choice
     go true is h = fitting_choice state.init world state.method state.picture slot type (is_receiver world state.method slot) bounds.k bounds.array h.0 choice first range h.1
@@ -412,7 +406,7 @@ module _ (world : World) (bounds : Bounds) (state : State) (at : IsAtReferences 
 
   -- ---- an int
 
-  module _ (int : is_reference type ≡ false) where
+  module _ (int : is_reference_type type ≡ false) where
     abbrev v : ℕ
     v = variables_of state.nodes
 
@@ -426,23 +420,23 @@ module _ (world : World) (bounds : Bounds) (state : State) (at : IsAtReferences 
     value = Int (record { 0 = length state.nodes })
 
     abbrev seen : Picture
-    seen = saw_variable state.picture slot v
+    seen = after_int_read state.picture slot
 
     one_kind : kinds_of nodes ≡ kinds_seen world state.method seen
+    unfolding after_int_read
     one_kind =
         filter_map-append kind_from state.nodes (Var v kind ∷ [])
         ∙ (ap (λ (kinds : List VarKind). kinds ++ kind ∷ []) sound.kinds
         ∙ (ap (λ (o : Option JType). kinds_seen world state.method state.picture ++ kind_for o ∷ []) (sym is_asked.declared)
-        ∙ sym (filter_map-append (kind_seen world state.method state.picture) state.picture.seen ((slot, seens.Int v) ∷ []))))
+        ∙ sym (filter_map-append (kind_seen world state.method state.picture) state.picture.seen ((slot, seens.Int (length (variables_seen state.picture))) ∷ []))))
 
     tells_int : Tells world state slot value seen state.cells nodes
+    unfolding after_int_read
     tells_int = record {
-      typed =
-          subst (IsWellTyped world state.method) (sym (saw_is_read state.picture slot v (variables-same world state.method state.nodes state.picture sound.kinds)))
-          (int_typed world state.method state.picture slot typed is_asked.unread (holds_int world bounds state typed slot type is_asked int));
+      typed = int_typed world state.method state.picture slot typed is_asked.unread (holds_int world bounds state typed slot type is_asked int);
       terms = extends-more state.nodes (Var v kind);
       kinds = one_kind;
-      slots = slots_grown state.picture seen slot (seens.Int v) refl;
+      slots = slots_grown state.picture seen slot (seens.Int (length (variables_seen state.picture))) refl;
       objects = omega arith;
       locs = omega arith;
       count = sound.cells.count;
@@ -471,23 +465,23 @@ module _ (world : World) (bounds : Bounds) (state : State) (at : IsAtReferences 
   -- ---- both
 
   pub answered_sound : (choice : Choice) → AreInRange bounds → Has (alternatives world state bounds (Reads slot type)) choice → Sound world (answered world choice state (Reads slot type))
-  answered_sound choice range has = go (is_reference type) refl where
-    go : (b : Bool) → is_reference type ≡ b → Sound world (if b then first_reference world slot choice state else first_int slot (kind_for (Some type)) state)
+  answered_sound choice range has = go (is_reference_type type) refl where
+    go : (b : Bool) → is_reference_type type ≡ b → Sound world (if b then first_reference world slot choice state else first_int slot (kind_for (Some type)) state)
     go true is = reference_sound choice (offered_fits choice range is has)
     go false is = int_sound is
 
   pub answered_receiver : (choice : Choice) → AreInRange bounds → Has (alternatives world state bounds (Reads slot type)) choice
       → IsReceiverSeen world state.method (answered world choice state (Reads slot type)).picture
-  answered_receiver choice range has = go (is_reference type) refl where
+  answered_receiver choice range has = go (is_reference_type type) refl where
     found_picture : (of : Origin) (it : SymValue) (s : State) → (found_in of it s).picture ≡ s.picture
     found_picture (Arg number) it s = refl
     found_picture (Field object place) it s = refl
     found_picture (Element array index) it s = refl
 
-    go : (b : Bool) → is_reference type ≡ b → IsReceiverSeen world state.method (if b then first_reference world slot choice state else first_int slot (kind_for (Some type)) state).picture
+    go : (b : Bool) → is_reference_type type ≡ b → IsReceiverSeen world state.method (if b then first_reference world slot choice state else first_int slot (kind_for (Some type)) state).picture
     go true is =
         subst (IsReceiverSeen world state.method) (sym (found_picture slot (value_chosen state.picture choice) (record state { picture = after_read state.picture slot choice; cells = state.cells ++ cells_chosen world choice })))
         (reference_receiver choice (offered_fits choice range is has))
     go false is =
-        subst (IsReceiverSeen world state.method) (sym (found_picture slot (Int (record { 0 = length state.nodes })) (record state { picture = saw_variable state.picture slot (variables_of state.nodes); nodes = state.nodes ++ Var (variables_of state.nodes) (kind_for (Some type)) ∷ [] })))
+        subst (IsReceiverSeen world state.method) (sym (found_picture slot (Int (record { 0 = length state.nodes })) (record state { picture = after_int_read state.picture slot; nodes = state.nodes ++ Var (variables_of state.nodes) (kind_for (Some type)) ∷ [] })))
         (int_receiver is)

@@ -18,7 +18,7 @@ use Rattle.kb_frames.specs.FirstReads.{cells_chosen, new_cells}
 use Rattle.kb_frames.specs.Heaps.{find_cell, with_cell}
 use Rattle.kb_frames.specs.State.{cell_at}
 use Rattle.kb_frames.specs.States.{Each}
-use Rattle.kb_stepint.proofs.ItemLaws.{each_set}
+use Rattle.kb_ways.proofs.ItemLaws.{each_set}
 
 -- ---- one item set
 

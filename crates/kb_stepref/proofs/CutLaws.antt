@@ -13,7 +13,7 @@ use Rattle.kb_heap.specs.declared.bounds.Bounds.{Bounds}
 use Rattle.kb_heap.specs.declared.heap.Input.{Input}
 use Rattle.kb_lazy.proofs.FitLaws.{fitting_choice}
 use Rattle.kb_lazy.specs.Choices.{aliases, aliases_from, all_new, beyond_where, fresh_objects, has_fitting, location_where, new_objects, null_unless, read_choices_of}
-use Rattle.kb_lazy.specs.Laws.{IsFirstRead}
+use Rattle.kb_lazy.specs.Laws.{IsFirstRead, AreInRange}
 use Rattle.kb_link.proofs.Places.{get_last}
 use Rattle.kb_link.specs.Subtypes.{fits}
 use Rattle.kb_link.specs.World.{World}
@@ -22,6 +22,7 @@ use Rattle.kb_names.specs.declared.types.ExactType.TheVariants as exact
 use Rattle.kb_names.specs.declared.types.JType.{JType}
 use Rattle.kb_semantics.specs.Looks.{numbers_below}
 use Rattle.kb_semantics.specs.Past.{IsPastArray}
+use Rattle.kb_picture.specs.Growing.{is_receiver}
 use Rattle.kb_picture.specs.declared.choice.Choice.{Choice}
 use Rattle.kb_picture.specs.declared.choice.Choice.TheVariants as choices
 use Rattle.kb_picture.specs.declared.choice.Init.{Init}
@@ -39,14 +40,15 @@ use Rattle.kb_picture.specs.WellFormed.{IsLengthOf}
 use Rattle.kb_picture.proofs.ChainLaws.{past_array, past_k}
 use Rattle.kb_frames.specs.Cuts.{HasLonger, IsLicensed}
 use Rattle.kb_frames.specs.FirstReads.{first_int, first_reference}
-use Rattle.kb_frames.specs.Next.{is_reference}
+use Rattle.kb_picture.specs.WellTyped.{is_reference_type}
 use Rattle.kb_frames.specs.StandsFor.{IsInstanceOf}
 use Rattle.kb_frames.specs.State.{State}
 use Rattle.kb_picture.specs.Queries.{kind_for}
-use Rattle.kb_stepref.specs.Choices.{alternatives, is_receiver, only}
-use Rattle.kb_stepref.specs.Laws.{AreInRange, IsAtReferences}
-use Rattle.kb_stepref.specs.Questions.{Reads, question_of}
-use Rattle.kb_stepref.specs.Takes.{answered, passed_by}
+use Rattle.kb_stepref.specs.Choices.{alternatives, only}
+use Rattle.kb_stepref.specs.Laws.{IsAtReferences}
+use Rattle.kb_ways.specs.declared.question.Question.TheVariants.{Reads}
+use Rattle.kb_stepref.specs.Questions.{question_of}
+use Rattle.kb_ways.specs.Questions.{answered, passed_by}
 use Rattle.kb_stepref.proofs.FirstReadLaws.{asked, first_read}
 use Rattle.kb_stepref.proofs.KeepLaws.{reference_tells}
 
@@ -168,12 +170,12 @@ module _ (world : World) (bounds : Bounds) (old : State) (in_range : AreInRange 
   receiver = is_receiver world old.method slot
 
   -- a reference
-  module _ (reference : is_reference type ≡ true) where
+  module _ (reference : is_reference_type type ≡ true) where
     abbrev offered : List Choice
     offered = read_choices_of old.init world old.picture slot type receiver bounds.k bounds.array
 
     first : IsFirstRead world old.method old.picture slot type receiver
-    first = first_read world bounds old at.reached.reached.typed slot type (asked world bounds old at slot type asks) reference
+    first = first_read world bounds old at.reached.typed slot type (asked world bounds old at slot type asks) reference
 
     right : (choice : Choice) → Has offered choice → GoesBeyond bounds.k bounds.array (depth_at old.picture slot) choice
     right = offered_right world old.picture slot type bounds.k bounds.array old.init receiver
@@ -209,7 +211,7 @@ module _ (world : World) (bounds : Bounds) (old : State) (in_range : AreInRange 
       | inr none ↦ has_none choice none
     ]
 
-    cut_told : (b : Bool) → is_reference type ≡ b → Has (if b then read_choices_of old.init world old.picture slot type receiver bounds.k bounds.array else only) choice
+    cut_told : (b : Bool) → is_reference_type type ≡ b → Has (if b then read_choices_of old.init world old.picture slot type receiver bounds.k bounds.array else only) choice
         → (i : IsInstanceOf (told b) input) → IsLicensed world (told b).method bounds (told b).picture bound input
     cut_told true e has i =
         let tells = reference_tells world slot choice old in
@@ -220,4 +222,4 @@ module _ (world : World) (bounds : Bounds) (old : State) (in_range : AreInRange 
 
     pub cut_licensed : Has (alternatives world old bounds (Reads slot type)) choice → (i : IsInstanceOf (answered world choice old (Reads slot type)) input)
         → IsLicensed world (answered world choice old (Reads slot type)).method bounds (answered world choice old (Reads slot type)).picture bound input
-    cut_licensed has i = cut_told (is_reference type) refl has i
+    cut_licensed has i = cut_told (is_reference_type type) refl has i

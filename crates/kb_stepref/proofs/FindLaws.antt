@@ -31,7 +31,7 @@ use Rattle.kb_frames.specs.Heaps.{find_cell, with_cell}
 use Rattle.kb_frames.specs.StandsFor.{value_of_sym}
 use Rattle.kb_frames.specs.State.{State, cell_at}
 use Rattle.kb_frames.specs.States.{IsSymValue}
-use Rattle.kb_stepint.proofs.AlikeLaws.{AreAlike}
+use Rattle.kb_ways.proofs.AlikeLaws.{AreAlike}
 use Rattle.kb_stepref.proofs.CellLaws.{behind, found_cell, front_cell, front_found, row_inside, with_here, with_other}
 use Rattle.kb_stepref.proofs.LearnLaws.{IsLearned, Learns}
 

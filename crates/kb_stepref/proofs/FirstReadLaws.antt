@@ -1,12 +1,9 @@
 -- What holds of the slot that a step on references asks for: it is there and was not read, and its declared type is that of the
 -- question.
-use Rattle.std.proofs.Common.{◌≡◌, ◌↔◌, ℕ, Bool, true, false, true≢false, not, nat_eq, nat_le, List, length, Option, Some, None, slice_get, refl, sym, ap, subst, ◌∙◌, if◌then◌else◌}
+use Rattle.std.proofs.Common.{◌≡◌, ℕ, Bool, true, false, true≢false, not, nat_le, List, length, Option, Some, None, slice_get, refl, sym, ap, subst, ◌∙◌, if◌then◌else◌}
 use Rattle.std.specs.Option.{option_and_then, option_map, option_map_or}
-use Rattle.std.proofs.lemmas.Bool.{and_from, and_parts, eqb-true, eq-eqb}
 use Rattle.std.proofs.lemmas.Option.{none-some, option_and_then_some, same_Some, slice_get_within}
-use Rattle.kb_class.specs.declared.ids.MethodId.{MethodId}
 use Rattle.kb_class.specs.declared.members.MethodInfo.{MethodInfo}
-use Rattle.kb_class.specs.Members.{is_static}
 use Rattle.kb_code.specs.declared.instruction.Instr.{Instr}
 use Rattle.kb_code.specs.declared.instruction.Instr.TheVariants as instrs
 use Rattle.kb_heap.specs.declared.bounds.Bounds.{Bounds}
@@ -17,14 +14,14 @@ use Rattle.kb_link.specs.declared.slots.FieldSlot.{FieldSlot}
 use Rattle.kb_names.specs.declared.types.ExactType.{ExactType}
 use Rattle.kb_names.specs.declared.types.JType.{JType}
 use Rattle.kb_names.specs.declared.types.JType.TheVariants as types
-use Rattle.kb_semantics.specs.Config.{class_number, info_of}
+use Rattle.kb_semantics.specs.Config.{class_number}
 use Rattle.kb_semantics.specs.Inputs.{argument_types}
 use Rattle.kb_semantics.specs.Instructions.{has_field}
 use Rattle.kb_lazy.specs.Laws.{IsFirstRead}
 use Rattle.kb_picture.specs.declared.picture.Origin.{Origin}
 use Rattle.kb_picture.specs.declared.picture.Origin.TheVariants.{Arg, Field, Element}
 use Rattle.kb_picture.specs.declared.picture.PicObject.{PicObject}
-use Rattle.kb_picture.specs.Growing.{HoldsInt, IsReceiver, IsUnread, params_of}
+use Rattle.kb_picture.specs.Growing.{HoldsInt, IsUnread, is_receiver, params_of}
 use Rattle.kb_picture.specs.Queries.{slot_of_class, type_of_slot}
 use Rattle.kb_picture.specs.WellFormed.{slots_seen}
 use Rattle.kb_picture.specs.WellTyped.{IsWellTyped, is_int_type, is_reference_type}
@@ -37,15 +34,16 @@ use Rattle.kb_frames.specs.declared.value.SymValue.{SymValue}
 use Rattle.kb_frames.specs.declared.value.SymValue.TheVariants.{Int, Null, Obj, Literal, New, Loc}
 use Rattle.kb_frames.specs.Heaps.{find_cell}
 use Rattle.kb_frames.specs.Lent.{read_count, stack_of}
-use Rattle.kb_frames.specs.Next.{argument_next, instruction_next, is_int, is_int_next, is_reference, method_now, next_is_int}
+use Rattle.kb_frames.specs.Next.{argument_next, instruction_next, is_int, is_int_next, method_now, next_is_int}
 use Rattle.kb_frames.specs.State.{State}
 use Rattle.kb_frames.specs.States.{IsStage}
-use Rattle.kb_stepint.specs.Reached.{IsReached}
-use Rattle.kb_stepint.proofs.SoundLaws.{not_before}
-use Rattle.kb_stepref.specs.Choices.{is_receiver}
+use Rattle.kb_ways.specs.Reached.{IsReached}
+use Rattle.kb_ways.proofs.SoundLaws.{not_before}
 use Rattle.kb_stepref.specs.Fields.{cell_of, field_named, has_slot_of}
 use Rattle.kb_stepref.specs.Laws.{IsAtReferences}
-use Rattle.kb_stepref.specs.Questions.{Question, Reads, asked_at, asked_by, asks_cell, asks_field, question_of}
+use Rattle.kb_ways.specs.declared.question.Question.{Question}
+use Rattle.kb_ways.specs.declared.question.Question.TheVariants.{Reads}
+use Rattle.kb_stepref.specs.Questions.{asked_at, asked_by, asks_cell, asks_field, question_of}
 use Rattle.kb_stepref.proofs.CellLaws.{found_cell}
 use Rattle.kb_stepref.proofs.FieldSlots.{resolved_at, slot_in, slot_typed}
 
@@ -57,7 +55,7 @@ pub record IsAskedArgument (world : World) (state : State) (number : ℕ) (type 
   pub begins : state.stage ≡ Begins read
   pub number_is : number ≡ length read
   pub next : argument_next world state.method (Begins read) ≡ Some type
-  pub reference : is_reference type ≡ true
+  pub reference : is_reference_type type ≡ true
 
 -- a field of an object of the picture, which the run's next instruction reads, and which nobody has read or written
 pub record IsAskedField (world : World) (bounds : Bounds) (state : State) (number slot : ℕ) (type : JType) : Type 0 where
@@ -93,26 +91,13 @@ IsQuestion world bounds state typed (Reads slot type) = IsAsked world bounds sta
 
 -- ---- types
 
--- the references of states are those of pictures
-pub same_reference : (type : JType) → is_reference_type type ≡ is_reference type
-same_reference types.Bool = refl
-same_reference types.Byte = refl
-same_reference types.Char = refl
-same_reference types.Short = refl
-same_reference types.Int = refl
-same_reference types.Long = refl
-same_reference types.Float = refl
-same_reference types.Double = refl
-same_reference (types.Class name) = refl
-same_reference (types.Array component) = refl
-
-reference_has_slot : (type : JType) → is_reference type ≡ true → has_slot_type type ≡ true
+reference_has_slot : (type : JType) → is_reference_type type ≡ true → has_slot_type type ≡ true
 reference_has_slot (types.Class name) is = refl
 reference_has_slot (types.Array component) is = refl
 reference_has_slot _ is = absurd cc
 
 -- a slot that holds no reference holds an int or a boolean
-pub slot_is_int : (type : JType) → has_slot_type type ≡ true → is_reference type ≡ false → is_int_type type ≡ true
+pub slot_is_int : (type : JType) → has_slot_type type ≡ true → is_reference_type type ≡ false → is_int_type type ≡ true
 slot_is_int types.Bool has none = refl
 slot_is_int types.Int has none = refl
 slot_is_int (types.Class name) has none = absurd cc
@@ -137,11 +122,11 @@ module _ (world : World) (bounds : Bounds) (state : State) (linked : IsLinked wo
   -- ---- an argument
 
   module _ (next_is : next_is_int world state ≡ false) (type : JType) where
-    argument_is_reference : argument_next world state.method state.stage ≡ Some type → is_reference type ≡ true
+    argument_is_reference : argument_next world state.method state.stage ≡ Some type → is_reference_type type ≡ true
     argument_is_reference next =
-        no_int (is_reference type) (ap (λ (o : Option JType). is_int (option_map is_reference o) (is_int_next world (method_now state.method state.stage) (instruction_next world state.method state.stage))) (sym next) ∙ next_is)
+        no_int (is_reference_type type) (ap (λ (o : Option JType). is_int (option_map is_reference_type o) (is_int_next world (method_now state.method state.stage) (instruction_next world state.method state.stage))) (sym next) ∙ next_is)
 
-    argument_asked : (read : List SymValue) → state.stage ≡ Begins read → argument_next world state.method (Begins read) ≡ Some type → is_reference type ≡ true
+    argument_asked : (read : List SymValue) → state.stage ≡ Begins read → argument_next world state.method (Begins read) ≡ Some type → is_reference_type type ≡ true
         → IsAsked world bounds state reached.typed (Arg (length read)) type
     argument_asked read begins next reference =
         let beginning = subst (IsStage world state) begins reached.sound.stage in
@@ -261,55 +246,23 @@ module _ (world : World) (bounds : Bounds) (state : State) (linked : IsLinked wo
 
 -- The slot of the question of a state that is at a step on references.
 pub asked : (world : World) (bounds : Bounds) (state : State) (at : IsAtReferences world state) (slot : Origin) (type : JType) → question_of world state bounds ≡ Some (Reads slot type)
-    → IsAsked world bounds state at.reached.reached.typed slot type
+    → IsAsked world bounds state at.reached.typed slot type
 asked world bounds state at slot type asks =
-    reached_asks world bounds state at.reached.linked at.reached.reached at.next (Reads slot type) asks
+    reached_asks world bounds state at.linked at.reached at.next (Reads slot type) asks
 
 -- ---- first reads
 
-arg_number : (one other : ℕ) → Arg one ≡ Arg other → one ≡ other
-arg_number one other e = cc
-
--- whether the slot is a receiver's
-pub receives : (world : World) (id : MethodId) (slot : Origin) → (is_receiver world id slot ≡ true) ↔ IsReceiver world id slot
-receives world id (Arg number) = (to, back) where
-  by_info : (info : Option MethodInfo) → info_of world id ≡ info → option_map_or (λ (it : MethodInfo). not (is_static it.access)) info false ≡ true
-      → (method : MethodInfo) × (info_of world id ≡ Some method) × (is_static method.access ≡ false)
-  by_info None at is = absurd cc
-  by_info (Some method) at is = (method, at, own (is_static method.access) is) where
-    own : (b : Bool) → not b ≡ true → b ≡ false
-    own true e = absurd (true≢false (sym e))
-    own false e = refl
-
-  to : is_receiver world id (Arg number) ≡ true → IsReceiver world id (Arg number)
-  to is =
-      let parts = and_parts (nat_eq number 0) (option_map_or (λ (info : MethodInfo). not (is_static info.access)) (info_of world id) false) is in
-      let method = by_info (info_of world id) refl parts.1 in
-      (method.0, method.1, method.2, ap Arg (eqb-true number 0 parts.0))
-
-  back : IsReceiver world id (Arg number) → is_receiver world id (Arg number) ≡ true
-  back receiver =
-      let first : number ≡ 0 = arg_number number 0 receiver.3 in
-      and_from (nat_eq number 0) (option_map_or (λ (info : MethodInfo). not (is_static info.access)) (info_of world id) false) (eq-eqb number 0 first)
-      (ap (λ (o : Option MethodInfo). option_map_or (λ (info : MethodInfo). not (is_static info.access)) o false) receiver.1 ∙ ap not receiver.2)
-receives world id (Field object slot) = (λ is. absurd (true≢false (sym is)), λ receiver. absurd (other receiver.3)) where
-  other : Field object slot ≡ Arg 0 → ⊥
-  other e = cc
-receives world id (Element array index) = (λ is. absurd (true≢false (sym is)), λ receiver. absurd (other receiver.3)) where
-  other : Element array index ≡ Arg 0 → ⊥
-  other e = cc
-
 module _ (world : World) (bounds : Bounds) (state : State) (typed : IsWellTyped world state.method state.picture) (slot : Origin) (type : JType)
     (is_asked : IsAsked world bounds state typed slot type) where
-  pub first_read : is_reference type ≡ true → IsFirstRead world state.method state.picture slot type (is_receiver world state.method slot)
+  pub first_read : is_reference_type type ≡ true → IsFirstRead world state.method state.picture slot type (is_receiver world state.method slot)
   first_read reference = record {
     method = typed.method;
     method_is = typed.method_is;
     unread = is_asked.unread;
     declared = is_asked.declared;
-    reference = same_reference type ∙ reference;
-    receives = receives world state.method slot;
+    reference = reference;
+    receives = (λ is. is, λ is. is);
   }
 
-  pub holds_int : is_reference type ≡ false → HoldsInt world state.method state.picture slot
+  pub holds_int : is_reference_type type ≡ false → HoldsInt world state.method state.picture slot
   holds_int none = record { type = type; declared = is_asked.declared; int = slot_is_int type is_asked.of_slot none }

@@ -25,6 +25,7 @@ use Rattle.kb_picture.specs.declared.picture.Origin.TheVariants.{Arg, Field, Ele
 use Rattle.kb_picture.specs.declared.picture.Picture.{Picture}
 use Rattle.kb_picture.specs.Queries.{kind_for}
 use Rattle.kb_picture.specs.Shapes.{HasShape}
+use Rattle.kb_picture.specs.WellTyped.{is_reference_type}
 use Rattle.kb_frames.specs.declared.state.Stage.{Stage}
 use Rattle.kb_frames.specs.declared.value.Cell.{Cell}
 use Rattle.kb_frames.specs.declared.value.Cell.TheVariants.{Read}
@@ -34,28 +35,34 @@ use Rattle.kb_frames.specs.Cuts.{setting_of}
 use Rattle.kb_frames.specs.FirstReads.{cells_chosen, first_int, first_reference, value_chosen}
 use Rattle.kb_frames.specs.Heaps.{find_cell, with_cell}
 use Rattle.kb_frames.specs.Lent.{stack_of}
-use Rattle.kb_frames.specs.Next.{argument_next, is_reference, method_now, offset_now}
+use Rattle.kb_frames.specs.Next.{argument_next, method_now, offset_now}
 use Rattle.kb_frames.specs.StandsFor.{IsInstanceOf, StandsFor}
 use Rattle.kb_frames.specs.State.{State}
-use Rattle.kb_stepint.specs.Simulation.{FollowsStep}
-use Rattle.kb_stepint.proofs.GrowLaws.{if_has}
-use Rattle.kb_stepint.proofs.OneAsked.{conditions_there}
-use Rattle.kb_stepint.proofs.OneInstances.{met_of_instance}
-use Rattle.kb_stepint.proofs.ValueLaws.{IsOrdered, ordered_more, pool_ordered}
+use Rattle.kb_ways.specs.Simulation.{FollowsStep}
+use Rattle.kb_ways.proofs.GrowLaws.{if_has}
+use Rattle.kb_ways.proofs.OneAsked.{conditions_there}
+use Rattle.kb_ways.proofs.OneInstances.{met_of_instance}
+use Rattle.kb_ways.proofs.ValueLaws.{IsOrdered, ordered_more, pool_ordered}
 use Rattle.kb_stepref.specs.Choices.{alternatives, only}
 use Rattle.kb_stepref.specs.Fields.{field_named, has_slot_of}
-use Rattle.kb_stepref.specs.HeapMethods.{is_reference_instruction}
-use Rattle.kb_stepref.specs.Laws.{AreInRange, IsAtReferences, OfTakes}
-use Rattle.kb_stepref.specs.Questions.{Question, Reads, asked_by, asks_cell, asks_field, question_of}
-use Rattle.kb_stepref.specs.Takes.{answered, answers, cut_where, goes_behind, passed_by, takes_next, takes_up}
+use Rattle.kb_ways.specs.Built.{is_reference_instruction}
+use Rattle.kb_lazy.specs.Laws.{AreInRange}
+use Rattle.kb_stepref.specs.Laws.{IsAtReferences, OfTakes}
+use Rattle.kb_ways.specs.declared.question.Question.{Question}
+use Rattle.kb_ways.specs.declared.question.Question.TheVariants.{Reads}
+use Rattle.kb_stepref.specs.Questions.{asked_by, asks_cell, asks_field, question_of}
+use Rattle.kb_ways.specs.Questions.{answered, answers, cut_where, goes_behind, passed_by}
+use Rattle.kb_ways.specs.Plans.{takes_next, takes_up}
 use Rattle.kb_stepref.proofs.AnswerLaws.{asked_stands}
 use Rattle.kb_stepref.proofs.CutLaws.{cut_licensed}
 use Rattle.kb_stepref.proofs.FirstReadLaws.{IsAsked, IsAskedAt, IsAskedField, asked}
 use Rattle.kb_stepref.proofs.KeepLaws.{Untold, int_tells, reference_tells, takes_up_untold}
 use Rattle.kb_stepref.proofs.MethodLaws.{reference_next}
 use Rattle.kb_stepref.proofs.OutcomeLaws.{AreTold, FollowsAt, takes_next_follows, takes_up_follows}
-use Rattle.kb_stepref.proofs.ReachedLaws.{IsHeapSound, now_heap}
+use Rattle.kb_stepref.proofs.ReachedLaws.{IsKnown, now_known}
 use Rattle.kb_stepref.proofs.SoundLaws.{answered_carried, answered_method, answered_stage, none_asked}
+use Rattle.kb_picture.specs.declared.choice.Choice.TheVariants.{Only}
+use Rattle.kb_stepref.specs.Effects.{plan_of}
 
 -- ---- a slot that was told
 
@@ -88,7 +95,7 @@ answer_told : (world : World) (choice : Choice) (state : State) (number slot : �
     → asks_field world (answered world choice state (Reads (Field number slot) type)) field (Some (Obj number)) ≡ None
 answer_told world choice state number slot type field is =
     subst (λ (place : ℕ). asks_field world (answered world choice state (Reads (Field number place) type)) field (Some (Obj number)) ≡ None) is
-    (if_has (λ (new : State). asks_field world new field (Some (Obj number)) ≡ None) (is_reference type) (first_reference world (Field number field.slot) choice state)
+    (if_has (λ (new : State). asks_field world new field (Some (Obj number)) ≡ None) (is_reference_type type) (first_reference world (Field number field.slot) choice state)
     (first_int (Field number field.slot) (kind_for (Some type)) state)
     (field_told world (first_reference world (Field number field.slot) choice state) number field (state.cells ++ cells_chosen world choice) (value_chosen state.picture choice) refl)
     (field_told world (first_int (Field number field.slot) (kind_for (Some type)) state) number field state.cells (Int (record { 0 = length state.nodes })) refl))
@@ -96,7 +103,7 @@ answer_told world choice state number slot type field is =
 -- the terms of an answer stand behind their operands
 answer_ordered : (world : World) (choice : Choice) (state : State) (slot : Origin) (type : JType) → IsOrdered state.nodes → IsOrdered (answered world choice state (Reads slot type)).nodes
 answer_ordered world choice state slot type ordered =
-    if_has (λ (new : State). IsOrdered new.nodes) (is_reference type) (first_reference world slot choice state) (first_int slot (kind_for (Some type)) state)
+    if_has (λ (new : State). IsOrdered new.nodes) (is_reference_type type) (first_reference world slot choice state) (first_int slot (kind_for (Some type)) state)
     (subst IsOrdered (sym (reference_tells world slot choice state).nodes) ordered)
     (subst IsOrdered (sym (int_tells slot (kind_for (Some type)) state).nodes) (ordered_more state.nodes (Var (variables_of state.nodes) (kind_for (Some type))) ordered tt))
 
@@ -117,12 +124,12 @@ module _ (world : World) (bounds : Bounds) (old : State) (choice : Choice) (smal
   abbrev new : State
   new = answered world choice old (Reads slot type)
 
-  is : IsAsked world bounds old at.reached.reached.typed slot type
+  is : IsAsked world bounds old at.reached.typed slot type
   is = asked world bounds old at slot type asks
 
   module _ (passed : passed_by choice ≡ None) where
-    heap : IsHeapSound world new
-    heap = now_heap world bounds old at slot type asks choice small has passed
+    heap : IsKnown world new
+    heap = now_known world bounds old at slot type asks choice small has passed
 
     new_stands : IsInstanceOf new input → StandsFor (setting_of world bounds) new input c
     new_stands i = asked_stands world bounds old choice small at slot type is has passed input c stands i
@@ -164,22 +171,22 @@ module _ (world : World) (bounds : Bounds) (old : State) (choice : Choice) (smal
         same : instrs.GetField from.entry ≡ found.0
         same = (let both : Some (instrs.GetField from.entry) ≡ Some found.0 = sym from.instruction ∙ ap (option_map (λ (f : Instr × ℕ). f.0)) there in let one : instrs.GetField from.entry ≡ found.0 = cc in one)
 
-      field_follows : FollowsAt world bounds input c (takes_up world bounds new)
+      field_follows : FollowsAt world bounds input c (takes_up plan_of world bounds Only new)
       field_follows i =
           takes_up_follows world bounds new from.frame from.callers (stage_same ∙ from.running) heap.sound heap.known
-          (answer_ordered world choice old slot type (pool_ordered old.nodes at.reached.reached.sound.pool)) input (subst (λ (m : MethodId). IsTypeCorrect world m input) (sym method_same) correct) c
-          (new_stands (instance_before new (takes_up world bounds new).state input (takes_up_untold world bounds new) heap.sound.conditions i))
+          (answer_ordered world choice old slot type (pool_ordered old.nodes at.reached.sound.pool)) input (subst (λ (m : MethodId). IsTypeCorrect world m input) (sym method_same) correct) c
+          (new_stands (instance_before new (takes_up plan_of world bounds Only new).state input (takes_up_untold world bounds new) heap.sound.conditions i))
           (ap (nat_le bounds.run.steps) (answered_carried world choice old slot type) ∙ from.within) new_told i
 
-    behind_follows : (of : Origin) → slot ≡ of → IsAskedAt world bounds old of type → FollowsAt world bounds input c (goes_behind world bounds of new)
+    behind_follows : (of : Origin) → slot ≡ of → IsAskedAt world bounds old of type → FollowsAt world bounds input c (goes_behind plan_of world bounds of new)
     behind_follows (Arg number) slot_is asked_at = new_stands
     behind_follows (Field number place) slot_is asked_at = field_follows number place slot_is
     behind_follows (Element array index) slot_is asked_at = absurd asked_at
 
   -- An answer that passes a bound is cut there.
-  answers_follow : FollowsAt world bounds input c (answers world bounds choice old (Reads slot type))
+  answers_follow : FollowsAt world bounds input c (answers plan_of world bounds choice old (Reads slot type))
   answers_follow = go (passed_by choice) refl where
-    go : (bound : Option Bound) → passed_by choice ≡ bound → FollowsAt world bounds input c (cut_where bound new (goes_behind world bounds slot new))
+    go : (bound : Option Bound) → passed_by choice ≡ bound → FollowsAt world bounds input c (cut_where bound new (goes_behind plan_of world bounds slot new))
     go None passed = behind_follows passed slot refl is.from
     go (Some bound) passed = cut_licensed world bounds old small at slot type asks input choice bound passed has
 
@@ -192,6 +199,6 @@ follows world bounds old choice small at has input c correct stands = go (questi
   references none found e = reference_next world old found at none e
 
   go : (question : Option Question) → question_of world old bounds ≡ question → Has (option_map_or (alternatives world old bounds) question only) choice
-      → FollowsAt world bounds input c (option_map_or (answers world bounds choice old) question (takes_next world bounds old))
+      → FollowsAt world bounds input c (option_map_or (answers plan_of world bounds choice old) question (takes_next plan_of world bounds Only old))
   go None asks offered = takes_next_follows world bounds old at (references (none_asked world bounds old asks)) input correct c stands asks
   go (Some (Reads slot type)) asks offered = answers_follow world bounds old choice small at slot type asks offered input c correct stands

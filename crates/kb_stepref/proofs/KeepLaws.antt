@@ -1,6 +1,6 @@
 -- What a take keeps of a state: an instruction sees nothing and adds no condition, and the answer of a question adds one slot
 -- that is seen.
-use Rattle.std.proofs.Common.{◌≡◌, ℕ, pos, List, [], ◌∷◌, ◌++◌, length, take, drop, nat_le, Bool, Option, Some, None, refl, sym, subst, ◌∙◌, option_and_then, cond, if◌then◌else◌}
+use Rattle.std.proofs.Common.{◌≡◌, ℕ, List, [], ◌∷◌, ◌++◌, length, take, drop, nat_le, Bool, Option, Some, None, refl, sym, subst, ◌∙◌, cond, if◌then◌else◌}
 use Rattle.std.specs.Option.{option_map_or}
 use Rattle.kb_code.specs.declared.instruction.Instr.{Instr}
 use Rattle.kb_code.specs.declared.instruction.Instr.TheVariants as instrs
@@ -9,50 +9,53 @@ use Rattle.kb_heap.specs.declared.bounds.Bounds.{Bounds}
 use Rattle.kb_link.specs.World.{World}
 use Rattle.kb_link.specs.declared.slots.FieldSlot.{FieldSlot}
 use Rattle.kb_names.specs.declared.types.JType.{JType}
-use Rattle.kb_names.specs.declared.types.JType.TheVariants as types
-use Rattle.kb_semantics.specs.Config.{has_room, instruction_at, result_of}
-use Rattle.kb_terms.specs.declared.op.Op.TheVariants.{And}
+use Rattle.kb_semantics.specs.Config.{has_room, instruction_at}
 use Rattle.kb_terms.specs.declared.node.TermId.{TermId}
 use Rattle.kb_terms.specs.declared.node.VarKind.{VarKind}
 use Rattle.kb_terms.specs.declared.node.Node.{Node}
-use Rattle.kb_terms.specs.declared.node.Node.TheVariants.{Const, Var}
-use Rattle.kb_terms.specs.Terms.{Extends, interned, variables_of}
+use Rattle.kb_terms.specs.declared.node.Node.TheVariants.{Var}
+use Rattle.kb_terms.specs.Terms.{Extends, variables_of}
 use Rattle.kb_terms.proofs.Growth.{extends-more}
 use Rattle.kb_terms.proofs.Values.{Extends-refl, Extends-trans}
 use Rattle.kb_picture.specs.declared.choice.Choice.{Choice}
 use Rattle.kb_picture.specs.declared.picture.Origin.{Origin}
 use Rattle.kb_picture.specs.declared.picture.Origin.TheVariants.{Arg, Field, Element}
 use Rattle.kb_picture.specs.declared.picture.Picture.{Picture}
-use Rattle.kb_picture.specs.declared.picture.Seen.TheVariants as seens
 use Rattle.kb_picture.specs.Growing.{params_of}
-use Rattle.kb_picture.specs.Growth.{after_read}
+use Rattle.kb_picture.specs.Growth.{after_read, after_int_read}
 use Rattle.kb_picture.specs.Queries.{kind_for}
 use Rattle.kb_picture.specs.Shapes.{HasShape}
-use Rattle.kb_picture.specs.WellTyped.{IsWellTyped}
-use Rattle.kb_picture.proofs.GrownShapes.{before_seen, choice_shape}
+use Rattle.kb_picture.specs.WellTyped.{IsWellTyped, is_reference_type}
+use Rattle.kb_picture.proofs.GrownShapes.{choice_shape, int_shape}
 use Rattle.kb_frames.specs.declared.state.SymObject.{SymObject}
 use Rattle.kb_frames.specs.declared.value.Cell.{Cell}
 use Rattle.kb_frames.specs.declared.value.Cell.TheVariants.{Written}
 use Rattle.kb_frames.specs.declared.value.SymValue.{SymValue}
 use Rattle.kb_frames.specs.declared.value.SymValue.TheVariants.{Int, Null, Obj, Literal, New, Loc}
-use Rattle.kb_frames.specs.FirstReads.{cells_chosen, first_int, first_reference, found_in, saw_variable, value_chosen}
+use Rattle.kb_frames.specs.FirstReads.{cells_chosen, first_int, first_reference, found_in, value_chosen}
 use Rattle.kb_frames.specs.Heaps.{with_cell, with_made_value}
 use Rattle.kb_frames.specs.Lent.{begun, local_in, stack_of, with_nodes}
-use Rattle.kb_frames.specs.Next.{is_reference, method_now, offset_now}
+use Rattle.kb_frames.specs.Next.{method_now, offset_now}
 use Rattle.kb_frames.specs.State.{State}
-use Rattle.kb_stepint.specs.Effects.{masked}
-use Rattle.kb_stepint.specs.Simulation.{AddsComparisons, Keeps}
-use Rattle.kb_stepint.specs.Ways.{Take, Fails, ill_typed, went}
-use Rattle.kb_stepint.proofs.AddedLaws.{same_when, went_when}
-use Rattle.kb_stepint.proofs.GrowLaws.{front_itself, front_of_front, if_has, interned_extends, op_extends, option_has}
-use Rattle.kb_stepint.proofs.KeepLaws.{Stays, stays_on, went_stays}
-use Rattle.kb_stepref.specs.Effects.{Planned, got, is_local, kept_in, plain, plan_of, planned, put, put_kept, put_where, result_in}
+use Rattle.kb_ways.specs.Kept.{kept_in, is_of_kind}
+use Rattle.kb_ways.specs.Simulation.{AddsComparisons, Keeps}
+use Rattle.kb_ways.specs.Ways.{Take, Fails, ill_typed, went}
+use Rattle.kb_ways.proofs.KeepLaws.{same_when, went_when, Stays, stays_on, went_stays}
+use Rattle.kb_ways.proofs.GrowLaws.{front_itself, front_of_front, if_has, option_has, HasMore}
+use Rattle.kb_ways.specs.Plans.{Planned, plain, planned, carried_out, takes_next, takes_up, returns_value}
+use Rattle.kb_stepref.specs.Effects.{got, is_local, plan_of, put, put_kept, put_where, puts_kept}
 use Rattle.kb_stepref.specs.Fields.{field_named, has_place, held, put_in}
 use Rattle.kb_stepref.specs.Laws.{IsAtReferences}
-use Rattle.kb_stepref.specs.Operands.{object_and_value, one_reference, reference, two_references}
-use Rattle.kb_stepref.specs.Questions.{Question, Reads, question_of}
-use Rattle.kb_stepref.specs.Takes.{answered, answers, carried_out, cut_where, goes_behind, passed_by, taken, takes_next, takes_up}
+use Rattle.kb_ways.specs.Operands.{an_object_and_value, a_reference, reference, two_references}
+use Rattle.kb_ways.specs.declared.question.Question.{Question}
+use Rattle.kb_ways.specs.declared.question.Question.TheVariants.{Reads}
+use Rattle.kb_stepref.specs.Questions.{question_of}
+use Rattle.kb_ways.specs.Questions.{answered, answers, cut_where, goes_behind, passed_by}
+use Rattle.kb_stepref.specs.Takes.{taken}
 use Rattle.kb_stepref.proofs.FirstReadLaws.{IsAsked, asked}
+use Rattle.kb_picture.specs.declared.choice.Choice.TheVariants.{Only}
+use Rattle.kb_ways.proofs.KeptLaws.{returns_has, kept_more}
+use Rattle.kb_ways.proofs.ItemLaws.{only_has}
 
 -- ---- what an instruction writes
 
@@ -94,17 +97,11 @@ put_writes Null slot value state = writes_none state
 put_writes (Literal number) slot value state = writes_none state
 put_writes (Loc number) slot value state = writes_none state
 
+more_writes : (old new : State) → HasMore old new → WritesHeap old new
+more_writes old new more = subst (WritesHeap old) (sym more.rest) (writes_nodes old new.nodes more.on.terms)
+
 kept_writes : (type : JType) (value : SymValue) (state : State) → WritesHeap state (kept_in type value state).0
-kept_writes types.Bool (Int term) state =
-    let one = interned state.nodes (Const (pos 1)) in
-    writes_nodes state (masked state term one).0
-    (Extends-trans state.nodes one.0 (masked state term one).0 (interned_extends state.nodes (Const (pos 1))) (op_extends one.0 And term (Some one.1)))
-kept_writes types.Bool Null state = writes_none state
-kept_writes types.Bool (Obj number) state = writes_none state
-kept_writes types.Bool (Literal number) state = writes_none state
-kept_writes types.Bool (New number) state = writes_none state
-kept_writes types.Bool (Loc number) state = writes_none state
-kept_writes _ value state = writes_none state
+kept_writes type value state = more_writes state (kept_in type value state).0 (kept_more type value state)
 
 module _ (world : World) (state : State) where
   abbrev Writes : Planned → Type 0
@@ -131,7 +128,8 @@ module _ (world : World) (state : State) where
 
   put_where_writes : (field : FieldSlot) (object value : SymValue) → Writes (put_where world state field object value)
   put_where_writes field object value =
-      if_has Writes (has_room world (method_now state.method state.stage) (length (drop 2 (stack_of state.stage)))) _ (plain state Fails) (put_kept_writes field object value) nothing
+      if_has Writes (has_room world (method_now state.method state.stage) (length (drop 2 (stack_of state.stage)))) _ (plain state Fails)
+      (only_has Writes (is_of_kind field.kind value) (kept_in field.kind value state) (puts_kept state object field.slot) (plain state Fails) (put_kept_writes field object value) nothing) nothing
 
   put_there_writes : (field : FieldSlot) (object value : SymValue) → Writes (if has_place world state field object then put_where world state field object value else plain state Fails)
   put_there_writes field object value =
@@ -145,17 +143,17 @@ module _ (world : World) (state : State) where
   puts_writes field (New number) value = put_there_writes field (New number) value
   puts_writes field (Loc number) value = put_there_writes field (Loc number) value
 
-  pub plan_writes : (instr : Instr) → WritesHeap state (plan_of world state instr).state
+  pub plan_writes : (instr : Instr) → WritesHeap state (plan_of world state Only instr).state
   plan_writes (instrs.LoadRef k) = planned_writes (reference (cond (is_local world state k) (local_in state.stage k) None)) _ (λ value. nothing)
-  plan_writes (instrs.StoreRef k) = planned_writes (one_reference (stack_of state.stage)) _ (λ value. nothing)
+  plan_writes (instrs.StoreRef k) = planned_writes (a_reference (stack_of state.stage)) _ (λ value. nothing)
   plan_writes (instrs.IfSame want target) = planned_writes (two_references (stack_of state.stage)) _ (λ t. nothing)
-  plan_writes (instrs.IfNull want target) = planned_writes (one_reference (stack_of state.stage)) _ (λ value. nothing)
+  plan_writes (instrs.IfNull want target) = planned_writes (a_reference (stack_of state.stage)) _ (λ value. nothing)
   plan_writes instrs.ReturnRef =
-      planned_writes (one_reference (stack_of state.stage)) _ (λ value. planned_writes (option_and_then (result_in value) (result_of world (method_now state.method state.stage))) _ (λ result. nothing))
+      planned_writes (a_reference (stack_of state.stage)) (returns_value world state) (λ value. returns_has Writes world state value (λ type. kept_writes type value state) nothing)
   plan_writes (instrs.GetField entry) =
-      planned_writes (field_named world state entry) _ (λ field. planned_writes (one_reference (stack_of state.stage)) (got world state field) (got_writes field))
+      planned_writes (field_named world state entry) _ (λ field. planned_writes (a_reference (stack_of state.stage)) (got world state field) (got_writes field))
   plan_writes (instrs.PutField entry) =
-      planned_writes (field_named world state entry) _ (λ field. planned_writes (object_and_value field.kind (stack_of state.stage)) _ (λ t. puts_writes field t.0 t.1))
+      planned_writes (field_named world state entry) _ (λ field. planned_writes (an_object_and_value field.kind (stack_of state.stage)) _ (λ t. puts_writes field t.0 t.1))
   plan_writes _ = nothing
 
 -- ---- what an instruction leaves
@@ -178,22 +176,22 @@ untold_on : (a b c : State) → Untold a b → Untold b c → Untold a c
 untold_on a b c ab bc = record { stays = stays_on a b c ab.stays bc.stays; when = bc.when ∙ ab.when }
 
 module _ (world : World) (bounds : Bounds) where
-  pub carried_out_untold : (state : State) (found : Instr × ℕ) → Untold state (carried_out world bounds state found).state
+  pub carried_out_untold : (state : State) (found : Instr × ℕ) → Untold state (carried_out plan_of world bounds Only state found).state
   carried_out_untold state found =
-      let plan = plan_of world state found.0 in
+      let plan = plan_of world state Only found.0 in
       let writes = plan_writes world state found.0 in
       untold_on state plan.state (went world bounds found.1 plan.state plan.way).state (untold_framed state plan.state writes.method writes.init writes.picture writes.terms writes.when)
       (record { stays = went_stays world bounds found.1 plan.state plan.way; when = went_when world bounds found.1 plan.state plan.way })
 
-  pub takes_up_untold : (state : State) → Untold state (takes_up world bounds state).state
+  pub takes_up_untold : (state : State) → Untold state (takes_up plan_of world bounds Only state).state
   takes_up_untold state =
-      option_has (λ (take : Take). Untold state take.state) (instruction_at world (method_now state.method state.stage) (offset_now state.stage)) (carried_out world bounds state) (ill_typed world state)
+      option_has (λ (take : Take). Untold state take.state) (instruction_at world (method_now state.method state.stage) (offset_now state.stage)) (carried_out plan_of world bounds Only state) (ill_typed world state)
       (carried_out_untold state) (untold_itself state)
 
-  pub takes_next_untold : (old : State) → Untold old (takes_next world bounds old).state
+  pub takes_next_untold : (old : State) → Untold old (takes_next plan_of world bounds Only old).state
   takes_next_untold old =
-      if_has (λ (take : Take). Untold old take.state) (nat_le bounds.run.steps old.carried) _ (takes_up world bounds (begun world old)) (untold_itself old)
-      (untold_on old (begun world old) (takes_up world bounds (begun world old)).state (untold_framed old (begun world old) refl refl refl (Extends-refl old.nodes) refl)
+      if_has (λ (take : Take). Untold old take.state) (nat_le bounds.run.steps old.carried) _ (takes_up plan_of world bounds Only (begun world old)) (untold_itself old)
+      (untold_on old (begun world old) (takes_up plan_of world bounds Only (begun world old)).state (untold_framed old (begun world old) refl refl refl (Extends-refl old.nodes) refl)
       (takes_up_untold (begun world old)))
 
   -- ---- behind an answer
@@ -202,7 +200,7 @@ module _ (world : World) (bounds : Bounds) where
   cut_untold None state take h = h
   cut_untold (Some bound) state take h = untold_itself state
 
-  behind_untold : (slot : Origin) (state : State) → Untold state (goes_behind world bounds slot state).state
+  behind_untold : (slot : Origin) (state : State) → Untold state (goes_behind plan_of world bounds slot state).state
   behind_untold (Arg number) state = untold_itself state
   behind_untold (Field object slot) state = takes_up_untold state
   behind_untold (Element array index) state = takes_up_untold state
@@ -212,15 +210,15 @@ module _ (world : World) (bounds : Bounds) where
   told_by state slot type is choice = if is then first_reference world slot choice state else first_int slot (kind_for (Some type)) state
 
   abbrev pub take_by : State → Origin → JType → Bool → Choice → Take
-  take_by state slot type is choice = cut_where (passed_by choice) (told_by state slot type is choice) (goes_behind world bounds slot (told_by state slot type is choice))
+  take_by state slot type is choice = cut_where (passed_by choice) (told_by state slot type is choice) (goes_behind plan_of world bounds slot (told_by state slot type is choice))
 
   pub take_untold : (state : State) (slot : Origin) (type : JType) (is : Bool) (choice : Choice) → Untold (told_by state slot type is choice) (take_by state slot type is choice).state
   take_untold state slot type is choice =
       let told : State = told_by state slot type is choice in
-      cut_untold (passed_by choice) told (goes_behind world bounds slot told) (behind_untold slot told)
+      cut_untold (passed_by choice) told (goes_behind plan_of world bounds slot told) (behind_untold slot told)
 
-  pub answers_untold : (choice : Choice) (state : State) (question : Question) → Untold (answered world choice state question) (answers world bounds choice state question).state
-  answers_untold choice state (Reads slot type) = take_untold state slot type (is_reference type) choice
+  pub answers_untold : (choice : Choice) (state : State) (question : Question) → Untold (answered world choice state question) (answers plan_of world bounds choice state question).state
+  answers_untold choice state (Reads slot type) = take_untold state slot type (is_reference_type type) choice
 
 -- ---- what an answer tells
 
@@ -244,26 +242,26 @@ reference_tells world slot choice state =
     record { method = found.method; init = found.init; carried = found.carried; picture = found.picture; nodes = found.nodes; when = found.when }
 
 pub int_tells : (slot : Origin) (kind : VarKind) (state : State)
-    → Tells state (first_int slot kind state) (saw_variable state.picture slot (variables_of state.nodes)) (state.nodes ++ Var (variables_of state.nodes) kind ∷ [])
+    → Tells state (first_int slot kind state) (after_int_read state.picture slot) (state.nodes ++ Var (variables_of state.nodes) kind ∷ [])
 int_tells slot kind state =
     let found = found_tells slot (Int (record { 0 = length state.nodes }))
-    (record state { picture = saw_variable state.picture slot (variables_of state.nodes); nodes = state.nodes ++ Var (variables_of state.nodes) kind ∷ [] }) in
+    (record state { picture = after_int_read state.picture slot; nodes = state.nodes ++ Var (variables_of state.nodes) kind ∷ [] }) in
     record { method = found.method; init = found.init; carried = found.carried; picture = found.picture; nodes = found.nodes; when = found.when }
 
 -- whichever it is
 pub answered_when : (world : World) (choice : Choice) (state : State) (question : Question) → (answered world choice state question).when ≡ state.when
 answered_when world choice state (Reads slot type) =
-    if_has (λ (s : State). s.when ≡ state.when) (is_reference type) (first_reference world slot choice state) (first_int slot (kind_for (Some type)) state) (reference_tells world slot choice state).when
+    if_has (λ (s : State). s.when ≡ state.when) (is_reference_type type) (first_reference world slot choice state) (first_int slot (kind_for (Some type)) state) (reference_tells world slot choice state).when
     (int_tells slot (kind_for (Some type)) state).when
 
 pub answered_method : (world : World) (choice : Choice) (state : State) (question : Question) → (answered world choice state question).method ≡ state.method
 answered_method world choice state (Reads slot type) =
-    if_has (λ (s : State). s.method ≡ state.method) (is_reference type) (first_reference world slot choice state) (first_int slot (kind_for (Some type)) state) (reference_tells world slot choice state).method
+    if_has (λ (s : State). s.method ≡ state.method) (is_reference_type type) (first_reference world slot choice state) (first_int slot (kind_for (Some type)) state) (reference_tells world slot choice state).method
     (int_tells slot (kind_for (Some type)) state).method
 
 pub answered_carried : (world : World) (choice : Choice) (state : State) (question : Question) → (answered world choice state question).carried ≡ state.carried
 answered_carried world choice state (Reads slot type) =
-    if_has (λ (s : State). s.carried ≡ state.carried) (is_reference type) (first_reference world slot choice state) (first_int slot (kind_for (Some type)) state)
+    if_has (λ (s : State). s.carried ≡ state.carried) (is_reference_type type) (first_reference world slot choice state) (first_int slot (kind_for (Some type)) state)
     (reference_tells world slot choice state).carried (int_tells slot (kind_for (Some type)) state).carried
 
 -- ---- what is kept
@@ -307,28 +305,27 @@ module _ (world : World) (bounds : Bounds) (old : State) (choice : Choice) where
           init = tells.init;
           terms = subst (Extends old.nodes) (sym tells.nodes) (extends-more old.nodes (Var (variables_of old.nodes) kind));
           conditions = same_conditions old (first_int slot kind old) tells.when;
-          shapes = λ input shape.
-              (before_seen old.picture (slot, seens.Int (variables_of old.nodes)) input (subst (λ (p : Picture). HasShape p input) tells.picture shape)).shape;
+          shapes = λ input shape. int_shape old.picture slot input (subst (λ (p : Picture). HasShape p input) tells.picture shape);
         }
 
     pub answered_kept : Keeps old (answered world choice old (Reads slot type))
     answered_kept =
-        if_has (Keeps old) (is_reference type) (first_reference world slot choice old) (first_int slot (kind_for (Some type)) old) reference_kept (int_kept (kind_for (Some type)))
+        if_has (Keeps old) (is_reference_type type) (first_reference world slot choice old) (first_int slot (kind_for (Some type)) old) reference_kept (int_kept (kind_for (Some type)))
 
   pub kept : IsAtReferences world old → Keeps old (taken world bounds old choice).state
   kept at = go (question_of world old bounds) refl where
-    go : (q : Option Question) → question_of world old bounds ≡ q → Keeps old (option_map_or (answers world bounds choice old) q (takes_next world bounds old)).state
-    go None e = kept_of_untold old (takes_next world bounds old).state (takes_next_untold world bounds old)
+    go : (q : Option Question) → question_of world old bounds ≡ q → Keeps old (option_map_or (answers plan_of world bounds choice old) q (takes_next plan_of world bounds Only old)).state
+    go None e = kept_of_untold old (takes_next plan_of world bounds Only old).state (takes_next_untold world bounds old)
     go (Some (Reads slot type)) e =
         let told : State = answered world choice old (Reads slot type) in
-        let behind : State = (answers world bounds choice old (Reads slot type)).state in
-        kept_on old told behind (answered_kept at.reached.reached.typed slot type (asked world bounds old at slot type e)) (kept_of_untold told behind (answers_untold world bounds choice old (Reads slot type)))
+        let behind : State = (answers plan_of world bounds choice old (Reads slot type)).state in
+        kept_on old told behind (answered_kept at.reached.typed slot type (asked world bounds old at slot type e)) (kept_of_untold told behind (answers_untold world bounds choice old (Reads slot type)))
 
   -- ---- what is compared
 
   taken_when : (taken world bounds old choice).state.when ≡ old.when
   taken_when =
-      option_has (λ (take : Take). take.state.when ≡ old.when) (question_of world old bounds) (answers world bounds choice old) (takes_next world bounds old)
+      option_has (λ (take : Take). take.state.when ≡ old.when) (question_of world old bounds) (answers plan_of world bounds choice old) (takes_next plan_of world bounds Only old)
       (λ question. (answers_untold world bounds choice old question).when ∙ answered_when world choice old question) (takes_next_untold world bounds old).when
 
   -- no condition is added

@@ -26,7 +26,7 @@ use Rattle.kb_picture.specs.Growth.{after_read, with_fresh}
 use Rattle.kb_picture.specs.Laws.{with_seen}
 use Rattle.kb_lazy.specs.Choices.{aliases, aliases_from, all_new, beyond_where, fresh_objects, has_fitting, new_objects, null_unless, read_choices_of}
 use Rattle.kb_lazy.specs.Laws.{HasNoBeyond}
-use Rattle.kb_stepref.specs.Takes.{passed_by}
+use Rattle.kb_ways.specs.Questions.{passed_by}
 use Rattle.kb_stepref.proofs.FieldSlots.{all_joined}
 
 -- ---- what is offered

@@ -16,8 +16,8 @@ use Rattle.kb_frames.specs.declared.value.SymValue.{SymValue}
 use Rattle.kb_frames.specs.StandsFor.{HeapStandsFor, IsKept, made_at, present_value, value_of_sym}
 use Rattle.kb_frames.specs.State.{State, cell_at}
 use Rattle.kb_frames.specs.States.{AreCells, Each, IsMade}
-use Rattle.kb_stepint.proofs.OutcomeValues.{cells_sound}
-use Rattle.kb_stepint.proofs.AlikeLaws.{AreAlike, cell_alike, objects_alike}
+use Rattle.kb_ways.proofs.OutcomeValues.{cells_sound}
+use Rattle.kb_ways.proofs.AlikeLaws.{AreAlike, cell_alike, objects_alike}
 
 -- ---- one slot of an object of the picture, which lies at the place
 

@@ -21,8 +21,8 @@ use Rattle.kb_frames.specs.declared.value.SymValue.TheVariants.{Int, Null, Obj, 
 use Rattle.kb_frames.specs.Heaps.{with_cell}
 use Rattle.kb_frames.specs.State.{State}
 use Rattle.kb_frames.specs.States.{AreCells, Each, HasCells, IsCell, IsFrame, IsLocal, IsMade, IsStage, IsSymValue}
-use Rattle.kb_stepint.specs.Reached.{HasReadReceiver, IsAlone}
-use Rattle.kb_stepint.proofs.SoundLaws.{Sound, conditions_still}
+use Rattle.kb_ways.specs.Reached.{HasReadReceiver, IsAlone}
+use Rattle.kb_ways.proofs.SoundLaws.{Sound, conditions_still}
 use Rattle.kb_stepref.proofs.CellLaws.{with_row}
 
 pub record IsMore (old new : State) : Type 0 where

@@ -37,11 +37,11 @@ use Rattle.kb_frames.specs.Heaps.{find_cell, value_of_cell}
 use Rattle.kb_frames.specs.StandsFor.{HeapStandsFor, IsLike, made_at, present_value, reading_at, value_of_sym, values_of_sym}
 use Rattle.kb_frames.specs.State.{State, cell_at}
 use Rattle.kb_frames.specs.States.{AreCells, HasCells, IsSymValue}
-use Rattle.kb_stepint.proofs.OutcomeStands.{as_many}
-use Rattle.kb_stepint.proofs.OutcomeValues.{there}
-use Rattle.kb_stepint.proofs.OutcomeWays.{no_place}
+use Rattle.kb_ways.proofs.OutcomeStands.{as_many}
+use Rattle.kb_ways.proofs.OutcomeValues.{there}
+use Rattle.kb_ways.proofs.OutcomeWays.{no_place}
 use Rattle.kb_stepref.specs.Fields.{cell_of, has_place, has_slot_of, held, made_value_of}
-use Rattle.kb_stepref.specs.Operands.{same}
+use Rattle.kb_stepref.specs.Comparing.{same}
 use Rattle.kb_stepref.specs.Questions.{asks_cell, asks_field}
 use Rattle.kb_stepref.proofs.CellLaws.{found_cell}
 use Rattle.kb_stepref.proofs.ReferenceLaws.{IsReference, referred}

@@ -31,25 +31,26 @@ use Rattle.kb_frames.specs.Next.{argument_next, instruction_next, method_now, of
 use Rattle.kb_frames.specs.StandsFor.{FrameStandsFor, FramesStandFor, IsInstanceOf, StandsFor, reading_at}
 use Rattle.kb_frames.specs.State.{State}
 use Rattle.kb_frames.proofs.RunLaws.{counters_agree}
-use Rattle.kb_stepint.specs.Reached.{IsAlone}
-use Rattle.kb_stepint.specs.Simulation.{IsOutcome}
-use Rattle.kb_stepint.specs.Ways.{Take, ill_typed, went}
-use Rattle.kb_stepint.proofs.OneLaws.{place_same}
-use Rattle.kb_stepint.proofs.OutcomeLaws.{step_taken, stores_taken}
-use Rattle.kb_stepint.proofs.OutcomeStands.{Running, none_standing, running}
-use Rattle.kb_stepint.proofs.OutcomeValues.{heap_later, reading_later}
-use Rattle.kb_stepint.proofs.OutcomeWays.{ill_typed_is, went_is}
-use Rattle.kb_stepint.proofs.PastLaws.{cut_by_steps}
-use Rattle.kb_stepint.proofs.SoundLaws.{Sound, begun_sound, sound_reached}
-use Rattle.kb_stepint.proofs.ValueLaws.{IsOrdered, pool_ordered}
-use Rattle.kb_stepref.specs.Effects.{Planned, branches_null, branches_same, gets, loads, plan_of, pushes_null, returns_reference}
-use Rattle.kb_stepref.specs.Effects.{stores as stores_sym}
-use Rattle.kb_stepref.specs.HeapMethods.{is_reference_instruction}
+use Rattle.kb_ways.specs.Reached.{IsAlone}
+use Rattle.kb_ways.specs.Simulation.{IsOutcome}
+use Rattle.kb_ways.specs.Ways.{Take, ill_typed, went}
+use Rattle.kb_ways.proofs.BegunLaws.{place_same}
+use Rattle.kb_ways.proofs.StepLaws.{step_taken, stores_taken}
+use Rattle.kb_ways.proofs.OutcomeStands.{Running, none_standing, running}
+use Rattle.kb_ways.proofs.OutcomeValues.{heap_later, reading_later}
+use Rattle.kb_ways.proofs.OutcomeWays.{ill_typed_is, went_is}
+use Rattle.kb_ways.proofs.PastLaws.{cut_by_steps}
+use Rattle.kb_ways.proofs.SoundLaws.{Sound, begun_sound, sound_reached}
+use Rattle.kb_ways.proofs.ValueLaws.{IsOrdered, pool_ordered}
+use Rattle.kb_ways.specs.Plans.{Planned, carried_out, followed, takes_next, takes_up}
+use Rattle.kb_stepref.specs.Effects.{branches_null, branches_same, gets, loads, plan_of, pushes_null, returns_reference, stores as stores_sym}
+use Rattle.kb_ways.specs.Built.{is_reference_instruction}
 use Rattle.kb_stepref.specs.Laws.{IsAtReferences}
-use Rattle.kb_stepref.specs.Questions.{Reads, asked_at, asked_by, question_of}
-use Rattle.kb_stepref.specs.Takes.{carried_out, followed, takes_next, takes_up}
+use Rattle.kb_ways.specs.declared.question.Question.TheVariants.{Reads}
+use Rattle.kb_stepref.specs.Questions.{asked_at, asked_by, question_of}
 use Rattle.kb_stepref.proofs.OutcomePlans.{IsPlan, branches_null_is, branches_same_is, gets_is, loads_is, pushes_null_is, returns_reference_is, stores_is}
 use Rattle.kb_stepref.proofs.PutLaws.{puts_follow}
+use Rattle.kb_picture.specs.declared.choice.Choice.TheVariants.{Only}
 
 -- ---- in a frame
 
@@ -82,7 +83,7 @@ module _ (world : World) (bounds : Bounds) (base : State) (frame : SymFrame) (so
 
   -- An instruction is carried out.
   carried_follows : (next : ℕ) (instr : Instr) → is_reference_instruction instr ≡ true → asked_by world state instr ≡ None → stores s c ≡ stored_by instr s c → step s c ≡ effect instr s next c
-      → Follows (followed world bounds next (plan_of world state instr))
+      → Follows (followed world bounds next (plan_of world state Only instr))
   unfolding effect push_null load_reference store_reference if_same if_null return_reference get_field put_field
   carried_follows next instrs.PushNull is told stored e = plain_follows next _ (pushes_null state) (pushes_null_is world bounds base frame sound known input correct c stands next) stored e
   carried_follows next (instrs.LoadRef k) is told stored e = plain_follows next _ (loads world state k) (loads_is world bounds base frame sound known input correct c stands next k) stored e
@@ -103,11 +104,11 @@ module _ (world : World) (bounds : Bounds) (base : State) (frame : SymFrame) (so
 
     -- The next instruction is taken up, or the code has run off its end.
     frame_follows : ((found : Instr × ℕ) → instruction_at world frame.method frame.at ≡ Some found → (is_reference_instruction found.0 ≡ true) × (asked_by world state found.0 ≡ None))
-        → Follows (takes_up world bounds state)
+        → Follows (takes_up plan_of world bounds Only state)
     frame_follows told = go (instruction_at world frame.method frame.at) refl told where
       go : (it : Option (Instr × ℕ)) → instruction_at world frame.method frame.at ≡ it
           → ((found : Instr × ℕ) → it ≡ Some found → (is_reference_instruction found.0 ≡ true) × (asked_by world state found.0 ≡ None))
-          → Follows (option_map_or (carried_out world bounds state) it (ill_typed world state))
+          → Follows (option_map_or (carried_out plan_of world bounds Only state) it (ill_typed world state))
       go None at told =
           ill_typed_is world bounds state sound input c stands frame sound.alone.0 callers 0 state.nodes (Extends-refl state.nodes) state.when framed
           (step_taken s c within_now None (place_is ∙ at))
@@ -133,7 +134,7 @@ module _ (world : World) (bounds : Bounds) (old : State) (known : old.picture.lo
   abbrev Taken : Stage → Type 0
   Taken stage =
       Sound world (at_stage stage) → StandsFor (setting_of world bounds) (at_stage stage) input c → AreTold world (at_stage stage)
-      → FollowsAt world bounds input c (takes_up world bounds (at_stage stage))
+      → FollowsAt world bounds input c (takes_up plan_of world bounds Only (at_stage stage))
 
   stage_follows : (stage : Stage) (frame : SymFrame) → stage ≡ Runs frame [] → Taken stage
   stage_follows stage frame is =
@@ -142,7 +143,7 @@ module _ (world : World) (bounds : Bounds) (old : State) (known : old.picture.lo
 -- The next instruction of a run whose arguments are read is taken up, where nothing is left to be told.
 pub takes_up_follows : (world : World) (bounds : Bounds) (old : State) (frame : SymFrame) (callers : List SymFrame) → old.stage ≡ Runs frame callers
     → Sound world old → old.picture.locs ≡ [] → IsOrdered old.nodes → (input : Input) → IsTypeCorrect world old.method input → (c : Config) → StandsFor (setting_of world bounds) old input c
-    → nat_le bounds.run.steps old.carried ≡ false → AreTold world old → FollowsAt world bounds input c (takes_up world bounds old)
+    → nat_le bounds.run.steps old.carried ≡ false → AreTold world old → FollowsAt world bounds input c (takes_up plan_of world bounds Only old)
 takes_up_follows world bounds old frame callers runs sound known ordered input correct c stands within told =
     let alone : IsAlone old.method (Runs frame callers) = subst (IsAlone old.method) runs sound.alone in
     stage_follows world bounds old known ordered input correct c within old.stage frame (runs ∙ ap (Runs frame) alone.1) sound stands told
@@ -162,7 +163,7 @@ module _ (world : World) (bounds : Bounds) (old : State) (at : IsAtReferences wo
   places = stands.instance_of.shape.places
 
   sound : Sound world old
-  sound = sound_reached world old at.reached.reached
+  sound = sound_reached world old at.reached at.alone at.unhandled
 
   module _ (none : argument_next world old.method old.stage ≡ None) where
     run : Running world old old.stage (reading_at world old input places) c
@@ -198,16 +199,16 @@ module _ (world : World) (bounds : Bounds) (old : State) (at : IsAtReferences wo
       next = ap (option_map (λ (f : Instr × ℕ). f.0)) there
 
     by_steps : (b : Bool) → nat_le bounds.run.steps old.carried ≡ b → (if b then None else option_and_then (asked_by world old) (instruction_next world old.method old.stage)) ≡ None
-        → FollowsAt world bounds input c (if b then record { state = old; outcome = Cut Steps } else takes_up world bounds (begun world old))
+        → FollowsAt world bounds input c (if b then record { state = old; outcome = Cut Steps } else takes_up plan_of world bounds Only (begun world old))
     by_steps true e quiet = λ i. cut_by_steps world bounds old input c stands (leb-true bounds.run.steps old.carried e)
     by_steps false e quiet =
-        stage_follows world bounds old at.reached.known (pool_ordered old.nodes at.reached.reached.sound.pool) input correct c e (begun_stage world old old.stage) run.frame run.is
+        stage_follows world bounds old at.known (pool_ordered old.nodes at.reached.sound.pool) input correct c e (begun_stage world old old.stage) run.frame run.is
         (begun_sound world old sound none) begun_stands (begun_told quiet)
 
   -- The next step of a state that asks nothing.
-  pub takes_next_follows : question_of world old bounds ≡ None → FollowsAt world bounds input c (takes_next world bounds old)
+  pub takes_next_follows : question_of world old bounds ≡ None → FollowsAt world bounds input c (takes_next plan_of world bounds Only old)
   takes_next_follows quiet = go (argument_next world old.method old.stage) refl quiet where
     go : (next : Option JType) → argument_next world old.method old.stage ≡ next
-        → option_map_or (λ (type : JType). Some (Reads (Arg (read_count old.stage)) type)) next (asked_at world old bounds) ≡ None → FollowsAt world bounds input c (takes_next world bounds old)
+        → option_map_or (λ (type : JType). Some (Reads (Arg (read_count old.stage)) type)) next (asked_at world old bounds) ≡ None → FollowsAt world bounds input c (takes_next plan_of world bounds Only old)
     go None none quiet = by_steps none (nat_le bounds.run.steps old.carried) refl quiet
     go (Some type) none quiet = absurd cc

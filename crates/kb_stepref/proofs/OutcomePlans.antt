@@ -1,6 +1,6 @@
 -- What an instruction on references does to a state is what it does to the configuration, with each symbolic value in the place
 -- of its value: one lemma for each kind of effect that writes nothing into the heap.
-use Rattle.std.proofs.Common.{◌≡◌, ℕ, Bool, true, false, List, [], ◌∷◌, map, drop, nat_lt, slice_get, Option, Some, None, cond, refl, sym, ap, ◌∙◌}
+use Rattle.std.proofs.Common.{◌≡◌, ℕ, Bool, true, false, List, [], ◌∷◌, map, drop, nat_lt, slice_get, Option, Some, None, cond, refl, sym, ap, ◌∙◌, subst}
 use Rattle.std.specs.Option.{option_map, option_map_or, option_and_then}
 use Rattle.kb_class.specs.declared.ids.MethodId.{MethodId}
 use Rattle.kb_heap.specs.declared.bounds.Bounds.{Bounds}
@@ -12,13 +12,11 @@ use Rattle.kb_heap.specs.Heap.{object_at}
 use Rattle.kb_link.specs.World.{World}
 use Rattle.kb_link.specs.declared.slots.FieldSlot.{FieldSlot}
 use Rattle.kb_names.specs.declared.types.JType.{JType}
-use Rattle.kb_world.specs.Lookup.{resolved_field}
+use Rattle.kb_world.specs.Lookup.{resolved_field, only_where}
 use Rattle.kb_semantics.specs.Config.{Setting, Config, Outcome, class_number, local_of, max_locals_of, result_of}
 use Rattle.kb_semantics.specs.Inputs.{IsTypeCorrect}
-use Rattle.kb_semantics.specs.Instructions.{field_of, is_wanted, on_object, same_reference, sets_local, with}
-use Rattle.kb_semantics.specs.Instructions.{is_null as is_null_reference}
-use Rattle.kb_semantics.specs.Operands.{Reference, Taken, a_reference, reference_of, value_of_reference}
-use Rattle.kb_semantics.specs.Operands.{two_references as two_of}
+use Rattle.kb_semantics.specs.Instructions.{field_of, is_wanted, on_object, same_reference, sets_local, with, is_null as is_null_reference}
+use Rattle.kb_semantics.specs.Operands.{Reference, Taken, a_reference, reference_of, value_of_reference, two_references as two_of}
 use Rattle.kb_semantics.specs.Values.{kept}
 use Rattle.kb_semantics.specs.Ways.{branches, goes, goes_on, hands_over, ill_typed, returns_value}
 use Rattle.kb_picture.specs.Endings.{Reading}
@@ -30,18 +28,20 @@ use Rattle.kb_frames.specs.Cuts.{setting_of}
 use Rattle.kb_frames.specs.StandsFor.{FrameStandsFor, StandsFor, reading_at, value_of_sym, values_of_sym}
 use Rattle.kb_frames.specs.State.{State}
 use Rattle.kb_frames.specs.States.{IsSymValue}
-use Rattle.kb_stepint.specs.Effects.{with_stack}
-use Rattle.kb_stepint.specs.Ways.{Leaves}
-use Rattle.kb_stepint.proofs.ComparedLaws.{two_parts}
-use Rattle.kb_stepint.proofs.OutcomePlans.{led_to, local_set, local_value}
-use Rattle.kb_stepint.proofs.SoundLaws.{Sound}
-use Rattle.kb_stepref.specs.Effects.{Planned, branch_where, branches_null, branches_same, gets, got, in_local, loads, plain, planned, pushes_null, result_in, returns_reference, stores}
+use Rattle.kb_ways.specs.Ways.{with_stack}
+use Rattle.kb_ways.proofs.ItemLaws.{two_parts}
+use Rattle.kb_ways.proofs.LocalLaws.{led_to, local_set, local_value}
+use Rattle.kb_ways.proofs.SoundLaws.{Sound}
+use Rattle.kb_ways.specs.Kept.{kept as sym_kept, is_of_kind}
+use Rattle.kb_ways.specs.Plans.{returns_value as returns_value_sym, Planned, plain, planned, leaves_with}
+use Rattle.kb_stepref.specs.Effects.{branch_where, branches_null, branches_same, gets, got, in_local, loads, pushes_null, returns_reference, stores}
 use Rattle.kb_stepref.specs.Fields.{field_named, held}
-use Rattle.kb_stepref.specs.Operands.{is_null, one_reference, reference, same, two_references}
+use Rattle.kb_stepref.specs.Comparing.{is_null, same}
+use Rattle.kb_ways.specs.Operands.{a_reference as one_reference, reference, two_references}
 use Rattle.kb_stepref.specs.Questions.{asks_field}
 use Rattle.kb_stepref.proofs.ObjectLaws.{field_held, same_is}
-use Rattle.kb_stepref.proofs.ReferenceLaws.{IsReference, null_is, one_reference_is, pair_below, reference_back, reference_kind, reference_value, referred, result_kept, top_reference, two_references_are}
-use Rattle.kb_stepref.proofs.SoundLaws.{reference_is}
+use Rattle.kb_stepref.proofs.ReferenceLaws.{IsReference, null_is, one_reference_is, pair_below, reference_back, reference_kind, reference_value, referred, result_kept, top_reference, two_references_are, kept_whole}
+use Rattle.kb_ways.proofs.KeptLaws.{reference_is}
 
 -- The state has the frame with which a run goes on whose arguments are read.
 module _ (world : World) (bounds : Bounds) (base : State) (frame : SymFrame) (sound : Sound world (record base { stage = Runs frame [] })) (known : base.picture.locs ≡ [])
@@ -174,12 +174,10 @@ module _ (world : World) (bounds : Bounds) (base : State) (frame : SymFrame) (so
   abbrev handed : Value → Outcome
   handed value = hands_over s c (Some value)
 
-  returned_is : (value : SymValue) → IsReference value
-      → IsPlan (returns_value s c (value_of_reference (referred r value))) (planned state (option_and_then (result_in value) (result_of world frame.method)) (λ (result : SymValue). plain state (Leaves (Some result))))
+  returned_is : (value : SymValue) → IsReference value → IsPlan (returns_value s c (value_of_reference (referred r value))) (returns_value_sym world state value)
   unfolding returns_value
   returned_is value is =
-      so (returns_value s c (value_of_reference (referred r value))) (option_map_or handed (option_and_then keeps (result_of world frame.method)) (ill_typed s c))
-      (planned state (option_and_then (result_in value) (result_of world frame.method)) (λ (result : SymValue). plain state (Leaves (Some result))))
+      so (returns_value s c (value_of_reference (referred r value))) (option_map_or handed (option_and_then keeps (result_of world frame.method)) (ill_typed s c)) (returns_value_sym world state value)
       (ap (λ (v : Value). option_map_or handed (option_and_then (λ (type : JType). kept type v) (result_of world c.frame.method)) (ill_typed s c)) (reference_back r value is)
       ∙ ap (λ (m : MethodId). option_map_or handed (option_and_then keeps (result_of world m)) (ill_typed s c)) framed.method)
       (go (result_of world frame.method))
@@ -187,22 +185,30 @@ module _ (world : World) (bounds : Bounds) (base : State) (frame : SymFrame) (so
       keeps : JType → Option Value
       keeps type = kept type (value_of_sym r value)
 
-      one : (type : JType) (it : Option SymValue) → keeps type ≡ option_map (value_of_sym r) it
-          → IsPlan (option_map_or handed (keeps type) (ill_typed s c)) (planned state it (λ (result : SymValue). plain state (Leaves (Some result))))
-      one type it e =
-          so (option_map_or handed (keeps type) (ill_typed s c)) (with s c (option_map (value_of_sym r) it) handed) (planned state it (λ (result : SymValue). plain state (Leaves (Some result))))
-          (ap (λ (o : Option Value). option_map_or handed o (ill_typed s c)) e)
-          (with_is (value_of_sym r) handed (λ (result : SymValue). plain state (Leaves (Some result))) it (λ result e. (refl, refl)))
+      handed_kept : Option Value → Outcome
+      handed_kept it = option_map_or handed it (ill_typed s c)
 
-      go : (result : Option JType)
-          → IsPlan (option_map_or handed (option_and_then keeps result) (ill_typed s c)) (planned state (option_and_then (result_in value) result) (λ (result : SymValue). plain state (Leaves (Some result))))
+      left : Option (State × SymValue) → Planned
+      left it = planned state it leaves_with
+
+      whole : (b : Bool) → IsPlan (handed_kept (option_map (value_of_sym r) (only_where b value))) (left (only_where b (state, value)))
+      whole true = (refl, refl)
+      whole false = (refl, refl)
+
+      one : (type : JType) → IsPlan (handed_kept (keeps type)) (left (sym_kept type value state))
+      one type =
+          subst (λ (it : State × SymValue). IsPlan (handed_kept (keeps type)) (left (only_where (is_of_kind type value) it))) (sym (kept_whole type value state is))
+          (so (handed_kept (keeps type)) (handed_kept (option_map (value_of_sym r) (only_where (is_of_kind type value) value))) (left (only_where (is_of_kind type value) (state, value)))
+          (ap handed_kept (result_kept r type value is)) (whole (is_of_kind type value)))
+
+      go : (result : Option JType) → IsPlan (handed_kept (option_and_then keeps result)) (left (option_and_then (λ (type : JType). sym_kept type value state) result))
       go None = (refl, refl)
-      go (Some type) = one type (result_in value type) (result_kept r type value is)
+      go (Some type) = one type
 
   pub returns_reference_is : IsPlan (with s c (a_reference c.frame.stack) (λ t. returns_value s c (value_of_reference t.it))) (returns_reference world state)
   returns_reference_is =
       with_one (λ (t : Taken Reference). returns_value s c (value_of_reference t.it))
-      (λ (value : SymValue). planned state (option_and_then (result_in value) (result_of world frame.method)) (λ (result : SymValue). plain state (Leaves (Some result))))
+      (returns_value_sym world state)
       (λ value e. returned_is value (value_there 0 value e).0)
 
   -- ---- getfield

@@ -18,8 +18,7 @@ use Rattle.kb_frames.specs.declared.state.SymObject.{SymObject}
 use Rattle.kb_frames.specs.declared.value.Cell.{Cell}
 use Rattle.kb_frames.specs.declared.value.Cell.TheVariants.{Read, Written}
 use Rattle.kb_frames.specs.declared.value.SymValue.{SymValue}
-use Rattle.kb_frames.specs.Heaps.{find_cell, with_cell}
-use Rattle.kb_frames.specs.Heaps.{object_with as sym_object_with}
+use Rattle.kb_frames.specs.Heaps.{find_cell, with_cell, object_with as sym_object_with}
 use Rattle.kb_frames.specs.StandsFor.{HeapStandsFor, IsKept, IsLike, made_at, present_value, value_of_sym, values_of_sym}
 use Rattle.kb_frames.specs.State.{State, cell_at}
 use Rattle.kb_stepref.proofs.CellLaws.{with_here, with_other}

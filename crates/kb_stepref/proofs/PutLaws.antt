@@ -25,8 +25,7 @@ use Rattle.kb_semantics.specs.Instructions.{field_of, on_object, put_field, with
 use Rattle.kb_semantics.specs.Looks.{Slot, at_most_one, field_slot, if_some, stored_by, stores}
 use Rattle.kb_semantics.specs.Operands.{Reference, Taken, an_object_and_value}
 use Rattle.kb_semantics.specs.Step.{first_heap, step}
-use Rattle.kb_semantics.specs.Ways.{goes_on, goes_with, null_pointer}
-use Rattle.kb_semantics.specs.Ways.{carries_out as carries_out_step, ill_typed as ill_typed_step}
+use Rattle.kb_semantics.specs.Ways.{goes_on, goes_with, null_pointer, carries_out as carries_out_step, ill_typed as ill_typed_step}
 use Rattle.kb_terms.specs.declared.node.TermId.{TermId}
 use Rattle.kb_terms.specs.declared.node.Node.{Node}
 use Rattle.kb_terms.specs.declared.node.Node.TheVariants.{Const}
@@ -45,31 +44,29 @@ use Rattle.kb_frames.specs.declared.value.Cell.TheVariants.{Written}
 use Rattle.kb_frames.specs.declared.value.SymValue.{SymValue}
 use Rattle.kb_frames.specs.declared.value.SymValue.TheVariants.{Int, Null, Obj, Literal, New, Loc}
 use Rattle.kb_frames.specs.Cuts.{setting_of}
-use Rattle.kb_frames.specs.Heaps.{with_cell}
-use Rattle.kb_frames.specs.Heaps.{object_with as sym_object_with}
+use Rattle.kb_frames.specs.Heaps.{with_cell, object_with as sym_object_with}
 use Rattle.kb_frames.specs.Lent.{with_nodes}
 use Rattle.kb_frames.specs.StandsFor.{FrameStandsFor, HeapStandsFor, IsInstanceOf, IsKept, StandsFor, beginning_of, made_at, reading_at, value_of_sym, values_of_sym, written_by}
 use Rattle.kb_frames.specs.State.{State}
 use Rattle.kb_frames.specs.States.{IsSymValue}
-use Rattle.kb_stepint.specs.Effects.{masked}
-use Rattle.kb_stepint.specs.Simulation.{IsOutcome}
-use Rattle.kb_stepint.specs.Ways.{Take, Goes, Fails, carries_out, ill_typed, went}
-use Rattle.kb_stepint.proofs.GrowLaws.{interned_extends, op_extends}
-use Rattle.kb_stepint.proofs.ItemLaws.{each_drop}
-use Rattle.kb_stepint.proofs.OutcomeStands.{none_standing}
-use Rattle.kb_stepint.proofs.OutcomeValues.{IsLater, frame_later, heap_later, reading_int, reading_later, there}
-use Rattle.kb_stepint.proofs.OutcomeWays.{ill_typed_is, room_same, throws_is, writes_stand}
-use Rattle.kb_stepint.proofs.SoundLaws.{Sound}
-use Rattle.kb_stepint.proofs.ValueLaws.{IsOrdered, low_made}
-use Rattle.kb_stepref.specs.Effects.{kept_in, plain, planned, put, put_kept, put_where, puts}
+use Rattle.kb_ways.specs.Kept.{kept as sym_kept, masked, kept_in, is_of_kind}
+use Rattle.kb_ways.specs.Simulation.{IsOutcome}
+use Rattle.kb_ways.specs.Ways.{Take, Goes, Fails, carries_out, ill_typed, went}
+use Rattle.kb_ways.proofs.GrowLaws.{interned_extends, op_extends}
+use Rattle.kb_ways.proofs.ItemLaws.{each_drop, two_parts}
+use Rattle.kb_ways.proofs.OutcomeStands.{none_standing}
+use Rattle.kb_ways.proofs.OutcomeValues.{IsLater, frame_later, heap_later, reading_int, reading_later, there}
+use Rattle.kb_ways.proofs.OutcomeWays.{ill_typed_is, room_same, throws_is, writes_stand}
+use Rattle.kb_ways.proofs.SoundLaws.{Sound}
+use Rattle.kb_ways.proofs.ValueLaws.{IsOrdered, low_made}
+use Rattle.kb_stepref.specs.Effects.{put, put_where, puts, puts_kept}
+use Rattle.kb_ways.specs.Plans.{plain, planned, followed}
 use Rattle.kb_stepref.specs.Fields.{field_named, has_place, put_in}
-use Rattle.kb_stepref.specs.Operands.{object_and_value, of_type, reference}
-use Rattle.kb_stepref.specs.Takes.{followed}
+use Rattle.kb_ways.specs.Operands.{an_object_and_value as object_and_value, of_kind, reference}
 use Rattle.kb_stepref.proofs.ObjectLaws.{field_there, made_at_end, made_room, object_placed, object_room, place_is}
 use Rattle.kb_stepref.proofs.PutHeaps.{AreInside, made_kept, made_put, object_kept, object_put}
 use Rattle.kb_stepref.proofs.ReferenceLaws.{IsReference, kept_of, kept_value, object_and_value_are, pair_below, reference_kind, referred}
-use Rattle.kb_stepref.proofs.SoundLaws.{of_type_is, reference_is}
-use Rattle.kb_stepint.proofs.ComparedLaws.{two_parts}
+use Rattle.kb_ways.proofs.KeptLaws.{reference_is, of_kind_is}
 
 -- what a field keeps is a value of the state that has the terms that were made
 record IsKeptIn (world : World) (state : State) (input : Input) (places : PlaceLists) (kept : State × SymValue) (value : Value) : Type 0 where
@@ -265,7 +262,7 @@ module _ (world : World) (bounds : Bounds) (base : State) (frame : SymFrame) (so
 
   -- ---- an object that is there
 
-  module _ (field : FieldSlot) (value : SymValue) (value_there : IsSymValue world state value) where
+  module _ (field : FieldSlot) (value : SymValue) (value_there : IsSymValue world state value) (kind : is_of_kind field.kind value ≡ true) where
     abbrev value' : Value
     value' = kept_of r field.kind value
 
@@ -309,10 +306,11 @@ module _ (world : World) (bounds : Bounds) (base : State) (frame : SymFrame) (so
         k = kept_is field.kind value value_there
 
         go : (b : Bool) → has_room world frame.method (length rest) ≡ b → step s c ≡ (if b then carries_out_step c behind c.callers (with_value c.heap o field.slot value') else ill_typed_step s c)
-            → Follows (followed world bounds next (if b then record { state = put_kept object field.slot (kept_in field.kind value state); way = Goes frame.locals rest } else plain state Fails))
+            → Follows (followed world bounds next (if b then planned state (sym_kept field.kind value state) (puts_kept state object field.slot) else plain state Fails))
         go true room e =
-            subst (λ (st : State). Follows (went world bounds next (put_in object field.slot (kept_in field.kind value state).1 st) (Goes frame.locals rest))) (sym k.state_is)
-            (wrote field room (kept_in field.kind value state).1 value' k.nodes k.more k.value_is object o named is has stored e)
+            subst (λ (b : Bool). Follows (followed world bounds next (planned state (only_where b (kept_in field.kind value state)) (puts_kept state object field.slot)))) (sym kind)
+            (subst (λ (st : State). Follows (went world bounds next (put_in object field.slot (kept_in field.kind value state).1 st) (Goes frame.locals rest))) (sym k.state_is)
+            (wrote field room (kept_in field.kind value state).1 value' k.nodes k.more k.value_is object o named is has stored e))
         go false room e = ill e
 
     by_place : (object : SymValue) (o : ℕ) → value_of_sym r object ≡ Ref o → IsSymValue world state object
@@ -357,8 +355,9 @@ module _ (world : World) (bounds : Bounds) (base : State) (frame : SymFrame) (so
         → step s c ≡ with s c (option_map pair it) puts_pair → Follows (followed world bounds next (planned state it (λ (t : SymValue × SymValue). put world state field t.0 t.1)))
     by_operands None at stored e = ill e
     by_operands (Some t) at stored e =
-        let parts = two_parts (of_type field.kind (slice_get frame.stack 0)) (reference (slice_get frame.stack 1)) t at in
-        by_object field t.1 (sound.stage.0.stack 0 t.1 (of_type_is field.kind (slice_get frame.stack 0) t.1 parts.0)) t.0 (reference_kind (slice_get frame.stack 1) t.0 parts.1)
+        let parts = two_parts (of_kind field.kind (slice_get frame.stack 0)) (reference (slice_get frame.stack 1)) t at in
+        let given = of_kind_is field.kind (slice_get frame.stack 0) t.1 parts.0 in
+        by_object field t.1 (sound.stage.0.stack 0 t.1 given.0) given.1 t.0 (reference_kind (slice_get frame.stack 1) t.0 parts.1)
         (sound.stage.0.stack 1 t.0 (reference_is (slice_get frame.stack 1) t.0 parts.1)) stored e
 
     operands_are : an_object_and_value field.kind c.frame.stack ≡ option_map pair (object_and_value field.kind frame.stack)

@@ -12,7 +12,7 @@ use Rattle.kb_heap.specs.declared.heap.Value.TheVariants.{Int as IntValue}
 use Rattle.kb_link.specs.World.{World}
 use Rattle.kb_names.specs.declared.types.JType.{JType}
 use Rattle.kb_semantics.specs.Inputs.{IsTypeCorrect}
-use Rattle.kb_terms.specs.Terms.{Extends, variables_of}
+use Rattle.kb_terms.specs.Terms.{Extends}
 use Rattle.kb_picture.specs.declared.choice.Choice.{Choice}
 use Rattle.kb_picture.specs.declared.choice.Choice.TheVariants as choices
 use Rattle.kb_picture.specs.declared.picture.Origin.{Origin}
@@ -21,33 +21,33 @@ use Rattle.kb_picture.specs.declared.picture.PlaceLists.{PlaceLists}
 use Rattle.kb_picture.specs.declared.picture.Seen.{Seen}
 use Rattle.kb_picture.specs.declared.picture.Seen.TheVariants as seens
 use Rattle.kb_picture.specs.Growing.{IsUnread}
-use Rattle.kb_picture.specs.Growth.{after_read}
+use Rattle.kb_picture.specs.Growth.{after_read, after_int_read}
 use Rattle.kb_picture.specs.Instances.{variable_value, variable_values}
 use Rattle.kb_picture.specs.Places.{slot_value}
 use Rattle.kb_picture.specs.Queries.{type_of_slot}
 use Rattle.kb_picture.specs.Shapes.{HasShape}
-use Rattle.kb_picture.specs.WellFormed.{IsSeenAs, IsSlot}
-use Rattle.kb_picture.proofs.GrownShapes.{as_many, choice_places, seen_each, seen_places, slot_same}
+use Rattle.kb_picture.specs.WellFormed.{IsSeenAs, IsSlot, variables_seen}
+use Rattle.kb_picture.proofs.GrownShapes.{as_many, choice_places, int_places, seen_each, slot_same}
 use Rattle.kb_picture.proofs.HeldLaws.{HeldValue, held_value}
 use Rattle.kb_picture.proofs.Taking.{seen_forth}
-use Rattle.kb_frames.specs.FirstReads.{saw_variable}
-use Rattle.kb_frames.specs.Next.{is_reference}
+use Rattle.kb_picture.specs.WellTyped.{is_reference_type}
 use Rattle.kb_frames.specs.StandsFor.{IsInstanceOf}
 use Rattle.kb_frames.specs.State.{State}
 use Rattle.kb_frames.specs.States.{IsState}
-use Rattle.kb_stepint.proofs.OneAsked.{conditions_there, met_later}
-use Rattle.kb_stepint.proofs.OneInstances.{enough_values, int_argument, met_inputs}
+use Rattle.kb_ways.proofs.OneAsked.{conditions_there, met_later}
+use Rattle.kb_ways.proofs.OneInstances.{enough_values, int_argument, met_inputs}
 
 -- ---- variables
 
 -- a slot more that is seen as an int
-pub int_values : (picture : Picture) (input : Input) (places : List ℕ) (slot : Origin) (variable : ℕ) (z : ℤ) → slot_value input places slot ≡ Some (IntValue z)
-    → variable_values (saw_variable picture slot variable) input places ≡ variable_values picture input places ++ z ∷ []
-unfolding variable_values
-int_values picture input places slot variable z e =
-    filter_map-append (λ (s : Origin × Seen). variable_value (slot_value input places s.0) s.1) picture.seen ((slot, seens.Int variable) ∷ [])
+pub int_values : (picture : Picture) (input : Input) (places : List ℕ) (slot : Origin) (z : ℤ) → slot_value input places slot ≡ Some (IntValue z)
+    → variable_values (after_int_read picture slot) input places ≡ variable_values picture input places ++ z ∷ []
+unfolding after_int_read variable_values
+int_values picture input places slot z e =
+    let how : Seen = seens.Int (length (variables_seen picture)) in
+    filter_map-append (λ (s : Origin × Seen). variable_value (slot_value input places s.0) s.1) picture.seen ((slot, how) ∷ [])
     ∙ ap (λ (value : Option Value). filter_map (λ (s : Origin × Seen). variable_value (slot_value input places s.0) s.1) picture.seen
-    ++ cons_option (variable_value value (seens.Int variable)) []) e
+    ++ cons_option (variable_value value how) []) e
 
 module _ (world : World) (params : ℕ) (picture : Picture) (slot : Origin) (input : Input) (unread : IsUnread world params picture slot) where
   -- with more places behind those that there were
@@ -118,25 +118,27 @@ module _ (world : World) (old : State) (sound : IsState world old) (params : ℕ
           subst (λ (q : Picture). (here : HasShape q input) → variable_values q input here.places.objects ≡ variables) (sym same)
           (λ after. told_values world params old.picture slot input unread choice i.shape after)
 
+  int_forth : (z : ℤ) → slot_value input i.shape.places.objects slot ≡ Some (IntValue z) → HasShape (after_int_read old.picture slot) input
+  unfolding after_int_read
+  int_forth z at = seen_forth world params old.picture slot input unread i.shape (seens.Int (length (variables_seen old.picture))) (z, at)
+
   -- whose slot holds an int that is read
-  pub int_instance : (z : ℤ) → new.picture ≡ saw_variable old.picture slot (variables_of old.nodes) → slot_value input i.shape.places.objects slot ≡ Some (IntValue z) → IsInstanceOf new input
+  pub int_instance : (z : ℤ) → new.picture ≡ after_int_read old.picture slot → slot_value input i.shape.places.objects slot ≡ Some (IntValue z) → IsInstanceOf new input
   int_instance z same at =
-      let shape : HasShape (saw_variable old.picture slot (variables_of old.nodes)) input =
-      seen_forth world params old.picture slot input unread i.shape (seens.Int (variables_of old.nodes)) (z, at) in
+      let shape : HasShape (after_int_read old.picture slot) input = int_forth z at in
       let here : HasShape new.picture input = subst (λ (p : Picture). HasShape p input) (sym same) shape in
       instance_by (variables ++ z ∷ [])
       (met_inputs old.nodes variables (z ∷ []) old.when sound.pool (enough_values world old input i.shape.places.objects sound) i.conditions) here (values new.picture same here)
     where
-      values : (p : Picture) → p ≡ saw_variable old.picture slot (variables_of old.nodes) → (here : HasShape p input) → variable_values p input here.places.objects ≡ variables ++ z ∷ []
+      values : (p : Picture) → p ≡ after_int_read old.picture slot → (here : HasShape p input) → variable_values p input here.places.objects ≡ variables ++ z ∷ []
       values p same =
           subst (λ (q : Picture). (here : HasShape q input) → variable_values q input here.places.objects ≡ variables ++ z ∷ []) (sym same)
-          (λ after. ap (λ (l : PlaceLists). variable_values (saw_variable old.picture slot (variables_of old.nodes)) input l.objects)
-          (seen_places old.picture (slot, seens.Int (variables_of old.nodes)) input i.shape after)
-          ∙ int_values old.picture input i.shape.places.objects slot (variables_of old.nodes) z at)
+          (λ after. ap (λ (l : PlaceLists). variable_values (after_int_read old.picture slot) input l.objects) (int_places old.picture slot input i.shape after)
+          ∙ int_values old.picture input i.shape.places.objects slot z at)
 
 -- a slot of a type that is no reference's holds an int
 pub int_held : (world : World) (id : MethodId) (picture : Picture) (input : Input) (correct : IsTypeCorrect world id input) (shape : HasShape picture input) (params : ℕ) (slot : Origin) (type : JType)
-    → IsSlot world params picture.objects slot → type_of_slot world id picture.objects slot ≡ Some type → is_reference type ≡ false
+    → IsSlot world params picture.objects slot → type_of_slot world id picture.objects slot ≡ Some type → is_reference_type type ≡ false
     → (z : ℤ) × (slot_value input shape.places.objects slot ≡ Some (IntValue z))
 int_held world id picture input correct shape params slot type there declared plain =
     let held : HeldValue world input shape.places.objects slot type = held_value world id picture input correct shape params slot type there declared in

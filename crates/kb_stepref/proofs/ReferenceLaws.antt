@@ -8,15 +8,17 @@ use Rattle.kb_heap.specs.declared.heap.Value.TheVariants.{Int as IntValue, Null 
 use Rattle.kb_names.specs.declared.types.JType.{JType}
 use Rattle.kb_names.specs.declared.types.JType.TheVariants as types
 use Rattle.kb_semantics.specs.Instructions.{is_null as is_null_reference}
-use Rattle.kb_semantics.specs.Operands.{Reference, Taken, a_reference, a_value_for, an_object_and_value, behind_it, reference_of, taken, value_of_reference}
-use Rattle.kb_semantics.specs.Operands.{two_references as two_of}
+use Rattle.kb_semantics.specs.Operands.{Reference, Taken, a_reference, a_value_for, an_object_and_value, behind_it, reference_of, taken, value_of_reference, two_references as two_of}
 use Rattle.kb_semantics.specs.Values.{kept}
 use Rattle.kb_picture.specs.Endings.{Reading}
 use Rattle.kb_frames.specs.declared.value.SymValue.{SymValue}
 use Rattle.kb_frames.specs.declared.value.SymValue.TheVariants.{Int, Null, Obj, Literal, New, Loc}
 use Rattle.kb_frames.specs.StandsFor.{value_of_sym, values_of_sym}
-use Rattle.kb_stepref.specs.Effects.{result_in}
-use Rattle.kb_stepref.specs.Operands.{is_null, object_and_value, of_type, one_reference, reference, two_references}
+use Rattle.kb_stepref.specs.Comparing.{is_null}
+use Rattle.kb_ways.specs.Operands.{an_object_and_value as object_and_value, of_kind, a_reference as one_reference, reference, two_references}
+use Rattle.kb_ways.specs.Kept.{is_of_kind, kept_in}
+use Rattle.kb_world.specs.Lookup.{only_where}
+use Rattle.kb_frames.specs.State.{State}
 
 -- ---- references
 
@@ -123,7 +125,7 @@ module _ (r : Reading) where
   -- ---- what a result and a field keep
 
   -- a result of a type of references keeps each
-  pub result_kept : (type : JType) (value : SymValue) → IsReference value → kept type (value_of_sym r value) ≡ option_map (value_of_sym r) (result_in value type)
+  pub result_kept : (type : JType) (value : SymValue) → IsReference value → kept type (value_of_sym r value) ≡ option_map (value_of_sym r) (only_where (is_of_kind type value) value)
   result_kept type (Int t) is = absurd is
   result_kept (types.Class name) Null is = refl
   result_kept (types.Array component) Null is = refl
@@ -141,6 +143,16 @@ module _ (r : Reading) where
   result_kept (types.Array component) (Loc n) is = refl
   result_kept _ (Loc n) is = refl
 
+-- a reference is kept as it is
+pub kept_whole : (type : JType) (value : SymValue) (state : State) → IsReference value → kept_in type value state ≡ (state, value)
+kept_whole type (Int t) state is = absurd is
+kept_whole types.Bool Null state is = refl
+kept_whole types.Bool (Obj n) state is = refl
+kept_whole types.Bool (Literal n) state is = refl
+kept_whole types.Bool (New n) state is = refl
+kept_whole types.Bool (Loc n) state is = refl
+kept_whole _ value state is = refl
+
 -- what a field of the type keeps of a value of its kind: of an int in a boolean one the low bit
 abbrev pub kept_value : JType → Value → Value
 kept_value types.Bool (IntValue z) = IntValue (word_and z (pos 1))
@@ -151,9 +163,9 @@ module _ (r : Reading) (type : JType) where
   kept_of value = kept_value type (value_of_sym r value)
 
   -- the value for a field of the type
-  value_kept : (it : Option SymValue) → option_and_then (kept type) (option_map (value_of_sym r) it) ≡ option_map kept_of (of_type type it)
+  value_kept : (it : Option SymValue) → option_and_then (kept type) (option_map (value_of_sym r) it) ≡ option_map kept_of (of_kind type it)
   value_kept = go type where
-    go : (type : JType) (it : Option SymValue) → option_and_then (kept type) (option_map (value_of_sym r) it) ≡ option_map (λ (value : SymValue). kept_value type (value_of_sym r value)) (of_type type it)
+    go : (type : JType) (it : Option SymValue) → option_and_then (kept type) (option_map (value_of_sym r) it) ≡ option_map (λ (value : SymValue). kept_value type (value_of_sym r value)) (of_kind type it)
     go types.Bool None = refl
     go types.Bool (Some (Int t)) = refl
     go types.Bool (Some _) = refl
@@ -170,16 +182,16 @@ module _ (r : Reading) (type : JType) where
     go _ (Some (Int t)) = refl
     go _ (Some _) = refl
 
-  value_is : (stack : List SymValue) → a_value_for type (values_of_sym r stack) ≡ option_map (λ (value : SymValue). record { it = kept_of value; rest = values_of_sym r (drop 1 stack) }) (of_type type (slice_get stack 0))
-  value_is [] = ap (option_map (taken [])) (value_kept None) ∙ go (of_type type None) where
+  value_is : (stack : List SymValue) → a_value_for type (values_of_sym r stack) ≡ option_map (λ (value : SymValue). record { it = kept_of value; rest = values_of_sym r (drop 1 stack) }) (of_kind type (slice_get stack 0))
+  value_is [] = ap (option_map (taken [])) (value_kept None) ∙ go (of_kind type None) where
     go : (it : Option SymValue) → option_map (taken []) (option_map kept_of it) ≡ option_map (λ (value : SymValue). record { it = kept_of value; rest = [] }) it
     go None = refl
     go (Some v) = refl
-  value_is (top ∷ stack) = ap (option_map (taken (values_of_sym r (top ∷ stack)))) (value_kept (Some top)) ∙ go (of_type type (Some top)) where
+  value_is (top ∷ stack) = ap (option_map (taken (values_of_sym r (top ∷ stack)))) (value_kept (Some top)) ∙ go (of_kind type (Some top)) where
     go : (it : Option SymValue) → option_map (taken (values_of_sym r (top ∷ stack))) (option_map kept_of it) ≡ option_map (λ (value : SymValue). record { it = kept_of value; rest = values_of_sym r stack }) it
     go None = refl
     go (Some v) = refl
 
   -- an object and a value for a field of the type
   pub object_and_value_are : (stack : List SymValue) → an_object_and_value type (values_of_sym r stack) ≡ option_map (pair_below r kept_of stack) (object_and_value type stack)
-  object_and_value_are stack = ap (option_and_then (behind_it a_reference)) (value_is stack) ∙ below_is r kept_of (of_type type (slice_get stack 0)) stack
+  object_and_value_are stack = ap (option_and_then (behind_it a_reference)) (value_is stack) ∙ below_is r kept_of (of_kind type (slice_get stack 0)) stack

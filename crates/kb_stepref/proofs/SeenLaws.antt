@@ -31,7 +31,6 @@ use Rattle.kb_semantics.specs.Operands.{Reference, Taken, a_reference, reference
 use Rattle.kb_semantics.specs.Step.{config_at, first_heap, next_config, step}
 use Rattle.kb_world.specs.Lookup.{only_where, resolved_field}
 use Rattle.kb_terms.proofs.Entries.{end-cases, slice_get-take}
-use Rattle.kb_terms.specs.Terms.{variables_of}
 use Rattle.kb_picture.specs.declared.choice.Choice.{Choice}
 use Rattle.kb_picture.specs.declared.choice.Choice.TheVariants as choices
 use Rattle.kb_picture.specs.declared.choice.Init.TheVariants.{Lazy, Lazier}
@@ -42,33 +41,40 @@ use Rattle.kb_picture.specs.declared.picture.PlaceLists.{PlaceLists}
 use Rattle.kb_picture.specs.declared.picture.Seen.{Seen}
 use Rattle.kb_picture.specs.declared.picture.Seen.TheVariants as seens
 use Rattle.kb_picture.specs.Growing.{params_of}
-use Rattle.kb_picture.specs.Growth.{after_read}
+use Rattle.kb_picture.specs.Growth.{after_read, after_int_read}
 use Rattle.kb_picture.specs.Queries.{kind_for}
 use Rattle.kb_picture.specs.Shapes.{HasShape, IsSuch}
+use Rattle.kb_picture.specs.WellFormed.{variables_seen}
 use Rattle.kb_picture.proofs.ChainLaws.{all_below, below_at}
 use Rattle.kb_picture.proofs.GrownPictures.{item_there}
-use Rattle.kb_picture.proofs.GrownShapes.{as_many, choice_places, seen_places}
+use Rattle.kb_picture.proofs.GrownShapes.{as_many, choice_places, int_places}
 use Rattle.kb_picture.proofs.HeldLaws.{HeldValue, held_value}
+use Rattle.kb_picture.specs.WellTyped.{is_reference_type}
 use Rattle.kb_frames.specs.declared.state.Stage.{Stage}
 use Rattle.kb_frames.specs.declared.state.Stage.TheVariants.{Runs}
 use Rattle.kb_frames.specs.declared.value.Cell.TheVariants.{Untouched, Written}
 use Rattle.kb_frames.specs.declared.value.SymValue.{SymValue}
 use Rattle.kb_frames.specs.declared.value.SymValue.TheVariants.{Obj}
 use Rattle.kb_frames.specs.Cuts.{setting_of}
-use Rattle.kb_frames.specs.FirstReads.{saw_variable}
 use Rattle.kb_frames.specs.Lent.{stack_of}
-use Rattle.kb_frames.specs.Next.{instruction_next, is_reference, method_now}
+use Rattle.kb_frames.specs.Next.{instruction_next, method_now}
 use Rattle.kb_frames.specs.StandsFor.{FrameStandsFor, IsInstanceOf, IsLike, StageStandsFor, StandsFor, beginning_of, present_value, reading_at, value_of_sym, written_by}
 use Rattle.kb_frames.specs.State.{State, cell_at}
 use Rattle.kb_frames.proofs.RunLaws.{counters_agree}
-use Rattle.kb_stepint.specs.Simulation.{AddsReads, IsRead, IsReadAt, ReadsWhatItSees}
-use Rattle.kb_stepint.proofs.KeepLaws.{same_reads}
+use Rattle.kb_ways.specs.Simulation.{AddsReads, IsRead, IsReadAt, ReadsWhatItSees}
+use Rattle.kb_ways.proofs.KeepLaws.{same_reads}
 use Rattle.kb_stepref.specs.Laws.{IsAtReferences}
-use Rattle.kb_stepref.specs.Questions.{Question, Reads, question_of}
-use Rattle.kb_stepref.specs.Takes.{answers, taken, takes_next}
+use Rattle.kb_ways.specs.declared.question.Question.{Question}
+use Rattle.kb_ways.specs.declared.question.Question.TheVariants.{Reads}
+use Rattle.kb_stepref.specs.Questions.{question_of}
+use Rattle.kb_ways.specs.Questions.{answers}
+use Rattle.kb_stepref.specs.Takes.{taken}
+use Rattle.kb_ways.specs.Plans.{takes_next}
 use Rattle.kb_stepref.proofs.CellLaws.{found_cell}
 use Rattle.kb_stepref.proofs.FirstReadLaws.{IsAsked, IsAskedField, asked}
 use Rattle.kb_stepref.proofs.KeepLaws.{int_tells, reference_tells, take_by, take_untold, takes_next_untold}
+use Rattle.kb_picture.specs.declared.choice.Choice.TheVariants.{Only}
+use Rattle.kb_stepref.specs.Effects.{plan_of}
 
 -- ---- the input of a configuration
 
@@ -106,10 +112,10 @@ module _ (world : World) (bounds : Bounds) (old : State) (at : IsAtReferences wo
   places = stands.instance_of.shape.places
 
   abbrev params : ℕ
-  params = params_of world at.reached.reached.typed.method
+  params = params_of world at.reached.typed.method
 
   abbrev IsAskedHere : Origin → JType → Type 0
-  IsAskedHere = IsAsked world bounds old at.reached.reached.typed
+  IsAskedHere = IsAsked world bounds old at.reached.typed
 
   module _ (number slot : ℕ) (type : JType) (is : IsAskedHere (Field number slot) type) (a : IsAskedField world bounds old number slot type) (p : ℕ) (there : slice_get places.objects number ≡ Some p) where
     stood : FrameStandsFor (reading_at world old input places) a.frame c.frame
@@ -250,7 +256,7 @@ module _ (world : World) (bounds : Bounds) (old : State) (at : IsAtReferences wo
   -- ---- a state that was told
 
   no_lazier : old.init ≡ Lazier → ⊥
-  no_lazier lazier = let same : Lazy ≡ Lazier = sym at.reached.lazy ∙ lazier in cc
+  no_lazier lazier = let same : Lazy ≡ Lazier = sym at.lazy ∙ lazier in cc
 
   module _ (slot : Origin) (type : JType) (is : IsAskedHere slot type) (new : State) (grown : Picture) (picture_is : new.picture ≡ grown)
       (front : (after : HasShape grown input) → take (length old.picture.objects) after.places.objects ≡ places.objects)
@@ -287,29 +293,32 @@ last_chosen picture slot _ j x from there = absurd (none_there picture.seen j x 
   none_there : (seen : List (Origin × Seen)) (k : ℕ) (y : Origin × Seen) → length seen ≤ k → slice_get seen k ≡ Some y → ⊥
   none_there seen k y from there = let inside : k < length seen = slice_get_within seen k y there in omega (arith, from, inside)
 
+last_int : (picture : Picture) (slot : Origin) (j : ℕ) (x : Origin × Seen) → length picture.seen ≤ j → slice_get (after_int_read picture slot).seen j ≡ Some x → x.0 ≡ slot
+unfolding after_int_read
+last_int picture slot j x from there = last_seen picture.seen slot (seens.Int (length (variables_seen picture))) j x from there
+
 -- ---- all takes
 
 module _ (world : World) (bounds : Bounds) (old : State) (choice : Choice) (at : IsAtReferences world old) where
-  answer_reads : (slot : Origin) (type : JType) → IsAsked world bounds old at.reached.reached.typed slot type → (b : Bool) → ReadsWhatItSees world bounds old (take_by world bounds old slot type b choice).state
+  answer_reads : (slot : Origin) (type : JType) → IsAsked world bounds old at.reached.typed slot type → (b : Bool) → ReadsWhatItSees world bounds old (take_by world bounds old slot type b choice).state
   answer_reads slot type is true input c correct stands =
       let untold = take_untold world bounds old slot type true choice in
       let tells = reference_tells world slot choice old in
       reads_told world bounds old at input c correct stands slot type is (take_by world bounds old slot type true choice).state (after_read old.picture slot choice) (untold.stays.picture ∙ tells.picture)
-      (λ after. (choice_places world (params_of world at.reached.reached.typed.method) old.picture slot choice input is.unread stands.instance_of.shape after).objects)
+      (λ after. (choice_places world (params_of world at.reached.typed.method) old.picture slot choice input is.unread stands.instance_of.shape after).objects)
       (last_chosen old.picture slot choice)
   answer_reads slot type is false input c correct stands =
       let untold = take_untold world bounds old slot type false choice in
       let tells = int_tells slot (kind_for (Some type)) old in
-      let variable : ℕ = variables_of old.nodes in
-      reads_told world bounds old at input c correct stands slot type is (take_by world bounds old slot type false choice).state (saw_variable old.picture slot variable) (untold.stays.picture ∙ tells.picture)
-      (λ after. ap (λ (l : PlaceLists). take (length old.picture.objects) l.objects) (seen_places old.picture (slot, seens.Int variable) input stands.instance_of.shape after) ∙ whole input stands.instance_of.shape)
-      (last_seen old.picture.seen slot (seens.Int variable))
+      reads_told world bounds old at input c correct stands slot type is (take_by world bounds old slot type false choice).state (after_int_read old.picture slot) (untold.stays.picture ∙ tells.picture)
+      (λ after. ap (λ (l : PlaceLists). take (length old.picture.objects) l.objects) (int_places old.picture slot input stands.instance_of.shape after) ∙ whole input stands.instance_of.shape)
+      (last_int old.picture slot)
     where
       whole : (input : Input) (shape : HasShape old.picture input) → take (length old.picture.objects) shape.places.objects ≡ shape.places.objects
       whole input shape = take_all (length old.picture.objects) shape.places.objects (omega (arith, as_many old.picture input shape.places shape.placed))
 
   pub read : ReadsWhatItSees world bounds old (taken world bounds old choice).state
   read = go (question_of world old bounds) refl where
-    go : (q : Option Question) → question_of world old bounds ≡ q → ReadsWhatItSees world bounds old (option_map_or (answers world bounds choice old) q (takes_next world bounds old)).state
-    go None e = same_reads world bounds old (takes_next world bounds old).state (takes_next_untold world bounds old).stays.picture
-    go (Some (Reads slot type)) e = answer_reads slot type (asked world bounds old at slot type e) (is_reference type)
+    go : (q : Option Question) → question_of world old bounds ≡ q → ReadsWhatItSees world bounds old (option_map_or (answers plan_of world bounds choice old) q (takes_next plan_of world bounds Only old)).state
+    go None e = same_reads world bounds old (takes_next plan_of world bounds Only old).state (takes_next_untold world bounds old).stays.picture
+    go (Some (Reads slot type)) e = answer_reads slot type (asked world bounds old at slot type e) (is_reference_type type)

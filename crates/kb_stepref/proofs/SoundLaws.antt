@@ -1,6 +1,6 @@
 -- What holds of a state that is reached holds of it behind each instruction on references, and behind each take.
 use Rattle.std.proofs.Common.{◌≡◌, ℕ, ◌≤◌, Bool, cond, List, ◌∷◌, length, drop, nat_le, Option, Some, None, slice_get, slice_set, refl, sym, ap, subst, ◌∙◌, arith, if◌then◌else◌}
-use Rattle.std.specs.Option.{option_and_then, option_map, option_map_or}
+use Rattle.std.specs.Option.{option_map, option_map_or}
 use Rattle.std.proofs.lemmas.Option.{none-some, option_and_then_some, same_Some}
 use Rattle.kb_class.proofs.Lists.{set_size}
 use Rattle.kb_class.specs.Naming.{Has}
@@ -12,8 +12,7 @@ use Rattle.kb_heap.specs.declared.bounds.Bounds.{Bounds}
 use Rattle.kb_link.specs.World.{World}
 use Rattle.kb_link.specs.declared.slots.FieldSlot.{FieldSlot}
 use Rattle.kb_names.specs.declared.types.JType.{JType}
-use Rattle.kb_names.specs.declared.types.JType.TheVariants as types
-use Rattle.kb_semantics.specs.Config.{has_room, instruction_at, max_locals_of, result_of}
+use Rattle.kb_semantics.specs.Config.{has_room, instruction_at, max_locals_of}
 use Rattle.kb_semantics.specs.Instructions.{is_wanted}
 use Rattle.kb_semantics.specs.Ways.{null_pointer}
 use Rattle.kb_picture.specs.declared.choice.Choice.{Choice}
@@ -21,7 +20,7 @@ use Rattle.kb_picture.specs.declared.choice.Choice.TheVariants.{Only}
 use Rattle.kb_picture.specs.declared.picture.Origin.{Origin}
 use Rattle.kb_picture.specs.declared.picture.Origin.TheVariants.{Arg, Field, Element}
 use Rattle.kb_picture.specs.Queries.{kind_for}
-use Rattle.kb_picture.specs.WellTyped.{IsReceiverSeen}
+use Rattle.kb_picture.specs.WellTyped.{IsReceiverSeen, is_reference_type}
 use Rattle.kb_frames.specs.declared.frame.SymFrame.{SymFrame}
 use Rattle.kb_frames.specs.declared.state.Stage.{Stage}
 use Rattle.kb_frames.specs.declared.state.Stage.TheVariants.{Runs}
@@ -30,54 +29,42 @@ use Rattle.kb_frames.specs.declared.value.SymValue.TheVariants.{Int, Null, Obj, 
 use Rattle.kb_frames.specs.declared.value.Outcome.TheVariants.{Cut}
 use Rattle.kb_frames.specs.FirstReads.{first_int, first_reference, found_in}
 use Rattle.kb_frames.specs.Lent.{begun, local_in, locals_of, read_count, stack_of}
-use Rattle.kb_frames.specs.Next.{argument_next, is_reference, method_now, offset_now}
+use Rattle.kb_frames.specs.Next.{argument_next, method_now, offset_now}
 use Rattle.kb_frames.specs.State.{State}
 use Rattle.kb_frames.specs.States.{Each, IsLocal, IsSymValue}
-use Rattle.kb_stepint.specs.Effects.{with_stack}
-use Rattle.kb_stepint.specs.Ways.{Take, Way, Goes, Jumps, Leaves, Throws, Fails, ill_typed}
-use Rattle.kb_stepint.proofs.GrowLaws.{if_has, option_has}
-use Rattle.kb_stepint.proofs.ItemLaws.{each_cons, each_drop, each_set, option_has_at}
-use Rattle.kb_stepint.proofs.KeepLaws.{went_stays}
-use Rattle.kb_stepint.proofs.PlanLaws.{IsGood}
-use Rattle.kb_stepint.proofs.ReachedLaws.{running_now, went_sound}
-use Rattle.kb_stepint.proofs.SoundLaws.{Sound, begun_sound, frame_sound, receiver_seen, sound_reached}
+use Rattle.kb_ways.specs.Ways.{with_stack, Take, Way, Goes, Jumps, Throws, Fails, ill_typed}
+use Rattle.kb_ways.proofs.GrowLaws.{if_has, option_has}
+use Rattle.kb_ways.proofs.ItemLaws.{each_cons, each_drop, each_set, option_has_at, only_has}
+use Rattle.kb_ways.proofs.KeepLaws.{went_stays}
+use Rattle.kb_ways.proofs.GoodWays.{IsGood, running_now, went_sound}
+use Rattle.kb_ways.proofs.SoundLaws.{Sound, begun_sound, frame_sound, receiver_seen, sound_reached}
 use Rattle.kb_stepref.specs.Choices.{alternatives, choices_of, only}
-use Rattle.kb_stepref.specs.Effects.{Planned, branch_where, got, in_local, is_local, kept_in, plain, plan_of, planned, put, put_kept, put_where, result_in}
+use Rattle.kb_ways.specs.Plans.{Planned, plain, planned, carried_out, takes_next, takes_up, returns_value}
+use Rattle.kb_stepref.specs.Effects.{branch_where, got, in_local, is_local, plan_of, put, put_kept, put_where, puts_kept}
+use Rattle.kb_ways.specs.Kept.{kept_in, kept, is_of_kind}
 use Rattle.kb_stepref.specs.Fields.{field_named, has_place, held}
-use Rattle.kb_stepref.specs.Laws.{AreInRange, IsAtReferences}
-use Rattle.kb_stepref.specs.Operands.{is_null, object_and_value, of_type, one_reference, reference, same, two_references}
-use Rattle.kb_stepref.specs.Questions.{Question, Reads, asked_at, question_of}
-use Rattle.kb_stepref.specs.Takes.{answered, answers, carried_out, cut_where, goes_behind, passed_by, taken, takes_next, takes_up}
+use Rattle.kb_lazy.specs.Laws.{AreInRange}
+use Rattle.kb_stepref.specs.Laws.{IsAtReferences}
+use Rattle.kb_stepref.specs.Comparing.{is_null, same}
+use Rattle.kb_ways.specs.Operands.{an_object_and_value, of_kind, a_reference, reference, two_references}
+use Rattle.kb_ways.specs.declared.question.Question.{Question}
+use Rattle.kb_ways.specs.declared.question.Question.TheVariants.{Reads}
+use Rattle.kb_stepref.specs.Questions.{asked_at, question_of}
+use Rattle.kb_ways.specs.Questions.{answered, answers, cut_where, goes_behind, passed_by}
+use Rattle.kb_stepref.specs.Takes.{taken}
 use Rattle.kb_stepref.proofs.AnsweredLaws.{answered_receiver, answered_sound}
 use Rattle.kb_stepref.proofs.FirstReadLaws.{IsAskedAt, asked, where_so}
 use Rattle.kb_stepref.proofs.MoreLaws.{locals_more, values_more}
 use Rattle.kb_stepref.proofs.WrittenLaws.{SoundBehind, held_there, kept_behind, put_kept_behind, sound_itself}
+use Rattle.kb_ways.proofs.KeptLaws.{returns_has, of_kind_is, reference_is}
 
 -- ---- operands
 
--- a reference is the value that was there
-pub reference_is : (it : Option SymValue) (value : SymValue) → reference it ≡ Some value → it ≡ Some value
-reference_is None value e = e
-reference_is (Some (Int term)) value e = absurd (none-some value e)
-reference_is (Some Null) value e = e
-reference_is (Some (Obj number)) value e = e
-reference_is (Some (Literal number)) value e = e
-reference_is (Some (New number)) value e = e
-reference_is (Some (Loc number)) value e = e
-
--- and so is a value of a type
-pub of_type_is : (type : JType) (it : Option SymValue) (value : SymValue) → of_type type it ≡ Some value → it ≡ Some value
-of_type_is (types.Class name) it value e = reference_is it value e
-of_type_is (types.Array component) it value e = reference_is it value e
-of_type_is types.Bool (Some (Int term)) value e = e
-of_type_is types.Int (Some (Int term)) value e = e
-of_type_is _ it value e = absurd (none-some value e)
-
 -- the value of the two that a putfield takes stands on the top
-pub value_on_top : (type : JType) (stack : List SymValue) (t : SymValue × SymValue) → object_and_value type stack ≡ Some t → slice_get stack 0 ≡ Some t.1
+pub value_on_top : (type : JType) (stack : List SymValue) (t : SymValue × SymValue) → an_object_and_value type stack ≡ Some t → slice_get stack 0 ≡ Some t.1
 value_on_top type stack t e =
-    option_and_then_some (λ (value : SymValue). option_map (λ (object : SymValue). (object, value)) (reference (slice_get stack 1))) (of_type type (slice_get stack 0)) t e (λ value is pair.
-    of_type_is type (slice_get stack 0) t.1 (is ∙ ap (λ (v : SymValue). Some v) (go value (reference (slice_get stack 1)) pair)))
+    option_and_then_some (λ (value : SymValue). option_map (λ (object : SymValue). (object, value)) (reference (slice_get stack 1))) (of_kind type (slice_get stack 0)) t e (λ value is pair.
+    (of_kind_is type (slice_get stack 0) t.1 (is ∙ ap (λ (v : SymValue). Some v) (go value (reference (slice_get stack 1)) pair))).0)
   where
     go : (value : SymValue) (object : Option SymValue) → option_map (λ (o : SymValue). (o, value)) object ≡ Some t → value ≡ t.1
     go value None pair = absurd (none-some t pair)
@@ -122,7 +109,7 @@ module _ (world : World) (state : State) (sound : Sound world state) (frame : Sy
   pushes_good value count is = goes_good (value ∷ drop count (stack_of state.stage)) (each_cons (IsSymValue world state) value (drop count (stack_of state.stage)) is (rest_good count))
 
   -- a reference that stands on the stack
-  top_there : (value : SymValue) → one_reference (stack_of state.stage) ≡ Some value → IsSymValue world state value
+  top_there : (value : SymValue) → a_reference (stack_of state.stage) ≡ Some value → IsSymValue world state value
   top_there value e = stack 0 value (reference_is (slice_get (stack_of state.stage) 0) value e)
 
   -- one that a local holds
@@ -176,11 +163,12 @@ module _ (world : World) (state : State) (sound : Sound world state) (frame : Sy
   put_where_good : (field : FieldSlot) (object value : SymValue) → IsSymValue world state value → IsRight (put_where world state field object value)
   put_where_good field object value is =
       if_has IsRight (has_room world (method_now state.method state.stage) (length (drop 2 (stack_of state.stage))))
-      (record { state = put_kept object field.slot (kept_in field.kind value state); way = with_stack state (drop 2 (stack_of state.stage)) }) (plain state Fails)
+      (planned state (kept field.kind value state) (puts_kept state object field.slot)) (plain state Fails)
+      (only_has IsRight (is_of_kind field.kind value) (kept_in field.kind value state) (puts_kept state object field.slot) (plain state Fails)
       (record {
         behind = behind;
         good = goes_behind_good (put_kept object field.slot (kept_in field.kind value state)) (drop 2 (stack_of state.stage)) behind (rest_good 2);
-      }) fails_good
+      }) fails_good) fails_good
     where
       behind : SoundBehind world state (put_kept object field.slot (kept_in field.kind value state))
       behind = put_kept_behind world state frame callers object field.slot (kept_in field.kind value state) running (kept_behind world state sound field.kind value is)
@@ -200,32 +188,31 @@ module _ (world : World) (state : State) (sound : Sound world state) (frame : Sy
 
   -- ---- all of them
 
-  pub plan_sound : (instr : Instr) → IsGoodPlan world state (plan_of world state instr)
+  pub plan_sound : (instr : Instr) → IsGoodPlan world state (plan_of world state Only instr)
   plan_sound instrs.PushNull = pushes_good Null 0 tt
   plan_sound (instrs.LoadRef k) =
       planned_good (reference (cond (is_local world state k) (local_in state.stage k) None)) (λ (value : SymValue). plain state (with_stack state (value ∷ stack_of state.stage)))
       (λ value e. pushes_good value 0 (local_there k value e))
   plan_sound (instrs.StoreRef k) =
-      planned_good (one_reference (stack_of state.stage)) (λ (value : SymValue). plain state (in_local world state k value (drop 1 (stack_of state.stage))))
+      planned_good (a_reference (stack_of state.stage)) (λ (value : SymValue). plain state (in_local world state k value (drop 1 (stack_of state.stage))))
       (λ value e. in_local_good k value (top_there value e))
   plan_sound (instrs.IfSame want target) =
       planned_good (two_references (stack_of state.stage)) (λ (t : SymValue × SymValue). plain state (branch_where state (is_wanted want (same t.0 t.1)) target 2))
       (λ t e. branch_good (is_wanted want (same t.0 t.1)) target 2)
   plan_sound (instrs.IfNull want target) =
-      planned_good (one_reference (stack_of state.stage)) (λ (value : SymValue). plain state (branch_where state (is_wanted want (is_null value)) target 1))
+      planned_good (a_reference (stack_of state.stage)) (λ (value : SymValue). plain state (branch_where state (is_wanted want (is_null value)) target 1))
       (λ value e. branch_good (is_wanted want (is_null value)) target 1)
   plan_sound instrs.ReturnRef =
-      planned_good (one_reference (stack_of state.stage))
-      (λ (value : SymValue). planned state (option_and_then (result_in value) (result_of world (method_now state.method state.stage))) (λ (result : SymValue). plain state (Leaves (Some result))))
-      (λ value e. planned_good (option_and_then (result_in value) (result_of world (method_now state.method state.stage))) (λ (result : SymValue). plain state (Leaves (Some result)))
-      (λ result f. plain_good (Leaves (Some result)) tt))
+      planned_good (a_reference (stack_of state.stage))
+      (returns_value world state)
+      (λ value e. returns_has IsRight world state value (λ type. record { behind = (kept_behind world state sound type value (top_there value e)).behind; good = tt }) fails_good)
   plan_sound (instrs.GetField entry) =
-      planned_good (field_named world state entry) (λ (field : FieldSlot). planned state (one_reference (stack_of state.stage)) (got world state field))
-      (λ field e. planned_good (one_reference (stack_of state.stage)) (got world state field) (λ object f. got_good field object))
+      planned_good (field_named world state entry) (λ (field : FieldSlot). planned state (a_reference (stack_of state.stage)) (got world state field))
+      (λ field e. planned_good (a_reference (stack_of state.stage)) (got world state field) (λ object f. got_good field object))
   plan_sound (instrs.PutField entry) =
       planned_good (field_named world state entry)
-      (λ (field : FieldSlot). planned state (object_and_value field.kind (stack_of state.stage)) (λ (t : SymValue × SymValue). put world state field t.0 t.1))
-      (λ field e. planned_good (object_and_value field.kind (stack_of state.stage)) (λ (t : SymValue × SymValue). put world state field t.0 t.1)
+      (λ (field : FieldSlot). planned state (an_object_and_value field.kind (stack_of state.stage)) (λ (t : SymValue × SymValue). put world state field t.0 t.1))
+      (λ field e. planned_good (an_object_and_value field.kind (stack_of state.stage)) (λ (t : SymValue × SymValue). put world state field t.0 t.1)
       (λ t f. put_good field t.0 t.1 (stack 0 t.1 (value_on_top field.kind (stack_of state.stage) t f))))
   plan_sound _ = fails_good
 
@@ -243,9 +230,9 @@ to_itself world state sound = record { sound = sound; method = refl; init = refl
 
 module _ (world : World) (bounds : Bounds) where
   carried_out_sound : (state : State) (frame : SymFrame) (callers : List SymFrame) (found : Instr × ℕ) → state.stage ≡ Runs frame callers → Sound world state
-      → SoundTo world state (carried_out world bounds state found).state
+      → SoundTo world state (carried_out plan_of world bounds Only state found).state
   carried_out_sound state frame callers found running sound =
-      let plan : Planned = plan_of world state found.0 in
+      let plan : Planned = plan_of world state Only found.0 in
       let good = plan_sound world state sound frame callers running found.0 in
       let stays = went_stays world bounds found.1 plan.state plan.way in
       record {
@@ -255,18 +242,18 @@ module _ (world : World) (bounds : Bounds) where
         picture = stays.picture ∙ good.behind.picture;
       }
 
-  pub takes_up_sound : (state : State) (frame : SymFrame) (callers : List SymFrame) → state.stage ≡ Runs frame callers → Sound world state → SoundTo world state (takes_up world bounds state).state
+  pub takes_up_sound : (state : State) (frame : SymFrame) (callers : List SymFrame) → state.stage ≡ Runs frame callers → Sound world state → SoundTo world state (takes_up plan_of world bounds Only state).state
   takes_up_sound state frame callers running sound =
-      option_has (λ (take : Take). SoundTo world state take.state) (instruction_at world (method_now state.method state.stage) (offset_now state.stage)) (carried_out world bounds state) (ill_typed world state)
+      option_has (λ (take : Take). SoundTo world state take.state) (instruction_at world (method_now state.method state.stage) (offset_now state.stage)) (carried_out plan_of world bounds Only state) (ill_typed world state)
       (λ found. carried_out_sound state frame callers found running sound) (to_itself world state sound)
 
   begun_to : (old new : State) → SoundTo world (begun world old) new → SoundTo world old new
   begun_to old new to = record { sound = to.sound; method = to.method; init = to.init; picture = to.picture }
 
-  pub takes_next_sound : (old : State) → Sound world old → argument_next world old.method old.stage ≡ None → SoundTo world old (takes_next world bounds old).state
+  pub takes_next_sound : (old : State) → Sound world old → argument_next world old.method old.stage ≡ None → SoundTo world old (takes_next plan_of world bounds Only old).state
   takes_next_sound old sound none =
       let run = running_now world bounds Only old in
-      if_has (λ (take : Take). SoundTo world old take.state) (nat_le bounds.run.steps old.carried) (record { state = old; outcome = Cut Steps }) (takes_up world bounds (begun world old))
+      if_has (λ (take : Take). SoundTo world old take.state) (nat_le bounds.run.steps old.carried) (record { state = old; outcome = Cut Steps }) (takes_up plan_of world bounds Only (begun world old))
       (to_itself world old sound) (begun_to old _ (takes_up_sound (begun world old) run.0 run.1 run.2 (begun_sound world old sound none)))
 
 -- where nothing is asked, all arguments are read
@@ -290,21 +277,21 @@ module _ (world : World) (choice : Choice) (state : State) where
 
   pub answered_method : (slot : Origin) (type : JType) → (answered world choice state (Reads slot type)).method ≡ state.method
   answered_method slot type =
-      if_has (λ (s : State). s.method ≡ state.method) (is_reference type) (first_reference world slot choice state) (first_int slot (kind_for (Some type)) state)
+      if_has (λ (s : State). s.method ≡ state.method) (is_reference_type type) (first_reference world slot choice state) (first_int slot (kind_for (Some type)) state)
       (found_method slot _ _) (found_method slot _ _)
 
   pub answered_init : (slot : Origin) (type : JType) → (answered world choice state (Reads slot type)).init ≡ state.init
   answered_init slot type =
-      if_has (λ (s : State). s.init ≡ state.init) (is_reference type) (first_reference world slot choice state) (first_int slot (kind_for (Some type)) state)
+      if_has (λ (s : State). s.init ≡ state.init) (is_reference_type type) (first_reference world slot choice state) (first_int slot (kind_for (Some type)) state)
       (found_init slot _ _) (found_init slot _ _)
 
   pub answered_stage : (object place : ℕ) (type : JType) → (answered world choice state (Reads (Field object place) type)).stage ≡ state.stage
   answered_stage object place type =
-      if_has (λ (s : State). s.stage ≡ state.stage) (is_reference type) (first_reference world (Field object place) choice state) (first_int (Field object place) (kind_for (Some type)) state) refl refl
+      if_has (λ (s : State). s.stage ≡ state.stage) (is_reference_type type) (first_reference world (Field object place) choice state) (first_int (Field object place) (kind_for (Some type)) state) refl refl
 
   pub answered_carried : (slot : Origin) (type : JType) → (answered world choice state (Reads slot type)).carried ≡ state.carried
   answered_carried slot type =
-      if_has (λ (s : State). s.carried ≡ state.carried) (is_reference type) (first_reference world slot choice state) (first_int slot (kind_for (Some type)) state)
+      if_has (λ (s : State). s.carried ≡ state.carried) (is_reference_type type) (first_reference world slot choice state) (first_int slot (kind_for (Some type)) state)
       (found_carried slot _ _) (found_carried slot _ _)
     where
       found_carried : (of : Origin) (value : SymValue) (s : State) → (found_in of value s).carried ≡ s.carried
@@ -322,18 +309,18 @@ module _ (world : World) (bounds : Bounds) (state : State) (at : IsAtReferences 
   pub told_sound : Sound world told
   told_sound = answered_sound world bounds state at slot type asks choice range has
 
-  pub goes_behind_sound : SoundTo world told (goes_behind world bounds slot told).state
+  pub goes_behind_sound : SoundTo world told (goes_behind plan_of world bounds slot told).state
   goes_behind_sound = go slot refl (asked world bounds state at slot type asks).from where
-    go : (of : Origin) → slot ≡ of → IsAskedAt world bounds state of type → SoundTo world told (goes_behind world bounds of told).state
+    go : (of : Origin) → slot ≡ of → IsAskedAt world bounds state of type → SoundTo world told (goes_behind plan_of world bounds of told).state
     go (Arg number) is from = to_itself world told told_sound
     go (Field object place) is from =
         takes_up_sound world bounds told from.frame from.callers
         (ap (λ (s : Origin). (answered world choice state (Reads s type)).stage) is ∙ (answered_stage world choice state object place type ∙ from.running)) told_sound
     go (Element array index) is from = absurd from
 
-  pub answers_sound : SoundTo world told (answers world bounds choice state (Reads slot type)).state
+  pub answers_sound : SoundTo world told (answers plan_of world bounds choice state (Reads slot type)).state
   answers_sound = go (passed_by choice) where
-    go : (bound : Option Bound) → SoundTo world told (cut_where bound told (goes_behind world bounds slot told)).state
+    go : (bound : Option Bound) → SoundTo world told (cut_where bound told (goes_behind plan_of world bounds slot told)).state
     go None = goes_behind_sound
     go (Some bound) = to_itself world told told_sound
 
@@ -350,10 +337,10 @@ pub taken_sound : (world : World) (bounds : Bounds) (old : State) (choice : Choi
     → IsSoundTake world old (taken world bounds old choice).state
 taken_sound world bounds old choice range at has = go (question_of world old bounds) refl has where
   sound : Sound world old
-  sound = sound_reached world old at.reached.reached
+  sound = sound_reached world old at.reached at.alone at.unhandled
 
   go : (question : Option Question) → question_of world old bounds ≡ question → Has (option_map_or (alternatives world old bounds) question only) choice
-      → IsSoundTake world old (option_map_or (answers world bounds choice old) question (takes_next world bounds old)).state
+      → IsSoundTake world old (option_map_or (answers plan_of world bounds choice old) question (takes_next plan_of world bounds Only old)).state
   go None asks offered =
       let none = none_asked world bounds old asks in
       let to = takes_next_sound world bounds old sound none in

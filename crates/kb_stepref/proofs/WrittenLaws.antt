@@ -1,17 +1,11 @@
 -- What holds of a state that is reached holds of it when a slot is written.
-use Rattle.std.proofs.Common.{◌≡◌, ℕ, pos, List, length, Option, Some, None, slice_get, slice_set, refl, sym, subst, ◌∙◌, arith}
+use Rattle.std.proofs.Common.{◌≡◌, ℕ, List, length, Option, Some, None, slice_get, slice_set, refl, sym, subst, ◌∙◌, arith}
 use Rattle.std.specs.Option.{option_map_or}
 use Rattle.std.proofs.lemmas.Option.{none-some, option_and_then_some, same_Some}
 use Rattle.kb_class.proofs.Lists.{set_size}
 use Rattle.kb_link.specs.World.{World}
 use Rattle.kb_link.specs.declared.slots.FieldSlot.{FieldSlot}
 use Rattle.kb_names.specs.declared.types.JType.{JType}
-use Rattle.kb_names.specs.declared.types.JType.TheVariants as types
-use Rattle.kb_terms.specs.declared.op.Op.TheVariants.{And}
-use Rattle.kb_terms.specs.declared.node.Node.{Node}
-use Rattle.kb_terms.specs.declared.node.Node.TheVariants.{Const}
-use Rattle.kb_terms.specs.declared.node.TermId.{TermId}
-use Rattle.kb_terms.specs.Terms.{interned, made_node}
 use Rattle.kb_terms.proofs.Values.{Extends-refl, Extends-trans}
 use Rattle.kb_picture.specs.declared.picture.Origin.{Origin}
 use Rattle.kb_picture.specs.declared.picture.Origin.TheVariants.{Arg, Field, Element}
@@ -26,17 +20,17 @@ use Rattle.kb_frames.specs.declared.value.SymValue.TheVariants.{Int, Null, Obj, 
 use Rattle.kb_frames.specs.Heaps.{find_cell, made_value, object_with, value_of_cell, with_cell, with_made_value, wrote, wrote_made}
 use Rattle.kb_frames.specs.State.{State}
 use Rattle.kb_frames.specs.States.{Each, IsCell, IsMade, IsStage, IsSymValue, IsTouched}
-use Rattle.kb_stepint.specs.Asked.{interned_op}
-use Rattle.kb_stepint.proofs.AskedLaws.{interned_is_term}
-use Rattle.kb_stepint.proofs.GrowLaws.{GoesOn, goes_on_behind, interned_goes_on, op_goes_on}
-use Rattle.kb_stepint.proofs.ItemLaws.{each_set}
-use Rattle.kb_stepint.proofs.OutcomeValues.{cells_sound}
-use Rattle.kb_stepint.proofs.SoundLaws.{Sound, nodes_sound}
-use Rattle.kb_stepref.specs.Effects.{kept_in, put_kept}
+use Rattle.kb_ways.proofs.ItemLaws.{each_set}
+use Rattle.kb_ways.proofs.OutcomeValues.{cells_sound}
+use Rattle.kb_ways.proofs.SoundLaws.{Sound, nodes_sound}
+use Rattle.kb_ways.specs.Kept.{kept_in}
+use Rattle.kb_stepref.specs.Effects.{put_kept}
 use Rattle.kb_stepref.specs.Fields.{cell_of, has_slot_of, held, put_in}
 use Rattle.kb_stepref.proofs.CellLaws.{found_cell, with_cell_length, with_touched}
 use Rattle.kb_stepref.proofs.FirstReadLaws.{where_so}
 use Rattle.kb_stepref.proofs.MoreLaws.{IsMore, changed, changed_sound, made_more, rows_more, rows_with, running_more, value_more}
+use Rattle.kb_ways.proofs.KeptLaws.{kept_more, kept_there}
+use Rattle.kb_ways.proofs.GrowLaws.{HasMore}
 
 -- ---- what a field holds
 
@@ -203,26 +197,20 @@ pub record IsKeptBehind (world : World) (state : State) (kept : State × SymValu
   pub value : IsSymValue world kept.0 kept.1
 
 module _ (world : World) (state : State) (sound : Sound world state) where
-  masked_behind : (term : TermId) → IsKeptBehind world state (kept_in types.Bool (Int term) state)
-  masked_behind term =
-      let one : List Node × TermId = interned state.nodes (Const (pos 1)) in
-      let made : List Node × TermId = interned_op one.0 And term (Some one.1) in
-      let on : GoesOn state.nodes made.0 = goes_on_behind state.nodes one.0 made.0 (interned_goes_on state.nodes (Const (pos 1)) refl) (op_goes_on one.0 And term (Some one.1)) in
-      record {
-        behind = record {
-          sound = nodes_sound world state made.0 on sound;
-          more = record { terms = on.terms; objects = omega arith; locs = omega arith; made = omega arith };
-          stage = refl;
-          method = refl;
-          init = refl;
-          picture = refl;
-        };
-        value = interned_is_term one.0 (made_node one.0 And term (Some one.1));
-      }
+  more_behind : (new : State) → HasMore state new → SoundBehind world state new
+  more_behind new more =
+      subst (SoundBehind world state) (sym more.rest)
+      (record {
+        sound = nodes_sound world state new.nodes more.on sound;
+        more = record { terms = more.on.terms; objects = omega arith; locs = omega arith; made = omega arith };
+        stage = refl;
+        method = refl;
+        init = refl;
+        picture = refl;
+      })
 
   pub kept_behind : (type : JType) (value : SymValue) → IsSymValue world state value → IsKeptBehind world state (kept_in type value state)
-  kept_behind types.Bool (Int term) is = masked_behind term
-  kept_behind _ value is = record { behind = sound_itself world state sound; value = is }
+  kept_behind type value is = record { behind = more_behind (kept_in type value state).0 (kept_more type value state); value = kept_there world state type value is }
 
 -- a value is kept in a slot of an object
 pub put_kept_behind : (world : World) (state : State) (frame : SymFrame) (callers : List SymFrame) (object : SymValue) (slot : ℕ) (kept : State × SymValue) → state.stage ≡ Runs frame callers

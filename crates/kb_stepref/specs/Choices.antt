@@ -1,37 +1,27 @@
 -- The alternatives of a step on references, in their order: those of its question, and the only way on where it asks nothing. A
 -- reference that is read for the first time has those of lazy initialisation (Khurshid, Păsăreanu and Visser, TACAS 2003); an
 -- int or a boolean is a new variable, and there is one way on.
-use Rattle.std.specs.Prelude.{Bool, false, not, nat_eq, ◌&&◌, List, [], ◌∷◌, if◌then◌else◌}
+use Rattle.std.specs.Prelude.{List, [], ◌∷◌, if◌then◌else◌}
 use Rattle.std.specs.Option.{option_map_or}
-use Rattle.kb_class.specs.declared.ids.MethodId.{MethodId}
-use Rattle.kb_class.specs.declared.members.MethodInfo.{MethodInfo}
-use Rattle.kb_class.specs.Members.{is_static}
 use Rattle.kb_heap.specs.declared.bounds.Bounds.{Bounds}
 use Rattle.kb_link.specs.World.{World}
-use Rattle.kb_semantics.specs.Config.{info_of}
 use Rattle.kb_lazy.specs.Choices.{read_choices_of}
 use Rattle.kb_picture.specs.declared.choice.Choice.{Choice}
 use Rattle.kb_picture.specs.declared.choice.Choice.TheVariants.{Only}
-use Rattle.kb_picture.specs.declared.picture.Origin.{Origin}
-use Rattle.kb_picture.specs.declared.picture.Origin.TheVariants.{Arg, Field, Element}
-use Rattle.kb_frames.specs.Next.{is_reference}
+use Rattle.kb_picture.specs.Growing.{is_receiver}
+use Rattle.kb_picture.specs.WellTyped.{is_reference_type}
 use Rattle.kb_frames.specs.State.{State}
-use Rattle.kb_stepref.specs.Questions.{Question, Reads, question_of}
+use Rattle.kb_ways.specs.declared.question.Question.{Question}
+use Rattle.kb_ways.specs.declared.question.Question.TheVariants.{Reads}
+use Rattle.kb_stepref.specs.Questions.{question_of}
 
 abbrev pub only : List Choice
 only = Only ∷ []
 
--- whether the slot is that of a receiver (JVMS 8 section 2.6.1), which is never null: a call on null throws (section 6.5,
--- invokevirtual)
-abbrev pub is_receiver : World → MethodId → Origin → Bool
-is_receiver world method (Arg number) = nat_eq number 0 && option_map_or (λ (info : MethodInfo). not (is_static info.access)) (info_of world method) false
-is_receiver world method (Field object slot) = false
-is_receiver world method (Element array index) = false
-
 -- those of a question
 abbrev pub alternatives : World → State → Bounds → Question → List Choice
 alternatives world state bounds (Reads slot type) =
-    if is_reference type then read_choices_of state.init world state.picture slot type (is_receiver world state.method slot) bounds.k bounds.array else only
+    if is_reference_type type then read_choices_of state.init world state.picture slot type (is_receiver world state.method slot) bounds.k bounds.array else only
 
 -- The alternatives of the next step of a state.
 abbrev pub choices_of : World → State → Bounds → List Choice

@@ -1,43 +1,26 @@
 -- What the instructions on references do to a state: what they write, and the way on. Each is the counterpart of the machine's
 -- effect of the same instruction (JVMS 8 section 6.5), with symbolic values in the place of values. What a field of an object
 -- of the picture holds was told before, where it is read.
-use Rattle.std.specs.Prelude.{ℕ, pos, Bool, List, ◌∷◌, length, drop, nat_lt, Option, Some, None, cond, option_and_then, slice_set, if◌then◌else◌}
-use Rattle.std.specs.Option.{option_map_or}
+use Rattle.std.specs.Prelude.{ℕ, Bool, List, ◌∷◌, length, drop, nat_lt, Some, None, cond, slice_set, if◌then◌else◌}
 use Rattle.kb_code.specs.declared.instruction.Instr.{Instr}
 use Rattle.kb_code.specs.declared.instruction.Instr.TheVariants as instrs
 use Rattle.kb_link.specs.World.{World}
 use Rattle.kb_link.specs.declared.slots.FieldSlot.{FieldSlot}
-use Rattle.kb_names.specs.declared.types.JType.{JType}
-use Rattle.kb_names.specs.declared.types.JType.TheVariants as types
-use Rattle.kb_semantics.specs.Config.{has_room, max_locals_of, result_of}
+use Rattle.kb_semantics.specs.Config.{has_room, max_locals_of}
 use Rattle.kb_semantics.specs.Instructions.{is_wanted}
 use Rattle.kb_semantics.specs.Ways.{null_pointer}
-use Rattle.kb_terms.specs.declared.node.Node.TheVariants.{Const}
-use Rattle.kb_terms.specs.Terms.{interned}
 use Rattle.kb_frames.specs.declared.value.SymValue.{SymValue}
-use Rattle.kb_frames.specs.declared.value.SymValue.TheVariants.{Int, Null}
-use Rattle.kb_frames.specs.Lent.{local_in, locals_of, stack_of, with_nodes}
+use Rattle.kb_frames.specs.declared.value.SymValue.TheVariants.{Null}
+use Rattle.kb_frames.specs.Lent.{local_in, locals_of, stack_of}
 use Rattle.kb_frames.specs.Next.{method_now}
 use Rattle.kb_frames.specs.State.{State}
-use Rattle.kb_stepint.specs.Effects.{masked, with_stack}
-use Rattle.kb_stepint.specs.Ways.{Way, Goes, Jumps, Leaves, Throws, Fails}
+use Rattle.kb_ways.specs.Ways.{with_stack, Way, Goes, Jumps, Throws, Fails}
 use Rattle.kb_stepref.specs.Fields.{field_named, has_place, held, put_in}
-use Rattle.kb_stepref.specs.Operands.{is_null, object_and_value, one_reference, reference, same, two_references}
-
--- the state with what the instruction writes, and the way on
-pub record Planned : Type 0 where
-  pub state : State
-  pub way : Way
-
--- ---- parts
-
--- nothing is written
-abbrev pub plain : State → Way → Planned
-plain state way = record { state = state; way = way }
-
--- where there is something, what it leads to; else it is ill-typed
-abbrev pub planned : {A : Type 0} → State → Option A → (A → Planned) → Planned
-planned state it f = option_map_or f it (plain state Fails)
+use Rattle.kb_stepref.specs.Comparing.{is_null, same}
+use Rattle.kb_ways.specs.Operands.{an_object_and_value, a_reference, reference, two_references}
+use Rattle.kb_ways.specs.Plans.{Planned, plain, planned, returns_value}
+use Rattle.kb_picture.specs.declared.choice.Choice.{Choice}
+use Rattle.kb_ways.specs.Kept.{kept}
 
 -- whether a local lies below the limit of the method
 abbrev pub is_local : World → State → ℕ → Bool
@@ -60,7 +43,7 @@ in_local world state k value stack = if is_local world state k then Goes (slice_
 
 -- astore
 abbrev pub stores : World → State → ℕ → Planned
-stores world state k = planned state (one_reference (stack_of state.stage)) (λ value. plain state (in_local world state k value (drop 1 (stack_of state.stage))))
+stores world state k = planned state (a_reference (stack_of state.stage)) (λ value. plain state (in_local world state k value (drop 1 (stack_of state.stage))))
 
 -- ---- branches
 
@@ -74,21 +57,13 @@ branches_same state want target = planned state (two_references (stack_of state.
 
 -- ifnull, ifnonnull
 abbrev pub branches_null : State → Bool → ℕ → Planned
-branches_null state want target = planned state (one_reference (stack_of state.stage)) (λ value. plain state (branch_where state (is_wanted want (is_null value)) target 1))
+branches_null state want target = planned state (a_reference (stack_of state.stage)) (λ value. plain state (branch_where state (is_wanted want (is_null value)) target 1))
 
 -- ---- returns
 
--- the value, where a result of the type is a reference, of whatever class
-abbrev pub result_in : SymValue → JType → Option SymValue
-result_in value (types.Class name) = Some value
-result_in value (types.Array component) = Some value
-result_in value _ = None
-
 -- areturn
 abbrev pub returns_reference : World → State → Planned
-returns_reference world state =
-    planned state (one_reference (stack_of state.stage)) (λ value.
-    planned state (option_and_then (result_in value) (result_of world (method_now state.method state.stage))) (λ result. plain state (Leaves (Some result))))
+returns_reference world state = planned state (a_reference (stack_of state.stage)) (returns_value world state)
 
 -- ---- getfield
 
@@ -99,25 +74,22 @@ got world state field value = planned state (held world state field value) (λ i
 
 -- getfield: what is no reference is ill-typed before null is looked at
 abbrev pub gets : World → State → ℕ → Planned
-gets world state entry = planned state (field_named world state entry) (λ field. planned state (one_reference (stack_of state.stage)) (got world state field))
+gets world state entry = planned state (field_named world state entry) (λ field. planned state (a_reference (stack_of state.stage)) (got world state field))
 
 -- ---- putfield
 
--- what a field of the type keeps of a value: of an int in a boolean one the low bit, as a term that is made
-abbrev pub kept_in : JType → SymValue → State → State × SymValue
-kept_in types.Bool (Int term) state =
-    let made = masked state term (interned state.nodes (Const (pos 1))) in
-    (with_nodes state made.0, Int made.1)
-kept_in _ value state = (state, value)
-
+-- what is kept of the value is put into the object, and both operands are off the stack
 abbrev pub put_kept : SymValue → ℕ → State × SymValue → State
 put_kept object slot kept = put_in object slot kept.1 kept.0
+
+abbrev pub puts_kept : State → SymValue → ℕ → State × SymValue → Planned
+puts_kept state object slot kept = record { state = put_kept object slot kept; way = with_stack state (drop 2 (stack_of state.stage)) }
 
 -- the object has the field; the stack that is left must have room, before anything is written
 abbrev pub put_where : World → State → FieldSlot → SymValue → SymValue → Planned
 put_where world state field object value =
     if has_room world (method_now state.method state.stage) (length (drop 2 (stack_of state.stage)))
-    then record { state = put_kept object field.slot (kept_in field.kind value state); way = with_stack state (drop 2 (stack_of state.stage)) }
+    then planned state (kept field.kind value state) (puts_kept state object field.slot)
     else plain state Fails
 
 -- null throws; an object that lacks the field is ill-typed
@@ -129,18 +101,19 @@ put world state field object value = if has_place world state field object then 
 abbrev pub puts : World → State → ℕ → Planned
 puts world state entry =
     planned state (field_named world state entry) (λ field.
-    planned state (object_and_value field.kind (stack_of state.stage)) (λ t. put world state field t.0 t.1))
+    planned state (an_object_and_value field.kind (stack_of state.stage)) (λ t. put world state field t.0 t.1))
 
 -- ---- the instructions
 
--- What an instruction does to a state. One that is no instruction on references is left out.
-abbrev pub plan_of : World → State → Instr → Planned
-plan_of world state instrs.PushNull = pushes_null state
-plan_of world state (instrs.LoadRef k) = loads world state k
-plan_of world state (instrs.StoreRef k) = stores world state k
-plan_of world state (instrs.IfSame want target) = branches_same state want target
-plan_of world state (instrs.IfNull want target) = branches_null state want target
-plan_of world state instrs.ReturnRef = returns_reference world state
-plan_of world state (instrs.GetField entry) = gets world state entry
-plan_of world state (instrs.PutField entry) = puts world state entry
-plan_of world state _ = plain state Fails
+-- What an instruction does to a state, to which nothing is left to be told: it chooses nothing. One that is no instruction on
+-- references is left out.
+abbrev pub plan_of : World → State → Choice → Instr → Planned
+plan_of world state choice instrs.PushNull = pushes_null state
+plan_of world state choice (instrs.LoadRef k) = loads world state k
+plan_of world state choice (instrs.StoreRef k) = stores world state k
+plan_of world state choice (instrs.IfSame want target) = branches_same state want target
+plan_of world state choice (instrs.IfNull want target) = branches_null state want target
+plan_of world state choice instrs.ReturnRef = returns_reference world state
+plan_of world state choice (instrs.GetField entry) = gets world state entry
+plan_of world state choice (instrs.PutField entry) = puts world state entry
+plan_of world state choice _ = plain state Fails

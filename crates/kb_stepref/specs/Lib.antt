@@ -1,9 +1,7 @@
-pub mod Operands
+pub mod Comparing
 pub mod Fields
 pub mod Questions
 pub mod Choices
 pub mod Effects
 pub mod Takes
-pub mod HeapMethods
-pub mod Reached
 pub mod Laws

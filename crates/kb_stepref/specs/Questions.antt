@@ -1,6 +1,6 @@
--- What a step of a state must be told before it can be carried out, one thing at a time: for now what a slot holds that is read
--- for the first time, an argument or a field (lazy initialisation: Khurshid, Păsăreanu and Visser, TACAS 2003). That a run
--- begins by reading its arguments is an own rule.
+-- What a step on references must be told before it can be carried out: what a slot holds that is read for the first time, an
+-- argument or a field (lazy initialisation: Khurshid, Păsăreanu and Visser, TACAS 2003). That a run begins by reading its
+-- arguments is an own rule.
 use Rattle.std.specs.Prelude.{ℕ, nat_le, Option, Some, None, option_and_then, slice_get, if◌then◌else◌}
 use Rattle.std.specs.Option.{option_map_or}
 use Rattle.kb_code.specs.declared.instruction.Instr.{Instr}
@@ -9,7 +9,6 @@ use Rattle.kb_heap.specs.declared.bounds.Bounds.{Bounds}
 use Rattle.kb_link.specs.World.{World}
 use Rattle.kb_link.specs.declared.slots.FieldSlot.{FieldSlot}
 use Rattle.kb_names.specs.declared.types.JType.{JType}
-use Rattle.kb_picture.specs.declared.picture.Origin.{Origin}
 use Rattle.kb_picture.specs.declared.picture.Origin.TheVariants.{Arg, Field}
 use Rattle.kb_frames.specs.declared.value.Cell.{Cell}
 use Rattle.kb_frames.specs.declared.value.Cell.TheVariants.{Untouched, Read, Written}
@@ -18,15 +17,9 @@ use Rattle.kb_frames.specs.declared.value.SymValue.TheVariants.{Int, Null, Obj, 
 use Rattle.kb_frames.specs.Lent.{read_count, stack_of}
 use Rattle.kb_frames.specs.Next.{argument_next, instruction_next}
 use Rattle.kb_frames.specs.State.{State}
-use Rattle.kb_stepref.specs.declared.questions.FirstRead.{FirstRead}
+use Rattle.kb_ways.specs.declared.question.Question.{Question}
+use Rattle.kb_ways.specs.declared.question.Question.TheVariants.{Reads}
 use Rattle.kb_stepref.specs.Fields.{cell_of, field_named}
-
--- what is asked: for now what the slot of the declared type holds
-pub data Question : Type 0 where
-  Reads : Origin → JType → Question
-
-abbrev pub question : FirstRead → Question
-question first = Reads first.slot first.kind
 
 -- a field of an object of the picture is read for the first time, where nobody has read or written it
 abbrev pub asks_cell : ℕ → FieldSlot → Option Cell → Option Question

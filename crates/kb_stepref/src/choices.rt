@@ -1,25 +1,27 @@
 //! The alternatives of the next step on references.
-ghost use Rattle.std.specs.Prelude.{◌≡◌, false, IfOk};
-ghost use Rattle.kb_frames.specs.Next.{next_is_int};
-ghost use Rattle.kb_stepref.specs.Choices.{alternatives, choices_of, is_receiver, only};
-ghost use Rattle.kb_stepref.specs.Questions.{question};
-ghost use Rattle.kb_stepref.specs.Reached.{IsHeapReached};
+ghost use Rattle.std.specs.Prelude.{◌≡◌, IfOk};
+ghost use Rattle.kb_picture.specs.Growing.{is_receiver};
+ghost use Rattle.kb_stepref.specs.Choices.{alternatives, choices_of, only};
+ghost use Rattle.kb_stepref.specs.Laws.{IsAtReferences};
+ghost use Rattle.kb_ways.specs.declared.question.Question.TheVariants.{Reads};
 
 use crate::NoMemory;
-use crate::questions::{FirstRead, question_of};
+use crate::questions::question_of;
 use kb_class::{MethodId, is_static};
 use kb_frames::{SymState, is_reference};
 use kb_heap::Bounds;
 use kb_lazy::read_choices;
+use kb_names::JType;
 use kb_picture::{Choice, Origin};
+use kb_ways::Question;
 use kb_world::World;
 use std::alloc::Global;
 
 /// The alternatives of the next step of a state, in their order. Of a reference that is read for the first time they are null,
 /// but not for a receiver, the objects that the picture has, and new ones; of every other step the only way on.
 ///
-/// The state is one to which `start` and later calls lead in this world under lazy initialisation, and whose next step is none
-/// of ints. It takes time in proportion to the objects of the picture, the universe and the list that it gives.
+/// The state is one to which `start` and later calls lead in this world under lazy initialisation, and whose next step is one on
+/// references that is built. It takes time in proportion to the objects of the picture, the universe and the list that it gives.
 ///
 /// Source: Khurshid, Păsăreanu and Visser (TACAS 2003).
 pub fn choices_ref(
@@ -28,12 +30,11 @@ pub fn choices_ref(
     state: &SymState,
     bounds: &Bounds,
 ) -> Result<Vec<Choice>, NoMemory>
-    requires reached { IsHeapReached world.now state.now }
-    requires reference { next_is_int world.now state.now ≡ false }
+    requires { IsAtReferences world.now state.now }
     ensures { IfOk result (λ choices. choices.items ≡ choices_of world.now state.now bounds.now) }
 {
     match question_of(alloc, world, state, bounds)? {
-        Some(first) => alternatives(alloc, world, state, bounds, &first),
+        Some(question) => alternatives(alloc, world, state, bounds, &question),
         None => only(alloc),
     }
 }
@@ -46,26 +47,42 @@ fn only(alloc: Global) -> Result<Vec<Choice>, NoMemory>
     Ok(choices)
 }
 
-// The alternatives of a slot that is read for the first time.
+// The alternatives of a question.
 fn alternatives(
     alloc: Global,
     world: &World,
     state: &SymState,
     bounds: &Bounds,
-    first: &FirstRead,
+    question: &Question,
 ) -> Result<Vec<Choice>, NoMemory>
-    ensures { IfOk result (λ choices. choices.items ≡ alternatives world.now state.now bounds.now (question first.now)) }
+    ensures { IfOk result (λ choices. choices.items ≡ alternatives world.now state.now bounds.now question.now) }
 {
-    if !is_reference(&first.kind) {
+    match question {
+        Question::Reads(slot, kind) => read_alternatives(alloc, world, state, bounds, *slot, kind),
+    }
+}
+
+// The alternatives of a slot that is read for the first time.
+fn read_alternatives(
+    alloc: Global,
+    world: &World,
+    state: &SymState,
+    bounds: &Bounds,
+    slot: Origin,
+    kind: &JType,
+) -> Result<Vec<Choice>, NoMemory>
+    ensures { IfOk result (λ choices. choices.items ≡ alternatives world.now state.now bounds.now (Reads slot kind.now)) }
+{
+    if !is_reference(kind) {
         return only(alloc);
     }
     let choices = read_choices(
         alloc,
         world,
         state.picture(),
-        first.slot,
-        &first.kind,
-        is_receiver(world, state.method(), first.slot),
+        slot,
+        kind,
+        is_receiver(world, state.method(), slot),
         state.init(),
         bounds.k,
         bounds.array,

@@ -2,14 +2,13 @@
 //! is chosen.
 ghost use Rattle.std.specs.Prelude.{◌≡◌, ◌<◌, IfOk};
 ghost use Rattle.kb_semantics.specs.Instructions.{is_wanted};
-ghost use Rattle.kb_stepint.specs.Turns.{led, told};
+ghost use Rattle.kb_ways.specs.Turns.{led, told, led_by};
+ghost use Rattle.kb_stepref.specs.Comparing.{is_null, same};
 ghost use Rattle.kb_stepref.specs.Effects.{branch_where, branches_null, branches_same};
-ghost use Rattle.kb_stepref.specs.Takes.{followed};
 
 use crate::NoMemory;
-use crate::operands::{is_null, one_reference, same, two_references};
-use kb_frames::{Outcome, SymState};
-use kb_stepint::{Turn, ill_typed, jumps, replaces};
+use kb_frames::{Outcome, SymState, SymValue};
+use kb_ways::{Turn, a_reference, ill_typed, jumps, replaces, two_references};
 
 /// if_acmpeq where they are wanted to be one, if_acmpne where they are not
 pub(crate) fn if_same(
@@ -19,7 +18,7 @@ pub(crate) fn if_same(
     target: u32,
 ) -> Result<Outcome, NoMemory>
     requires { state.old.carried < turn.now.bounds.run.steps }
-    ensures { IfOk result (λ outcome. told state.new outcome ≡ followed turn.now.world.now turn.now.bounds turn.now.next (branches_same state.old want target)) }
+    ensures { IfOk result (λ outcome. told state.new outcome ≡ led_by turn.now (branches_same state.old want target)) }
 {
     match two_references(state) {
         Some((left, right)) => branch(turn, state, is_wanted(want, same(left, right)), target, 2),
@@ -35,9 +34,9 @@ pub(crate) fn if_null(
     target: u32,
 ) -> Result<Outcome, NoMemory>
     requires { state.old.carried < turn.now.bounds.run.steps }
-    ensures { IfOk result (λ outcome. told state.new outcome ≡ followed turn.now.world.now turn.now.bounds turn.now.next (branches_null state.old want target)) }
+    ensures { IfOk result (λ outcome. told state.new outcome ≡ led_by turn.now (branches_null state.old want target)) }
 {
-    match one_reference(state) {
+    match a_reference(state) {
         Some(value) => branch(turn, state, is_wanted(want, is_null(value)), target, 1),
         None => ill_typed(turn, state),
     }
@@ -47,6 +46,25 @@ fn is_wanted(want: bool, so: bool) -> bool
     ensures { result ≡ is_wanted want so }
 {
     if want { so } else { !so }
+}
+
+fn is_null(value: SymValue) -> bool
+    ensures { result ≡ is_null value }
+{
+    matches!(value, SymValue::Null)
+}
+
+// Whether two references are one.
+fn same(one: SymValue, other: SymValue) -> bool
+    ensures { result ≡ same one other }
+{
+    match (one, other) {
+        (SymValue::Null, SymValue::Null) => true,
+        (SymValue::Obj(one), SymValue::Obj(other)) => one == other,
+        (SymValue::Literal(one), SymValue::Literal(other)) => one == other,
+        (SymValue::New(one), SymValue::New(other)) => one == other,
+        _ => false,
+    }
 }
 
 // It goes on at the target where that is so, else at the next offset, with so many values fewer on the stack.

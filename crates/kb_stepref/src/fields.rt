@@ -1,19 +1,20 @@
 //! The fields of objects: getfield and putfield (JVMS 8 section 6.5).
-ghost use Rattle.std.specs.Prelude.{◌≡◌, ◌<◌, Some, IfOk, OnOk, if◌then◌else◌};
+ghost use Rattle.std.specs.Prelude.{◌≡◌, ◌<◌, drop, Some, IfOk, if◌then◌else◌};
 ghost use Rattle.std.specs.Option.{option_copied};
-ghost use Rattle.kb_semantics.specs.Instructions.{has_field};
-ghost use Rattle.kb_stepint.specs.Needs.{CanStep, IsTermOf};
-ghost use Rattle.kb_stepint.specs.Turns.{told};
-ghost use Rattle.kb_stepint.specs.Ways.{Fails};
-ghost use Rattle.kb_stepref.specs.Effects.{got, gets, kept_in, plain, put, put_where, puts};
+ghost use Rattle.kb_ways.specs.Needs.{CanStep, IsTermOf};
+ghost use Rattle.kb_ways.specs.Turns.{led, led_by, told};
+ghost use Rattle.kb_frames.specs.Lent.{stack_of};
+ghost use Rattle.kb_ways.specs.Ways.{Fails, with_stack};
+ghost use Rattle.kb_stepref.specs.Effects.{got, gets, put, put_where, puts};
+ghost use Rattle.kb_ways.specs.Plans.{plain};
 ghost use Rattle.kb_stepref.specs.Fields.{cell_of, field_named, has_place, has_slot_of, held, made_value_of, put_in};
-ghost use Rattle.kb_stepref.specs.Takes.{followed};
 
 use crate::NoMemory;
-use crate::operands::{object_and_value, one_reference};
-use kb_frames::{Cell, Outcome, SymState, SymValue, declaring_class};
-use kb_names::{ExactType, JType};
-use kb_stepint::{Turn, has_room, ill_typed, mask, replaces, throws};
+use kb_frames::{Cell, Outcome, SymState, SymValue};
+use kb_lookups::{declaring_class, has_field};
+use kb_ways::{
+    Turn, a_reference, an_object_and_value, has_room, ill_typed, keep, replaces, throws,
+};
 use kb_world::{FieldSlot, World};
 
 const NULL_POINTER: &[u8] = b"java/lang/NullPointerException";
@@ -39,15 +40,6 @@ fn has_slot_of(world: &World, state: &SymState, field: &FieldSlot, value: SymVal
     match state.exact_type_of(value) {
         Some(kind) => has_field(world, kind, field),
         None => false,
-    }
-}
-
-fn has_field(world: &World, kind: &ExactType, field: &FieldSlot) -> bool
-    ensures { result ≡ has_field world.now kind.now field.now }
-{
-    match kind {
-        ExactType::Class(name) => world.is_in_chain(name, field.class),
-        ExactType::Array(_) => false,
     }
 }
 
@@ -90,12 +82,12 @@ pub(crate) fn get_field(
     entry: u16,
 ) -> Result<Outcome, NoMemory>
     requires { state.old.carried < turn.now.bounds.run.steps }
-    ensures { IfOk result (λ outcome. told state.new outcome ≡ followed turn.now.world.now turn.now.bounds turn.now.next (gets turn.now.world.now state.old entry)) }
+    ensures { IfOk result (λ outcome. told state.new outcome ≡ led_by turn.now (gets turn.now.world.now state.old entry)) }
 {
     let Some(field) = field_named(turn.world, state, entry) else {
         return ill_typed(turn, state);
     };
-    match one_reference(state) {
+    match a_reference(state) {
         Some(object) => get(turn, state, field, object),
         None => ill_typed(turn, state),
     }
@@ -108,7 +100,7 @@ fn get(
     object: SymValue,
 ) -> Result<Outcome, NoMemory>
     requires { state.old.carried < turn.now.bounds.run.steps }
-    ensures { IfOk result (λ outcome. told state.new outcome ≡ followed turn.now.world.now turn.now.bounds turn.now.next (got turn.now.world.now state.old field.now object)) }
+    ensures { IfOk result (λ outcome. told state.new outcome ≡ led_by turn.now (got turn.now.world.now state.old field.now object)) }
 {
     if let SymValue::Null = object {
         return throws(turn, state, NULL_POINTER);
@@ -136,18 +128,19 @@ fn held(world: &World, state: &SymState, field: &FieldSlot, object: SymValue) ->
 // ---- putfield
 
 /// putfield
+#[tactic(auto, using(kb_ways::proofs::OperandLaws::value_there))]
 pub(crate) fn put_field(
     turn: &Turn<'_>,
     state: &mut SymState,
     entry: u16,
 ) -> Result<Outcome, NoMemory>
     requires { CanStep turn.now.bounds state.old }
-    ensures { IfOk result (λ outcome. told state.new outcome ≡ followed turn.now.world.now turn.now.bounds turn.now.next (puts turn.now.world.now state.old entry)) }
+    ensures { IfOk result (λ outcome. told state.new outcome ≡ led_by turn.now (puts turn.now.world.now state.old entry)) }
 {
     let Some(field) = field_named(turn.world, state, entry) else {
         return ill_typed(turn, state);
     };
-    match object_and_value(state, &field.kind) {
+    match an_object_and_value(state, &field.kind) {
         Some((object, value)) => put(turn, state, field, object, value),
         None => ill_typed(turn, state),
     }
@@ -162,7 +155,7 @@ fn put(
 ) -> Result<Outcome, NoMemory>
     requires step { CanStep turn.now.bounds state.old }
     requires term { IsTermOf state.old.nodes (Some value) }
-    ensures { IfOk result (λ outcome. told state.new outcome ≡ followed turn.now.world.now turn.now.bounds turn.now.next (put turn.now.world.now state.old field.now object value)) }
+    ensures { IfOk result (λ outcome. told state.new outcome ≡ led_by turn.now (put turn.now.world.now state.old field.now object value)) }
 {
     if let SymValue::Null = object {
         return throws(turn, state, NULL_POINTER);
@@ -180,7 +173,7 @@ fn put_on(
 ) -> Result<Outcome, NoMemory>
     requires step { CanStep turn.now.bounds state.old }
     requires term { IsTermOf state.old.nodes (Some value) }
-    ensures { IfOk result (λ outcome. told state.new outcome ≡ followed turn.now.world.now turn.now.bounds turn.now.next (if has_place turn.now.world.now state.old field.now object then put_where turn.now.world.now state.old field.now object value else plain state.old Fails)) }
+    ensures { IfOk result (λ outcome. told state.new outcome ≡ led_by turn.now (if has_place turn.now.world.now state.old field.now object then put_where turn.now.world.now state.old field.now object value else plain state.old Fails)) }
 {
     if !has_place(turn.world, state, field, object) {
         return ill_typed(turn, state);
@@ -189,8 +182,24 @@ fn put_on(
     if !has_room(turn, state, kept, 0) {
         return ill_typed(turn, state);
     }
-    let value = keep(state, &field.kind, value)?;
-    put_in(state, object, field.slot, value);
+    match keep(state, &field.kind, value)? {
+        Some(value) => put_kept(turn, state, field.slot, object, value),
+        None => ill_typed(turn, state),
+    }
+}
+
+// A value that is kept is put into a slot of the object, and both operands are off the stack.
+fn put_kept(
+    turn: &Turn<'_>,
+    state: &mut SymState,
+    slot: u32,
+    object: SymValue,
+    value: SymValue,
+) -> Result<Outcome, NoMemory>
+    requires { state.old.carried < turn.now.bounds.run.steps }
+    ensures { IfOk result (λ outcome. told state.new outcome ≡ led turn.now (put_in object slot value state.old) (with_stack state.old (drop 2 (stack_of state.old.stage)))) }
+{
+    put_in(state, object, slot, value);
     let outcome = replaces(turn, state, 2, &[])?;
     Ok(outcome)
 }
@@ -203,18 +212,6 @@ fn has_place(world: &World, state: &SymState, field: &FieldSlot, object: SymValu
         SymValue::Obj(number) => cell_of(world, state, field, number).is_some(),
         SymValue::New(number) => made_value_of(world, state, field, number).is_some(),
         SymValue::Int(_) | SymValue::Null | SymValue::Literal(_) | SymValue::Loc(_) => false,
-    }
-}
-
-// What a field of the type keeps of a value.
-fn keep(state: &mut SymState, kind: &JType, value: SymValue) -> Result<SymValue, NoMemory>
-    requires { IsTermOf state.old.nodes (Some value) }
-    ensures state { OnOk result (state.new ≡ (kept_in kind.now value state.old).0) }
-    ensures value { IfOk result (λ kept. kept ≡ (kept_in kind.now value state.old).1) }
-{
-    match (kind, value) {
-        (JType::Bool, SymValue::Int(term)) => Ok(SymValue::Int(mask(state, term)?)),
-        _ => Ok(value),
     }
 }
 

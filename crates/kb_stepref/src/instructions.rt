@@ -1,9 +1,9 @@
 //! What each instruction on references does to a state (JVMS 8 section 6.5).
 ghost use Rattle.std.specs.Prelude.{◌≡◌, IfOk};
-ghost use Rattle.kb_stepint.specs.Needs.{CanStep};
-ghost use Rattle.kb_stepint.specs.Turns.{told};
+ghost use Rattle.kb_ways.specs.Needs.{CanStep};
+ghost use Rattle.kb_ways.specs.Turns.{told, led_by};
 ghost use Rattle.kb_stepref.specs.Effects.{plan_of};
-ghost use Rattle.kb_stepref.specs.Takes.{followed};
+ghost use Rattle.kb_picture.specs.declared.choice.Choice.TheVariants.{Only};
 
 use crate::NoMemory;
 use crate::comparing::{if_null, if_same};
@@ -12,7 +12,7 @@ use crate::locals::{load, store};
 use crate::returns::return_reference;
 use kb_code::Instr;
 use kb_frames::{Outcome, SymState, SymValue};
-use kb_stepint::{Turn, ill_typed, replaces};
+use kb_ways::{Turn, ill_typed, replaces};
 
 /// Carries out an instruction to which nothing is left to be told.
 pub(crate) fn carry_out(
@@ -21,7 +21,7 @@ pub(crate) fn carry_out(
     instr: &Instr,
 ) -> Result<Outcome, NoMemory>
     requires { CanStep turn.now.bounds state.old }
-    ensures { IfOk result (λ outcome. told state.new outcome ≡ followed turn.now.world.now turn.now.bounds turn.now.next (plan_of turn.now.world.now state.old instr.now)) }
+    ensures { IfOk result (λ outcome. told state.new outcome ≡ led_by turn.now (plan_of turn.now.world.now state.old Only instr.now)) }
 {
     match instr {
         Instr::PushNull => replaces(turn, state, 0, &[SymValue::Null]),

@@ -1,29 +1,8 @@
 //! What holds of the steps on references of every state. The functions do nothing: they carry the laws.
-ghost use Rattle.std.specs.Prelude.{◌≡◌, true};
-ghost use Rattle.kb_class.specs.declared.ids.MethodId.{MethodId};
-ghost use Rattle.kb_heap.specs.declared.bounds.Bounds.{Bounds};
-ghost use Rattle.kb_link.specs.Links.{IsLinked};
-ghost use Rattle.kb_link.specs.World.{World};
-ghost use Rattle.kb_terms.specs.Terms.{IsPool};
-ghost use Rattle.kb_picture.specs.declared.choice.Choice.{Choice};
-ghost use Rattle.kb_picture.specs.declared.choice.Init.TheVariants.{Lazy};
-ghost use Rattle.kb_frames.specs.Next.{next_is_int};
-ghost use Rattle.kb_frames.specs.State.{State, start_state};
-ghost use Rattle.kb_stepint.specs.Simulation.{AddsComparisons, FollowsStep, GetsOn, HasInputOfState, Keeps, ReadsWhatItSees, TakesOneWay};
-ghost use Rattle.kb_stepint.specs.Takes as int_takes;
+ghost use Rattle.kb_ways.specs.Simulation.{AddsComparisons, FollowsStep, GetsOn, HasInputOfState, Keeps, ReadsWhatItSees, TakesOneWay};
 ghost use Rattle.kb_stepref.specs.Choices.{choices_of};
-ghost use Rattle.kb_stepref.specs.HeapMethods.{is_heap_method};
-ghost use Rattle.kb_stepref.specs.Laws.{GoesOnReached, OfStates, OfTakes};
-ghost use Rattle.kb_stepref.specs.Reached.{IsHeapReached};
+ghost use Rattle.kb_stepref.specs.Laws.{OfStates, OfTakes};
 ghost use Rattle.kb_stepref.specs.Takes.{taken};
-
-/// A method over heaps begins with a state that is reached (`begins`), and its int steps leave such states (`ints`). So do its
-/// steps on references, where the state is not cut (`references`).
-pub fn heap_methods_stay()
-    ensures begins { (world : World) (method : MethodId) → IsLinked world → is_heap_method world method ≡ true → IsHeapReached world (start_state Lazy method) }
-    ensures ints { (world : World) (bounds : Bounds) (state : State) (choice : Choice) → IsHeapReached world state → next_is_int world state ≡ true → IsPool (int_takes.taken world bounds state choice).state.nodes → IsHeapReached world (int_takes.taken world bounds state choice).state }
-    ensures references { OfTakes (λ world bounds state take. IsPool take.state.nodes → GoesOnReached world take.state take.outcome) }
-{}
 
 /// The steps on references of a state simulate the step of the machine. Of each configuration that the state stands for exactly
 /// one alternative is taken (`one`), and the take goes where the machine's step goes (`outcome`).

@@ -5,20 +5,17 @@
 //! makes of a state.
 #![tactic(auto)]
 
-mod answers;
 mod choices;
 mod comparing;
 mod fields;
-mod heap_methods;
 mod instructions;
-pub mod laws;
+mod laws;
 mod locals;
-mod operands;
 mod questions;
 mod returns;
 mod take;
 
 pub use choices::choices_ref;
-pub use heap_methods::is_heap_method;
+pub use laws::{reference_steps_get_on, reference_steps_keep, reference_steps_simulate};
 pub use std::alloc::AllocError as NoMemory;
 pub use take::take_ref;

@@ -1,20 +1,18 @@
 //! Instructions on locals that are references (JVMS 8 section 6.5).
 ghost use Rattle.std.specs.Prelude.{◌≡◌, ◌<◌, cond, drop, None, IfOk};
 ghost use Rattle.kb_frames.specs.Lent.{local_in, stack_of};
-ghost use Rattle.kb_stepint.specs.Turns.{led, told};
+ghost use Rattle.kb_ways.specs.Turns.{led, told, led_by};
 ghost use Rattle.kb_stepref.specs.Effects.{in_local, is_local, loads, stores};
-ghost use Rattle.kb_stepref.specs.Operands.{reference};
-ghost use Rattle.kb_stepref.specs.Takes.{followed};
+ghost use Rattle.kb_ways.specs.Operands.{reference};
 
 use crate::NoMemory;
-use crate::operands::{one_reference, reference};
 use kb_frames::{Outcome, SymState, SymValue};
-use kb_stepint::{Turn, carry_on, has_room, ill_typed, is_local, replaces};
+use kb_ways::{Turn, a_reference, carry_on, has_room, ill_typed, is_local, reference, replaces};
 
 /// aload
 pub(crate) fn load(turn: &Turn<'_>, state: &mut SymState, local: u16) -> Result<Outcome, NoMemory>
     requires { state.old.carried < turn.now.bounds.run.steps }
-    ensures { IfOk result (λ outcome. told state.new outcome ≡ followed turn.now.world.now turn.now.bounds turn.now.next (loads turn.now.world.now state.old local)) }
+    ensures { IfOk result (λ outcome. told state.new outcome ≡ led_by turn.now (loads turn.now.world.now state.old local)) }
 {
     match local_at(turn, state, local) {
         Some(value) => replaces(turn, state, 0, &[value]),
@@ -25,9 +23,9 @@ pub(crate) fn load(turn: &Turn<'_>, state: &mut SymState, local: u16) -> Result<
 /// astore
 pub(crate) fn store(turn: &Turn<'_>, state: &mut SymState, local: u16) -> Result<Outcome, NoMemory>
     requires { state.old.carried < turn.now.bounds.run.steps }
-    ensures { IfOk result (λ outcome. told state.new outcome ≡ followed turn.now.world.now turn.now.bounds turn.now.next (stores turn.now.world.now state.old local)) }
+    ensures { IfOk result (λ outcome. told state.new outcome ≡ led_by turn.now (stores turn.now.world.now state.old local)) }
 {
-    match one_reference(state) {
+    match a_reference(state) {
         Some(value) => set(turn, state, local, value),
         None => ill_typed(turn, state),
     }
@@ -62,6 +60,6 @@ fn set(
     }
     state.store(local, value);
     state.pop(1);
-    carry_on(state, turn.next, turn.bounds.run.steps);
+    carry_on(turn, state, turn.next);
     Ok(Outcome::Goes)
 }

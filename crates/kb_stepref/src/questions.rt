@@ -1,24 +1,18 @@
 //! What a step must be told before it can be carried out.
-ghost use Rattle.std.specs.Prelude.{◌≡◌, option_map, slice_get, IfOk};
+ghost use Rattle.std.specs.Prelude.{◌≡◌, slice_get, IfOk};
 ghost use Rattle.kb_frames.specs.Lent.{stack_of};
-ghost use Rattle.kb_stepref.specs.Questions.{asked_by, asks_cell, asks_field, question, question_of};
+ghost use Rattle.kb_stepref.specs.Questions.{asked_by, asks_cell, asks_field, question_of};
 
 use crate::NoMemory;
 use crate::fields::{cell_of, field_named};
 use kb_code::Instr;
-use kb_frames::{Cell, SymState, SymValue, instruction_at};
+use kb_frames::{Cell, SymState, SymValue};
 use kb_heap::Bounds;
-use kb_names::JType;
+use kb_lookups::instruction_at;
 use kb_picture::Origin;
+use kb_ways::Question;
 use kb_world::{FieldSlot, World};
 use std::alloc::Global;
-
-/// A slot that is to be read for the first time, of that declared type.
-#[derive(Drop)]
-pub(crate) struct FirstRead {
-    pub(crate) slot: Origin,
-    pub(crate) kind: JType,
-}
 
 /// The question of a state: its next argument, or what its next instruction must be told.
 pub(crate) fn question_of(
@@ -26,12 +20,12 @@ pub(crate) fn question_of(
     world: &World,
     state: &SymState,
     bounds: &Bounds,
-) -> Result<Option<FirstRead>, NoMemory>
-    ensures { IfOk result (λ asked. option_map question asked ≡ question_of world.now state.now bounds.now) }
+) -> Result<Option<Question>, NoMemory>
+    ensures { IfOk result (λ asked. asked ≡ question_of world.now state.now bounds.now) }
 {
     if let Some(kind) = state.next_type(alloc, world)? {
         let slot = Origin::Arg(state.read_count()?);
-        return Ok(Some(FirstRead { slot, kind }));
+        return Ok(Some(Question::Reads(slot, kind)));
     }
     if bounds.run.steps <= state.carried() {
         return Ok(None);
@@ -49,8 +43,8 @@ fn asked_by(
     world: &World,
     state: &SymState,
     instr: &Instr,
-) -> Result<Option<FirstRead>, NoMemory>
-    ensures { IfOk result (λ asked. option_map question asked ≡ asked_by world.now state.now instr.now) }
+) -> Result<Option<Question>, NoMemory>
+    ensures { IfOk result (λ asked. asked ≡ asked_by world.now state.now instr.now) }
 {
     let Instr::GetField(entry) = instr else {
         return Ok(None);
@@ -67,8 +61,8 @@ fn asks_field(
     world: &World,
     state: &SymState,
     field: &FieldSlot,
-) -> Result<Option<FirstRead>, NoMemory>
-    ensures { IfOk result (λ asked. option_map question asked ≡ asks_field world.now state.now field.now (slice_get (stack_of state.now.stage) 0)) }
+) -> Result<Option<Question>, NoMemory>
+    ensures { IfOk result (λ asked. asked ≡ asks_field world.now state.now field.now (slice_get (stack_of state.now.stage) 0)) }
 {
     match state.value_at(0) {
         Some(SymValue::Obj(number)) => {
@@ -84,14 +78,14 @@ fn asks_cell(
     number: u32,
     field: &FieldSlot,
     cell: Option<Cell>,
-) -> Result<Option<FirstRead>, NoMemory>
-    ensures { IfOk result (λ asked. option_map question asked ≡ asks_cell number field.now cell) }
+) -> Result<Option<Question>, NoMemory>
+    ensures { IfOk result (λ asked. asked ≡ asks_cell number field.now cell) }
 {
     match cell {
-        Some(Cell::Untouched) => Ok(Some(FirstRead {
-            slot: Origin::Field(number, field.slot),
-            kind: field.kind.copied(alloc)?,
-        })),
+        Some(Cell::Untouched) => {
+            let kind = field.kind.copied(alloc)?;
+            Ok(Some(Question::Reads(Origin::Field(number, field.slot), kind)))
+        }
         Some(Cell::Read(_)) | Some(Cell::Written(_)) | None => Ok(None),
     }
 }

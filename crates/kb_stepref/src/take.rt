@@ -1,24 +1,27 @@
 //! What a state becomes when an alternative is taken.
-ghost use Rattle.std.specs.Prelude.{◌≡◌, false, Some, None, IfOk, OnOk};
+ghost use Rattle.std.specs.Prelude.{◌≡◌, Some, None, IfOk, OnOk};
 ghost use Rattle.kb_class.specs.Naming.{Has};
-ghost use Rattle.kb_frames.specs.Next.{next_is_int};
-ghost use Rattle.kb_stepint.specs.Needs.{CanStep};
-ghost use Rattle.kb_stepint.specs.Reached.{IsReached};
-ghost use Rattle.kb_stepint.specs.Turns.{told};
+ghost use Rattle.kb_ways.specs.Needs.{CanStep};
+ghost use Rattle.kb_ways.specs.Reached.{IsReached};
+ghost use Rattle.kb_ways.specs.Turns.{told};
 ghost use Rattle.kb_stepref.specs.Choices.{alternatives, choices_of};
-ghost use Rattle.kb_stepref.specs.Laws.{AreInRange, IsAtReferences};
-ghost use Rattle.kb_stepref.specs.Questions.{question, question_of};
-ghost use Rattle.kb_stepref.specs.Reached.{IsHeapReached};
-ghost use Rattle.kb_stepref.specs.Takes.{answers, goes_behind, taken, takes_next, takes_up};
+ghost use Rattle.kb_lazy.specs.Laws.{AreInRange};
+ghost use Rattle.kb_stepref.specs.Laws.{IsAtReferences};
+ghost use Rattle.kb_stepref.specs.Questions.{question_of};
+ghost use Rattle.kb_stepref.specs.Takes.{taken};
+ghost use Rattle.kb_ways.specs.Questions.{answers};
+ghost use Rattle.kb_ways.specs.Plans.{takes_next, takes_up};
+ghost use Rattle.kb_picture.specs.declared.choice.Choice.TheVariants.{Only};
+ghost use Rattle.kb_stepref.specs.Effects.{plan_of};
 
 use crate::NoMemory;
-use crate::answers::{answer, passed_by};
 use crate::instructions::carry_out;
-use crate::questions::{FirstRead, question_of};
-use kb_frames::{Outcome, SymState, instruction_at};
+use crate::questions::question_of;
+use kb_frames::{Outcome, SymState};
 use kb_heap::{Bound, Bounds};
+use kb_lookups::instruction_at;
 use kb_picture::{Choice, Origin, SymEnding};
-use kb_stepint::{Turn, place_of};
+use kb_ways::{Question, Turn, answer, passed_by, place_of, slot_of};
 use kb_world::World;
 use std::alloc::Global;
 
@@ -37,8 +40,7 @@ pub fn take_ref(
     choice: &Choice,
     bounds: &Bounds,
 ) -> Result<Outcome, NoMemory>
-    requires reached { IsHeapReached world.now state.old }
-    requires reference { next_is_int world.now state.old ≡ false }
+    requires at { IsAtReferences world.now state.old }
     requires listed { Has (choices_of world.now state.old bounds.now) choice.now }
     requires range { AreInRange bounds.now }
     ensures take { IfOk result (λ outcome. told state.new outcome ≡ taken world.now bounds.now state.old choice.now) }
@@ -64,7 +66,7 @@ fn answer_or_go_on(
     ensures { IfOk result (λ outcome. told state.new outcome ≡ taken world.now bounds.now state.old choice.now) }
 {
     match question_of(alloc, world, state, bounds)? {
-        Some(first) => take_answer(alloc, world, state, choice, bounds, &first),
+        Some(question) => take_answer(alloc, world, state, choice, bounds, &question),
         None => take_next(alloc, world, state, bounds),
     }
 }
@@ -76,19 +78,19 @@ fn take_answer(
     state: &mut SymState,
     choice: &Choice,
     bounds: &Bounds,
-    first: &FirstRead,
+    question: &Question,
 ) -> Result<Outcome, NoMemory>
     requires at { IsAtReferences world.now state.old }
-    requires asks { question_of world.now state.old bounds.now ≡ Some (question first.now) }
-    requires listed { Has (alternatives world.now state.old bounds.now (question first.now)) choice.now }
+    requires asks { question_of world.now state.old bounds.now ≡ Some question.now }
+    requires listed { Has (alternatives world.now state.old bounds.now question.now) choice.now }
     requires range { AreInRange bounds.now }
-    ensures { IfOk result (λ outcome. told state.new outcome ≡ answers world.now bounds.now choice.now state.old (question first.now)) }
+    ensures { IfOk result (λ outcome. told state.new outcome ≡ answers plan_of world.now bounds.now choice.now state.old question.now) }
 {
-    answer(world, state, choice, first)?;
+    answer(world, state, choice, question)?;
     if let Some(bound) = passed_by(choice) {
         return Ok(Outcome::Cut(bound));
     }
-    match first.slot {
+    match slot_of(question) {
         Origin::Arg(_) => Ok(Outcome::Asks),
         Origin::Field(..) | Origin::Element(..) => take_up(alloc, world, state, bounds),
     }
@@ -103,7 +105,7 @@ fn take_next(
 ) -> Result<Outcome, NoMemory>
     requires at { IsAtReferences world.now state.old }
     requires nothing { question_of world.now state.old bounds.now ≡ None }
-    ensures { IfOk result (λ outcome. told state.new outcome ≡ takes_next world.now bounds.now state.old) }
+    ensures { IfOk result (λ outcome. told state.new outcome ≡ takes_next plan_of world.now bounds.now Only state.old) }
 {
     if bounds.run.steps <= state.carried() {
         return Ok(Outcome::Cut(Bound::Steps));
@@ -120,7 +122,7 @@ fn take_up(
     bounds: &Bounds,
 ) -> Result<Outcome, NoMemory>
     requires { CanStep bounds.now state.old }
-    ensures { IfOk result (λ outcome. told state.new outcome ≡ takes_up world.now bounds.now state.old) }
+    ensures { IfOk result (λ outcome. told state.new outcome ≡ takes_up plan_of world.now bounds.now Only state.old) }
 {
     let (method, at) = state.stands_at();
     let Some(found) = instruction_at(world, method, at) else {

@@ -1,15 +1,15 @@
 //! Arrays and what instructions find in them (JVMS 8 section 6.5).
 
 ghost use Rattle.std.specs.Prelude.{◌≡◌, length, option_map, true, IfOk};
-ghost use Rattle.kb_semantics.specs.Instructions.{Elements as PlainElements, array_at, new_array, place_in_array, takes_object};
+ghost use Rattle.kb_semantics.specs.Instructions.{Elements as PlainElements, array_at, new_array, takes_object};
 ghost use Rattle.kb_semantics.specs.Values.{takes_component};
 ghost use Rattle.kb_values.specs.Arrays.{loaded_at, plain_elements, stored_at};
 
 use crate::NoMemory;
 use crate::kinds::kept;
-use crate::objects::default_of;
 use kb_code::Elem;
 use kb_heap::{Heap, Object, Row, Value};
+use kb_lookups::{default_of, place_in_array, takes_component};
 use kb_names::{ExactType, JType};
 use kb_world::World;
 use std::alloc::Global;
@@ -121,30 +121,6 @@ fn array_at(heap: &Heap, array: u32, elem: Elem) -> Option<Elements<'_>>
         component,
         values: object.values.as_slice(),
     })
-}
-
-fn takes_component(elem: Elem, component: &JType) -> bool
-    ensures { result ≡ takes_component elem component.now }
-{
-    match (elem, component) {
-        (Elem::Int, JType::Int) => true,
-        (Elem::Byte, JType::Bool) => true,
-        (Elem::Ref, JType::Class(_) | JType::Array(_)) => true,
-        _ => false,
-    }
-}
-
-// The place of an index in an array of that length.
-fn place_in_array(index: i32, len: usize) -> Option<u32>
-    ensures { result ≡ place_in_array index len }
-{
-    let Ok(place) = u32::try_from(index) else {
-        return None;
-    };
-    if place as usize >= len {
-        return None;
-    }
-    Some(place)
 }
 
 // Whether the component takes the value: null, or an object that fits it.

@@ -14,7 +14,7 @@ mod types;
 
 pub use arithmetic::{holds, int2_value, narrowed};
 pub use arrays::{Loaded, Stored, len_at, loaded_at, new_array, stored_at};
-pub use calls::{Callee, callee_at, platform_result, receiver_of, selected_at};
+pub use calls::{platform_result, receiver_of};
 pub use choices::{is_null, is_wanted, same_reference, switch_target, table_target};
 pub use kinds::{are_of_kinds, are_with_receiver, is_of_kind, kept, value_of};
 pub use objects::{field_of, new_object};

@@ -29,8 +29,8 @@ use Rattle.kb_test_laws.specs.Laws.{RunsHaveNames}
 use Rattle.kb_test_laws.specs.Texts.{EndHasTexts, NamesHaveTexts}
 use Rattle.kb_words.specs.Orders.{AreBounds, IsJob}
 use Rattle.kb_words.specs.declared.orders.Job.{Job}
-use Rattle.kb_stepref.specs.HeapMethods.{is_heap_method}
-use Rattle.kb_stepref.specs.Laws.{AreInRange}
+use Rattle.kb_drive.specs.HeapMethods.{is_heap_method}
+use Rattle.kb_lazy.specs.Laws.{AreInRange}
 use Rattle.kb_world.specs.Reach.{IsAccepted, Refuses}
 use Rattle.kb_refusals.specs.declared.refusal.Refusal.TheVariants.{Unbuilt}
 use Rattle.kiasan.specs.declared.refusals.Stop.{Stop}

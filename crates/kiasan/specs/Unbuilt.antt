@@ -4,7 +4,7 @@ use Rattle.kb_class.specs.declared.ids.MethodId.{MethodId}
 use Rattle.kb_names.specs.declared.types.Target.{Target}
 use Rattle.kb_link.specs.Targets.{IsTargetOf}
 use Rattle.kb_link.specs.World.{World}
-use Rattle.kb_stepref.specs.HeapMethods.{is_heap_method}
+use Rattle.kb_drive.specs.HeapMethods.{is_heap_method}
 use Rattle.kb_world.specs.Reach.{IsAccepted}
 
 -- The exploration of a method is built where it takes ints, booleans and references, and its steps are of ints and on references alone,

@@ -1,6 +1,6 @@
 //! What a state has met, in the lines of a report.
 
-ghost use Rattle.kb_stepint.specs.Reached.{IsReached};
+ghost use Rattle.kb_ways.specs.Reached.{IsReached};
 
 use crate::rows::TableRow;
 use kb_frames::{SymState, paths_are_well_formed};

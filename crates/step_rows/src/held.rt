@@ -1,8 +1,8 @@
 //! What a state over a heap holds, as lines.
 
 use crate::told::append_exact;
-use kb_class::MethodId;
 use kb_frames::{Cell, Outcome, SymState, SymValue};
+use kb_lookups::max_locals;
 use kb_names::ExactType;
 use kb_table::{RowResult, append, append_number};
 use kb_world::World;
@@ -54,18 +54,10 @@ fn append_locals(
     into: &mut Vec<u8>,
 ) -> RowResult<()> {
     append("  locals", into)?;
-    for number in 0..local_count(world, state.method()) {
+    for number in 0..max_locals(world, state.method()) {
         append_value(alloc, " ", state.local(number), into)?;
     }
     append("\n", into)
-}
-
-/// How many locals the code of the method may write.
-fn local_count(world: &World, method: MethodId) -> u16 {
-    match world.find_code(method) {
-        Some(code) => code.max_locals,
-        None => 0,
-    }
 }
 
 /// A line for each object that was met: `?` for a cell that nobody has read or written, `=` before what was written.

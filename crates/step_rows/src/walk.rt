@@ -6,25 +6,25 @@ ghost use Rattle.kb_link.specs.World.{World};
 ghost use Rattle.kb_frames.specs.Next.{next_is_int};
 ghost use Rattle.kb_frames.specs.State.{State};
 ghost use Rattle.kb_stepint.specs.Choices.{choices_of as int_choices};
-ghost use Rattle.kb_stepint.specs.Reached.{IsReached};
+ghost use Rattle.kb_ways.specs.Reached.{IsReached};
 ghost use Rattle.kb_stepref.specs.Choices.{choices_of as reference_choices};
-ghost use Rattle.kb_stepref.specs.HeapMethods.{is_heap_method};
-ghost use Rattle.kb_stepref.specs.Laws.{AreInRange, GoesOnReached};
-ghost use Rattle.kb_stepref.specs.Reached.{IsHeapReached};
+ghost use Rattle.kb_drive.specs.HeapMethods.{is_heap_method};
+ghost use Rattle.kb_lazy.specs.Laws.{AreInRange};
+ghost use Rattle.kb_drive.specs.Reached.{GoesOnReached, IsHeapReached};
 
 use crate::ends::append_met;
 use crate::held::append_held;
 use crate::rows::{TableRow, read_row};
 use crate::told::{append_choices, append_nodes, append_outcome};
 use kb_class::MethodId;
+use kb_drive::{heap_methods_stay, is_heap_method};
 use kb_frames::{Outcome, SymState, start};
 use kb_heap::Bounds;
 use kb_load::reached;
 use kb_picture::{Choice, Init};
 use kb_rows::Held;
 use kb_stepint::{choices_int, is_int_method, take_int};
-use kb_stepref::laws::heap_methods_stay;
-use kb_stepref::{choices_ref, is_heap_method, take_ref};
+use kb_stepref::{choices_ref, take_ref};
 use kb_table::{RowResult, RowStop, append};
 use kb_world::World;
 use std::alloc::Global;
@@ -191,6 +191,7 @@ fn choices(
     requires { IsHeapReached world.now state.now }
     ensures { IfOk result (λ choices. choices.items ≡ (if next_is_int world.now state.now then int_choices world.now state.now bounds.now else reference_choices world.now state.now bounds.now)) }
 {
+    heap_methods_stay();
     let choices = if state.next_is_int(world) {
         choices_int(alloc, world, state, bounds).ok()
     } else {

@@ -5,8 +5,8 @@ use Rattle.kb_class.specs.declared.ids.MethodId.{MethodId}
 use Rattle.kb_link.specs.World.{methods_in}
 use Rattle.kb_frames.specs.State.{State, start_state}
 use Rattle.kb_picture.specs.declared.choice.Init.{Init}
-use Rattle.kb_stepref.specs.Reached.{IsHeapReached}
-use Rattle.kb_stepref.proofs.MethodLaws.{heap_methods_begin}
+use Rattle.kb_drive.specs.Reached.{IsHeapReached}
+use Rattle.kb_drive.proofs.HeapMethodLaws.{heap_methods_begin}
 use Rattle.kb_drive.specs.declared.piece.Piece.{Piece}
 use Rattle.kb_drive.specs.Compared.{ComparesAsRuns}
 use Rattle.kb_drive.specs.Covers.{Covers, EachPath}

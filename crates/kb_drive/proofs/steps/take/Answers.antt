@@ -1,8 +1,12 @@
-use Rattle.std.proofs.Common.{rules, ◌≡◌}
-use Rattle.kb_stepint.specs.Turns.{told}
+use Rattle.std.proofs.Common.{rules, sym, ◌∙◌, ◌≡◌}
+use Rattle.kb_ways.specs.Turns.{told}
 use Rattle.kb_drive.specs.Taking.{taken_at}
+use Rattle.kb_drive.proofs.HeapLaws.{at_references}
 use Rattle.kb_drive.proofs.ValuedLaws.{terms_stay}
 use Rattle.kb_drive.proofs.steps.take.Goals as goal
+
+pub take_ref-requires-clause-at : goal.take_ref-requires-clause-at
+take_ref-requires-clause-at c = at_references c.args.world.now c.args.state.now c.requires.reached (sym c.next_is_int.ensures ∙ c.if-next_is_int.false)
 
 pub returns-then-next_is_int-clause-terms : goal.returns-then-next_is_int-clause-terms
 returns-then-next_is_int-clause-terms c =

@@ -3,7 +3,7 @@ use Rattle.std.proofs.Common.{rules, ◌≡◌, Some, None, sym, subst}
 use Rattle.kb_drive.specs.Following.{CanFollow, IsTakenFrom, follows, walk_with}
 use Rattle.kb_drive.specs.Walks.{IsWalk, KeepsCount, KeepsSources}
 use Rattle.kb_drive.specs.declared.walk.Walk.{Walk}
-use Rattle.kb_stepint.specs.Reached.{IsReached}
+use Rattle.kb_ways.specs.Reached.{IsReached}
 use Rattle.kb_frames.proofs.FormedPaths.{roots_are_terms}
 use Rattle.kb_picture.specs.declared.path.Leaf.TheVariants.{Open as OpenLeaf}
 use Rattle.kb_drive.proofs.CountLaws.{keeps_count}

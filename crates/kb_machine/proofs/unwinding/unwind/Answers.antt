@@ -21,7 +21,7 @@ loop-target-preserved c =
     let kind = c.args.kind.now in
     let none : c.loop-target.target ≡ None = grind arith in
     record {
-      target = c.handler_at-target-in-loop-target.ensures;
+      target = c.handler_of-target-in-loop-target.ensures;
       same = λ c' heap object.
           ap (λ (frames : List Frame). unwound s c' heap object kind frames) (sym c.in-Some.ensures.some)
           ∙ sym (unwound_on s c' heap object kind c.loop-target.frame c.loop-target.callers (sym c.loop-target.invariant.target ∙ none))

@@ -1,7 +1,7 @@
 use Rattle.std.proofs.Common.{Bool, true, false, not, refl}
 use Rattle.kb_picture.specs.declared.choice.Choice.{Choice}
 use Rattle.kb_picture.specs.declared.choice.Choice.TheVariants.{Branch}
-use Rattle.kb_stepint.specs.Asked.{branch_condition, is_refuted}
+use Rattle.kb_ways.specs.Asked.{branch_condition, is_refuted}
 use Rattle.kb_stepint.specs.Choices.{branch_conditions}
 use Rattle.kb_stepint.proofs.ChoiceLaws.{two_asked}
 use Rattle.kb_stepint.proofs.choices.branch_choices.Goals as goal

@@ -1,4 +1,4 @@
-use Rattle.kb_stepint.proofs.TakeLaws.{reached_terms}
+use Rattle.kb_ways.proofs.TakeLaws.{reached_terms}
 use Rattle.kb_stepint.proofs.choices.choices_int.Goals as goal
 
 pub offered-requires : goal.offered-requires

@@ -1,10 +1,10 @@
 use Rattle.std.proofs.Common.{◌≡◌, ℤ, ℕ, true, false, List, sym, ap, ◌∙◌}
 use Rattle.kb_picture.specs.declared.choice.Choice.TheVariants.{Default}
-use Rattle.kb_stepint.specs.declared.condition.Condition.{Condition}
-use Rattle.kb_stepint.specs.declared.condition.Side.TheVariants.{Term, Number}
-use Rattle.kb_stepint.specs.Asked.{asked_truth, equal_sides, is_against, is_refuted}
+use Rattle.kb_ways.specs.declared.condition.Condition.{Condition}
+use Rattle.kb_ways.specs.declared.condition.Side.TheVariants.{Term, Number}
+use Rattle.kb_ways.specs.Asked.{asked_truth, equal_sides, is_against, is_refuted}
 use Rattle.kb_stepint.specs.Choices.{key_conditions}
-use Rattle.kb_stepint.specs.Turns.{keys_of}
+use Rattle.kb_stepint.specs.Keys.{keys_of}
 use Rattle.kb_stepint.proofs.ChoiceLaws.{key_refutes, key_refutes_not}
 use Rattle.kb_stepint.proofs.KeyLaws.{of_number}
 use Rattle.kb_stepint.proofs.choices.is_default_refuted.Goals as goal

@@ -1,8 +1,8 @@
 use Rattle.std.proofs.Common.{◌≡◌, ◌<◌, ℤ, ℕ, Bool, List, length, filter, not, arith}
 use Rattle.kb_picture.specs.declared.choice.Choice.{Choice}
-use Rattle.kb_stepint.specs.Asked.{is_refuted}
+use Rattle.kb_ways.specs.Asked.{is_refuted}
 use Rattle.kb_stepint.specs.Choices.{key_conditions, keys_from}
-use Rattle.kb_stepint.specs.Turns.{keys_of}
+use Rattle.kb_stepint.specs.Keys.{keys_of}
 use Rattle.kb_stepint.proofs.ChoiceLaws.{all_offered, key_offered}
 use Rattle.kb_stepint.proofs.choices.key_choices.Goals as goal
 

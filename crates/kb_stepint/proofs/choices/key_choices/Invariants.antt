@@ -1,7 +1,7 @@
 use Rattle.std.proofs.Common.{◌≡◌, ◌++◌, drop, filter, not}
-use Rattle.kb_stepint.specs.Asked.{is_refuted}
+use Rattle.kb_ways.specs.Asked.{is_refuted}
 use Rattle.kb_stepint.specs.Choices.{key_conditions, keys_from}
-use Rattle.kb_stepint.specs.Turns.{keys_of}
+use Rattle.kb_stepint.specs.Keys.{keys_of}
 use Rattle.kb_stepint.proofs.choices.key_choices.Given as goal
 
 abbrev pub invariant-loop-place : goal.invariant-loop-place

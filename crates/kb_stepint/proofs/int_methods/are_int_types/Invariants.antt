@@ -1,6 +1,6 @@
 use Rattle.std.proofs.Common.{◌≡◌, length}
 use Rattle.std.specs.List.{list_all}
-use Rattle.kb_stepint.specs.IntMethods.{is_int_type}
+use Rattle.kb_picture.specs.WellTyped.{is_int_type}
 use Rattle.kb_stepint.proofs.int_methods.are_int_types.Given as goal
 
 abbrev pub invariant-loop-rest : goal.invariant-loop-rest

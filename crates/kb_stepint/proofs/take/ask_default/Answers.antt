@@ -3,15 +3,15 @@ use Rattle.kb_terms.specs.Terms.{Extends}
 use Rattle.kb_terms.proofs.Values.{Extends-trans, IsTerm-extends}
 use Rattle.kb_frames.specs.State.{State}
 use Rattle.kb_picture.specs.declared.choice.Choice.TheVariants.{Default}
-use Rattle.kb_stepint.specs.declared.condition.Condition.{Condition}
-use Rattle.kb_stepint.specs.declared.condition.Side.TheVariants.{Term, Number}
-use Rattle.kb_stepint.specs.Asked.{all_asked, asked, equal_sides}
+use Rattle.kb_ways.specs.declared.condition.Condition.{Condition}
+use Rattle.kb_ways.specs.declared.condition.Side.TheVariants.{Term, Number}
+use Rattle.kb_ways.specs.Asked.{all_asked, asked, equal_sides}
 use Rattle.kb_stepint.specs.Choices.{key_conditions}
-use Rattle.kb_stepint.specs.Needs.{AreSides}
-use Rattle.kb_stepint.specs.Turns.{keys_of}
+use Rattle.kb_ways.specs.Needs.{AreSides}
+use Rattle.kb_stepint.specs.Keys.{keys_of}
 use Rattle.kb_stepint.proofs.ChoiceLaws.{key_asked, keys_asked}
 use Rattle.kb_stepint.proofs.KeyLaws.{of_number}
-use Rattle.kb_stepint.proofs.SideLaws.{asked_extends, key_sides}
+use Rattle.kb_ways.proofs.SideLaws.{asked_extends, key_sides}
 use Rattle.kb_stepint.proofs.take.ask_default.Goals as goal
 
 pub ask-requires : goal.ask-requires

@@ -1,11 +1,15 @@
 use Rattle.std.proofs.Common.{rules, ◌≡◌, ap, sym, subst}
 use Rattle.kb_terms.specs.Terms.{IsPool}
 use Rattle.kb_frames.specs.State.{State}
-use Rattle.kb_stepint.specs.Reached.{IsReached}
+use Rattle.kb_ways.specs.Reached.{IsReached}
 use Rattle.kb_stepint.specs.Takes.{taken}
-use Rattle.kb_stepint.specs.Ways.{Take}
+use Rattle.kb_ways.specs.Ways.{Take}
 use Rattle.kb_stepint.proofs.ReachedLaws.{is_reached}
 use Rattle.kb_stepint.proofs.take.take_int.Goals as goal
+
+-- the next step is one of ints
+pub read_or_take_up-requires : goal.read_or_take_up-requires
+read_or_take_up-requires c = record { reached = c.requires.reached; alone = c.requires.alone; unhandled = c.requires.unhandled; next = c.requires.int }
 
 pub returns-clause-reached : goal.returns-clause-reached
 returns-clause-reached c =
@@ -13,4 +17,4 @@ returns-clause-reached c =
     let same : c.read_or_take_up.new.state ≡ take.state = ap (λ (t : Take). t.state) c.in_ok-outcome.ensures in
     let pool : IsPool c.read_or_take_up.new.state.nodes = search rules in
     subst (IsReached c.args.world.now) (sym same)
-    (is_reached c.args.world.now c.args.bounds.now c.args.choice.now c.args.state.now (record { reached = c.requires.reached; next = c.requires.int }) (subst (λ (s : State). IsPool s.nodes) same pool))
+    (is_reached c.args.world.now c.args.bounds.now c.args.choice.now c.args.state.now (record { reached = c.requires.reached; alone = c.requires.alone; unhandled = c.requires.unhandled; next = c.requires.int }) (subst (λ (s : State). IsPool s.nodes) same pool))

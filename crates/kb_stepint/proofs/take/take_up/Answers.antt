@@ -1,8 +1,8 @@
 use Rattle.std.proofs.Common.{sym, subst}
 use Rattle.kb_frames.specs.Lent.{stack_of}
 use Rattle.kb_stepint.specs.Choices.{conditions_of}
-use Rattle.kb_stepint.specs.Needs.{CanStep}
-use Rattle.kb_stepint.proofs.TakeLaws.{asked_can_step}
+use Rattle.kb_ways.specs.Needs.{CanStep}
+use Rattle.kb_ways.proofs.TakeLaws.{asked_can_step}
 use Rattle.kb_stepint.proofs.take.take_up.Goals as goal
 
 pub carry_out-requires : goal.carry_out-requires

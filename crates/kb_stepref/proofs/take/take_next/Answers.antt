@@ -1,5 +1,5 @@
 use Rattle.std.proofs.Common.{ℕ, ◌<◌, sym, subst}
-use Rattle.kb_stepint.specs.Needs.{CanStep}
+use Rattle.kb_ways.specs.Needs.{CanStep}
 use Rattle.kb_stepref.proofs.ReachedLaws.{begun_can_step}
 use Rattle.kb_stepref.proofs.take.take_next.Goals as goal
 

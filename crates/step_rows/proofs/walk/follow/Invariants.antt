@@ -1,4 +1,4 @@
-use Rattle.kb_stepref.specs.Reached.{IsHeapReached}
+use Rattle.kb_drive.specs.Reached.{IsHeapReached}
 use Rattle.step_rows.proofs.walk.follow.Given as goal
 
 -- steps lead on from the state

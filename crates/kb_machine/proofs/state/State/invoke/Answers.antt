@@ -2,7 +2,7 @@ use Rattle.std.proofs.Common.{◌≡◌, ℕ, List, Option, Some, option_map, sy
 use Rattle.kb_heap.specs.declared.heap.Value.{Value}
 use Rattle.kb_semantics.specs.Config.{Config, Frame, Outcome, Setting}
 use Rattle.kb_semantics.specs.Instructions.{Callee, CallKind, callee_at, here, invoke, invokes_on, operands_of}
-use Rattle.kb_values.specs.Callees.{plain_callee}
+use Rattle.kb_lookups.specs.Callees.{plain_callee}
 use Rattle.kb_machine.specs.Turns.{config_of, setting_of}
 use Rattle.kb_stack.specs.Taken.{as_taken, kind_of}
 use Rattle.kb_machine.proofs.CallLaws.{invoked}

@@ -6,7 +6,7 @@ use Rattle.kb_heap.specs.Heap.{object_at}
 use Rattle.kb_semantics.specs.Config.{Config, Outcome, Setting}
 use Rattle.kb_semantics.specs.Instructions.{invokes, on_object, selected_at}
 use Rattle.kb_semantics.specs.Operands.{receiver_of}
-use Rattle.kb_values.specs.Callees.{plain_callee}
+use Rattle.kb_lookups.specs.Callees.{plain_callee}
 use Rattle.kb_machine.specs.Turns.{config_of, setting_of}
 use Rattle.kb_machine.proofs.CallLaws.{found_on}
 use Rattle.kb_machine.proofs.Steps.{same_outcome}

@@ -1,0 +1,31 @@
+-- The methods whose runs are of steps that are built: over ints, booleans and references, static or not, with code that has no
+-- handlers and uses only instructions that are built (JVMS 8 section 6.5).
+use Rattle.std.specs.Prelude.{ℕ, Bool, true, false, ◌&&◌, Option}
+use Rattle.std.specs.List.{list_all}
+use Rattle.std.specs.Option.{option_map_or}
+use Rattle.kb_class.specs.declared.ids.MethodId.{MethodId}
+use Rattle.kb_class.specs.declared.members.MethodCode.{MethodCode}
+use Rattle.kb_class.specs.declared.members.MethodInfo.{MethodInfo}
+use Rattle.kb_code.specs.declared.instruction.Instr.{Instr}
+use Rattle.kb_link.specs.Slots.{has_slot_type}
+use Rattle.kb_link.specs.World.{World}
+use Rattle.kb_names.specs.declared.types.JType.{JType}
+use Rattle.kb_semantics.specs.Config.{info_of}
+use Rattle.kb_ways.specs.Reached.{has_none}
+use Rattle.kb_ways.specs.Built.{is_built_instruction}
+
+-- nothing, or an int, a boolean or a reference: the types that slots have
+abbrev pub is_none_or_value : Option JType → Bool
+is_none_or_value result = option_map_or has_slot_type result true
+
+abbrev pub is_heap_code : World → MethodId → MethodCode → Bool
+is_heap_code world id code = has_none code.handlers && list_all (λ (item : ℕ × Instr). is_built_instruction world id item.1) code.listing.items
+
+abbrev pub is_heap_info : World → MethodId → MethodInfo → Bool
+is_heap_info world id info =
+    list_all has_slot_type info.kind.params && (is_none_or_value info.kind.result && option_map_or (is_heap_code world id) info.code false)
+
+-- The method takes ints, booleans and references and gives one or nothing; it has code, no handlers, and uses instructions on
+-- ints, the stack, references and fields alone.
+abbrev pub is_heap_method : World → MethodId → Bool
+is_heap_method world id = option_map_or (is_heap_info world id) (info_of world id) false

@@ -1,0 +1,85 @@
+//! Which methods run by steps that are built.
+ghost use Rattle.std.specs.Prelude.{◌≡◌};
+ghost use Rattle.std.specs.List.{list_all};
+ghost use Rattle.kb_link.specs.Slots.{has_slot_type};
+ghost use Rattle.kb_drive.specs.HeapMethods.{is_heap_code, is_heap_info, is_heap_method, is_none_or_value};
+
+use kb_class::{MethodCode, MethodId, MethodInfo};
+use kb_names::JType;
+use kb_ways::is_built_instruction;
+use kb_world::World;
+
+/// Whether the method is one over ints, booleans and references, static or not, with code that has no handlers and uses
+/// instructions on ints, the stack, references and fields alone. Then the steps of its states are int steps and steps on
+/// references. It takes no memory.
+pub fn is_heap_method(world: &World, method: MethodId) -> bool
+    ensures { result ≡ is_heap_method world.now method }
+{
+    match world.find_method(method) {
+        Some(info) => is_heap_info(world, method, info),
+        None => false,
+    }
+}
+
+fn is_heap_info(world: &World, method: MethodId, info: &MethodInfo) -> bool
+    ensures { result ≡ is_heap_info world.now method info.now }
+{
+    if !are_values(info.kind.params.as_slice()) {
+        return false;
+    }
+    if !is_none_or_value(&info.kind.result) {
+        return false;
+    }
+    match &info.code {
+        Some(code) => is_heap_code(world, method, code),
+        None => false,
+    }
+}
+
+fn are_values(types: &[JType]) -> bool
+    ensures { result ≡ list_all has_slot_type types.now }
+{
+    let mut rest = types;
+    while let [first, others @ ..] = rest {
+        if !has_slot_type(first) {
+            return false;
+        }
+        rest = others;
+    }
+    true
+}
+
+// Whether the type is one of ints, booleans or references.
+fn has_slot_type(of: &JType) -> bool
+    ensures { result ≡ has_slot_type of.now }
+{
+    matches!(
+        of,
+        JType::Int | JType::Bool | JType::Class(_) | JType::Array(_)
+    )
+}
+
+fn is_none_or_value(given: &Option<JType>) -> bool
+    ensures { result ≡ is_none_or_value given.now }
+{
+    match given {
+        Some(of) => has_slot_type(of),
+        None => true,
+    }
+}
+
+fn is_heap_code(world: &World, method: MethodId, code: &MethodCode) -> bool
+    ensures { result ≡ is_heap_code world.now method code.now }
+{
+    if !code.handlers.as_slice().is_empty() {
+        return false;
+    }
+    let mut rest = code.listing.items.as_slice();
+    while let [item, others @ ..] = rest {
+        if !is_built_instruction(world, method, &item.1) {
+            return false;
+        }
+        rest = others;
+    }
+    true
+}

@@ -1,5 +1,0 @@
-use Rattle.kb_frames.proofs.EndingLaws.{endings_mean}
-use Rattle.kb_frames.proofs.laws.endings_mean_their_states.Goals as goal
-
-pub returns : goal.returns
-returns c = endings_mean

@@ -1,9 +1,0 @@
-use Rattle.std.proofs.Common.{◌≡◌, ◌++◌, length}
-use Rattle.kb_frames.specs.Paths.{terms_stated}
-use Rattle.kb_frames.proofs.path.add_terms.Given as goal
-
-abbrev pub invariant-loop-rest : goal.invariant-loop-rest
-invariant-loop-rest l = l.roots.items ++ terms_stated l.rest ≡ l.fn.roots.items ++ terms_stated l.fn.values
-
-abbrev pub decreases-loop-rest : goal.decreases-loop-rest
-decreases-loop-rest l = length l.rest

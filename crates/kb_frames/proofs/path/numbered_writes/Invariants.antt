@@ -1,7 +1,0 @@
-use Rattle.std.proofs.Common.{◌≡◌}
-use Rattle.kb_frames.specs.Paths.{numbered_write}
-use Rattle.kb_frames.proofs.SetLaws.{changed}
-use Rattle.kb_frames.proofs.path.numbered_writes.Given as goal
-
-abbrev pub invariant-loop-i : goal.invariant-loop-i
-invariant-loop-i l = l.writes ≡ changed (numbered_write l.nodes l.numbering) l.fn.writes l.i

@@ -1,0 +1,7 @@
+pub mod QueryLaws
+pub mod MeaningLaws
+pub mod EachLaws
+pub mod HeapWrites
+pub mod WrittenLaws
+pub mod FinalHeaps
+pub mod EndingLaws

@@ -1,6 +1,0 @@
--- What a call's entry names.
-use Rattle.kb_semantics.specs.Instructions.{Callee}
-use Rattle.kb_values.specs.declared.calls.Callee.{Callee as Found}
-
-abbrev pub plain_callee : Found → Callee
-plain_callee found = record { class = found.class.now; kind = found.kind.now }

@@ -1,0 +1,411 @@
+-- A way leads a state where it leads the machine: one lemma for each way.
+use Rattle.std.proofs.Common.{◌≡◌, ◌↔◌, ℕ, zero, suc, ◌+◌, ◌<◌, ◌≤◌, ℤ, pos, Bool, true, false, List, [], ◌∷◌, ◌++◌, length, length-append, map, drop, nat_lt, replicate, slice_get, Option, Some, None, refl, sym, ap, subst, ◌∙◌, if◌then◌else◌, arith}
+use Rattle.std.specs.Option.{option_map, option_map_or, option_and_then}
+use Rattle.std.proofs.lemmas.List.{append-nil, drop-append-le, length-drop, length-map, length-replicate, map-append}
+use Rattle.std.proofs.lemmas.Bool.{ltb-true, ltb-false}
+use Rattle.std.proofs.lemmas.Option.{slice_get_within}
+use Rattle.kb_blast.specs.Meaning.{AreMetInPool}
+use Rattle.kb_class.specs.declared.ids.MethodId.{MethodId}
+use Rattle.kb_class.specs.declared.members.MethodCode.{MethodCode}
+use Rattle.kb_class.specs.Naming.{Has}
+use Rattle.kb_code.specs.declared.listing.Handler.{Handler}
+use Rattle.kb_heap.specs.declared.bounds.Bound.TheVariants.{Loops}
+use Rattle.kb_heap.specs.declared.bounds.Bounds.{Bounds}
+use Rattle.kb_heap.specs.declared.ending.Ending.TheVariants.{Returned as RunReturned, Threw as RunThrew, IllTyped as RunIllTyped}
+use Rattle.kb_heap.specs.declared.heap.Heap.{Heap}
+use Rattle.kb_heap.specs.declared.heap.Input.{Input}
+use Rattle.kb_heap.specs.declared.heap.Object.{Object}
+use Rattle.kb_heap.specs.declared.heap.Value.{Value}
+use Rattle.kb_heap.specs.declared.heap.Value.TheVariants.{Int as IntValue}
+use Rattle.kb_heap.specs.Heap.{object_at, value_at, with_object, literal}
+use Rattle.kb_link.specs.World.{World}
+use Rattle.kb_link.specs.declared.slots.FieldSlot.{FieldSlot}
+use Rattle.kb_names.specs.declared.types.ExactType.{ExactType}
+use Rattle.kb_names.specs.declared.types.ExactType.TheVariants as exact
+use Rattle.kb_names.specs.declared.types.JType.{JType}
+use Rattle.kb_names.specs.declared.types.JType.TheVariants as types
+use Rattle.kb_semantics.specs.Config.{Setting, Config, Frame, Outcome, class_number, code_of, has_room, place_in_code, Goes as StepGoes, Ends as StepEnds}
+use Rattle.kb_semantics.specs.Looks.{Slot, stores}
+use Rattle.kb_semantics.specs.Step.{config_at, first_heap, next_config, step}
+use Rattle.kb_semantics.specs.Values.{default_of, new_object, slots_of_class}
+use Rattle.kb_semantics.specs.Ways.{counted, goes_on, goes_to, handler_among, handler_at, hands_over, hands_to, lands, nearest_handler, past, standpoint, throws, throws_in, ill_typed as ill_typed_step, carries_out as carries_out_step}
+use Rattle.kb_terms.specs.declared.node.TermId.{TermId}
+use Rattle.kb_terms.specs.declared.node.Node.{Node}
+use Rattle.kb_terms.specs.declared.node.Node.TheVariants.{Const}
+use Rattle.kb_terms.specs.Terms.{Extends, interned}
+use Rattle.kb_terms.proofs.Entries.{slice_get-append-left}
+use Rattle.kb_terms.proofs.Values.{Extends-trans}
+use Rattle.kb_picture.specs.declared.path.Out.TheVariants as outs
+use Rattle.kb_picture.specs.declared.path.SymEnding.{SymEnding}
+use Rattle.kb_picture.specs.declared.path.SymEnding.TheVariants.{Returned, Threw, IllTyped}
+use Rattle.kb_picture.specs.declared.picture.PlaceLists.{PlaceLists}
+use Rattle.kb_picture.specs.Endings.{Reading, ending_at, out_value}
+use Rattle.kb_picture.specs.Instances.{variable_values}
+use Rattle.kb_picture.specs.Places.{places_of}
+use Rattle.kb_picture.specs.Shapes.{IsNoPlace}
+use Rattle.kb_picture.proofs.ChainLaws.{all_below, below_at}
+use Rattle.kb_picture.proofs.ShapeLaws.{same_places}
+use Rattle.kb_picture.proofs.TableLaws.{AreBelow}
+use Rattle.kb_frames.specs.declared.frame.SymFrame.{SymFrame}
+use Rattle.kb_frames.specs.declared.state.Stage.TheVariants.{Runs}
+use Rattle.kb_frames.specs.declared.state.SymObject.{SymObject}
+use Rattle.kb_frames.specs.declared.value.Cell.{Cell}
+use Rattle.kb_frames.specs.declared.value.Outcome.TheVariants.{Goes as OutcomeGoes, Ends, Cut}
+use Rattle.kb_frames.specs.declared.value.SymValue.{SymValue}
+use Rattle.kb_frames.specs.declared.value.SymValue.TheVariants.{Int}
+use Rattle.kb_frames.specs.Cuts.{setting_of}
+use Rattle.kb_frames.specs.Making.{default_sym, new_sym_object, with_made}
+use Rattle.kb_frames.specs.StandsFor.{FrameStandsFor, FramesStandFor, HeapStandsFor, IsInstanceOf, IsKept, IsLike, StandsFor, beginning_of, made_at, out_of, reading_at, value_of_sym, values_of_sym, written_by}
+use Rattle.kb_frames.specs.State.{State, cell_at}
+use Rattle.kb_ways.specs.Reached.{HasNoHandlers}
+use Rattle.kb_ways.specs.Simulation.{IsOutcome}
+use Rattle.kb_ways.specs.Ways.{Take, Way, Goes, Jumps, Leaves, Throws, Fails, carries_out, ill_typed, went}
+use Rattle.kb_ways.proofs.GrowLaws.{interned_extends}
+use Rattle.kb_ways.proofs.OneInstances.{same_variables}
+use Rattle.kb_ways.proofs.LocalLaws.{led_to}
+use Rattle.kb_ways.proofs.OutcomeValues.{IsLater, cell_later, cells_sound, heap_later, objects_later, reading_int, reading_later}
+use Rattle.kb_ways.proofs.PastLaws.{runs_past}
+use Rattle.kb_ways.proofs.SoundLaws.{Sound}
+use Rattle.kb_ways.proofs.ValueLaws.{constant_made}
+
+-- ---- runs
+
+-- one step more
+config_more : (n : ℕ) (s : Setting) (a c d : Config) → config_at s n a ≡ Some c → step s c ≡ StepGoes d → config_at s (suc n) a ≡ Some d
+config_more zero s a c d at e =
+    let same : a ≡ c = cc in
+    ap (λ (x : Config). option_and_then (config_at s zero) (next_config (step s x))) same ∙ ap (λ (o : Outcome). option_and_then (config_at s zero) (next_config o)) e
+config_more (suc n) s a c d at e = go (λ b at. config_more n s b c d at e) (step s a) at where
+  go : ((b : Config) → config_at s n b ≡ Some c → config_at s (suc n) b ≡ Some d) → (o : Outcome) → option_and_then (config_at s n) (next_config o) ≡ Some c
+      → option_and_then (config_at s (suc n)) (next_config o) ≡ Some d
+  go later (StepGoes b) h = later b h
+  go later (StepEnds e) h = absurd cc
+
+-- ---- heaps
+
+-- where each place below a number is inside, the list is as long
+long_enough : {A : Type 0} (n : ℕ) (xs : List A) → ((i : ℕ) → i < n → i < length xs) → n ≤ length xs
+long_enough zero xs each = omega arith
+long_enough (suc n) xs each = each n (omega arith)
+
+pub no_place : (n : ℕ) (places : List ℕ) (object : ℕ) → AreBelow n places → n ≤ object → IsNoPlace places object
+no_place n [] object below le = tt
+no_place n (first ∷ places) object below le = (apart below.0, no_place n places object below.1 le) where
+  apart : first < n → object ≡ first → ⊥
+  apart less same = omega (arith, less, same, le)
+
+inside_like : (xs ys : List Object) (i : ℕ) → i < length ys → IsLike (slice_get xs i) (slice_get ys i) → i < length xs
+inside_like xs ys i inside like = go (slice_get xs i) refl (slice_get ys i) refl like where
+  go : (x : Option Object) → slice_get xs i ≡ x → (y : Option Object) → slice_get ys i ≡ y → IsLike x y → i < length xs
+  go (Some x) e y f l = slice_get_within xs i x e
+  go None e None f l = absurd (none_inside ys i inside f)
+    where
+      none_inside : (zs : List Object) (j : ℕ) → j < length zs → slice_get zs j ≡ None → ⊥
+      none_inside [] j h n = omega (arith, h)
+      none_inside (z ∷ zs) zero h n = absurd cc
+      none_inside (z ∷ zs) (suc j) h n = none_inside zs j (omega (arith, h)) n
+  go None e (Some y) f l = absurd l
+
+like_itself : (object : Option Object) → IsLike object object
+like_itself None = tt
+like_itself (Some object) = (refl, refl)
+
+-- ---- a default value
+
+defaults_are : (r : Reading) (term : TermId) (slots : List FieldSlot) → value_of_sym r (Int term) ≡ IntValue (pos 0)
+    → map (λ (slot : FieldSlot). default_of slot.kind) slots ≡ values_of_sym r (map (λ (slot : FieldSlot). default_sym term slot.kind) slots)
+defaults_are r term [] e = refl
+defaults_are r term (slot ∷ slots) e =
+    ap (λ (v : Value). v ∷ map (λ (slot : FieldSlot). default_of slot.kind) slots) (one slot.kind)
+    ∙ ap (λ (l : List Value). value_of_sym r (default_sym term slot.kind) ∷ l) (defaults_are r term slots e)
+  where
+    one : (kind : JType) → default_of kind ≡ value_of_sym r (default_sym term kind)
+    one (types.Class name) = refl
+    one (types.Array component) = refl
+    one _ = sym e
+
+-- ---- no handler
+
+no_handler : (world : World) (method : MethodId) (at : ℕ) (kind : ExactType) → HasNoHandlers world method → handler_at world method at kind ≡ None
+no_handler world method at kind none = go (code_of world method) none where
+  go : (code : Option MethodCode) → option_map_or (λ (code : MethodCode). code.handlers) code [] ≡ [] → option_and_then (λ (code : MethodCode). handler_among world (class_number world method) at kind code.handlers) code ≡ None
+  go None e = refl
+  go (Some code) e = ap (λ (hs : List Handler). handler_among world (class_number world method) at kind hs) e
+
+-- ---- ways
+
+-- the state behind an instruction that was carried out, which may have written cells and objects
+module _ (world : World) (bounds : Bounds) (old : State) (input : Input) (c : Config) (stands : StandsFor (setting_of world bounds) old input c) (callers : c.callers ≡ [])
+    (nodes : List Node) (when : List (TermId × Bool)) (symbolic : SymFrame) (behind : Frame) (cells : List (List Cell)) (made : List SymObject) (heap : Heap) where
+  abbrev s' : Setting
+  s' = setting_of world bounds
+
+  abbrev start : Config
+  start = beginning_of world old input
+
+  abbrev written_state : State
+  written_state = record old { stage = Runs symbolic []; nodes = nodes; when = when; carried = old.carried + 1; cells = cells; made = made }
+
+  abbrev behind_r : Reading
+  behind_r = reading_at world written_state input stands.instance_of.shape.places
+
+  abbrev next_one : Config
+  next_one = record { frame = behind; callers = c.callers; heap = heap; inputs = c.inputs; carried = c.carried + 1 }
+
+  written_more : written_by s' (old.carried + 1) start ≡ written_by s' old.carried start ++ stores s' c
+  written_more =
+      let count : old.carried + 1 ≡ suc old.carried = omega arith in
+      ap (λ (n : ℕ). written_by s' n start) count ∙ ap (λ (at : Option Config). written_by s' old.carried start ++ option_map_or (stores s') at []) stands.run
+
+  run_more : step s' c ≡ StepGoes next_one → config_at s' (old.carried + 1) start ≡ Some next_one
+  run_more e =
+      let count : old.carried + 1 ≡ suc old.carried = omega arith in
+      ap (λ (n : ℕ). config_at s' n start) count ∙ config_more old.carried s' start c next_one stands.run e
+
+  pub writes_stand : FrameStandsFor behind_r symbolic behind → HeapStandsFor behind_r written_state (first_heap world input.heap) heap
+      → ((slot : Slot) → slot.object < length input.heap.objects → Has (written_by s' old.carried start ++ stores s' c) slot ↔ IsKept behind_r written_state slot)
+      → step s' c ≡ StepGoes next_one → (i : IsInstanceOf written_state input) → IsOutcome world bounds c written_state input i OutcomeGoes
+  writes_stand framed stood kept e i = (
+    next_one,
+    e,
+    record {
+      run = run_more e;
+      instance_of = record {
+        shape = stands.instance_of.shape;
+        conditions = subst (λ (vs : List ℤ). AreMetInPool nodes vs when) (sym (same_variables old.picture input stands.instance_of.shape old.picture refl i.shape)) i.conditions;
+      };
+      stage = (framed, subst (FramesStandFor behind_r []) (sym callers) tt);
+      heap = stood;
+      written = λ slot inside. (
+        (λ has. (kept slot inside).0 (subst (λ (l : List Slot). Has l slot) written_more has)),
+        (λ k. subst (λ (l : List Slot). Has l slot) (sym written_more) ((kept slot inside).1 k)),
+      );
+    },
+  )
+
+module _ (world : World) (bounds : Bounds) (old : State) (sound : Sound world old) (input : Input) (c : Config) (stands : StandsFor (setting_of world bounds) old input c)
+    (frame : SymFrame) (method_is : frame.method ≡ old.method) (callers : c.callers ≡ []) (next : ℕ)
+    (nodes : List Node) (more : Extends old.nodes nodes) (when : List (TermId × Bool))
+    (framed : FrameStandsFor (reading_at world (record old { stage = Runs frame []; nodes = nodes; when = when }) input stands.instance_of.shape.places) frame c.frame) where
+  abbrev s : Setting
+  s = setting_of world bounds
+
+  abbrev places : PlaceLists
+  places = stands.instance_of.shape.places
+
+  abbrev state : State
+  state = record old { stage = Runs frame []; nodes = nodes; when = when }
+
+  abbrev first : Heap
+  first = first_heap world input.heap
+
+  abbrev r : Reading
+  r = reading_at world state input places
+
+  later : IsLater (reading_at world old input places) r old.nodes
+  later = reading_later world old state input places refl more
+
+  -- ---- it ends
+
+  -- at the places of the instance that is told
+  ends_stands : (new : State) (ending : SymEnding) (heap : Heap) → new.picture ≡ old.picture → (i : IsInstanceOf new input)
+      → step s c ≡ StepEnds (record { ending = ending_at (reading_at world new input places) ending; heap = heap })
+      → HeapStandsFor (reading_at world new input places) new first heap → IsOutcome world bounds c new input i (Ends ending)
+  ends_stands new ending heap same i e h =
+      subst (λ (p : PlaceLists). (heap : Heap) × (step s c ≡ StepEnds (record { ending = ending_at (reading_at world new input p) ending; heap = heap })) × HeapStandsFor (reading_at world new input p) new first heap)
+      (sym (same_places new.picture input places (ap (λ p. places_of p input) same ∙ stands.instance_of.shape.placed) i.shape)) (heap, e, h)
+
+  -- the heap is left as it was
+  ends_so : (ending : SymEnding) → (i : IsInstanceOf state input) → step s c ≡ StepEnds (record { ending = ending_at r ending; heap = c.heap }) → IsOutcome world bounds c state input i (Ends ending)
+  ends_so ending i e =
+      ends_stands state ending c.heap refl i e
+      (heap_later world old state (reading_at world old input places) r first c.heap later sound.cells sound.made refl refl stands.heap)
+
+  abbrev ill_typed_at : MethodId → ℕ → Outcome
+  ill_typed_at m at = StepEnds (record { ending = RunIllTyped (place_in_code world m at); heap = c.heap })
+
+  pub ill_typed_is : step s c ≡ ill_typed_step s c → (i : IsInstanceOf (ill_typed world state).state input)
+      → IsOutcome world bounds c (ill_typed world state).state input i (ill_typed world state).outcome
+  ill_typed_is e i =
+      ends_so (IllTyped (place_in_code world frame.method frame.at)) i
+      (e ∙ ap (λ (m : MethodId). ill_typed_at m c.frame.at) framed.method ∙ ap (λ (at : ℕ). ill_typed_at frame.method at) framed.at)
+
+  leaves_is : (value : Option SymValue) → step s c ≡ hands_over s c (option_map (value_of_sym r) value) → (i : IsInstanceOf state input)
+      → IsOutcome world bounds c state input i (Ends (Returned (option_map out_of value)))
+  unfolding hands_over
+  leaves_is value e i =
+      ends_so (Returned (option_map out_of value)) i
+      (e ∙ ap (λ (fs : List Frame). hands_to s c fs (option_map (value_of_sym r) value)) callers
+      ∙ ap (λ (v : Option Value). StepEnds (record { ending = RunReturned v; heap = c.heap })) (same value))
+    where
+      same : (v : Option SymValue) → option_map (value_of_sym r) v ≡ option_map (out_value r) (option_map out_of v)
+      same None = refl
+      same (Some v) = refl
+
+  -- ---- it throws
+
+  abbrev inputs : ℕ
+  inputs = length input.heap.objects
+
+  abbrev literals : ℕ
+  literals = length world.literals
+
+  first_length : length first.objects ≡ inputs + literals
+  first_length = length-append input.heap.objects (replicate literals literal) ∙ ap (λ (n : ℕ). inputs + n) (length-replicate literals literal)
+
+  heap_there : inputs + literals ≤ length c.heap.objects
+  unfolding reading_at
+  heap_there = long_enough (inputs + literals) c.heap.objects each where
+    by_order : (i : ℕ) → i < inputs + literals → (b : Bool) → nat_lt i inputs ≡ b → IsLike (object_at c.heap i) (object_at first i)
+    by_order i below true e = stands.heap.like i (ltb-true i inputs e)
+    by_order i below false e =
+        subst (λ (o : Option Object). IsLike o (object_at first i)) (sym (stands.heap.others i below (no_place inputs places.objects i (all_below old.picture input stands.instance_of.shape) (ltb-false i inputs e))))
+        (like_itself (object_at first i))
+
+    each : (i : ℕ) → i < inputs + literals → i < length c.heap.objects
+    each i below = inside_like c.heap.objects first.objects i (omega (arith, below, first_length)) (by_order i below (nat_lt i inputs) refl)
+
+  heap_length : length c.heap.objects ≡ inputs + literals + length old.made
+  unfolding reading_at
+  heap_length =
+      let many = ap length stands.heap.made in
+      omega (arith, many, heap_there, length-drop (inputs + literals) c.heap.objects, length-map old.made (made_at (reading_at world old input places)))
+
+  module _ (class : List ℕ) where
+    abbrev nought : List Node × TermId
+    nought = interned nodes (Const (pos 0))
+
+    abbrev made : State
+    made = with_made world state class
+
+    abbrev r' : Reading
+    r' = reading_at world made input places
+
+    abbrev new_heap : Heap
+    new_heap = with_object c.heap (new_object world class)
+
+    made_later : IsLater (reading_at world old input places) r' old.nodes
+    made_later = reading_later world old made input places refl (Extends-trans old.nodes nodes nought.0 more (interned_extends nodes (Const (pos 0))))
+
+    zero_value : value_of_sym r' (Int nought.1) ≡ IntValue (pos 0)
+    zero_value = reading_int world made input places nought.1 ∙ ap IntValue (constant_made nodes (pos 0) (variable_values old.picture input places.objects))
+
+    object_is : new_object world class ≡ made_at r' (new_sym_object world class nought.1)
+    object_is = ap (λ (vs : List Value). record { kind = exact.Class class; values = vs }) (defaults_are r' nought.1 (slots_of_class world class) zero_value)
+
+    same_object : (object : ℕ) → object < inputs + literals → object_at new_heap object ≡ object_at c.heap object
+    same_object object below = slice_get-append-left c.heap.objects (new_object world class ∷ []) object (omega (arith, below, heap_there))
+
+    heap_stands : HeapStandsFor (reading_at world old input places) old first c.heap
+    heap_stands = stands.heap
+
+    made_heap : HeapStandsFor r' made first new_heap
+    unfolding reading_at
+    made_heap = record {
+      made =
+          drop-append-le (inputs + literals) c.heap.objects (new_object world class ∷ []) heap_there
+          ∙ ap (λ (l : List Object). l ++ new_object world class ∷ []) (stands.heap.made ∙ sym (objects_later world old (reading_at world old input places) r' made_later old.made sound.made))
+          ∙ ap (λ (o : Object). map (made_at r') old.made ++ o ∷ []) object_is
+          ∙ sym (map-append (made_at r') old.made (new_sym_object world class nought.1 ∷ []));
+      like = λ object inside. subst (λ (o : Option Object). IsLike o (object_at first object)) (sym (same_object object (omega (arith, inside)))) (stands.heap.like object inside);
+      cells = λ object slot place at.
+          ap (option_and_then (λ (of : Object). slice_get of.values slot)) (same_object place (omega (arith, below_at inputs places.objects object place (all_below old.picture input stands.instance_of.shape) at)))
+          ∙ stands.heap.cells object slot place at
+          ∙ sym (cell_later world old (reading_at world old input places) r' made_later (value_at first place slot) (cell_at old.cells object slot) (cells_sound world old object slot sound.cells));
+      kept = λ object slot place value at read.
+          ap (option_and_then (λ (of : Object). slice_get of.values slot)) (same_object place (omega (arith, below_at inputs places.objects object place (all_below old.picture input stands.instance_of.shape) at)))
+          ∙ stands.heap.kept object slot place value at read;
+      others = λ object inside none. same_object object inside ∙ stands.heap.others object inside none;
+    }
+
+    throws_step : throws s c class ≡ StepEnds (record { ending = ending_at r' (Threw (outs.New (length old.made))); heap = new_heap })
+    unfolding throws throws_in nearest_handler reading_at
+    throws_step =
+        let none : nearest_handler world (exact.Class class) (map standpoint (c.frame ∷ c.callers)) ≡ None =
+        ap (λ (fs : List Frame). nearest_handler world (exact.Class class) (map standpoint (c.frame ∷ fs))) callers
+        ∙ ap (λ (h : Option ℕ). option_map_or (λ target. Some (0, target)) h (option_map (λ (found : ℕ × ℕ). (suc found.0, found.1)) (nearest_handler world (exact.Class class) [])))
+        (ap (λ (m : MethodId). handler_at world m c.frame.at (exact.Class class)) (framed.method ∙ method_is) ∙ no_handler world old.method c.frame.at (exact.Class class) sound.unhandled) in
+        ap (λ (h : Option (ℕ × ℕ)). option_map_or (λ (found : ℕ × ℕ). lands s c new_heap (length c.heap.objects) found.1 (drop found.0 (c.frame ∷ c.callers))) h
+        (StepEnds (record { ending = RunThrew (length c.heap.objects); heap = new_heap }))) none
+        ∙ ap (λ (n : ℕ). StepEnds (record { ending = RunThrew n; heap = new_heap })) heap_length
+
+    pub throws_is : step s c ≡ throws s c class → (i : IsInstanceOf made input) → IsOutcome world bounds c made input i (Ends (Threw (outs.New (length old.made))))
+    throws_is e i = ends_stands made (Threw (outs.New (length old.made))) new_heap refl i (e ∙ throws_step) made_heap
+
+  -- ---- it goes on
+
+  abbrev Follows : Take → Type 0
+  Follows take = (i : IsInstanceOf take.state input) → IsOutcome world bounds c take.state input i take.outcome
+
+  pub room_same : (stack : List SymValue) → has_room world c.frame.method (length (values_of_sym r stack)) ≡ has_room world frame.method (length stack)
+  room_same stack = ap (λ (m : MethodId). has_room world m (length (values_of_sym r stack))) framed.method ∙ ap (has_room world frame.method) (length-map stack (value_of_sym r))
+
+  -- where nothing is written
+  module _ (plain : stores s c ≡ []) where
+    abbrev after : SymFrame → State
+    after symbolic = record old { stage = Runs symbolic []; nodes = nodes; when = when; carried = old.carried + 1 }
+
+    goes_stands : (symbolic : SymFrame) (behind : Frame) → FrameStandsFor r symbolic behind
+        → step s c ≡ StepGoes (record { frame = behind; callers = c.callers; heap = c.heap; inputs = c.inputs; carried = c.carried + 1 })
+        → (i : IsInstanceOf (after symbolic) input) → IsOutcome world bounds c (after symbolic) input i OutcomeGoes
+    unfolding reading_at
+    goes_stands symbolic behind framed e i =
+        writes_stand world bounds old input c stands callers nodes when symbolic behind old.cells old.made c.heap framed
+        (heap_later world old (after symbolic) (reading_at world old input places) r first c.heap later sound.cells sound.made refl refl stands.heap)
+        (λ slot inside. (
+          (λ has. (let k = (stands.written slot inside).0 (subst (λ (l : List Slot). Has l slot) same has) in
+              record { object = k.object; place = k.place; value = k.value; cell = k.cell })),
+          (λ k. subst (λ (l : List Slot). Has l slot) (sym same) ((stands.written slot inside).1 (record { object = k.object; place = k.place; value = k.value; cell = k.cell }))),
+        ))
+        e i
+      where
+        before : List Slot
+        before = written_by s old.carried (beginning_of world old input)
+
+        same : before ++ stores s c ≡ before
+        same = ap (λ (l : List Slot). before ++ l) plain ∙ append-nil before
+
+    goes_is : (locals : List (Option SymValue)) (stack : List SymValue) → step s c ≡ led_to s c next r (Goes locals stack) → Follows (went world bounds next state (Goes locals stack))
+    unfolding goes_on
+    goes_is locals stack e =
+        go (has_room world frame.method (length stack))
+        (e ∙ ap (λ (b : Bool). if b then carries_out_step c (record c.frame { at = next; locals = map (option_map (value_of_sym r)) locals; stack = values_of_sym r stack }) c.callers c.heap else ill_typed_step s c) (room_same stack))
+      where
+        go : (b : Bool) → step s c ≡ (if b then carries_out_step c (record c.frame { at = next; locals = map (option_map (value_of_sym r)) locals; stack = values_of_sym r stack }) c.callers c.heap else ill_typed_step s c)
+            → Follows (if b then carries_out state (λ (f : SymFrame). record f { at = next; locals = locals; stack = stack }) else ill_typed world state)
+        go true e =
+            goes_stands (record frame { at = next; locals = locals; stack = stack }) (record c.frame { at = next; locals = map (option_map (value_of_sym r)) locals; stack = values_of_sym r stack })
+            (record { method = framed.method; at = refl; locals = refl; stack = refl; transfers = framed.transfers }) e
+        go false e = ill_typed_is e
+
+    -- where the transfers are counted
+    counted_is : (target : ℕ) (stack : List SymValue) (n : Option ℕ)
+        → step s c ≡ option_map_or (λ transfers. carries_out_step c (record c.frame { at = target; stack = values_of_sym r stack; transfers = transfers }) c.callers c.heap) n (past c Loops)
+        → Follows (option_map_or (λ transfers. carries_out state (λ (f : SymFrame). record f { at = target; stack = stack; transfers = transfers })) n (record { state = state; outcome = Cut Loops }))
+    counted_is target stack None e = λ i. runs_past s old input c Loops stands e
+    counted_is target stack (Some n) e =
+        goes_stands (record frame { at = target; stack = stack; transfers = n }) (record c.frame { at = target; stack = values_of_sym r stack; transfers = n })
+        (record { method = framed.method; at = refl; locals = framed.locals; stack = refl; transfers = refl }) e
+
+    counted_same : (target : ℕ) → counted bounds.run c.frame.at target c.frame.transfers ≡ counted bounds.run frame.at target frame.transfers
+    counted_same target = ap (λ (at : ℕ). counted bounds.run at target c.frame.transfers) framed.at ∙ ap (λ (n : ℕ). counted bounds.run frame.at target n) framed.transfers
+
+    jumps_is : (target : ℕ) (stack : List SymValue) → step s c ≡ led_to s c next r (Jumps target stack) → Follows (went world bounds next state (Jumps target stack))
+    unfolding goes_to
+    jumps_is target stack e =
+        go (has_room world frame.method (length stack))
+        (e ∙ ap (λ (b : Bool). if b then option_map_or (λ transfers. carries_out_step c (record c.frame { at = target; stack = values_of_sym r stack; transfers = transfers }) c.callers c.heap) (counted bounds.run c.frame.at target c.frame.transfers) (past c Loops) else ill_typed_step s c) (room_same stack))
+      where
+        go : (b : Bool) → step s c ≡ (if b then option_map_or (λ transfers. carries_out_step c (record c.frame { at = target; stack = values_of_sym r stack; transfers = transfers }) c.callers c.heap) (counted bounds.run c.frame.at target c.frame.transfers) (past c Loops) else ill_typed_step s c)
+            → Follows (if b then option_map_or (λ transfers. carries_out state (λ (f : SymFrame). record f { at = target; stack = stack; transfers = transfers })) (counted bounds.run frame.at target frame.transfers) (record { state = state; outcome = Cut Loops }) else ill_typed world state)
+        go true e =
+            counted_is target stack (counted bounds.run frame.at target frame.transfers)
+            (e ∙ ap (λ (n : Option ℕ). option_map_or (λ transfers. carries_out_step c (record c.frame { at = target; stack = values_of_sym r stack; transfers = transfers }) c.callers c.heap) n (past c Loops)) (counted_same target))
+        go false e = ill_typed_is e
+
+    pub went_is : (way : Way) → step s c ≡ led_to s c next r way → Follows (went world bounds next state way)
+    went_is (Goes locals stack) e = goes_is locals stack e
+    went_is (Jumps target stack) e = jumps_is target stack e
+    went_is (Leaves value) e = leaves_is value e
+    went_is (Throws class) e = throws_is class e
+    went_is Fails e = ill_typed_is e

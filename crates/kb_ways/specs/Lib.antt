@@ -1,0 +1,12 @@
+pub mod Asked
+pub mod Kept
+pub mod Operands
+pub mod Ways
+pub mod Plans
+pub mod Questions
+pub mod Turns
+pub mod Needs
+pub mod Reached
+pub mod Built
+pub mod Measure
+pub mod Simulation

@@ -1,0 +1,40 @@
+-- What the functions of a step need of a state and of conditions.
+use Rattle.std.specs.Prelude.{◌≡◌, ℕ, ◌<◌, true, List, Option, Some, slice_get}
+use Rattle.kb_heap.specs.declared.bounds.Bounds.{Bounds}
+use Rattle.kb_terms.specs.declared.node.Node.{Node}
+use Rattle.kb_terms.specs.Op.{is_binary}
+use Rattle.kb_terms.specs.Terms.{IsTerm}
+use Rattle.kb_frames.specs.declared.value.SymValue.{SymValue}
+use Rattle.kb_frames.specs.declared.value.SymValue.TheVariants.{Int}
+use Rattle.kb_frames.specs.State.{State}
+use Rattle.kb_frames.specs.Lent.{stack_of, local_in}
+use Rattle.kb_ways.specs.declared.condition.Side.{Side}
+use Rattle.kb_ways.specs.declared.condition.Side.TheVariants.{Term, Number}
+use Rattle.kb_ways.specs.declared.condition.Condition.{Condition}
+
+-- ---- terms
+
+-- the value is a term of the pool, where it is an int
+abbrev pub IsTermOf : List Node → Option SymValue → Type 0
+IsTermOf nodes (Some (Int t)) = IsTerm nodes t
+IsTermOf nodes _ = Unit {0}
+
+-- The ints on the stack and in the locals of the current frame are terms of the state's pool.
+pub record HasTerms (state : State) : Type 0 where
+  pub stack : (depth : ℕ) → IsTermOf state.nodes (slice_get (stack_of state.stage) depth)
+  pub locals : (number : ℕ) → IsTermOf state.nodes (local_in state.stage number)
+
+-- an instruction may be carried out in the state
+pub record CanStep (bounds : Bounds) (state : State) : Type 0 where
+  pub terms : HasTerms state
+  pub within : state.carried < bounds.run.steps
+
+-- the side is a term of the pool, or a number
+abbrev pub IsSide : List Node → Side → Type 0
+IsSide nodes (Term t) = IsTerm nodes t
+IsSide nodes (Number z) = Unit {0}
+
+pub record AreSides (nodes : List Node) (condition : Condition) : Type 0 where
+  pub left : IsSide nodes condition.left
+  pub right : IsSide nodes condition.right
+  pub binary : is_binary condition.op ≡ true

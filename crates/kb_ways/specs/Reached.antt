@@ -1,0 +1,54 @@
+-- What holds of every state to which `start` and later calls lead, of every method that reach accepts, beside what every state
+-- keeps. Apart from it stands what a law asks of a state for now: that its frame has no callers, and that the method has no
+-- handlers.
+use Rattle.std.specs.Prelude.{◌≡◌, ℕ, Bool, true, false, List, [], ◌∷◌, Some}
+use Rattle.std.specs.List.{list_any}
+use Rattle.std.specs.Option.{option_map_or}
+use Rattle.kb_class.specs.declared.ids.MethodId.{MethodId}
+use Rattle.kb_class.specs.declared.members.MethodCode.{MethodCode}
+use Rattle.kb_class.specs.declared.members.MethodInfo.{MethodInfo}
+use Rattle.kb_code.specs.declared.instruction.Instr.{Instr}
+use Rattle.kb_code.specs.declared.listing.Handler.{Handler}
+use Rattle.kb_code.specs.Listing.{HasRisingKeys}
+use Rattle.kb_link.specs.World.{World}
+use Rattle.kb_semantics.specs.Config.{info_of, code_of, instruction_at}
+use Rattle.kb_world.specs.Faults.{is_left_out}
+use Rattle.kb_picture.specs.declared.picture.Picture.{Picture}
+use Rattle.kb_picture.specs.WellTyped.{IsWellTyped, IsReceiverSeen}
+use Rattle.kb_frames.specs.declared.state.Stage.{Stage}
+use Rattle.kb_frames.specs.declared.state.Stage.TheVariants.{Begins, Runs}
+use Rattle.kb_frames.specs.State.{State}
+use Rattle.kb_frames.specs.States.{IsState}
+
+-- nothing was called: the current frame is the method's, and there are no callers
+abbrev pub IsAlone : MethodId → Stage → Type 0
+IsAlone method (Begins read) = Unit {0}
+IsAlone method (Runs frame callers) = (frame.method ≡ method) × (callers ≡ [])
+
+abbrev pub has_none : List Handler → Bool
+has_none [] = true
+has_none (handler ∷ others) = false
+
+abbrev pub HasNoHandlers : World → MethodId → Type 0
+HasNoHandlers world method = option_map_or (λ (code : MethodCode). code.handlers) (code_of world method) [] ≡ []
+
+-- none of its parameters is of a type that is left out: they are ints, booleans and references
+abbrev pub HasNoneLeftOut : World → MethodId → Type 0
+HasNoneLeftOut world method = option_map_or (λ (info : MethodInfo). list_any is_left_out info.kind.params) (info_of world method) false ≡ false
+
+-- the keys of each lookupswitch of the world rise (JVMS 8 section 6.5, lookupswitch), so no int is two of them
+abbrev pub SwitchesRise : World → Type 0
+SwitchesRise world = (method : MethodId) (at : ℕ) (found : Instr × ℕ) → instruction_at world method at ≡ Some found → HasRisingKeys found.0
+
+-- once anything was read, the receiver was
+abbrev pub HasReadReceiver : World → MethodId → Stage → Picture → Type 0
+HasReadReceiver world method (Begins []) picture = Unit {0}
+HasReadReceiver world method (Begins (value ∷ read)) picture = IsReceiverSeen world method picture
+HasReadReceiver world method (Runs frame callers) picture = IsReceiverSeen world method picture
+
+pub record IsReached (world : World) (state : State) : Type 0 where
+  pub sound : IsState world state
+  pub typed : IsWellTyped world state.method state.picture
+  pub receiver : HasReadReceiver world state.method state.stage state.picture
+  pub parameters : HasNoneLeftOut world state.method
+  pub keys : SwitchesRise world

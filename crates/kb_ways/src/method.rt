@@ -1,0 +1,30 @@
+//! What a step asks of the method of the current frame.
+ghost use Rattle.std.specs.Prelude.{◌≡◌, nat_lt};
+ghost use Rattle.std.specs.Option.{option_copied};
+ghost use Rattle.kb_semantics.specs.Config.{max_locals_of, result_of};
+ghost use Rattle.kb_frames.specs.Next.{method_now};
+
+use crate::turn::Turn;
+use kb_class::MethodId;
+use kb_frames::SymState;
+use kb_lookups::max_locals;
+use kb_names::JType;
+use kb_world::World;
+
+/// Whether a local of that number lies below the method's limit, max_locals (JVMS 8 section 4.7.3).
+pub fn is_local(turn: &Turn<'_>, state: &SymState, local: u16) -> bool
+    ensures { result ≡ nat_lt local (max_locals_of turn.now.world.now (method_now state.now.method state.now.stage)) }
+{
+    let (method, _) = state.stands_at();
+    local < max_locals(turn.world, method)
+}
+
+/// The type of a method's result: None of void, and where there is no such method.
+pub fn result_of(world: &World, method: MethodId) -> Option<&JType>
+    ensures { option_copied result ≡ result_of world.now method }
+{
+    match world.find_method(method) {
+        Some(info) => info.kind.result.as_ref(),
+        None => None,
+    }
+}

@@ -1,0 +1,110 @@
+//! The ways in which a step goes on or ends.
+ghost use Rattle.std.specs.Prelude.{◌≡◌, ◌+◌, ◌++◌, ◌<◌, drop, reverse, IfOk, OnOk};
+ghost use Rattle.kb_semantics.specs.Config.{has_room};
+ghost use Rattle.kb_frames.specs.Lent.{carried_on, locals_of, on_frame, stack_of};
+ghost use Rattle.kb_frames.specs.Next.{method_now};
+ghost use Rattle.kb_frames.specs.declared.frame.SymFrame.{SymFrame};
+ghost use Rattle.kb_ways.specs.Turns.{led, told};
+ghost use Rattle.kb_ways.specs.Ways.{Goes, Jumps, Throws, Fails};
+
+use crate::NoMemory;
+use crate::place::place_of;
+use crate::turn::Turn;
+use kb_frames::{Outcome, SymState, SymValue};
+use kb_heap::Bound;
+use kb_lookups::max_stack;
+use kb_picture::{Out, SymEnding};
+
+/// The run ends as ill-typed at the instruction that was taken up.
+pub fn ill_typed(turn: &Turn<'_>, state: &SymState) -> Result<Outcome, NoMemory>
+    ensures { IfOk result (λ outcome. told state.now outcome ≡ led turn.now state.now Fails) }
+{
+    let place = place_of(turn.alloc, turn.world, state)?;
+    Ok(Outcome::Ends(SymEnding::IllTyped(place)))
+}
+
+/// Whether the current frame may have so many values on its stack: those that stay, and those that come.
+pub fn has_room(turn: &Turn<'_>, state: &SymState, kept: usize, more: usize) -> bool
+    ensures { result ≡ has_room turn.now.world.now (method_now state.now.method state.now.stage) (kept + more) }
+{
+    let (method, _) = state.stands_at();
+    let room = usize::from(max_stack(turn.world, method));
+    if kept > room {
+        return false;
+    }
+    more <= room - kept
+}
+
+/// The instruction was carried out, within the bound, and the next one is at that offset.
+pub fn carry_on(turn: &Turn<'_>, state: &mut SymState, at: u32)
+    requires { state.old.carried < turn.now.bounds.run.steps }
+    ensures { state.new ≡ carried_on (on_frame (λ (frame : SymFrame). record frame { at = at }) state.old) }
+{
+    prove!(state.carried() < turn.bounds.run.steps);
+    state.count_instruction();
+    state.move_to(at);
+}
+
+/// It goes on at the next offset, with these values, the top last, in the place of so many on the stack.
+pub fn replaces(
+    turn: &Turn<'_>,
+    state: &mut SymState,
+    count: usize,
+    values: &[SymValue],
+) -> Result<Outcome, NoMemory>
+    requires { state.old.carried < turn.now.bounds.run.steps }
+    ensures { IfOk result (λ outcome. told state.new outcome ≡ led turn.now state.old (Goes (locals_of state.old.stage) (reverse values.now ++ drop count (stack_of state.old.stage)))) }
+{
+    let kept = state.height().saturating_sub(count);
+    if !has_room(turn, state, kept, values.len()) {
+        return ill_typed(turn, state);
+    }
+    state.pop(count);
+    push_all(state, values)?;
+    carry_on(turn, state, turn.next);
+    Ok(Outcome::Goes)
+}
+
+// Pushes these values, in order.
+fn push_all(state: &mut SymState, values: &[SymValue]) -> Result<(), NoMemory>
+    ensures { OnOk result (state.new ≡ on_frame (λ (frame : SymFrame). record frame { stack = reverse values.now ++ frame.stack }) state.old) }
+{
+    for value in values {
+        state.push(*value)?;
+    }
+    Ok(())
+}
+
+/// A new object of the class is thrown, which ends the run. After memory ran out the state is only dropped.
+pub fn throws(turn: &Turn<'_>, state: &mut SymState, class: &[u8]) -> Result<Outcome, NoMemory>
+    ensures { IfOk result (λ outcome. told state.new outcome ≡ led turn.now state.old (Throws class.now)) }
+{
+    let number = state.make_object(turn.world, class)?;
+    Ok(Outcome::Ends(SymEnding::Threw(Out::New(number))))
+}
+
+/// It goes on at a target, with so many values fewer on the stack.
+pub fn jumps(
+    turn: &Turn<'_>,
+    state: &mut SymState,
+    count: usize,
+    target: u32,
+) -> Result<Outcome, NoMemory>
+    requires { state.old.carried < turn.now.bounds.run.steps }
+    ensures { IfOk result (λ outcome. told state.new outcome ≡ led turn.now state.old (Jumps target (drop count (stack_of state.old.stage)))) }
+{
+    let kept = state.height().saturating_sub(count);
+    if !has_room(turn, state, kept, 0) {
+        return ill_typed(turn, state);
+    }
+    let (_, at) = state.stands_at();
+    if target <= at {
+        if state.transfers() >= turn.bounds.run.loops {
+            return Ok(Outcome::Cut(Bound::Loops));
+        }
+        state.count_transfer();
+    }
+    state.pop(count);
+    carry_on(turn, state, target);
+    Ok(Outcome::Goes)
+}
