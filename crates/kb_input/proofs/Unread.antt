@@ -12,10 +12,10 @@ use Rattle.kb_class.specs.Naming.{Has}
 use Rattle.kb_class.specs.declared.members.FieldInfo.{FieldInfo}
 use Rattle.kb_class.specs.Members.{is_static}
 use Rattle.kb_heap.specs.declared.heap.Heap.{Heap}
-use Rattle.kb_link.specs.Slots.{Declared, has_slot_type, has_slot, slots_among, own_slots_there, own_slots_at, numbered, slots_of}
-use Rattle.kb_link.specs.Universe.{IsElement, IsUniverse, AreNamedPlatform, exact_class, given_types, is_given, is_concrete}
-use Rattle.kb_link.specs.World.{World, number_in}
-use Rattle.kb_link.specs.declared.slots.FieldSlot.{FieldSlot}
+use Rattle.kb_members.specs.Slots.{Declared, has_slot_type, has_slot, slots_among, own_slots_there, own_slots_at, numbered, slots_of}
+use Rattle.kb_mentions.specs.Universe.{IsElement, IsUniverse, AreNamedPlatform, exact_class, given_types, is_given, is_concrete}
+use Rattle.kb_classes.specs.World.{World, number_in}
+use Rattle.kb_members.specs.declared.slots.FieldSlot.{FieldSlot}
 use Rattle.kb_names.specs.Types.{shape_of}
 use Rattle.kb_names.specs.declared.types.ExactType.{ExactType}
 use Rattle.kb_names.specs.declared.types.ExactType.TheVariants as exact

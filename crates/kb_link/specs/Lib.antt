@@ -1,16 +1,4 @@
-pub mod World
 pub mod Members
-pub mod Subtypes
-pub mod Slots
-pub mod Universe
-pub mod Rules
-pub mod Split
 pub mod Links
 pub mod Tables
-pub mod ChainWalks
 pub mod Targets
-pub mod Sharing
-pub mod Initialisers
-pub mod Mentions
-pub mod Placing
-pub mod Names

@@ -10,7 +10,7 @@ use Rattle.kb_heap.specs.declared.heap.Heap.{Heap}
 use Rattle.kb_heap.specs.declared.heap.Object.{Object}
 use Rattle.kb_heap.specs.declared.heap.Value.{Value}
 use Rattle.kb_heap.specs.Heap.{IsPlace, object_at, with_value}
-use Rattle.kb_link.specs.World.{World}
+use Rattle.kb_classes.specs.World.{World}
 use Rattle.kb_semantics.specs.Config.{Setting, Config, Outcome}
 use Rattle.kb_semantics.specs.Instructions.{Elements, array_at, elements_of, on_array, on_place, place_in_array, takes_object, with}
 use Rattle.kb_semantics.specs.Values.{kept}

@@ -22,7 +22,7 @@ pub(crate) struct NamedWorld<'a> {
 }
 
 impl<'a> Model for NamedWorld<'a> {
-    ghost use Rattle.kb_link.specs.World.{World as PlainWorld};
+    ghost use Rattle.kb_classes.specs.World.{World as PlainWorld};
     ghost use Rattle.kb_report.specs.Tables.{AreShared};
 
     ghost Value = { PlainWorld };

@@ -1,7 +1,7 @@
 //! What the texts of reports have in common.
 ghost use Rattle.std.specs.Prelude.{◌≡◌, IfOk};
 ghost use Rattle.std.specs.List.{AllByRecursion};
-ghost use Rattle.kb_link.specs.World.{World as PlainWorld};
+ghost use Rattle.kb_classes.specs.World.{World as PlainWorld};
 ghost use Rattle.kb_link.specs.Links.{IsLinked};
 ghost use Rattle.kb_report.specs.Ranges.{ReportFits};
 ghost use Rattle.kb_report.specs.Report.{report_text};

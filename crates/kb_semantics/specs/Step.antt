@@ -8,7 +8,7 @@ use Rattle.kb_heap.specs.declared.bounds.Bound.TheVariants.{Steps}
 use Rattle.kb_heap.specs.declared.ending.Ending.TheVariants.{Past}
 use Rattle.kb_heap.specs.declared.heap.Heap.{Heap}
 use Rattle.kb_heap.specs.declared.heap.Input.{Input}
-use Rattle.kb_link.specs.World.{World}
+use Rattle.kb_classes.specs.World.{World}
 use Rattle.kb_heap.specs.Heap.{literal}
 use Rattle.kb_semantics.specs.Config.{Setting, Config, Ended, Outcome, Goes, Ends, instruction_at, first_frame}
 use Rattle.kb_world.specs.Faults.{component_of_code}

@@ -12,12 +12,12 @@ use Rattle.kb_class.specs.declared.members.FieldInfo.{FieldInfo}
 use Rattle.kb_class.specs.declared.members.MemberKind.{MemberKind}
 use Rattle.kb_class.specs.declared.members.MemberKind.TheVariants as kinds
 use Rattle.kb_class.specs.Members.{is_static}
-use Rattle.kb_link.proofs.SlotLaws.{numbered_behind}
+use Rattle.kb_members.proofs.SlotLaws.{numbered_behind}
 use Rattle.kb_link.specs.Links.{IsLinked}
-use Rattle.kb_link.specs.Slots.{Declared, has_slot, has_slot_type, numbered, own_slots_at, own_slots_there, slot_of, slots_among, slots_of}
-use Rattle.kb_link.specs.Subtypes.{IsChain}
-use Rattle.kb_link.specs.World.{World, chain_of, number_in, parent_in}
-use Rattle.kb_link.specs.declared.slots.FieldSlot.{FieldSlot}
+use Rattle.kb_members.specs.Slots.{Declared, has_slot, has_slot_type, numbered, own_slots_at, own_slots_there, slot_of, slots_among, slots_of}
+use Rattle.kb_classes.specs.Subtypes.{IsChain}
+use Rattle.kb_classes.specs.World.{World, chain_of, number_in, parent_in}
+use Rattle.kb_members.specs.declared.slots.FieldSlot.{FieldSlot}
 use Rattle.kb_names.specs.declared.types.ExactType.{ExactType}
 use Rattle.kb_names.specs.declared.types.ExactType.TheVariants as exact
 use Rattle.kb_names.specs.declared.types.JType.{JType}

@@ -9,8 +9,8 @@ use Rattle.kb_heap.specs.declared.heap.Object.{Object}
 use Rattle.kb_heap.specs.declared.heap.Value.{Value}
 use Rattle.kb_heap.specs.declared.heap.Value.TheVariants.{Null as NullValue, Ref}
 use Rattle.kb_heap.specs.Heap.{object_at}
-use Rattle.kb_link.specs.World.{World}
-use Rattle.kb_link.specs.declared.slots.FieldSlot.{FieldSlot}
+use Rattle.kb_classes.specs.World.{World}
+use Rattle.kb_members.specs.declared.slots.FieldSlot.{FieldSlot}
 use Rattle.kb_names.specs.declared.types.JType.{JType}
 use Rattle.kb_world.specs.Lookup.{resolved_field, only_where}
 use Rattle.kb_semantics.specs.Config.{Setting, Config, Outcome, class_number, local_of, max_locals_of, result_of}

@@ -16,8 +16,8 @@ use Rattle.kb_heap.specs.declared.heap.Object.{Object}
 use Rattle.kb_heap.specs.declared.heap.Value.{Value}
 use Rattle.kb_heap.specs.declared.heap.Value.TheVariants.{Int}
 use Rattle.kb_heap.specs.Heap.{object_at}
-use Rattle.kb_link.specs.Subtypes.{fits}
-use Rattle.kb_link.specs.World.{type_entry_of}
+use Rattle.kb_classes.specs.Subtypes.{fits}
+use Rattle.kb_classes.specs.World.{type_entry_of}
 use Rattle.kb_world.specs.Calls.{has_code_at, is_without_file}
 use Rattle.kb_world.specs.Faults.{component_of_code}
 use Rattle.kb_world.specs.Lookup.{resolved_field, resolved_method, selected_special}

@@ -1,7 +1,7 @@
 //! Marks of a world's universe: whether a type is of it, and whether an array of it is a subtype of another type, are told by
 //! looks into tables in place of walks over the universe.
 //!
-//! `specs/Marks.antt` says what the marks are; the universe itself is that of kb_link's `specs/Universe.antt`.
+//! `specs/Marks.antt` says what the marks are; the universe itself is that of kb_mentions' `specs/Universe.antt`.
 #![tactic(auto)]
 
 mod elements;

@@ -21,13 +21,13 @@ use Rattle.kb_numbers.proofs.MemberLaws.{field_is, field_same, fields_beside, fi
 use Rattle.kb_numbers.proofs.NumberLaws.{field_type, same_member, same_pair}
 use Rattle.kb_numbers.proofs.PlaceLaws.{place_beside}
 use Rattle.kb_numbers.proofs.ZipLaws.{zip_as, zip_both}
-use Rattle.kb_link.specs.declared.slots.FieldSlot.{FieldSlot}
+use Rattle.kb_members.specs.declared.slots.FieldSlot.{FieldSlot}
 use Rattle.kb_link.specs.Links.{IsLinked}
 use Rattle.kb_link.specs.Members.{is_field, place_where, same_type}
-use Rattle.kb_link.specs.Slots.{Declared, has_slot, slots_among, own_slots_at, own_slots_there, numbered, slots_along, slots_of}
-use Rattle.kb_link.specs.World.{World, chain_of}
+use Rattle.kb_members.specs.Slots.{Declared, has_slot, slots_among, own_slots_at, own_slots_there, numbered, slots_along, slots_of}
+use Rattle.kb_classes.specs.World.{World, chain_of}
 use Rattle.kb_link.proofs.MemberNames.{and_true, both_true, type_is, type_self}
-use Rattle.kb_link.proofs.SlotLaws.{numbered_behind}
+use Rattle.kb_members.proofs.SlotLaws.{numbered_behind}
 use Rattle.kb_universe.proofs.Lists.{same_test}
 use Rattle.kb_world.specs.Lookup.{only_where, declaring, is_slot, slot_among}
 use Rattle.kb_world.specs.Tables.{own_keys, keys_there, keys_at, keys_along, is_key, HaveSlotTables, slot_place}

@@ -5,9 +5,9 @@ use Rattle.std.proofs.lemmas.Option.{same_Some}
 use Rattle.std.proofs.lemmas.Grind.{fold-append}
 use Rattle.kb_code.specs.declared.instruction.Instr.{Instr}
 use Rattle.kb_code.specs.declared.instruction.Instr.TheVariants as instrs
-use Rattle.kb_link.specs.declared.linking.LinkRefusal.{LinkRefusal}
-use Rattle.kb_link.specs.World.{World}
-use Rattle.kb_link.proofs.Walks.{next_rest}
+use Rattle.kb_classes.specs.declared.refusal.LinkRefusal.{LinkRefusal}
+use Rattle.kb_classes.specs.World.{World}
+use Rattle.kb_classes.proofs.Walks.{next_rest}
 use Rattle.kb_world.specs.declared.looked.Use.{Use}
 use Rattle.kb_world.specs.Calls.{use_of, use_fault, use_mentions, fault_of, mentions}
 use Rattle.kb_world.specs.Faults.{Fault}

@@ -10,8 +10,8 @@ use Rattle.kb_class.specs.declared.members.FieldInfo.{FieldInfo}
 use Rattle.kb_numbers.specs.declared.pairs.Pair.{Pair}
 use Rattle.kb_numbers.proofs.PlaceLaws.{place_pushed}
 use Rattle.kb_link.specs.Members.{place_where}
-use Rattle.kb_link.specs.Slots.{has_slot}
-use Rattle.kb_link.proofs.SlotLaws.{along_last}
+use Rattle.kb_members.specs.Slots.{has_slot}
+use Rattle.kb_members.proofs.SlotLaws.{along_last}
 use Rattle.kb_world.specs.Tables.{is_key, own_keys}
 use Rattle.kb_world.specs.declared.tables.SlotKey.{SlotKey}
 

@@ -20,8 +20,8 @@ use Rattle.kb_numbers.specs.Pairs.{is_pair}
 use Rattle.kb_numbers.proofs.NumberLaws.{method_type, one_name, one_type}
 use Rattle.kb_numbers.proofs.PairLaws.{pair_is}
 use Rattle.kb_link.proofs.MemberNames.{both_true}
-use Rattle.kb_link.specs.World.{World}
-use Rattle.kb_link.specs.declared.linking.What.TheVariants as whats
+use Rattle.kb_classes.specs.World.{World}
+use Rattle.kb_classes.specs.declared.refusal.What.TheVariants as whats
 use Rattle.kb_world.specs.Calls.{fault_of_kind, fault_of_number, takes}
 use Rattle.kb_world.specs.Faults.{Outside, has_left_out, kind_left_out}
 use Rattle.kb_world.specs.Lookup.{class_number, class_of, method_of_sought, method_sought, only_where, or_else, resolved_method, sought_at}

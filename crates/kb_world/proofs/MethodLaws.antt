@@ -6,11 +6,11 @@ use Rattle.std.proofs.lemmas.Option.{slice_get_within, slice_get_cases}
 use Rattle.kb_class.specs.Class.{Class}
 use Rattle.kb_class.specs.Platform.{object_name}
 use Rattle.kb_link.specs.Links.{IsLinked}
-use Rattle.kb_link.specs.Rules.{is_interface}
-use Rattle.kb_link.specs.Subtypes.{is_super}
-use Rattle.kb_link.specs.World.{World, methods_in}
+use Rattle.kb_classes.specs.Rules.{is_interface}
+use Rattle.kb_classes.specs.Subtypes.{is_super}
+use Rattle.kb_classes.specs.World.{World, methods_in}
 use Rattle.kb_link.proofs.MemberNames.{declared_is}
-use Rattle.kb_link.proofs.Named.{number_inside}
+use Rattle.kb_classes.proofs.Named.{number_inside}
 use Rattle.kb_names.specs.declared.types.ExactType.{ExactType}
 use Rattle.kb_names.specs.declared.types.ExactType.TheVariants as exact
 use Rattle.kb_names.specs.declared.types.MethodType.{MethodType}

@@ -5,8 +5,8 @@ use Rattle.std.proofs.lemmas.Grind.{fold-append}
 use Rattle.kb_names.specs.declared.types.ExactType.{ExactType}
 use Rattle.kb_names.specs.declared.types.ExactType.TheVariants as exact
 use Rattle.kb_names.specs.declared.types.JType.{JType}
-use Rattle.kb_link.specs.Universe.{IsUniverse}
-use Rattle.kb_link.specs.World.{World}
+use Rattle.kb_mentions.specs.Universe.{IsUniverse}
+use Rattle.kb_classes.specs.World.{World}
 use Rattle.kb_universe.specs.Marks.{class_types, is_array_below}
 use Rattle.kb_universe.proofs.Members.{split_is}
 use Rattle.kb_world.specs.Calls.{receives, selected_on, called_on, if_code}

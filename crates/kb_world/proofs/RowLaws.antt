@@ -4,8 +4,8 @@ use Rattle.std.proofs.lemmas.List.{get_or_append_left, get_or_push, get_or_past,
 use Rattle.std.proofs.lemmas.Option.{slice_get_past, slice_get_cases}
 use Rattle.std.specs.Option.{option_and_then, option_map_or}
 use Rattle.kb_class.specs.Class.{Class, Sought, reference_of_entry}
-use Rattle.kb_link.specs.World.{World}
-use Rattle.kb_link.proofs.Places.{get_pushed}
+use Rattle.kb_classes.specs.World.{World}
+use Rattle.kb_classes.proofs.Places.{get_pushed}
 use Rattle.kb_world.specs.Lookup.{sought_at, class_of_sought, slot_of_sought, method_of_sought, special_of_sought}
 use Rattle.kb_world.specs.Tables.{StandsFor, IsResolved, IsRow, left_out_of, nothing, owner_of}
 use Rattle.kb_world.specs.declared.resolved.Resolved.{Resolved}

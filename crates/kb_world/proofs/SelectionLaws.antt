@@ -12,9 +12,9 @@ use Rattle.kb_names.specs.declared.types.MethodType.{MethodType}
 use Rattle.kb_link.specs.Links.{IsLinked}
 use Rattle.kb_link.specs.Members.{same_kind}
 use Rattle.kb_link.specs.Tables.{IsNumberOf}
-use Rattle.kb_link.specs.World.{World, method_at, methods_in}
+use Rattle.kb_classes.specs.World.{World, method_at, methods_in}
 use Rattle.kb_link.proofs.MemberNames.{both_true, and_true, kind_is, place_there, declared_is, declared_there}
-use Rattle.kb_link.proofs.MethodNumbers.{number_of_place}
+use Rattle.kb_members.proofs.MethodNumbers.{number_of_place}
 use Rattle.kb_world.specs.Lookup.{or_else, only_where, first_along, is_open, is_open_at, if_open, declares, declares_open}
 use Rattle.kb_world.specs.Tables.{AddsClass, AddsOpen, HaveSignatures, first_of, has_signature, is_alike, open_from, signature_at, signature_of}
 use Rattle.kb_world.proofs.MethodLaws.{declared_past}

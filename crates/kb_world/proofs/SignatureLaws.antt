@@ -19,7 +19,7 @@ use Rattle.kb_numbers.proofs.NumberLaws.{method_type, same_member, same_pair}
 use Rattle.kb_numbers.proofs.PlaceLaws.{place_beside}
 use Rattle.kb_numbers.proofs.ZipLaws.{zip_as, zip_from, zip_long}
 use Rattle.kb_link.specs.Members.{place_where, same_kind}
-use Rattle.kb_link.specs.World.{World, methods_in}
+use Rattle.kb_classes.specs.World.{World, methods_in}
 use Rattle.kb_link.proofs.MemberNames.{and_true, kind_self}
 use Rattle.kb_world.specs.Tables.{is_alike, HaveSignatures}
 use Rattle.kb_world.proofs.SelectionLaws.{alike_is}

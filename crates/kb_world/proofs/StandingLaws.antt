@@ -19,8 +19,8 @@ use Rattle.kb_numbers.specs.Members.{entry_named}
 use Rattle.kb_numbers.specs.Numbers.{AreNumbered, Names, StandsFor as PairStandsFor}
 use Rattle.kb_numbers.proofs.MemberLaws.{entry_there}
 use Rattle.kb_link.specs.Links.{IsLinked}
-use Rattle.kb_link.specs.Slots.{slots_of}
-use Rattle.kb_link.specs.World.{World}
+use Rattle.kb_members.specs.Slots.{slots_of}
+use Rattle.kb_classes.specs.World.{World}
 use Rattle.kb_world.specs.Faults.{has_left_out}
 use Rattle.kb_world.specs.Lookup.{class_of, class_of_field, field_class, if_class, resolved_in, slot_in_class, sought_at, special_for}
 use Rattle.kb_world.specs.Tables.{HaveSlotTables, StandsFor, is_proper, slot_place}

@@ -19,9 +19,9 @@ use Rattle.kb_code.specs.contracts.instruction.Instr as Instr
 use Rattle.kb_code.specs.contracts.instruction.IntCut as IntCut
 use Rattle.kb_code.specs.contracts.instruction.IntOp as IntOp
 use Rattle.kb_code.specs.contracts.listing.Listing as Listing
-use Rattle.kb_link.specs.contracts.classes.Classes as Classes
+use Rattle.kb_classes.specs.contracts.classes.Classes as Classes
 use Rattle.kb_link.specs.contracts.linked.Linked as Linked
-use Rattle.kb_link.specs.contracts.slots.FieldSlot as FieldSlot
+use Rattle.kb_members.specs.contracts.slots.FieldSlot as FieldSlot
 use Rattle.kb_names.specs.contracts.name.Name as Name
 use Rattle.kb_names.specs.contracts.types.ExactType as ExactType
 use Rattle.kb_names.specs.contracts.types.JType as JType

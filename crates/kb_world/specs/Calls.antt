@@ -12,10 +12,10 @@ use Rattle.kb_class.specs.declared.members.MemberKind.TheVariants as kinds
 use Rattle.kb_class.specs.declared.members.MethodInfo.{MethodInfo}
 use Rattle.kb_class.specs.Class.{Class, Sought}
 use Rattle.kb_class.specs.Members.{is_static}
-use Rattle.kb_link.specs.declared.linking.What.TheVariants as whats
-use Rattle.kb_link.specs.World.{World, method_at}
-use Rattle.kb_link.specs.Subtypes.{fits, type_of_exact}
-use Rattle.kb_link.specs.Universe.{is_given}
+use Rattle.kb_classes.specs.declared.refusal.What.TheVariants as whats
+use Rattle.kb_classes.specs.World.{World, method_at}
+use Rattle.kb_classes.specs.Subtypes.{fits, type_of_exact}
+use Rattle.kb_mentions.specs.Universe.{is_given}
 use Rattle.kb_world.specs.declared.calls.Call.{Call}
 use Rattle.kb_world.specs.declared.calls.Call.TheVariants as calls
 use Rattle.kb_world.specs.declared.looked.Use.{Use}

@@ -12,13 +12,13 @@ use Rattle.kb_class.specs.declared.members.MemberKind.TheVariants as kinds
 use Rattle.kb_class.specs.declared.entries.ReferenceKind.{ReferenceKind}
 use Rattle.kb_class.specs.declared.entries.ReferenceKind.TheVariants as references
 use Rattle.kb_class.specs.Class.{Class, Entry, Sought, int_of_entry, text_of_entry}
-use Rattle.kb_link.specs.declared.linking.What.{What}
-use Rattle.kb_link.specs.declared.linking.What.TheVariants as whats
-use Rattle.kb_link.specs.World.{World, number_in, type_entry_of}
-use Rattle.kb_link.specs.Subtypes.{shape_of_exact}
-use Rattle.kb_link.specs.Universe.{is_concrete}
-use Rattle.kb_link.specs.Initialisers.{is_initialised}
-use Rattle.kb_link.specs.declared.slots.FieldSlot.{FieldSlot}
+use Rattle.kb_classes.specs.declared.refusal.What.{What}
+use Rattle.kb_classes.specs.declared.refusal.What.TheVariants as whats
+use Rattle.kb_classes.specs.World.{World, number_in, type_entry_of}
+use Rattle.kb_classes.specs.Subtypes.{shape_of_exact}
+use Rattle.kb_mentions.specs.Universe.{is_concrete}
+use Rattle.kb_members.specs.Initialisers.{is_initialised}
+use Rattle.kb_members.specs.declared.slots.FieldSlot.{FieldSlot}
 use Rattle.kb_universe.specs.Marks.{name_of_base}
 use Rattle.kb_world.specs.Lookup.{or_else, only_where, sought_at, resolved_field_class, resolved_field}
 use Rattle.kb_world.specs.declared.faults.Fault.{Fault as FaultOfCode}

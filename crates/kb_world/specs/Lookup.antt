@@ -14,12 +14,12 @@ use Rattle.kb_class.specs.declared.members.MemberKind.TheVariants as kinds
 use Rattle.kb_class.specs.declared.members.MethodInfo.{MethodInfo}
 use Rattle.kb_class.specs.Class.{Class, Sought, reference_of_entry}
 use Rattle.kb_class.specs.Platform.{object_name}
-use Rattle.kb_link.specs.declared.slots.FieldSlot.{FieldSlot}
-use Rattle.kb_link.specs.World.{World, number_in, method_at, chain_of}
+use Rattle.kb_members.specs.declared.slots.FieldSlot.{FieldSlot}
+use Rattle.kb_classes.specs.World.{World, number_in, method_at, chain_of}
 use Rattle.kb_link.specs.Members.{is_field, same_type, declared_method}
-use Rattle.kb_link.specs.Rules.{is_interface}
-use Rattle.kb_link.specs.Slots.{slots_of}
-use Rattle.kb_link.specs.Subtypes.{is_super, numbers_of}
+use Rattle.kb_classes.specs.Rules.{is_interface}
+use Rattle.kb_members.specs.Slots.{slots_of}
+use Rattle.kb_classes.specs.Subtypes.{is_super, numbers_of}
 
 -- what is there, or else the other
 abbrev pub or_else : {A : Type 0} → Option A → Option A → Option A

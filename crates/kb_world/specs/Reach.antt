@@ -9,11 +9,11 @@ use Rattle.kb_class.specs.declared.ids.MethodId.{MethodId}
 use Rattle.kb_class.specs.declared.members.MethodCode.{MethodCode}
 use Rattle.kb_class.specs.declared.members.MethodInfo.{MethodInfo}
 use Rattle.kb_class.specs.Members.{is_static}
-use Rattle.kb_link.specs.declared.linking.LinkRefusal.{LinkRefusal}
-use Rattle.kb_link.specs.declared.linking.LinkRefusal.TheVariants as refusals
-use Rattle.kb_link.specs.declared.linking.What.TheVariants as whats
-use Rattle.kb_link.specs.World.{World, method_at}
-use Rattle.kb_link.specs.Split.{is_special}
+use Rattle.kb_classes.specs.declared.refusal.LinkRefusal.{LinkRefusal}
+use Rattle.kb_classes.specs.declared.refusal.LinkRefusal.TheVariants as refusals
+use Rattle.kb_classes.specs.declared.refusal.What.TheVariants as whats
+use Rattle.kb_classes.specs.World.{World, method_at}
+use Rattle.kb_classes.specs.Split.{is_special}
 use Rattle.kb_link.specs.Targets.{Declares, IsTargetOf}
 use Rattle.kb_world.specs.Lookup.{or_else, only_where}
 use Rattle.kb_world.specs.Faults.{Fault, NoField, Missing, Outside, Initialiser, has_left_out, fault_of_initialiser}

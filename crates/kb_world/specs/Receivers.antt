@@ -4,8 +4,8 @@ use Rattle.std.specs.Prelude.{ℕ, Bool, false, List, map, filter, filter_map, O
 use Rattle.std.specs.Option.{option_and_then}
 use Rattle.kb_names.specs.declared.types.ExactType.{ExactType}
 use Rattle.kb_class.specs.Platform.{object_name}
-use Rattle.kb_link.specs.World.{World, number_in}
-use Rattle.kb_link.specs.Subtypes.{is_super}
+use Rattle.kb_classes.specs.World.{World, number_in}
+use Rattle.kb_classes.specs.Subtypes.{is_super}
 use Rattle.kb_universe.specs.Marks.{class_types}
 use Rattle.kb_world.specs.Calls.{receives, selected_on}
 use Rattle.kb_world.specs.Lookup.{class_number, selected}

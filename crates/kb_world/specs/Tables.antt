@@ -20,13 +20,13 @@ use Rattle.kb_numbers.specs.Members.{MemberNumbers, fields_at}
 use Rattle.kb_numbers.specs.declared.numbering.Numbers.{Numbers}
 use Rattle.kb_numbers.specs.Numbers.{AreNumbered, HasTextAt, Names, StandsFor as PairStandsFor}
 use Rattle.kb_numbers.specs.Pairs.{is_pair, place_told}
-use Rattle.kb_link.specs.declared.slots.FieldSlot.{FieldSlot}
+use Rattle.kb_members.specs.declared.slots.FieldSlot.{FieldSlot}
 use Rattle.kb_link.specs.Links.{IsLinked}
 use Rattle.kb_link.specs.Members.{place_where, same_kind}
-use Rattle.kb_link.specs.Rules.{is_interface}
-use Rattle.kb_link.specs.Slots.{has_slot, slots_of}
-use Rattle.kb_link.specs.Subtypes.{is_super}
-use Rattle.kb_link.specs.World.{World, chain_of, method_at, methods_in}
+use Rattle.kb_classes.specs.Rules.{is_interface}
+use Rattle.kb_members.specs.Slots.{has_slot, slots_of}
+use Rattle.kb_classes.specs.Subtypes.{is_super}
+use Rattle.kb_classes.specs.World.{World, chain_of, method_at, methods_in}
 use Rattle.kb_world.specs.Faults.{has_left_out}
 use Rattle.kb_world.specs.Lookup.{is_open, class_number, class_of, class_of_sought, slot_of_sought, method_of_sought, special_of_sought, sought_at, resolved_field, resolved_field_class, resolved_method, selected, selected_for, selected_special, declares_open, only_where, or_else}
 use Rattle.kb_world.specs.declared.known.Known.{Known}

@@ -4,9 +4,9 @@ use Rattle.std.specs.List.{AllByRecursion, list_any}
 use Rattle.kb_class.specs.Naming.{Has}
 use Rattle.kb_code.specs.declared.instruction.Instr.{Instr}
 use Rattle.kb_names.specs.declared.types.Target.{Target}
-use Rattle.kb_link.specs.declared.linking.LinkRefusal.{LinkRefusal}
-use Rattle.kb_link.specs.declared.linking.LinkRefusal.TheVariants as refusals
-use Rattle.kb_link.specs.World.{World}
+use Rattle.kb_classes.specs.declared.refusal.LinkRefusal.{LinkRefusal}
+use Rattle.kb_classes.specs.declared.refusal.LinkRefusal.TheVariants as refusals
+use Rattle.kb_classes.specs.World.{World}
 use Rattle.kb_link.specs.Targets.{Declares}
 use Rattle.kb_world.specs.Calls.{fault_of, use_fault, use_mentions}
 use Rattle.kb_world.specs.Faults.{Fault, NoField, Missing, Outside, Initialiser}

@@ -2,7 +2,7 @@
 ghost use Rattle.std.specs.Prelude.{◌≡◌, ◌<◌, length, not, option_map, IfSome};
 ghost use Rattle.std.specs.List.{list_any};
 ghost use Rattle.kb_class.specs.Platform.{object_name};
-ghost use Rattle.kb_link.specs.World.{methods_in, number_in};
+ghost use Rattle.kb_classes.specs.World.{methods_in, number_in};
 ghost use Rattle.kb_link.specs.Links.{IsLinked};
 ghost use Rattle.kb_world.specs.Lookup.{class_number, class_of, resolved_method};
 ghost use Rattle.kb_world.specs.declared.calls.Call.TheVariants as calls;

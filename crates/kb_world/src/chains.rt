@@ -1,8 +1,8 @@
 //! Classes by their numbers.
 ghost use Rattle.std.specs.Prelude.{◌≡◌};
 ghost use Rattle.kb_link.specs.Links.{IsLinked};
-ghost use Rattle.kb_link.specs.Slots.{slots_of};
-ghost use Rattle.kb_link.specs.World.{chain_of, number_in};
+ghost use Rattle.kb_members.specs.Slots.{slots_of};
+ghost use Rattle.kb_classes.specs.World.{chain_of, number_in};
 
 use kb_class::ClassId;
 use kb_link::{FieldSlot, Linked};

@@ -1,8 +1,8 @@
 //! What is wrong with a target and with instructions, and its refusal.
 ghost use Rattle.std.specs.Prelude.{◌≡◌, ◌⊎◌, ◌<◌, None, length, option_map, IfOk};
-ghost use Rattle.kb_link.specs.World.{methods_in};
+ghost use Rattle.kb_classes.specs.World.{methods_in};
 ghost use Rattle.kb_link.specs.Targets.{Declares};
-ghost use Rattle.kb_link.specs.declared.linking.LinkRefusal.TheVariants as refusals;
+ghost use Rattle.kb_classes.specs.declared.refusal.LinkRefusal.TheVariants as refusals;
 ghost use Rattle.kb_world.specs.Faults.{plain_fault};
 ghost use Rattle.kb_world.specs.Calls.{fault_of, use_of};
 ghost use Rattle.kb_world.specs.Reach.{static_fault, fault_of_target};

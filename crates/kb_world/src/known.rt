@@ -1,7 +1,7 @@
 //! What is found once for each class: classes by the texts that name them, whether a part of a type is left out, and what stands
 //! for what an entry names.
 ghost use Rattle.std.specs.Prelude.{◌≡◌, List, ℕ, Some, if◌then◌else◌, IfOk, OnOk};
-ghost use Rattle.kb_link.specs.World.{World as PlainWorld};
+ghost use Rattle.kb_classes.specs.World.{World as PlainWorld};
 ghost use Rattle.kb_class.specs.Loading.{SpellsExact, SpellsKind};
 ghost use Rattle.kb_class.specs.declared.members.MemberKind.TheVariants as kinds;
 ghost use Rattle.kb_numbers.specs.declared.pairs.EntryNumbers.{EntryNumbers as PlainNumbers};

@@ -1,7 +1,7 @@
 //! Resolution and selection (JVMS 8 sections 5.4.3 and 5.4.6).
 ghost use Rattle.std.specs.Prelude.{◌≡◌, ◌<◌, length, option_map};
 ghost use Rattle.std.specs.Option.{option_copied};
-ghost use Rattle.kb_link.specs.World.{methods_in};
+ghost use Rattle.kb_classes.specs.World.{methods_in};
 ghost use Rattle.kb_world.specs.Lookup.{resolved_field, resolved_field_class, resolved_method, selected, selected_special};
 
 use crate::fields::slot_in;

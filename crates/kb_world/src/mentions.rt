@@ -1,6 +1,6 @@
 //! The methods that calls mention.
 ghost use Rattle.std.specs.Prelude.{◌≡◌, ◌<◌, ◌∷◌, [], length, filter_map, option_map, OnOk, IfSome};
-ghost use Rattle.kb_link.specs.World.{methods_in};
+ghost use Rattle.kb_classes.specs.World.{methods_in};
 ghost use Rattle.kb_world.specs.Calls.{called, called_on, if_code, call_mentions};
 ghost use Rattle.kb_world.specs.Lookup.{class_number};
 ghost use Rattle.kb_world.specs.Receivers.{called_below, receivers_in};

@@ -1,8 +1,8 @@
 //! Resolution and selection of methods (JVMS 8 sections 5.4.3.3, 5.4.3.4 and 5.4.6).
 ghost use Rattle.std.specs.Prelude.{◌≡◌, ◌<◌, ◌∷◌, [], length, slice_get};
 ghost use Rattle.kb_class.specs.Platform.{object_name};
-ghost use Rattle.kb_link.specs.Rules.{is_interface};
-ghost use Rattle.kb_link.specs.Subtypes.{numbers_of};
+ghost use Rattle.kb_classes.specs.Rules.{is_interface};
+ghost use Rattle.kb_classes.specs.Subtypes.{numbers_of};
 ghost use Rattle.kb_world.specs.Lookup.{declares, declares_open, first_along, first_sought, is_open, resolved_in, superinterfaces};
 ghost use Rattle.kb_world.specs.Tables.{IsSearched, is_superinterface, open_if_above};
 

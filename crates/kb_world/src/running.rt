@@ -6,10 +6,10 @@ ghost use Rattle.kb_class.specs.declared.members.MethodInfo.{MethodInfo as Plain
 ghost use Rattle.kb_names.specs.declared.types.JType.TheVariants as types;
 ghost use Rattle.kb_class.specs.Class.{Class};
 ghost use Rattle.kb_class.specs.References.{sought_of};
-ghost use Rattle.kb_link.specs.Placing.{place_in};
-ghost use Rattle.kb_link.specs.Slots.{slots_of};
-ghost use Rattle.kb_link.specs.Subtypes.{fits, type_of_exact};
-ghost use Rattle.kb_link.specs.World.{chain_of, method_at, number_in, type_entry_of, int_entry_of};
+ghost use Rattle.kb_members.specs.Placing.{place_in};
+ghost use Rattle.kb_members.specs.Slots.{slots_of};
+ghost use Rattle.kb_classes.specs.Subtypes.{fits, type_of_exact};
+ghost use Rattle.kb_classes.specs.World.{chain_of, method_at, number_in, type_entry_of, int_entry_of};
 ghost use Rattle.kb_world.specs.Calls.{is_without_file, selected_on};
 ghost use Rattle.kb_world.specs.Lookup.{resolved_field, resolved_method, selected_special, sought_at};
 ghost use Rattle.kb_world.specs.Tables.{stands_at};

@@ -1,7 +1,7 @@
 //! Selection (JVMS 8 section 5.4.6) by tables: which method is called where the receiver is of a class.
 ghost use Rattle.std.specs.Prelude.{◌≡◌, ◌+◌, ◌<◌, ◌^◌, ◌∷◌, [], length, IfOk, OnOk};
 ghost use Rattle.kb_link.specs.Links.{IsLinked};
-ghost use Rattle.kb_link.specs.World.{methods_in};
+ghost use Rattle.kb_classes.specs.World.{methods_in};
 ghost use Rattle.kb_world.specs.Tables.{AddsClass, AddsFirst, AddsOpen, AreSelected, HaveFirsts, HaveSignatures, HaveSelections, IsSelection, selected_by, selected_in};
 
 use crate::methods::is_open;

@@ -1,7 +1,7 @@
 //! The walk over the code of a method that is reached: the first fault, and what is mentioned. An entry is looked at once for each
 //! use of it.
 ghost use Rattle.std.specs.Prelude.{◌≡◌, ◌<◌, length, None, OnOk, IfErr};
-ghost use Rattle.kb_link.specs.World.{methods_in};
+ghost use Rattle.kb_classes.specs.World.{methods_in};
 ghost use Rattle.std.specs.Option.{option_map};
 ghost use Rattle.kb_world.specs.Calls.{use_of, use_fault, use_mentions, fault_of, mentions};
 ghost use Rattle.kb_world.specs.Faults.{plain_fault};

@@ -4,11 +4,11 @@ ghost use Rattle.std.specs.List.{list_any};
 ghost use Rattle.std.specs.Option.{option_copied, option_and_then};
 ghost use Rattle.kb_class.specs.Class.{Class};
 ghost use Rattle.kb_class.specs.Naming.{Has};
-ghost use Rattle.kb_link.specs.World.{World as PlainWorld, chain_of, method_at, methods_in, number_in, type_entry_of, int_entry_of, literal_entry_of};
+ghost use Rattle.kb_classes.specs.World.{World as PlainWorld, chain_of, method_at, methods_in, number_in, type_entry_of, int_entry_of, literal_entry_of};
 ghost use Rattle.kb_link.specs.Links.{IsLinked};
-ghost use Rattle.kb_link.specs.Placing.{place_in};
-ghost use Rattle.kb_link.specs.Slots.{slots_of};
-ghost use Rattle.kb_link.specs.Subtypes.{fits};
+ghost use Rattle.kb_members.specs.Placing.{place_in};
+ghost use Rattle.kb_members.specs.Slots.{slots_of};
+ghost use Rattle.kb_classes.specs.Subtypes.{fits};
 ghost use Rattle.kb_link.specs.Targets.{IsTargetOf};
 ghost use Rattle.kb_universe.specs.Marks.{is_array_below, HaveMarks};
 ghost use Rattle.kb_world.specs.Lookup.{selected};
@@ -72,7 +72,7 @@ fn tables_of(alloc: Global, linked: &Linked) -> Result<Tables, NoMemory>
 }
 
 impl Model for World {
-    ghost use Rattle.kb_link.specs.World.{World as PlainWorld};
+    ghost use Rattle.kb_classes.specs.World.{World as PlainWorld};
     ghost use Rattle.kb_link.specs.Links.{IsLinked};
 
     ghost Value = { PlainWorld };

@@ -1,4 +1,4 @@
-use Rattle.kb_link.specs.World.{chain_of}
+use Rattle.kb_classes.specs.World.{chain_of}
 use Rattle.kb_world.specs.Tables.{selected_in}
 use Rattle.kb_world.proofs.SelectionLaws.{left_step, left_last}
 use Rattle.kb_world.proofs.selection.table_of.Goals as goal

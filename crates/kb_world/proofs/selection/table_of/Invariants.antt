@@ -1,5 +1,5 @@
 use Rattle.std.proofs.Common.{length}
-use Rattle.kb_link.specs.World.{chain_of}
+use Rattle.kb_classes.specs.World.{chain_of}
 use Rattle.kb_world.specs.Tables.{selected_in}
 use Rattle.kb_world.proofs.SelectionLaws.{IsLeft}
 use Rattle.kb_world.proofs.selection.table_of.Given as goal

@@ -1,6 +1,6 @@
 use Rattle.std.proofs.Common.{◌≡◌, Some, slice_get, subst, ◌∙◌}
 use Rattle.kb_class.specs.References.{sought_of}
-use Rattle.kb_link.specs.World.{World}
+use Rattle.kb_classes.specs.World.{World}
 use Rattle.kb_world.specs.Lookup.{sought_at}
 use Rattle.kb_world.proofs.Inside.{resolved_at}
 use Rattle.kb_world.proofs.KnownLaws.{found_owner}

@@ -2,7 +2,7 @@ use Rattle.std.proofs.Common.{◌≡◌, false, Option, Some, slice_get, sym, ap
 use Rattle.std.specs.Option.{option_and_then, option_map_or}
 use Rattle.kb_class.specs.Class.{Sought}
 use Rattle.kb_class.specs.References.{sought_of}
-use Rattle.kb_link.specs.World.{World}
+use Rattle.kb_classes.specs.World.{World}
 use Rattle.kb_world.specs.Lookup.{sought_at}
 use Rattle.kb_world.specs.Tables.{left_out_of, owner_of}
 use Rattle.kb_world.proofs.KnownLaws.{taken_left_out, taken_owner}

@@ -1,5 +1,5 @@
 use Rattle.std.proofs.Common.{◌≡◌, List, ℕ, ◌+◌, ◌-◌, ◌<◌, [], ◌∷◌, length, Some, None, slice_get, sym, ap, subst, ◌∙◌, arith}
-use Rattle.kb_link.specs.World.{World, methods_in}
+use Rattle.kb_classes.specs.World.{World, methods_in}
 use Rattle.kb_world.specs.Found.{FoundMethods}
 use Rattle.kb_world.specs.Reach.{method_mentions}
 use Rattle.kb_world.specs.Walks.{with_all, AreSettled}

@@ -1,5 +1,5 @@
 use Rattle.std.proofs.Common.{Bool, sym, ap, ◌∙◌}
-use Rattle.kb_link.specs.declared.linking.What.TheVariants as whats
+use Rattle.kb_classes.specs.declared.refusal.What.TheVariants as whats
 use Rattle.kb_world.specs.Calls.{fault_of_number}
 use Rattle.kb_world.specs.Faults.{Outside}
 use Rattle.kb_world.specs.Lookup.{only_where, or_else, resolved_method}

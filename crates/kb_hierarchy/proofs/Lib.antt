@@ -1,0 +1,5 @@
+pub mod Above
+pub mod Circling
+pub mod Claiming
+pub mod SharedPairs
+pub mod SharingLaws

@@ -1,0 +1,3 @@
+pub mod ChainWalks
+pub mod Sharing
+pub mod Stops

@@ -1,0 +1,4 @@
+pub mod MethodNumbers
+pub mod SlotLaws
+pub mod Filling
+pub mod Placings

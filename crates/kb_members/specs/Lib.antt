@@ -1,0 +1,4 @@
+pub mod Methods
+pub mod Slots
+pub mod Initialisers
+pub mod Placing
