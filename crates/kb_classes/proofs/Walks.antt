@@ -1,5 +1,5 @@
--- Walks over lists: what holds of all items, and where it ends.
-use Rattle.std.proofs.Common.{◌≡◌, ℕ, zero, suc, ◌+◌, ◌-◌, ◌<◌, ◌≤◌, List, [], ◌∷◌, ◌++◌, length, take, drop, get_or, slice_get, Some, map, refl, sym, ap, subst, ◌∙◌, arith}
+-- Walks over lists: what holds of all items, and where it ends; tests.
+use Rattle.std.proofs.Common.{◌≡◌, ℕ, zero, suc, ◌+◌, ◌-◌, ◌<◌, ◌≤◌, Bool, true, false, List, [], ◌∷◌, ◌++◌, length, take, drop, get_or, slice_get, Some, map, refl, sym, ap, subst, ◌∙◌, arith}
 use Rattle.std.specs.List.{AllByRecursion}
 use Rattle.std.proofs.lemmas.Grind.{take_at_read}
 use Rattle.std.proofs.lemmas.List.{take_all}
@@ -86,3 +86,11 @@ module _ {A : Type 0} where
   all_taken [] (suc n) long = refl
   all_taken (x ∷ xs) zero long = absurd (omega (arith, long))
   all_taken (x ∷ xs) (suc n) long = ap (λ (ys : List A). x ∷ ys) (all_taken xs n (omega (arith, long)))
+
+-- ---- tests
+
+-- two tests that tell the same
+pub same_test : (a b : Bool) → (a ≡ true → b ≡ true) → (b ≡ true → a ≡ true) → a ≡ b
+same_test true b to from = sym (to refl)
+same_test false true to from = from refl
+same_test false false to from = refl

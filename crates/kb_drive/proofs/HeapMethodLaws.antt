@@ -13,7 +13,7 @@ use Rattle.kb_classes.specs.World.{World}
 use Rattle.kb_names.specs.declared.types.JType.{JType}
 use Rattle.kb_names.specs.declared.types.JType.TheVariants as types
 use Rattle.kb_semantics.specs.Config.{info_of, instruction_at, instruction_in}
-use Rattle.kb_world.specs.Faults.{is_left_out}
+use Rattle.kb_resolution.specs.LeftOut.{is_left_out}
 use Rattle.kb_picture.specs.declared.choice.Init.TheVariants.{Lazy}
 use Rattle.kb_frames.specs.State.{start_state}
 use Rattle.kb_frames.specs.States.{IsState}

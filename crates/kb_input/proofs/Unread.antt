@@ -23,7 +23,7 @@ use Rattle.kb_names.specs.declared.types.JType.{JType}
 use Rattle.kb_names.specs.declared.types.JType.TheVariants as types
 use Rattle.kb_semantics.specs.Inputs.{HasValuesOf}
 use Rattle.kb_semantics.specs.Values.{IsValueOf, AreValuesOf, default_of, slots_of_class}
-use Rattle.kb_world.specs.Faults.{is_left_out}
+use Rattle.kb_resolution.specs.LeftOut.{is_left_out}
 use Rattle.kb_input.specs.Emitted.{unread_object}
 
 -- ---- types that slots have

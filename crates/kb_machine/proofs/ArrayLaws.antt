@@ -1,7 +1,7 @@
 -- What the machine finds in an array is what the instruction comes to.
 use Rattle.std.proofs.Common.{◌≡◌, ℕ, ℤ, pos, negsuc, nat_lt, ltb→lt, Bool, true, false, List, ◌∷◌, length, Option, Some, None, IsSome, slice_get, if◌then◌else◌, refl, sym, ap, subst, ◌∙◌}
 use Rattle.std.proofs.lemmas.Option.{slice_get-get_or}
-use Rattle.kb_world.specs.Lookup.{only_where}
+use Rattle.kb_resolution.specs.Lookup.{only_where}
 use Rattle.std.specs.Option.{option_and_then, option_map_or}
 use Rattle.kb_names.specs.declared.types.ExactType.{ExactType}
 use Rattle.kb_names.specs.declared.types.ExactType.TheVariants as exact

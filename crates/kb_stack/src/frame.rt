@@ -5,7 +5,7 @@ ghost use Rattle.std.specs.Option.{option_copied};
 ghost use Rattle.kb_semantics.specs.Config.{behind, class_number, first_frame, local_of, has_room, with_local};
 ghost use Rattle.kb_semantics.specs.Operands.{top_of};
 ghost use Rattle.kb_semantics.specs.Ways.{counted, pushed};
-ghost use Rattle.kb_world.specs.Lookup.{only_where};
+ghost use Rattle.kb_resolution.specs.Lookup.{only_where};
 
 use crate::NoMemory;
 use crate::locals::Locals;

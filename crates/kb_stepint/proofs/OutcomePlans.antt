@@ -20,7 +20,7 @@ use Rattle.kb_code.specs.declared.instruction.IntOp.TheVariants as ops
 use Rattle.kb_heap.specs.declared.heap.Value.{Value}
 use Rattle.kb_heap.specs.declared.heap.Value.TheVariants.{Int as IntValue, Ref}
 use Rattle.kb_classes.specs.World.{int_entry_of, literal_entry_of}
-use Rattle.kb_world.specs.Lookup.{or_else}
+use Rattle.kb_resolution.specs.Lookup.{or_else}
 use Rattle.kb_names.specs.declared.types.JType.{JType}
 use Rattle.kb_names.specs.declared.types.JType.TheVariants as types
 use Rattle.kb_semantics.specs.Comparisons.{holds, switch_target, table_keys}

@@ -23,7 +23,7 @@ use Rattle.kb_names.specs.declared.types.ExactType.TheVariants as exact
 use Rattle.kb_names.specs.declared.types.JType.{JType}
 use Rattle.kb_semantics.specs.Instructions.{has_field}
 use Rattle.kb_semantics.specs.Values.{slots_of_class}
-use Rattle.kb_world.specs.Lookup.{class_of_sought, is_slot, resolved_field, slot_among, slot_in_class, slot_of_sought, sought_at}
+use Rattle.kb_resolution.specs.Lookup.{class_of_sought, is_slot, resolved_field, slot_among, slot_in_class, slot_of_sought, sought_at}
 use Rattle.kb_picture.specs.Queries.{slot_of_class}
 use Rattle.kb_picture.specs.WellFormed.{HasSlot}
 

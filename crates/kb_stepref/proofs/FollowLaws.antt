@@ -14,7 +14,7 @@ use Rattle.kb_heap.specs.declared.heap.Input.{Input}
 use Rattle.kb_classes.specs.World.{World}
 use Rattle.kb_members.specs.declared.slots.FieldSlot.{FieldSlot}
 use Rattle.kb_names.specs.declared.types.JType.{JType}
-use Rattle.kb_world.specs.Lookup.{resolved_field}
+use Rattle.kb_resolution.specs.Lookup.{resolved_field}
 use Rattle.kb_semantics.specs.Config.{Config, class_number, instruction_at}
 use Rattle.kb_semantics.specs.Inputs.{IsTypeCorrect}
 use Rattle.kb_terms.specs.declared.node.Node.TheVariants.{Var}

@@ -6,7 +6,7 @@ use Rattle.kb_members.specs.declared.slots.FieldSlot.{FieldSlot}
 use Rattle.kb_names.specs.declared.types.ExactType.{ExactType}
 use Rattle.kb_semantics.specs.Config.{class_number}
 use Rattle.kb_semantics.specs.Instructions.{has_field}
-use Rattle.kb_world.specs.Lookup.{resolved_field}
+use Rattle.kb_resolution.specs.Lookup.{resolved_field}
 use Rattle.kb_frames.specs.declared.value.Cell.{Cell}
 use Rattle.kb_frames.specs.declared.value.SymValue.{SymValue}
 use Rattle.kb_frames.specs.declared.value.SymValue.TheVariants.{Int, Null, Obj, Literal, New, Loc}

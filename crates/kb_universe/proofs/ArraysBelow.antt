@@ -22,7 +22,8 @@ use Rattle.kb_mentions.specs.Universe.{IsElement, IsNamedArray}
 use Rattle.kb_classes.proofs.Named.{number_inside}
 use Rattle.kb_members.proofs.MethodNumbers.{none_named, number_of_named}
 use Rattle.kb_universe.specs.Marks.{name_of_base, most_over, longest_of, is_array_below, reach, HasLowArray}
-use Rattle.kb_universe.proofs.Lists.{any_some, any_true, get_there, same_test}
+use Rattle.kb_universe.proofs.Lists.{any_some, any_true, get_there}
+use Rattle.kb_classes.proofs.Walks.{same_test}
 use Rattle.kb_universe.proofs.Members.{has_array}
 use Rattle.kb_universe.proofs.Reaching.{reached, reaching, longest_has, has_longest, most_longest}
 

@@ -21,7 +21,7 @@ use Rattle.kb_semantics.specs.Config.{class_name, info_of, max_locals_of}
 use Rattle.kb_semantics.specs.Inputs.{argument_types}
 use Rattle.kb_semantics.specs.Looks.{numbers_below}
 use Rattle.kb_semantics.specs.Values.{slots_of_class}
-use Rattle.kb_world.specs.Faults.{is_left_out}
+use Rattle.kb_resolution.specs.LeftOut.{is_left_out}
 use Rattle.kb_terms.specs.declared.node.TermId.{TermId}
 use Rattle.kb_terms.specs.declared.node.Node.{Node}
 use Rattle.kb_terms.specs.declared.node.Node.TheVariants.{Const, Var, Op as Apply}

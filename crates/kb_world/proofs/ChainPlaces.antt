@@ -7,8 +7,8 @@ use Rattle.std.proofs.lemmas.Option.{same_Some, none-some, slice_get_within}
 use Rattle.kb_class.specs.Class.{Class}
 use Rattle.kb_classes.specs.Subtypes.{AreChains, IsChain}
 use Rattle.kb_classes.specs.World.{World, chain_of, parent_in}
-use Rattle.kb_universe.proofs.Lists.{same_test}
-use Rattle.kb_world.specs.Tables.{stands_at}
+use Rattle.kb_classes.proofs.Walks.{same_test}
+use Rattle.kb_resolution.specs.Tables.{stands_at}
 use Rattle.kb_world.proofs.Marking.{any_there}
 
 past_end : {A : Type 0} (xs : List A) (i : ℕ) → slice_get xs i ≡ None → length xs ≤ i

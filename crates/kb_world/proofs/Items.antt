@@ -12,7 +12,7 @@ use Rattle.kb_world.specs.declared.looked.Use.{Use}
 use Rattle.kb_world.specs.Calls.{use_of, use_fault, use_mentions, fault_of, mentions}
 use Rattle.kb_world.specs.Faults.{Fault}
 use Rattle.kb_world.specs.Found.{FoundMethods}
-use Rattle.kb_world.specs.Lookup.{or_else}
+use Rattle.kb_resolution.specs.Lookup.{or_else}
 use Rattle.kb_world.specs.Reach.{with_new, fault_in, mentions_in}
 use Rattle.kb_world.specs.Walks.{with_all, StopsAt, IsFaultIn, IsFaultAt, IsFaultOfUse}
 use Rattle.kb_world.proofs.Settling.{stops_as}

@@ -17,7 +17,7 @@ use Rattle.kb_classes.proofs.Named.{number_inside}
 use Rattle.kb_universe.specs.Marks.{class_types}
 use Rattle.kb_universe.proofs.Members.{class_named}
 use Rattle.kb_world.specs.Calls.{receives, selected_on}
-use Rattle.kb_world.specs.Lookup.{class_number, selected}
+use Rattle.kb_resolution.specs.Lookup.{class_number, selected}
 use Rattle.kb_world.specs.Receivers.{called_among, called_below, receivers_in, receives_at}
 use Rattle.kb_world.proofs.ReceiverLaws.{among_is}
 

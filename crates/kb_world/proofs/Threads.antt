@@ -33,8 +33,8 @@ use Rattle.kb_numbers.specs.contracts.types.Types as Types
 use Rattle.kb_order.specs.contracts.texts.TextSet as TextSet
 use Rattle.kb_texts.specs.contracts.texts.Texts as Texts
 use Rattle.kb_universe.specs.contracts.marks.Marks as Marks
-use Rattle.kb_world.specs.contracts.resolved.Resolved as Resolved
-use Rattle.kb_world.specs.contracts.selection.Selection as Selection
+use Rattle.kb_resolution.specs.contracts.resolved.Resolved as Resolved
+use Rattle.kb_resolution.specs.contracts.selection.Selection as Selection
 use Rattle.kb_world.specs.contracts.world.World as World
 
 name_send : IsSend Name.the_field.row

@@ -20,8 +20,9 @@ use Rattle.kb_world.specs.declared.calls.Call.{Call}
 use Rattle.kb_world.specs.declared.calls.Call.TheVariants as calls
 use Rattle.kb_world.specs.declared.looked.Use.{Use}
 use Rattle.kb_world.specs.declared.looked.Use.TheVariants as uses
-use Rattle.kb_world.specs.Lookup.{or_else, only_where, class_of, sought_at, is_open, resolved_method, selected, selected_special}
-use Rattle.kb_world.specs.Faults.{Fault, Outside, has_left_out, entry_at, constant_fault, field_fault, new_fault, primitive_fault, array_fault, cast_fault, fault_of_initialiser}
+use Rattle.kb_resolution.specs.Lookup.{or_else, only_where, class_of, sought_at, is_open, resolved_method, selected, selected_special}
+use Rattle.kb_world.specs.Faults.{Fault, Outside, entry_at, constant_fault, field_fault, new_fault, primitive_fault, array_fault, cast_fault, fault_of_initialiser}
+use Rattle.kb_resolution.specs.LeftOut.{has_left_out}
 
 -- ---- what a call may call
 

@@ -1,14 +1,10 @@
 -- What is wrong with an instruction that is no call (own rules over JVMS 8 sections 5.4.3, 5.5 and 6.5).
-use Rattle.std.specs.Prelude.{ℕ, Bool, true, false, ◌==◌, ◌||◌, not, nat_le, is_some, List, Option, Some, None, slice_get, if◌then◌else◌}
-use Rattle.std.specs.List.{list_any}
-use Rattle.std.specs.Option.{option_and_then, option_map_or}
+use Rattle.std.specs.Prelude.{ℕ, Bool, ◌==◌, ◌||◌, not, nat_le, is_some, List, Option, Some, None, slice_get, if◌then◌else◌}
+use Rattle.std.specs.Option.{option_and_then}
 use Rattle.kb_names.specs.declared.types.ExactType.{ExactType}
 use Rattle.kb_names.specs.declared.types.ExactType.TheVariants as exact
 use Rattle.kb_names.specs.declared.types.JType.{JType}
 use Rattle.kb_names.specs.declared.types.JType.TheVariants as types
-use Rattle.kb_names.specs.declared.types.MethodType.{MethodType}
-use Rattle.kb_class.specs.declared.members.MemberKind.{MemberKind}
-use Rattle.kb_class.specs.declared.members.MemberKind.TheVariants as kinds
 use Rattle.kb_class.specs.declared.entries.ReferenceKind.{ReferenceKind}
 use Rattle.kb_class.specs.declared.entries.ReferenceKind.TheVariants as references
 use Rattle.kb_class.specs.Class.{Class, Entry, Sought, int_of_entry, text_of_entry}
@@ -20,7 +16,7 @@ use Rattle.kb_mentions.specs.Universe.{is_concrete}
 use Rattle.kb_members.specs.Initialisers.{is_initialised}
 use Rattle.kb_members.specs.declared.slots.FieldSlot.{FieldSlot}
 use Rattle.kb_universe.specs.Marks.{name_of_base}
-use Rattle.kb_world.specs.Lookup.{or_else, only_where, sought_at, resolved_field_class, resolved_field}
+use Rattle.kb_resolution.specs.Lookup.{or_else, only_where, sought_at, resolved_field_class, resolved_field}
 use Rattle.kb_world.specs.declared.faults.Fault.{Fault as FaultOfCode}
 use Rattle.kb_world.specs.declared.faults.Fault.TheVariants as faults
 
@@ -41,24 +37,6 @@ plain_fault (faults.Outside what) = Outside what
 plain_fault (faults.Initialiser name) = Initialiser name.now
 
 -- ---- types
-
--- whether no parameter or result may be of the type
-abbrev pub is_left_out : JType → Bool
-is_left_out types.Byte = true
-is_left_out types.Char = true
-is_left_out types.Short = true
-is_left_out types.Long = true
-is_left_out types.Float = true
-is_left_out types.Double = true
-is_left_out _ = false
-
-abbrev pub has_left_out : MethodType → Bool
-has_left_out kind = list_any is_left_out kind.params || option_map_or is_left_out kind.result false
-
--- the same of the type of a member: none of a field's
-abbrev pub kind_left_out : MemberKind → Bool
-kind_left_out (kinds.Field type) = false
-kind_left_out (kinds.Method kind) = has_left_out kind
 
 -- the class that a type names, by itself or as an array's element
 abbrev pub class_in_type : ExactType → Option (List ℕ)

@@ -15,8 +15,9 @@ use Rattle.kb_classes.specs.declared.refusal.What.TheVariants as whats
 use Rattle.kb_classes.specs.World.{World, method_at}
 use Rattle.kb_classes.specs.Split.{is_special}
 use Rattle.kb_link.specs.Targets.{Declares, IsTargetOf}
-use Rattle.kb_world.specs.Lookup.{or_else, only_where}
-use Rattle.kb_world.specs.Faults.{Fault, NoField, Missing, Outside, Initialiser, has_left_out, fault_of_initialiser}
+use Rattle.kb_resolution.specs.Lookup.{or_else, only_where}
+use Rattle.kb_world.specs.Faults.{Fault, NoField, Missing, Outside, Initialiser, fault_of_initialiser}
+use Rattle.kb_resolution.specs.LeftOut.{has_left_out}
 use Rattle.kb_world.specs.Calls.{fault_of, mentions}
 
 -- ---- methods

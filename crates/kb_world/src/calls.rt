@@ -4,20 +4,20 @@ ghost use Rattle.std.specs.List.{list_any};
 ghost use Rattle.kb_class.specs.Platform.{object_name};
 ghost use Rattle.kb_classes.specs.World.{methods_in, number_in};
 ghost use Rattle.kb_link.specs.Links.{IsLinked};
-ghost use Rattle.kb_world.specs.Lookup.{class_number, class_of, resolved_method};
+ghost use Rattle.kb_resolution.specs.Lookup.{class_number, class_of, resolved_method};
 ghost use Rattle.kb_world.specs.declared.calls.Call.TheVariants as calls;
-ghost use Rattle.kb_world.specs.Faults.{kind_left_out, plain_fault};
-ghost use Rattle.kb_world.specs.Tables.{kind_owner};
+ghost use Rattle.kb_resolution.specs.LeftOut.{kind_left_out};
+ghost use Rattle.kb_world.specs.Faults.{plain_fault};
+ghost use Rattle.kb_resolution.specs.Tables.{kind_owner};
 ghost use Rattle.kb_world.specs.Receivers.{called_below, receivers_in, receives_at, selected_on_array};
 ghost use Rattle.kb_world.specs.Calls.{takes, selected_on, called_on, called, is_callable_method, is_callable, is_for, fault_of_kind, fault_of_number, call_fault};
 
 use crate::faults::Fault;
-use crate::methods::{OBJECT, is_open};
-use crate::resolved::Resolved;
 use crate::world::World;
 use kb_class::{ClassId, MemberKind, MethodId, MethodInfo, ReferenceKind, is_static};
 use kb_link::What;
 use kb_names::ExactType;
+use kb_resolution::{OBJECT, Resolved, is_open};
 
 /// How a method is called: by invokevirtual, invokeinterface, invokespecial or invokestatic.
 #[derive(Clone, Copy, PartialEq, Eq, Hash)]

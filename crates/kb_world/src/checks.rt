@@ -8,12 +8,13 @@ ghost use Rattle.kb_world.specs.Calls.{fault_of, use_of};
 ghost use Rattle.kb_world.specs.Reach.{static_fault, fault_of_target};
 ghost use Rattle.kb_world.specs.Walks.{Tells};
 
-use crate::faults::{Fault, has_left_out, primitive_fault};
+use crate::faults::{Fault, primitive_fault};
 use crate::world::World;
 use kb_class::{ClassId, MethodId, MethodInfo, is_static};
 use kb_code::Instr;
 use kb_link::{LinkRefusal, What};
 use kb_names::{Name, NoMemory, Target};
+use kb_resolution::has_left_out;
 use std::alloc::Global;
 
 impl World {

@@ -1,16 +1,15 @@
 //! What is wrong with an instruction that is no call.
 ghost use Rattle.std.specs.Prelude.{◌≡◌, ◌<◌, Some, length, nat_le, option_map};
-ghost use Rattle.std.specs.List.{list_any};
 ghost use Rattle.std.specs.Option.{option_copied};
 ghost use Rattle.kb_names.specs.Types.{shape_of};
 ghost use Rattle.kb_names.specs.declared.types.ExactType.TheVariants as exact;
-ghost use Rattle.kb_world.specs.Lookup.{resolved_field_class, resolved_field};
-ghost use Rattle.kb_world.specs.Faults.{plain_fault, is_left_out, has_left_out, class_in_type, missing_class, entry_at, constant_fault, fault_of_slot, field_fault, cast_fault, fault_of_initialiser, fault_of_object, fault_of_new, new_fault, is_deepest, array_fault, component_of_code, primitive_fault};
+ghost use Rattle.kb_resolution.specs.Lookup.{resolved_field_class, resolved_field};
+ghost use Rattle.kb_world.specs.Faults.{plain_fault, class_in_type, missing_class, entry_at, constant_fault, fault_of_slot, field_fault, cast_fault, fault_of_initialiser, fault_of_object, fault_of_new, new_fault, is_deepest, array_fault, component_of_code, primitive_fault};
 
 use crate::world::World;
 use kb_class::{ClassId, ReferenceKind};
 use kb_link::{What, is_concrete};
-use kb_names::{ExactType, JType, MethodType, Name};
+use kb_names::{ExactType, JType, Name};
 use kb_universe::element_class;
 
 /// What is wrong with an instruction.
@@ -191,42 +190,6 @@ pub fn component_of_code(code: u8) -> Option<JType>
         BOOLEANS => Some(JType::Bool),
         INTS => Some(JType::Int),
         _ => None,
-    }
-}
-
-/// Whether a parameter or the result is of a type that is left out: byte, char, short, long, float or double.
-pub(crate) fn has_left_out(kind: &MethodType) -> bool
-    ensures { result ≡ has_left_out kind.now }
-{
-    if is_any_left_out(kind.params.as_slice()) {
-        return true;
-    }
-    match &kind.result {
-        Some(of) => is_left_out(of),
-        None => false,
-    }
-}
-
-fn is_any_left_out(types: &[JType]) -> bool
-    ensures { result ≡ list_any is_left_out types.now }
-{
-    let mut rest = types;
-    while let [of, others @ ..] = rest {
-        if is_left_out(of) {
-            return true;
-        }
-        rest = others;
-    }
-    false
-}
-
-fn is_left_out(of: &JType) -> bool
-    ensures { result ≡ is_left_out of.now }
-{
-    match of {
-        JType::Byte | JType::Char | JType::Short => true,
-        JType::Long | JType::Float | JType::Double => true,
-        _ => false,
     }
 }
 

@@ -2,7 +2,7 @@
 ghost use Rattle.std.specs.Prelude.{◌≡◌, ◌<◌, ◌∷◌, [], length, filter_map, option_map, OnOk, IfSome};
 ghost use Rattle.kb_classes.specs.World.{methods_in};
 ghost use Rattle.kb_world.specs.Calls.{called, called_on, if_code, call_mentions};
-ghost use Rattle.kb_world.specs.Lookup.{class_number};
+ghost use Rattle.kb_resolution.specs.Lookup.{class_number};
 ghost use Rattle.kb_world.specs.Receivers.{called_below, receivers_in};
 ghost use Rattle.kb_world.specs.Walks.{with_all};
 
