@@ -53,7 +53,7 @@ use Rattle.kb_picture.specs.WellTyped.{SeenFits, SeenFitsDeclared, LocFits, Stan
 use Rattle.kb_classes.specs.Subtypes.{fits}
 use Rattle.kb_classes.specs.declared.refusal.What.TheVariants as whats
 use Rattle.kb_picture.proofs.HeldLaws.{all_at}
-use Rattle.kb_world.specs.Faults.{Fault, Outside}
+use Rattle.kb_faults.specs.Faults.{Fault, Outside}
 use Rattle.kb_resolution.specs.LeftOut.{is_left_out, has_left_out}
 use Rattle.kb_resolution.specs.Lookup.{or_else, only_where}
 use Rattle.kb_world.specs.Reach.{static_fault, target_fault}

@@ -27,7 +27,7 @@ use Rattle.kb_classes.specs.World.{method_at, number_in, type_entry_of}
 use Rattle.kb_members.proofs.MethodNumbers.{named_at}
 use Rattle.kb_hierarchy.proofs.SharingLaws.{has_filtered}
 use Rattle.kb_world.specs.Calls.{called_on, fault_of, has_code_at, if_code, mentions, receives, selected_on}
-use Rattle.kb_world.specs.Faults.{Outside, component_of_code, fault_of_array, fault_of_new, fault_of_new_type, fault_of_object, is_deepest, missing_class}
+use Rattle.kb_faults.specs.Faults.{Outside, component_of_code, fault_of_array, fault_of_new, fault_of_new_type, fault_of_object, is_deepest, missing_class}
 use Rattle.kb_resolution.specs.LeftOut.{has_left_out}
 use Rattle.kb_resolution.specs.Lookup.{method_of_sought, only_where, resolved_method, selected_special, sought_at, special_of_sought}
 use Rattle.kb_semantics.specs.Config.{Setting, info_of}

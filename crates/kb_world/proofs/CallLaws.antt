@@ -11,13 +11,14 @@ use Rattle.kb_class.specs.declared.members.MemberKind.{MemberKind}
 use Rattle.kb_class.specs.declared.members.MemberKind.TheVariants as kinds
 use Rattle.kb_classes.specs.World.{World}
 use Rattle.kb_classes.specs.declared.refusal.What.TheVariants as whats
-use Rattle.kb_world.specs.Calls.{fault_of_kind, fault_of_number, takes}
-use Rattle.kb_world.specs.Faults.{Outside}
+use Rattle.kb_world.specs.Calls.{fault_of_kind, fault_of_number}
+use Rattle.kb_faults.specs.Uses.{takes}
+use Rattle.kb_faults.specs.Faults.{Outside}
 use Rattle.kb_resolution.specs.LeftOut.{has_left_out, kind_left_out}
 use Rattle.kb_resolution.specs.Lookup.{class_number, method_of_sought, method_sought, only_where, or_else, resolved_method, sought_at}
 use Rattle.kb_resolution.specs.Tables.{kind_owner, method_kind, owner_of}
-use Rattle.kb_world.specs.declared.calls.Call.{Call}
-use Rattle.kb_world.specs.declared.calls.Call.TheVariants as calls
+use Rattle.kb_faults.specs.declared.calls.Call.{Call}
+use Rattle.kb_faults.specs.declared.calls.Call.TheVariants as calls
 
 -- ---- whether a part of a type is left out
 

@@ -9,7 +9,7 @@ use Rattle.kb_classes.specs.Subtypes.{AreChains, IsChain}
 use Rattle.kb_classes.specs.World.{World, chain_of, parent_in}
 use Rattle.kb_classes.proofs.Walks.{same_test}
 use Rattle.kb_resolution.specs.Tables.{stands_at}
-use Rattle.kb_world.proofs.Marking.{any_there}
+use Rattle.kb_faults.proofs.Marking.{any_there}
 
 past_end : {A : Type 0} (xs : List A) (i : ℕ) → slice_get xs i ≡ None → length xs ≤ i
 past_end [] i at = omega arith

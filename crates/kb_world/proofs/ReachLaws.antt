@@ -15,7 +15,7 @@ use Rattle.kb_link.specs.Targets.{Declares, IsTargetOf}
 use Rattle.kb_link.proofs.TargetLaws.{one_declared}
 use Rattle.kb_classes.proofs.Places.{get_last}
 use Rattle.kb_members.proofs.MethodNumbers.{get_before}
-use Rattle.kb_world.specs.Faults.{Fault, NoField, Missing, Outside, Initialiser}
+use Rattle.kb_faults.specs.Faults.{Fault, NoField, Missing, Outside, Initialiser}
 use Rattle.kb_world.specs.Reach.{found_by, method_fault, HasNoFault, IsFront, IsReached, IsFirstFault, OfTarget, OfMethod, IsFaultOf, HasNoFaults, IsAccepted, Refuses}
 use Rattle.kb_world.specs.Walks.{Tells, StopsAt}
 use Rattle.kb_classes.specs.Split.{is_special}

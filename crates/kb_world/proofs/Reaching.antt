@@ -8,8 +8,9 @@ use Rattle.kb_classes.specs.declared.refusal.LinkRefusal.{LinkRefusal}
 use Rattle.kb_classes.specs.declared.refusal.LinkRefusal.TheVariants as refusals
 use Rattle.kb_classes.specs.World.{World}
 use Rattle.kb_classes.proofs.Places.{get_pushed}
-use Rattle.kb_world.specs.Faults.{Fault}
-use Rattle.kb_world.specs.Reach.{with_new, found_by, method_mentions, method_fault, fault_of_target, HasNoFault, IsFront, IsFirstFault, OfTarget, OfMethod, HasNoFaults}
+use Rattle.kb_faults.specs.Faults.{Fault}
+use Rattle.kb_faults.specs.Found.{with_new}
+use Rattle.kb_world.specs.Reach.{found_by, method_mentions, method_fault, fault_of_target, HasNoFault, IsFront, IsFirstFault, OfTarget, OfMethod, HasNoFaults}
 use Rattle.kb_world.specs.Walks.{Tells, StopsAt, IsFaultOfMethod}
 
 -- ---- what is found stays in front

@@ -6,12 +6,11 @@ use Rattle.kb_classes.proofs.Places.{get_last}
 use Rattle.kb_classes.specs.declared.refusal.LinkRefusal.{LinkRefusal}
 use Rattle.kb_classes.specs.World.{World}
 use Rattle.kb_world.specs.Calls.{use_fault, use_mentions}
-use Rattle.kb_world.specs.Faults.{Fault}
-use Rattle.kb_world.specs.Found.{FoundMethods}
-use Rattle.kb_world.specs.Reach.{with_new}
+use Rattle.kb_faults.specs.Faults.{Fault}
+use Rattle.kb_faults.specs.Found.{FoundMethods, with_new}
 use Rattle.kb_world.specs.Walks.{with_all, StopsAt, AreFound, IsSettled, AreSettled}
-use Rattle.kb_world.specs.declared.looked.Asked.{Asked}
-use Rattle.kb_world.proofs.Marking.{any_there}
+use Rattle.kb_faults.specs.declared.looked.Asked.{Asked}
+use Rattle.kb_faults.proofs.Marking.{any_there}
 use Rattle.kb_world.proofs.Reaching.{all_front}
 
 -- ---- one number

@@ -1,6 +1,4 @@
 pub mod Calls
-pub mod Faults
-pub mod Found
 pub mod Reach
 pub mod Walks
 pub mod Receivers

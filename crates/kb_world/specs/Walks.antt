@@ -9,10 +9,10 @@ use Rattle.kb_classes.specs.declared.refusal.LinkRefusal.TheVariants as refusals
 use Rattle.kb_classes.specs.World.{World}
 use Rattle.kb_link.specs.Targets.{Declares}
 use Rattle.kb_world.specs.Calls.{fault_of, use_fault, use_mentions}
-use Rattle.kb_world.specs.Faults.{Fault, NoField, Missing, Outside, Initialiser}
-use Rattle.kb_world.specs.Found.{FoundMethods}
-use Rattle.kb_world.specs.declared.looked.Asked.{Asked}
-use Rattle.kb_world.specs.Reach.{with_new, method_fault, fault_in}
+use Rattle.kb_faults.specs.Faults.{Fault, NoField, Missing, Outside, Initialiser}
+use Rattle.kb_faults.specs.Found.{FoundMethods, with_new}
+use Rattle.kb_faults.specs.declared.looked.Asked.{Asked}
+use Rattle.kb_world.specs.Reach.{method_fault, fault_in}
 
 -- methods that are found, with others behind them
 abbrev pub with_all : FoundMethods → List ℕ → FoundMethods

@@ -6,10 +6,9 @@ ghost use Rattle.kb_resolution.specs.Lookup.{class_number};
 ghost use Rattle.kb_world.specs.Receivers.{called_below, receivers_in};
 ghost use Rattle.kb_world.specs.Walks.{with_all};
 
-use crate::calls::{Call, EntryCall, takes};
-use crate::found::Found;
 use crate::world::World;
 use kb_class::{ClassId, MethodId};
+use kb_faults::{Call, EntryCall, Found, takes};
 use kb_names::{ExactType, NoMemory};
 
 impl World {

@@ -6,10 +6,9 @@ ghost use Rattle.kb_classes.specs.declared.refusal.LinkRefusal.TheVariants as re
 ghost use Rattle.kb_world.specs.Reach.{HasNoFaults, IsFirstFault, IsAccepted, Refuses, fault_of_target};
 ghost use Rattle.kb_world.specs.Walks.{StopsAt};
 
-use crate::found::Found;
-use crate::looked::Looked;
 use crate::world::World;
 use kb_class::MethodId;
+use kb_faults::{Found, Looked, no_method};
 use kb_link::LinkRefusal;
 use kb_names::Target;
 use std::alloc::Global;
@@ -64,15 +63,5 @@ impl World {
             }
         }
         Ok(())
-    }
-}
-
-// The refusal of a target that names no method.
-fn no_method(alloc: Global, target: &Target) -> LinkRefusal
-    ensures { (result ≡ refusals.NoMemory) ⊎ (result ≡ refusals.NoMethod target.now) }
-{
-    match target.copied(alloc) {
-        Ok(target) => LinkRefusal::NoMethod(target),
-        Err(_) => LinkRefusal::NoMemory,
     }
 }

@@ -3,18 +3,16 @@
 ghost use Rattle.std.specs.Prelude.{◌≡◌, ◌<◌, length, None, OnOk, IfErr};
 ghost use Rattle.kb_classes.specs.World.{methods_in};
 ghost use Rattle.std.specs.Option.{option_map};
-ghost use Rattle.kb_world.specs.Calls.{use_of, use_fault, use_mentions, fault_of, mentions};
-ghost use Rattle.kb_world.specs.Faults.{plain_fault};
+ghost use Rattle.kb_faults.specs.Uses.{use_of};
+ghost use Rattle.kb_world.specs.Calls.{use_fault, use_mentions, fault_of, mentions};
+ghost use Rattle.kb_faults.specs.Faults.{plain_fault};
 ghost use Rattle.kb_world.specs.Reach.{HasNoFault, fault_in, mentions_in, method_mentions};
 ghost use Rattle.kb_world.specs.Walks.{with_all, StopsAt, IsFaultOfMethod, IsFaultIn, IsFaultAt, IsFaultOfUse, AreSettled};
 
-use crate::calls::{Call, EntryCall};
-use crate::faults::Fault;
-use crate::found::Found;
-use crate::looked::{Asked, Looked, Use};
 use crate::world::World;
 use kb_class::{ClassId, MethodId};
 use kb_code::Instr;
+use kb_faults::{Asked, EntryCall, Fault, Found, Looked, Use, use_of};
 use kb_link::LinkRefusal;
 use std::alloc::Global;
 
@@ -203,21 +201,5 @@ impl World {
             Use::Array => self.array_fault(class, entry),
             Use::Cast => self.cast_fault(class, entry),
         }
-    }
-}
-
-// What an instruction does with the entry that it names, where that is more than to read it.
-fn use_of(instr: &Instr) -> Option<(Use, u16)>
-    ensures { result ≡ use_of instr.now }
-{
-    match instr {
-        Instr::Virtual(entry) => Some((Use::Call(Call::Virtual), *entry)),
-        Instr::Special(entry) => Some((Use::Call(Call::Special), *entry)),
-        Instr::Static(entry) => Some((Use::Call(Call::Static), *entry)),
-        Instr::Interface(entry) => Some((Use::Call(Call::Interface), *entry)),
-        Instr::New(entry) => Some((Use::Object, *entry)),
-        Instr::NewRefs(entry) => Some((Use::Array, *entry)),
-        Instr::Cast(entry) | Instr::InstanceOf(entry) => Some((Use::Cast, *entry)),
-        _ => None,
     }
 }

@@ -1,7 +1,7 @@
 use Rattle.std.proofs.Common.{Bool, sym, ap, ◌∙◌}
 use Rattle.kb_classes.specs.declared.refusal.What.TheVariants as whats
 use Rattle.kb_world.specs.Calls.{fault_of_number}
-use Rattle.kb_world.specs.Faults.{Outside}
+use Rattle.kb_faults.specs.Faults.{Outside}
 use Rattle.kb_resolution.specs.Lookup.{only_where, or_else, resolved_method}
 use Rattle.kb_resolution.specs.Tables.{kind_owner}
 use Rattle.kb_world.proofs.CallLaws.{method_told}

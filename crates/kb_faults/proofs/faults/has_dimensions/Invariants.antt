@@ -1,6 +1,6 @@
 use Rattle.std.proofs.Common.{◌≡◌, ◌+◌, ◌≤◌}
 use Rattle.kb_names.specs.Types.{shape_of}
-use Rattle.kb_world.proofs.faults.has_dimensions.Given as goal
+use Rattle.kb_faults.proofs.faults.has_dimensions.Given as goal
 
 -- as many dimensions are left as are still asked for
 abbrev pub invariant-loop-left : goal.invariant-loop-left

@@ -1,8 +1,8 @@
 use Rattle.std.proofs.Common.{◌≡◌, ◌↔◌, ◌⊎◌, List, subst}
 use Rattle.kb_class.specs.Naming.{Has}
-use Rattle.kb_world.specs.declared.looked.Asked.{Asked}
-use Rattle.kb_world.proofs.Asking.{asked_more}
-use Rattle.kb_world.proofs.looked.Looked.add.Goals as goal
+use Rattle.kb_faults.specs.declared.looked.Asked.{Asked}
+use Rattle.kb_faults.proofs.Asking.{asked_more}
+use Rattle.kb_faults.proofs.looked.Looked.add.Goals as goal
 
 pub returns : goal.returns
 returns c =

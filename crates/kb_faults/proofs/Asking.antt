@@ -5,14 +5,14 @@ use Rattle.std.proofs.lemmas.Bool.Decides.{Decides-eqb}
 use Rattle.kb_class.specs.Naming.{Has}
 use Rattle.kb_class.proofs.Lists.{has_left, has_right, has_either, has_cases, has_none, has_first}
 use Rattle.kb_universe.proofs.Lists.{any_some, any_true}
-use Rattle.kb_world.specs.declared.calls.Call.{Call}
-use Rattle.kb_world.specs.declared.calls.Call.TheVariants as calls
-use Rattle.kb_world.specs.declared.looked.Use.{Use}
-use Rattle.kb_world.specs.declared.looked.Use.TheVariants as uses
-use Rattle.kb_world.specs.declared.looked.Asked.{Asked}
-use Rattle.kb_world.specs.contracts.calls.CallPartialEq.TheImpl.{eq-value as call-eq-value}
-use Rattle.kb_world.specs.contracts.looked.UsePartialEq.TheImpl.{eq-value as use-eq-value}
-use Rattle.kb_world.specs.contracts.looked.AskedPartialEq.TheImpl.{eq-value}
+use Rattle.kb_faults.specs.declared.calls.Call.{Call}
+use Rattle.kb_faults.specs.declared.calls.Call.TheVariants as calls
+use Rattle.kb_faults.specs.declared.looked.Use.{Use}
+use Rattle.kb_faults.specs.declared.looked.Use.TheVariants as uses
+use Rattle.kb_faults.specs.declared.looked.Asked.{Asked}
+use Rattle.kb_faults.specs.contracts.calls.CallPartialEq.TheImpl.{eq-value as call-eq-value}
+use Rattle.kb_faults.specs.contracts.looked.UsePartialEq.TheImpl.{eq-value as use-eq-value}
+use Rattle.kb_faults.specs.contracts.looked.AskedPartialEq.TheImpl.{eq-value}
 
 both : (a b : Bool) → (a && b) ≡ true → (a ≡ true) × (b ≡ true)
 both true b e = (refl, e)

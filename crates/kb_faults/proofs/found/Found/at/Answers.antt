@@ -1,9 +1,9 @@
 use Rattle.std.proofs.Common.{◌≡◌, ◌<◌, slice_get, IfSome, sym, ap, subst, ◌∙◌, arith}
 use Rattle.std.proofs.lemmas.Grind.{common_steps}
 use Rattle.std.proofs.lemmas.Option.{gets}
-use Rattle.kb_world.specs.Found.{FoundMethods}
-use Rattle.kb_world.proofs.Marking.{told_inside}
-use Rattle.kb_world.proofs.found.Found.at.Goals as goal
+use Rattle.kb_faults.specs.Found.{FoundMethods}
+use Rattle.kb_faults.proofs.Marking.{told_inside}
+use Rattle.kb_faults.proofs.found.Found.at.Goals as goal
 
 pub returns-clause-there : goal.returns-clause-there
 returns-clause-there c = grind (arith, common_steps, gets)

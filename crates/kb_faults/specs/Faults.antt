@@ -17,8 +17,8 @@ use Rattle.kb_members.specs.Initialisers.{is_initialised}
 use Rattle.kb_members.specs.declared.slots.FieldSlot.{FieldSlot}
 use Rattle.kb_universe.specs.Marks.{name_of_base}
 use Rattle.kb_resolution.specs.Lookup.{or_else, only_where, sought_at, resolved_field_class, resolved_field}
-use Rattle.kb_world.specs.declared.faults.Fault.{Fault as FaultOfCode}
-use Rattle.kb_world.specs.declared.faults.Fault.TheVariants as faults
+use Rattle.kb_faults.specs.declared.faults.Fault.{Fault as FaultOfCode}
+use Rattle.kb_faults.specs.declared.faults.Fault.TheVariants as faults
 
 -- What is wrong with an instruction.
 pub data Fault : Type 0 where

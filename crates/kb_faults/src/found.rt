@@ -1,6 +1,6 @@
 //! Methods that are found, in order of first mention.
 ghost use Rattle.std.specs.Prelude.{◌≡◌, ◌<◌, ◌∷◌, [], slice_get, IfOk, OnOk, IfSome};
-ghost use Rattle.kb_world.specs.Reach.{with_new};
+ghost use Rattle.kb_faults.specs.Found.{with_new};
 
 use kb_names::NoMemory;
 use std::alloc::Global;
@@ -8,14 +8,14 @@ use std::marker::Model;
 
 /// Methods by their numbers, each once, with a mark for each method of the world.
 #[derive(Drop)]
-pub(crate) struct Found {
+pub struct Found {
     numbers: Vec<u32>,
     marks: Vec<bool>,
 }
 
 impl Model for Found {
     ghost use Rattle.std.specs.Prelude.{length};
-    ghost use Rattle.kb_world.specs.Found.{FoundMethods, AreMarked};
+    ghost use Rattle.kb_faults.specs.Found.{FoundMethods, AreMarked};
 
     ghost Value = { FoundMethods };
 
@@ -26,7 +26,7 @@ impl Model for Found {
 
 impl Found {
     /// That method alone, of so many.
-    pub(crate) fn new(alloc: Global, all: usize, first: u32) -> Result<Found, NoMemory>
+    pub fn new(alloc: Global, all: usize, first: u32) -> Result<Found, NoMemory>
         requires { first < all }
         ensures { IfOk result (λ found. found ≡ record { all = all; numbers = first ∷ [] }) }
     {
@@ -47,7 +47,7 @@ impl Found {
     }
 
     /// Adds the method behind the others, unless it is found.
-    pub(crate) fn add(&mut self, number: u32) -> Result<(), NoMemory>
+    pub fn add(&mut self, number: u32) -> Result<(), NoMemory>
         requires { number < self.old.all }
         ensures { OnOk result (self.new ≡ record { all = self.old.all; numbers = with_new self.old.numbers number }) }
     {
@@ -62,7 +62,7 @@ impl Found {
     }
 
     /// The method at that place.
-    pub(crate) fn at(&self, place: usize) -> Option<u32>
+    pub fn at(&self, place: usize) -> Option<u32>
         ensures there { result ≡ slice_get self.now.numbers place }
         ensures inside { IfSome result (λ number. (number < self.now.all) × (place < self.now.all)) }
     {
