@@ -7,7 +7,7 @@ ghost use Rattle.kb_classes.specs.World.{chain_of, method_at, methods_in, number
 ghost use Rattle.kb_classes.specs.Subtypes.{direct_supers, AreChains, AreSupers, is_below, is_super};
 ghost use Rattle.kb_members.specs.Slots.{slots_of, slots_along};
 ghost use Rattle.kb_classes.specs.Rules.{HaveDifferentNames, HaveOwnMethods, HaveSupers, HaveNoCircle, HaveGoodSupers};
-ghost use Rattle.kb_classes.specs.Split.{HaveNoSplit, is_special};
+ghost use Rattle.kb_classes.specs.Split.{HaveNoSplit};
 ghost use Rattle.kb_link.specs.Links.{AreLoaded, IsLinked};
 ghost use Rattle.kb_classes.specs.Refusals.{RefusesClasses};
 ghost use Rattle.kb_members.specs.Methods.{HasPlaces};

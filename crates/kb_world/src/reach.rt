@@ -1,8 +1,7 @@
 //! What a target reaches, and the first thing there that cannot be carried out.
-ghost use Rattle.std.specs.Prelude.{◌≡◌, ◌⊎◌, ◌<◌, length, None, OnOk, IfOk, IfErr};
+ghost use Rattle.std.specs.Prelude.{◌≡◌, ◌<◌, length, None, OnOk, IfOk, IfErr};
 ghost use Rattle.kb_classes.specs.World.{methods_in};
 ghost use Rattle.kb_link.specs.Targets.{IsTargetOf};
-ghost use Rattle.kb_classes.specs.declared.refusal.LinkRefusal.TheVariants as refusals;
 ghost use Rattle.kb_world.specs.Reach.{HasNoFaults, IsFirstFault, IsAccepted, Refuses, fault_of_target};
 ghost use Rattle.kb_world.specs.Walks.{StopsAt};
 
