@@ -102,18 +102,19 @@ PARTS = {1: "Method(2, 3)", 7: "Field(8, 9)", 8: "Class 10 Parts", 17: "Integer(
 PARTS |= {40: "Skipped", 44: "InterfaceMethod(45, 46)", 46: "NameType(42, 48)", 81: "Str(82)", 94: "Class 95 java/lang/Runnable", 104: "Utf8 [[I"}
 
 
-def compiled(flag):
+def compiled(flag, source="Parts.java"):
     with tempfile.TemporaryDirectory() as folder:
-        subprocess.run(["javac", flag, "-nowarn", "--release", "8", "-d", folder, HERE / "Parts.java"], check=True, stderr=subprocess.DEVNULL)
+        subprocess.run(["javac", flag, "-nowarn", "--release", "8", "-d", folder, HERE / source], check=True, stderr=subprocess.DEVNULL)
         return {path.stem: path.read_bytes() for path in Path(folder).glob("*.class")}
 
 
 def javac_rows():
-    """Class Parts with debug attributes and without, and an inner class."""
-    plain, debug = compiled("-g:none"), compiled("-g")
+    """Class Parts with debug attributes and without, an inner class, and class Switched."""
+    plain, debug, switched = compiled("-g:none"), compiled("-g"), compiled("-g", "Switched.java")
     [inner] = [name for name in debug if "$" in name]
-    for file, content in (("plain.class", plain["Parts"]), ("debug.class", debug["Parts"]), ("inner.class", debug[inner])):
-        (CRATE / "data" / file).write_bytes(content)
+    files = {"plain": plain["Parts"], "debug": debug["Parts"], "inner": debug[inner], "switched": switched["Switched"]}
+    for name, content in files.items():
+        (CRATE / "data" / f"{name}.class").write_bytes(content)
     for kind, entries, run in (("plain", 143, 109), ("debug", 157, 115)):
         ask(f"{kind} Parts", "class", f"@{kind}.class", f"(52, 1056, 8, 2) {entries} [94, 70] 13 6")
         for number, answer in PARTS.items():
@@ -125,6 +126,9 @@ def javac_rows():
     ask("size of debug Parts", "method", "@debug.class", "(1024, 126, 127) without code", "3")
     ask("the inner class", "class", "@inner.class", "(52, 32, 4, 10) 35 [] 1 2")
     ask("entry 20 of the inner class", "entry", "@inner.class", "Second", "20")
+    ask("class Switched", "class", "@switched.class", "(52, 32, 8, 2) 35 [] 2 3")
+    caught = "(0, 30, 55, 17) (36, 38, 55, 17) (44, 49, 55, 17) (0, 30, 64, 0) (36, 38, 64, 0) (44, 49, 64, 0) (55, 58, 64, 0)"
+    ask("sparse of class Switched", "method", "@switched.class", f"(8, 28, 25) (2, 4, 71) {caught}", "2")
 
 
 def fault_rows():
@@ -250,10 +254,12 @@ def spoiled_rows():
     ask("class B, each byte 255", "changes", B, changes(B, 255), "255")
     ask("class B, each byte 0", "changes", B, changes(B, 0), "0")
     ask("class A, each front", "cuts", A, cuts(A))
-    for name in ("plain", "inner"):
-        content = (CRATE / "data" / f"{name}.class").read_bytes()
-        ask(f"{name} Parts, each front", "cuts", f"@{name}.class", cuts(content))
-        ask(f"{name} Parts, each byte 255", "changes", f"@{name}.class", changes(content, 255), "255")
+    for file, name in (("plain", "plain Parts"), ("inner", "inner Parts"), ("debug", "debug Parts"), ("switched", "class Switched")):
+        content = (CRATE / "data" / f"{file}.class").read_bytes()
+        ask(f"{name}, each front", "cuts", f"@{file}.class", cuts(content))
+        ask(f"{name}, each byte 255", "changes", f"@{file}.class", changes(content, 255), "255")
+        if file == "switched":
+            ask(f"{name}, each byte 0", "changes", f"@{file}.class", changes(content, 0), "0")
 
 
 def opcode_rows():
@@ -313,6 +319,9 @@ def code_rows():
         ask(f"the handler {bad}", "count", "11000057b1", "Range(1)", f"{good},{bad}-0")
     ask("a bad target and a bad handler", "count", "a7ffff", "Target(0, -1)", "3-3-0-0")
     ask("65535 bytes of code", "count", "00*65534.b1", "65535")
+    # a try around all of the code in another one, and so on; and one in it that begins at its end
+    ask("65535 nested tries", "count", "00*65534.b1", "65535", "0-65535-65534-0*65535")
+    ask("65535 nested tries with a bad one last", "count", "00*65534.b1", "Range(65534)", "0-65535-65534-0*65534,65534-65534-0-0")
     ask("the last of 65535 instructions", "last", "00*65534.b1", "(65534, Return)")
 
 

@@ -45,16 +45,38 @@ fn append_of_listing(
     }
 }
 
-/// Handlers with `,` between two, each a start, an end, a target and the entry that is caught, with `-` between two.
+/// Handlers with `,` between two, each a start, an end, a target and the entry that is caught, with `-` between two; behind it
+/// `*` and how often it stands there, where that is not once.
 fn read_handlers(alloc: Global, text: &str) -> RowResult<Vec<Handler>> {
     let mut handlers = Vec::new(alloc);
     if text.is_empty() {
         return Ok(handlers);
     }
     for row in text.split(',') {
-        handlers.push(read_handler(alloc, row)?)?;
+        match row.split_once('*') {
+            Some((once, times)) => append_handlers(
+                alloc,
+                once,
+                read_number(times)?,
+                &mut handlers,
+            )?,
+            None => append_handlers(alloc, row, 1, &mut handlers)?,
+        }
     }
     Ok(handlers)
+}
+
+fn append_handlers(
+    alloc: Global,
+    row: &str,
+    times: u32,
+    handlers: &mut Vec<Handler>,
+) -> RowResult<()> {
+    let handler = read_handler(alloc, row)?;
+    for _ in 0..times {
+        handlers.push(handler)?;
+    }
+    Ok(())
 }
 
 fn read_handler(alloc: Global, row: &str) -> RowResult<Handler> {
