@@ -1,10 +1,10 @@
 #!/usr/bin/env python3
 """Measures how time and memory grow on class files that keep all rules but are hostile: long texts that many items share, many
-overloads of one name, many array types, many short entries of a pool, many handlers, and many switches.
+overloads of one name, many array types, many short entries of a pool, many handlers, many switches, and names that share a hash.
 
 Each family has three sizes, a quarter, half and all of it, and beside each size its twin: the same files with long texts cut to
-three bytes, overloads with names of their own, and array types that are only texts, which nothing names. For each the script
-prints
+three bytes, overloads with names of their own, array types that are only texts, which nothing names, and names of other hashes. For
+each the script prints
 
 - the processor time of the built program, the least of some runs, less that of its start;
 - how many times that of half the size it is (goal: at most 2.4);
@@ -16,7 +16,8 @@ prints
 A run that takes more than its time or memory is ended and told as `over`, and so are the larger sizes of its family.
 
 Usage: bench/hostile_files.py [--runs N] [--program FILE] [--seconds N] [--memory MIB] [--least SHARE] [--most SHARE] [FAMILY ..]
-Build the program first, by running ./kiasan once. `--most 0.25` runs the quarter sizes alone, `--least 1` the full ones.
+Build the program first, by running ./kiasan once. `--most 0.25` runs the quarter sizes alone, `--least 1` the full ones. Names that
+share a hash are looked for by a program in C (same_hash.c), which needs a compiler, `cc`, and half a minute.
 """
 
 import argparse
@@ -27,6 +28,7 @@ import subprocess
 import sys
 import tempfile
 from dataclasses import dataclass, field
+from functools import cache
 from pathlib import Path
 
 from class_files import attribute, method_entry, name_and_type
@@ -55,6 +57,10 @@ PLATFORM = (
     " java/lang/UnsupportedOperationException java/lang/Cloneable java/lang/Comparable java/util/NoSuchElementException"
     " java/io/Serializable"
 ).split()
+# the number by which the hash of a name multiplies: a name that ends with its bytes has the hash 0, whatever stands before them
+MULTIPLIER = bytes.fromhex("157c4a7fb979379e").decode(errors="surrogateescape")
+# how many texts of one hash there are, and the bits by which a table of so many has its groups
+SHARING, GROUP_BITS = 16_000, 11
 LETTERS = "abcdefghijklmnopqrstuvwxyzABCDEFGHIJKLMNOPQRSTUVWXYZ0123456789"
 TYPES = "BCDFIJSZ"
 
@@ -125,12 +131,13 @@ class ClassFile:
 
 @dataclass(frozen=True)
 class Case:
-    """Class files with what is asked of the program: a method, or a text of tests. `entries` counts each class with each slot and
-    each method that can be selected in it, `arrays` the array types of the universe."""
+    """Class files with what is asked of the program: a method, or a text of tests; or an assembler text. `entries` counts each class
+    with each slot and each method that can be selected in it, `arrays` the array types of the universe."""
 
     files: list
     target: str = ""
     tests: bytes = b""
+    assembly: bytes = b""
     wanted: bytes = b"refused 45 "
     entries: int = 0
     arrays: int = 0
@@ -138,14 +145,30 @@ class Case:
 
     @property
     def size(self):
-        return sum(map(len, self.files)) + len(self.tests)
+        return sum(map(len, self.files)) + len(self.tests) + len(self.assembly)
 
     @property
     def memory_goal(self):
         return 100 * self.size + 64 * self.entries + 10_000 * self.arrays
 
+    def words(self, folder):
+        """Writes what is asked about into a folder, and returns the words of the call."""
+        if self.assembly:
+            (folder / "text").write_bytes(self.assembly)
+            return ["assemble", str(folder / "text")]
+        files = [folder / f"{number}.class" for number in range(len(self.files))]
+        for file, content in zip(files, self.files):
+            file.write_bytes(content)
+        asked = ["explore", "--method", self.target]
+        if self.tests:
+            (folder / "tests").write_bytes(self.tests)
+            asked = ["replay", "--tests", str(folder / "tests")]
+        return [*asked, *map(str, files)]
+
     def read_alone(self):
-        """Files of the same lengths whose long texts nothing names; tests of the same length whose last line is no line."""
+        """Files of the same lengths whose long texts nothing names; texts of the same length whose last line is no line."""
+        if self.assembly:
+            return Case([], assembly=self.assembly + b"bad\n", wanted=b"refused 30 line ")
         if self.tests:
             cut = self.tests[: self.tests.rindex(b"end\n")] + b"bad\n"
             return Case(self.files, tests=cut, wanted=b"refused 60 ")
@@ -413,20 +436,66 @@ def answers(share, is_twin):
     return Case(making(name, 1_025), tests=test_lines("H.m()V", "past steps") * count, wanted=front)
 
 
-def uses(share, is_twin):
-    """8 tests of a method that reads a field of an object of such a class, casts it and calls it, 4,000 times each."""
-    name, count = long_name(is_twin), int(8 * share)
-    used, file = ClassFile(name), ClassFile("H")
-    used.add_field("f", "I")
-    used.add_method(OPEN, "v", "()V", bytes([RETURN]), 1)
-    owner = file.named(name)
+def spelled(name):
+    """A name as texts of tests have it: a byte that may not stand for itself by its number."""
+    plain = (LETTERS + "_$/<>-").encode()
+    return "".join(chr(byte) if byte in plain else f"%{byte:02X}" for byte in name.encode(errors="surrogateescape"))
+
+
+def uses_of(names, count, repeats):
+    """So many tests of a method that reads a field of an object of the last of these classes, casts it and calls it, so often each."""
+    made, file = [ClassFile(name) for name in names], ClassFile("H")
+    made[-1].add_field("f", "I")
+    made[-1].add_method(OPEN, "v", "()V", bytes([RETURN]), 1)
+    owner = file.named(names[-1])
     read, called = file.add_reference(owner, "f", "I", field_entry), file.add_reference(owner, "v", "()V")
     each = struct.pack(">BBHB", ALOAD_0, GETFIELD, read, POP)
     each += struct.pack(">BBHB", ALOAD_0, CHECKCAST, file.named("java/lang/Object"), POP)
     each += struct.pack(">BBH", ALOAD_0, INVOKEVIRTUAL, called)
-    file.add_method(STATIC, "m", "(Ljava/lang/Object;)V", each * 4_000 + bytes([RETURN]), 1)
-    test = test_lines("H.m(Ljava/lang/Object;)V", "arg i0", f"in i0 {name} 0", "returns", "out i0 0")
-    return Case([file.bytes(), used.bytes()], tests=test * count, wanted=passing(count))
+    file.add_method(STATIC, "m", "(Ljava/lang/Object;)V", each * repeats + bytes([RETURN]), 1)
+    test = test_lines("H.m(Ljava/lang/Object;)V", "arg i0", f"in i0 {spelled(names[-1])} 0", "returns", "out i0 0")
+    return Case([used.bytes() for used in [file, *made]], tests=test * count, wanted=passing(count))
+
+
+def uses(share, is_twin):
+    """8 tests of a method that reads a field of an object of such a class, casts it and calls it, 4,000 times each."""
+    return uses_of([long_name(is_twin)], int(8 * share), 4_000)
+
+
+@cache
+def texts_of_one_hash():
+    """Texts of seven letters that stand at one place of the program's tables."""
+    with tempfile.TemporaryDirectory() as folder:
+        search = Path(folder) / "same_hash"
+        subprocess.run(["cc", "-O3", "-o", search, Path(__file__).with_name("same_hash.c")], check=True)
+        found = subprocess.run([search, str(SHARING), str(GROUP_BITS)], check=True, stdout=subprocess.PIPE, text=True)
+    return found.stdout.split()
+
+
+def texts_of(share, is_twin):
+    count = int(SHARING * share)
+    return [f"a{number:06}" for number in range(count)] if is_twin else texts_of_one_hash()[:count]
+
+
+def same_hash(share, is_twin):
+    """16,000 fields whose names share a hash, as far as a table looks at it; the names of the twin do not."""
+    file, names = ClassFile("H"), texts_of(share, is_twin)
+    for name in names:
+        file.add_field(name, "I")
+    return Case([file.bytes()], "H.none()I", entries=len(names), texts=[[]])
+
+
+def same_hash_assembly(share, is_twin):
+    """The assembler text of such a class."""
+    lines = ["class 0021 H java/lang/Object", *(f"field 0001 {name} I" for name in texts_of(share, is_twin))]
+    return Case([], assembly="".join(f"{line}\n" for line in lines).encode(), wanted=b"\xca\xfe\xba\xbe")
+
+
+def same_hash_classes(share, is_twin):
+    """8 tests that use an object of the last of 62 classes 1,000 times each; the names of all have 65,535 bytes and one hash."""
+    end = "n" * len(MULTIPLIER) if is_twin else MULTIPLIER
+    names = ["n" * (LONGEST - 3 - len(end)) + short_name(number) + end for number in range(62)]
+    return uses_of(names, int(8 * share), 1_000)
 
 
 def one_byte_entries(share, is_twin):
@@ -489,6 +558,9 @@ FAMILIES = [
     one_byte_entries,
     handlers,
     switches,
+    same_hash,
+    same_hash_assembly,
+    same_hash_classes,
 ]
 
 
@@ -535,16 +607,9 @@ def least_run(options, case):
     """The run of a case that took the least time, or one that was over."""
     with tempfile.TemporaryDirectory() as name:
         folder = Path(name)
-        files = [folder / f"{number}.class" for number in range(len(case.files))]
-        for file, content in zip(files, case.files):
-            file.write_bytes(content)
-        words = ["explore", "--method", case.target]
-        if case.tests:
-            (folder / "tests").write_bytes(case.tests)
-            words = ["replay", "--tests", str(folder / "tests")]
-        runs = []
+        words, runs = case.words(folder), []
         for _ in range(options.runs):
-            runs.append(run_once(options, [*words, *map(str, files)], case.wanted, folder))
+            runs.append(run_once(options, words, case.wanted, folder))
             if runs[-1].is_over:
                 return runs[-1]
     return min(runs, key=lambda run: run.seconds)

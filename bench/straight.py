@@ -30,7 +30,8 @@ IRETURN = 0xAC
 
 
 def utf8(text):
-    data = text.encode()
+    # bytes that are no UTF-8 stand in the text as Python escapes them
+    data = text.encode(errors="surrogateescape")
     return struct.pack(">BH", 1, len(data)) + data
 
 
