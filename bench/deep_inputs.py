@@ -17,8 +17,9 @@ import sys
 import tempfile
 from pathlib import Path
 
-from hostile_files import ACONST_NULL, ATHROW, LONGEST, OPEN, RETURN, STATIC, TIME, ClassFile
+from hostile_files import ACONST_NULL, ATHROW, LONGEST, OPEN, RETURN, STATIC, ClassFile
 from link import field_entry
+from needed import TIME, built_program
 from straight import ROOT
 
 POP, ALOAD_0, IRETURN, GETFIELD, NEG = 0x57, 0x2A, 0xAC, 0xB4, "ineg"
@@ -189,9 +190,7 @@ def main():
     words.add_argument("--program", type=Path, default=ROOT / "build" / "kiasan", help="the built program")
     words.add_argument("--stack", type=int, default=128, help="the small stack, in KiB (128)")
     options = words.parse_args()
-    if not options.program.is_file():
-        sys.exit(f"{options.program} is not there: run ./kiasan once")
-    options.program = options.program.resolve()
+    options.program = built_program(options.program)
     with tempfile.TemporaryDirectory() as name:
         runs = Runs(options, Path(name))
         for make in CASES:

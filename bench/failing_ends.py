@@ -14,6 +14,8 @@ import tempfile
 import threading
 from pathlib import Path
 
+from needed import built_program
+
 ROOT = Path(__file__).resolve().parent.parent
 CLASS_FILE = ROOT / "examples" / "A.class"
 COMPLETE, CLASS, READ_FAULT, WRITE_FAULT = 0, 3, 6, 7
@@ -89,10 +91,8 @@ def main():
     words = argparse.ArgumentParser(description="What the built program answers where the system fails it.")
     words.add_argument("--program", type=Path, default=ROOT / "build" / "kiasan", help="the built program")
     options = words.parse_args()
-    if not options.program.is_file():
-        sys.exit(f"{options.program} is not there: run ./kiasan once")
     with tempfile.TemporaryDirectory() as name:
-        ends = Ends(options.program.resolve(), Path(name))
+        ends = Ends(built_program(options.program), Path(name))
         ends.files()
         ends.outputs()
     sys.exit(1 if ends.bad else 0)

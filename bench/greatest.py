@@ -15,7 +15,8 @@ import sys
 import tempfile
 from pathlib import Path
 
-from hostile_files import TIME, limited
+from hostile_files import limited
+from needed import TIME, built_program, check_time
 from straight import ROOT
 
 sys.path.insert(0, str(ROOT / "examples" / "assemble"))
@@ -30,35 +31,16 @@ SETTINGS = {
     "budget": ["--paths", "20", "--budget", "100000"],
 }
 REPORT, PARTIAL, MEMORY = 0, 1, 8
+
+
+def loop(name, step):
+    """A method that takes its first argument a step on until it is the third one."""
+    again = "\n".join(["iload 0", "iload 1", *step, "istore 0", "iload 0", "iload 2", "if_icmpne L0"])
+    return f"method 0009 {name} (III)I 2 3\n:L0\n{again}\niload 0\nireturn\nend\n"
+
+
 # class P: a loop whose products the solver must tell apart, and one over quotients
-PRODUCTS = """class 0021 P java/lang/Object
-method 0009 products (III)I 2 3
-:L0
-iload 0
-iload 1
-imul
-istore 0
-iload 0
-iload 2
-if_icmpne L0
-iload 0
-ireturn
-end
-method 0009 quotients (III)I 2 3
-:L0
-iload 0
-iload 1
-idiv
-iload 2
-iadd
-istore 0
-iload 0
-iload 2
-if_icmpne L0
-iload 0
-ireturn
-end
-"""
+PRODUCTS = "class 0021 P java/lang/Object\n" + loop("products", ["imul"]) + loop("quotients", ["idiv", "iload 2", "iadd"])
 METHODS = [
     ("A.f(II)I", ["A.class"]),
     ("Loop.spin()V", ["Loop.class"]),
@@ -127,11 +109,8 @@ def read_options():
     words.add_argument("--seconds", type=int, default=600, help="the most processor seconds of a run (600)")
     words.add_argument("--memory", type=int, default=4096, help="the most memory of a run, in MiB (4096)")
     options = words.parse_args()
-    if not options.program.is_file():
-        sys.exit(f"{options.program} is not there: run ./kiasan once")
-    if not Path(TIME).is_file():
-        sys.exit(f"{TIME} is not there (Debian's package `time`)")
-    options.program = options.program.resolve()
+    check_time()
+    options.program = built_program(options.program)
     return options
 
 

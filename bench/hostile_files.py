@@ -33,10 +33,9 @@ from pathlib import Path
 
 from class_files import attribute, method_entry, name_and_type
 from link import PUBLIC, Pool, field_entry
+from needed import TIME, built_program, check_time
 from straight import ROOT, class_entry, string_entry, utf8
 
-# what starts the program and tells its memory: that of a child counts what its parent had when it was forked, and this has little
-TIME = "/usr/bin/time"
 SHARES = [0.25, 0.5, 1.0]
 HALF_GOAL, TWIN_GOAL = 2.4, 2.0
 LONGEST = 65_535
@@ -677,11 +676,8 @@ def read_options():
     unknown = set(options.families) - {family.__name__ for family in FAMILIES}
     if unknown:
         words.error(f"no family: {' '.join(sorted(unknown))}")
-    if not options.program.is_file():
-        sys.exit(f"{options.program} is not there: run ./kiasan once")
-    if not Path(TIME).is_file():
-        sys.exit(f"{TIME} is not there (Debian's package `time`)")
-    options.program = options.program.resolve()
+    check_time()
+    options.program = built_program(options.program)
     return options
 
 

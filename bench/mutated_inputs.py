@@ -20,6 +20,8 @@ from collections import Counter
 from concurrent.futures import ThreadPoolExecutor
 from pathlib import Path
 
+from needed import built_program
+
 ROOT = Path(__file__).resolve().parent.parent
 ROWS = ROOT / "crates" / "kiasan_rows" / "data"
 STATUSES = range(11)
@@ -194,9 +196,7 @@ def read_options():
     words.add_argument("--jobs", type=int, default=os.cpu_count(), help="how many runs at once")
     words.add_argument("--keep", type=Path, help="where inputs are kept at which a run is otherwise")
     options = words.parse_args()
-    if not options.program.is_file():
-        sys.exit(f"{options.program} is not there: run ./kiasan once")
-    options.program = options.program.resolve()
+    options.program = built_program(options.program)
     return options
 
 

@@ -18,6 +18,8 @@ import tempfile
 from concurrent.futures import ThreadPoolExecutor
 from pathlib import Path
 
+from needed import built_program
+
 HERE = Path(__file__).resolve().parent
 ROOT = HERE.parent
 DATA = ROOT / "crates" / "kiasan_rows" / "data"
@@ -114,9 +116,7 @@ def read_options():
     unknown = set(options.cases) - set(CASES)
     if unknown:
         words.error(f"no case: {' '.join(sorted(unknown))}")
-    if not options.program.is_file():
-        sys.exit(f"{options.program} is not there: run ./kiasan once")
-    options.program = options.program.resolve()
+    options.program = built_program(options.program)
     return options
 
 
