@@ -15,6 +15,9 @@ use std::marker::Model;
 pub(crate) struct Names {
     // Of classes that instructions name.
     named: IndexSet<Name>,
+    // The place of the one of them that was asked for last. Code that makes many objects of one class asks for its name again
+    // and again, which is then compared and not hashed.
+    last: usize,
     // Of classes of which the machine itself throws objects: a few.
     thrown: Vec<Name>,
 }
@@ -30,6 +33,7 @@ impl Names {
     pub(crate) fn new(alloc: Global) -> Names {
         Names {
             named: IndexSet::new(alloc),
+            last: 0,
             thrown: Vec::new(alloc),
         }
     }
@@ -60,8 +64,21 @@ impl Names {
     pub(crate) fn own_name(&mut self, alloc: Global, name: &Name) -> Result<Name, NoMemory>
         ensures { IfOk result (λ own. own ≡ name.now) }
     {
-        match self.named.get(name) {
-            Some(own) => own.copied(alloc),
+        match self.named.get_index(self.last) {
+            Some(own) if own.as_slice() == name.as_slice() => own.copied(alloc),
+            _ => self.look_up(alloc, name),
+        }
+    }
+
+    // The run's own name of a class, by its hash.
+    fn look_up(&mut self, alloc: Global, name: &Name) -> Result<Name, NoMemory>
+        ensures { IfOk result (λ own. own ≡ name.now) }
+    {
+        match self.named.get_full(name) {
+            Some((place, own)) => {
+                self.last = place;
+                own.copied(alloc)
+            }
             None => self.add_named(alloc, name),
         }
     }
@@ -70,6 +87,7 @@ impl Names {
         ensures { IfOk result (λ own. own ≡ name.now) }
     {
         let own = Name::from_slice(alloc, name.as_slice())?;
+        self.last = self.named.len();
         self.named.insert(own.copied(alloc)?)?;
         Ok(own)
     }

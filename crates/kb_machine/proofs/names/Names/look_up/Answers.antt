@@ -1,6 +1,6 @@
 use Rattle.std.proofs.Common.{◌≡◌, ℕ, List, IfOk, sym, subst}
 use Rattle.kb_machine.proofs.NameLaws.{found_name}
-use Rattle.kb_machine.proofs.names.Names.own_name.Goals as goal
+use Rattle.kb_machine.proofs.names.Names.look_up.Goals as goal
 
 pub returns-in-Some : goal.returns-in-Some
 returns-in-Some c =
