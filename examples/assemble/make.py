@@ -11,13 +11,17 @@ It needs java and javap of a JDK from 8 to 19 (later ones verify every class).
 
 import re
 import subprocess
+import sys
 import tempfile
 from pathlib import Path
 
-from assembler import BRANCHES, assemble
-from sample import sample_text
-
 HERE = Path(__file__).resolve().parent
+sys.path.append(str(HERE.parent))
+
+from assembler import BRANCHES, assemble  # noqa: E402
+from runs import runs  # noqa: E402
+from sample import sample_text  # noqa: E402
+
 CRATE = HERE.parent.parent / "crates" / "asm_rows"
 WHOLE = (HERE / "Whole.asm").read_text()
 rows = []
@@ -330,16 +334,6 @@ for blocks in (0, 1, 7):
     ask(f"a sample of {blocks} blocks", "bytes", f"%{blocks}", assemble(sample_text(blocks)).hex())
 
 # ---- texts that are cut or spoiled
-
-
-def runs(verdicts):
-    """The answers in order, each once where it stands several times in a row, behind the number of the first."""
-    told, last = [], None
-    for number, answer in enumerate(verdicts):
-        if answer != last:
-            told.append(f"\n{number} {answer}")
-            last = answer
-    return "".join(told)
 
 
 def front_verdict(front):

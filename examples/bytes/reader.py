@@ -1,7 +1,13 @@
 """A reader of class files that says why bytes are refused, and of the code of methods: JVMS 8 sections 4.1 to 4.7.3 and 6.5, with
 what docs/REFUSALS.md says of each refusal. It shares nothing with the crates."""
 
+import sys
 from bisect import bisect_left
+from pathlib import Path
+
+sys.path.append(str(Path(__file__).resolve().parent.parent))
+
+from runs import runs  # noqa: E402
 
 CONSTANTS = {3: 4, 4: 4, 5: 8, 6: 8, 7: 2, 8: 2, 9: 4, 10: 4, 11: 4, 12: 4, 15: 3, 16: 2, 18: 4}
 UTF8, LONG, DOUBLE, CLASS, STRING, FIELD, METHOD, INTERFACE_METHOD, NAME_TYPE = 1, 5, 6, 7, 8, 9, 10, 11, 12
@@ -246,16 +252,6 @@ def verdict(content):
     except Refused as refused:
         return str(refused)
     return " ".join(["methods", *map(code_verdict, methods)])
-
-
-def runs(verdicts):
-    """The answers in order, each once where it stands several times in a row, behind the number of the first."""
-    lines, last = [], None
-    for number, answer in enumerate(verdicts):
-        if answer != last:
-            lines.append(f"\n{number} {answer}")
-            last = answer
-    return "".join(lines)
 
 
 def cuts(content):
