@@ -93,7 +93,7 @@ assembly_of [] = Err (faults.NoValue 0)
 assembly_of (text ∷ []) = Ok (orders.Assemble text)
 assembly_of (text ∷ other ∷ more) = Err (faults.Unknown 2)
 
--- how many branches a sample may have
+-- how many blocks a sample may have
 abbrev pub sample_range : Range
 sample_range = record { low = 0; high = 64 }
 

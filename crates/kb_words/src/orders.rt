@@ -19,7 +19,7 @@ use std::alloc::{AllocError, Global};
 /// The most that the paths times the budget may be.
 const MOST_DERIVED: u64 = 2_000_000;
 
-/// The numbers of branches that a sample may have.
+/// The numbers of blocks that a sample may have.
 const SAMPLE_RANGE: Range = Range { low: 0, high: 64 };
 
 /// A command.
@@ -59,7 +59,7 @@ pub enum Order {
     Replay(Word, Row<Word>, u32),
     /// To write the class file of a text.
     Assemble(Word),
-    /// To make a class of so many branches, to explore it, and to run its tests.
+    /// To make a class of so many blocks, to explore it, and to run its tests.
     Sample(u32),
 }
 
@@ -399,7 +399,7 @@ fn read_sample(words: &[String]) -> Result<Order, WordFault>
     }
 }
 
-/// How many branches a sample is to have, by the word behind the command.
+/// How many blocks a sample is to have, by the word behind the command.
 fn sample_at(word: &str) -> Result<u32, WordFault>
     ensures blocks { result ≡ sample_at word.now }
     ensures range { IfOk result (λ blocks. blocks ≤ 64) }
