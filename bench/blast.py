@@ -4,7 +4,7 @@
 A chain is v0, then + v1 again and again; the condition is that the last sum is below 0. The formula of a chain has 160
 variables and 544 clauses for each sum and for the comparison. The large pool has 100,000 other terms, which no condition
 names, so that its times are those of the small one where no other term is looked at. The programs of the repository that
-blast conditions do more with them: `kiasan` solves them, and `solver_rows` blasts each once. So the script builds a small
+blast conditions do more with them: `kiasan` solves them, and `term_rows` blasts each once. So the script builds a small
 one of its own (built.py). The numbers of variables and clauses of each run are compared with those that are expected. The
 time of a run that builds the pool alone is taken off. All times are processor times, the least of the runs.
 

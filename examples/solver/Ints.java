@@ -1,4 +1,4 @@
-/** Prints what a Java virtual machine makes of each operation on corner values, as rows of crates/solver_rows. */
+/** Prints what a Java virtual machine makes of each operation on corner values, as rows of crates/term_rows. */
 final class Ints {
     private static final int[][] PAIRS = {
         {0, 0}, {1, -1}, {Integer.MIN_VALUE, -1}, {Integer.MAX_VALUE, 1}, {Integer.MAX_VALUE, 33}, {-7, 33},

@@ -1,6 +1,6 @@
 #!/usr/bin/env python3
-"""Writes `data/rows` and `stdout` of crates/solver_rows: the rows of `by_hand.text`, which have their answers, and rows whose
-answers come from elsewhere.
+"""Writes `data/rows` and `stdout` of crates/solver_rows and crates/term_rows: the rows of `by_hand.text` and of
+`terms_by_hand.text`, which have their answers, and rows whose answers come from elsewhere.
 
 Of operations on ints the answers are those of a Java virtual machine (Ints.java). Whether a formula of pigeons or a ring has a
 model is known; that of a random formula is decided by its truth table.
@@ -13,7 +13,7 @@ import subprocess
 from pathlib import Path
 
 HERE = Path(__file__).resolve().parent
-CRATE = HERE.parent.parent / "crates" / "solver_rows"
+CRATES = HERE.parent.parent / "crates"
 VARIABLES = 20
 
 
@@ -128,20 +128,33 @@ def row_and_answer(line):
     return name, line
 
 
-def main():
+def solver_rows():
     rows = (HERE / "by_hand.text").read_text().splitlines()
-    rows += ["", "# What a Java virtual machine computes (examples/solver/Ints.java)."] + int_rows()
     rows += ["", "# Pigeons fit into as many holes, and not into fewer."] + list(pigeon_rows())
     rows += ["", "# Variables in a ring, each unlike the next one. An odd ring has no model."] + list(ring_rows())
     rows += ["", "# Clauses of three of twenty variables, decided by their truth table (examples/solver/make.py)."] + list(random_rows())
+    return rows
+
+
+def term_rows():
+    rows = (HERE / "terms_by_hand.text").read_text().splitlines()
+    return rows + ["", "# What a Java virtual machine computes (examples/solver/Ints.java)."] + int_rows()
+
+
+def write(crate, rows):
     asked, written = [], []
     for line in rows:
         if line and not line.startswith("#"):
             line, answer = row_and_answer(line)
             written.append(answer + "\n")
         asked.append(line + "\n")
-    (CRATE / "data" / "rows").write_text("".join(asked))
-    (CRATE / "stdout").write_text("".join(written))
+    (crate / "data" / "rows").write_text("".join(asked))
+    (crate / "stdout").write_text("".join(written))
+
+
+def main():
+    write(CRATES / "solver_rows", solver_rows())
+    write(CRATES / "term_rows", term_rows())
 
 
 if __name__ == "__main__":

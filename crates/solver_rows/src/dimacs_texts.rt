@@ -1,10 +1,11 @@
 //! Questions about texts in the DIMACS format, and about what is written of them.
 
-use crate::formulas::{append_place, read_log};
+use crate::formulas::read_log;
 use crate::log_lines::{append_line, append_lines};
 use kb_chain::{Formula, Log, Verdict, check_fresh, check_refutation};
 use kb_dimacs_text::{Answer, answer_solved, read_dimacs, read_request, run};
 use kb_outside::{OutSink, ShelfStop, Sink};
+use kb_questions::append_place;
 use kb_sat::Solved;
 use kb_table::{RowResult, RowStop, kept, read_number};
 use std::alloc::Global;

@@ -1,7 +1,7 @@
-//! Formulas and logs from their texts, and clauses as texts.
+//! Formulas and logs from their texts.
 
 use kb_chain::{Chain, Clause, Formula, Lit, Log, Row};
-use kb_table::{RowResult, RowStop, kept, read_int, read_number, read_numbers};
+use kb_table::{RowResult, RowStop, kept, read_int, read_numbers};
 use std::alloc::Global;
 
 /// The formula over so many variables with the clauses of a text: the numbers of their literals, and 0 behind each clause.
@@ -80,33 +80,4 @@ fn steps_of(alloc: Global, numbers: &[u32]) -> RowResult<Row<(u32, u32)>> {
         }
     }
     Ok(steps)
-}
-
-/// Appends the numbers of the literals, and 0.
-pub fn append_clause(clause: &Clause, into: &mut String) -> RowResult<()> {
-    for literal in clause.literals() {
-        let number = literal.number();
-        write!(into, "{number} ")?;
-    }
-    Ok(into.push_str("0")?)
-}
-
-/// Appends the clause, or `none`, and a space.
-pub fn append_place(clause: Option<&Clause>, into: &mut String) -> RowResult<()> {
-    match clause {
-        Some(clause) => append_clause(clause, into)?,
-        None => into.push_str("none")?,
-    }
-    Ok(into.push_str(" ")?)
-}
-
-/// Appends the clauses whose places are from the first number on and below the second one.
-pub fn append_clauses(formula: &Formula, range: &str, into: &mut String) -> RowResult<()> {
-    let Some((from, to)) = range.split_once(' ') else {
-        return Err(RowStop::Malformed);
-    };
-    for place in read_number(from)?..read_number(to)? {
-        append_place(formula.clauses().get(place as usize), into)?;
-    }
-    Ok(())
 }

@@ -1,33 +1,28 @@
-//! Questions to the solver and to what it stands on: each line of the file `rows` says what the lines behind it ask about, a
-//! formula or conditions on terms, or has a question. The program writes the lines with what each question comes to.
+//! Questions to the solver and to what it stands on: each line of the file `rows` says which formula the lines behind it ask
+//! about, or has a question. The program writes the lines with what each question comes to.
 //!
 //! The gate runs it over `data/` and compares what it writes with `stdout`, so that a row costs no proof. Where what is
 //! expected comes from stands in the rows; `examples/solver/make.py` writes those rows that are too long to write by hand.
 #![tactic(auto)]
 
-mod asking;
+mod assignments;
 mod dimacs_texts;
 mod formulas;
 mod heuristics;
 mod log_lines;
-mod numbers;
-mod outcomes;
-mod pools;
 mod questions;
 mod searches;
-mod subjects;
-mod telling;
-mod terms;
+mod subject;
 
 use kb_outside::{FileShelf, OutSink, Shelf, Sink};
-use kb_table::{RowResult, Rows, send, write_rows};
-use questions::append_row;
+use kb_questions::write_answer;
+use kb_table::{RowResult, Rows, write_rows};
 use std::alloc::Global;
 use std::io;
 use std::process::ExitCode;
-use subjects::Subjects;
+use subject::Asked;
 
-impl Rows for Subjects {
+impl Rows for Asked {
     fn write_row<S: Shelf, W: Sink>(
         &mut self,
         alloc: Global,
@@ -35,10 +30,7 @@ impl Rows for Subjects {
         _shelf: &mut S,
         out: &mut W,
     ) -> RowResult<()> {
-        let mut text = String::new(alloc);
-        append_row(alloc, self, row, &mut text)?;
-        send(out, text.as_str().trim_end().as_bytes())?;
-        send(out, b"\n")
+        write_answer(alloc, self, row, out)
     }
 }
 
@@ -46,7 +38,7 @@ impl Rows for Subjects {
 fn main(rt: HostRuntime) -> io::Result<ExitCode> {
     let mut shelf = FileShelf::new(&rt);
     let mut out = OutSink::new(io::writer(&rt));
-    let mut subjects = Subjects::new(rt.alloc())?;
-    write_rows(rt.alloc(), "rows", &mut subjects, &mut shelf, &mut out)?;
+    let mut asked = Asked::new(rt.alloc())?;
+    write_rows(rt.alloc(), "rows", &mut asked, &mut shelf, &mut out)?;
     Ok(ExitCode::from(0))
 }

@@ -2,14 +2,16 @@
 ghost use Rattle.std.specs.Prelude.{◌≡◌, ◌<◌, []};
 ghost use Rattle.kb_eliminate.specs.Base.{IsReady, Stands};
 
-use crate::formulas::{append_clause, append_place, read_log};
-use crate::numbers::read_budget;
-use crate::outcomes::{Outcome, judged_bits, judged_open, judged_refutation};
+use crate::assignments::judged_bits;
+use crate::formulas::read_log;
 use kb_chain::{
     Chain, Clause, Formula, Log, ResolveStop, Row, Store, Verdict, check_fresh, check_refutation,
     derive_needed, resolve,
 };
 use kb_eliminate::{Base, Eliminated, EliminationBounds, eliminate, restored};
+use kb_questions::{
+    Outcome, append_clause, append_place, judged_open, judged_refutation, read_budget,
+};
 use kb_sat::{Counts, Solved, solve_counted};
 use kb_table::{RowResult, RowStop, kept, read_number, read_numbers};
 use std::alloc::Global;

@@ -1,13 +1,13 @@
 //! Questions about conditions.
 ghost use Rattle.std.specs.Prelude.{◌<◌};
 
-use crate::numbers::read_budget;
-use crate::outcomes::{Outcome, judged_open, judged_refutation, judged_values};
-use crate::subjects::{Subject, Subjects, conditions_of};
+use crate::subjects::{Asked, Subjects, conditions_of};
 use crate::terms::{Query, op_named};
+use crate::values::judged_values;
 use kb_blast::can_blast;
 use kb_chain::{Formula, Log};
 use kb_oracle::{Answer, Oracle, OracleStop, SolverOracle};
+use kb_questions::{Outcome, judged_open, judged_refutation, read_budget};
 use kb_table::{RowResult, RowStop, kept, read_words};
 use std::alloc::Global;
 
@@ -34,7 +34,7 @@ pub fn solved(alloc: Global, query: &Query, budget: u32) -> RowResult<Answer>
 /// Appends what the solver comes to, and how many undecided answers its oracle counts.
 pub fn append_ask(
     alloc: Global,
-    subject: &Subject,
+    subject: &Asked,
     budget: &str,
     into: &mut String,
 ) -> RowResult<()> {
@@ -48,7 +48,7 @@ pub fn append_ask(
 pub fn append_call<O: Oracle>(
     alloc: Global,
     oracle: &mut O,
-    subject: &Subject,
+    subject: &Asked,
     into: &mut String,
 ) -> RowResult<()> {
     let query = subject.query()?;
@@ -86,7 +86,7 @@ fn outcome_of(
 /// Appends the values of the model.
 pub fn append_values(
     alloc: Global,
-    subject: &Subject,
+    subject: &Asked,
     budget: &str,
     into: &mut String,
 ) -> RowResult<()> {
@@ -181,7 +181,7 @@ fn outcome_of_ints(alloc: Global, text: &str) -> RowResult<Outcome> {
 }
 
 /// What the solver comes to within a budget.
-fn outcome_on(alloc: Global, subject: &Subject, budget: u32) -> RowResult<Outcome>
+fn outcome_on(alloc: Global, subject: &Asked, budget: u32) -> RowResult<Outcome>
     requires { 0 < budget }
 {
     let query = subject.query()?;

@@ -1,22 +1,23 @@
 //! What rows ask about.
 
-use crate::formulas::read_formula;
+use crate::questions::append_of_conditions;
 use crate::terms::{Query, read_query};
 use kb_blast::{blast, can_blast};
 use kb_chain::Formula;
+use kb_questions::Subject;
 use kb_rows::Held;
-use kb_table::{RowResult, RowStop, read_number};
+use kb_table::{RowResult, RowStop};
 use std::alloc::Global;
 use std::mem;
 
-/// A formula, which is that of the conditions where there are any.
+/// Conditions with their formula, or a formula without clauses where there are none.
 #[derive(Drop)]
-pub struct Subject {
+pub struct Asked {
     pub formula: Formula,
     pub query: Option<Held<Query>>,
 }
 
-impl Subject {
+impl Asked {
     /// The conditions that rows ask about.
     pub fn query(&self) -> RowResult<&Query> {
         match &self.query {
@@ -29,8 +30,8 @@ impl Subject {
 /// What the next row asks about, and what stood there before.
 #[derive(Drop)]
 pub struct Subjects {
-    pub current: Held<Subject>,
-    pub former: Held<Subject>,
+    pub current: Held<Asked>,
+    pub former: Held<Asked>,
 }
 
 impl Subjects {
@@ -41,29 +42,7 @@ impl Subjects {
         Ok(Subjects { current, former })
     }
 
-    /// Reads what is asked about from now on, and tells it: `formula`, a name and how many variables there are, and then the
-    /// clauses; or `conditions` and the kinds of the variables, and then the conditions.
-    pub fn replace(
-        &mut self,
-        alloc: Global,
-        name: &str,
-        text: &str,
-        into: &mut String,
-    ) -> RowResult<()> {
-        into.push_str(name)?;
-        match name.strip_prefix("conditions ") {
-            Some(kinds) => {
-                self.enter(conditions_of(alloc, kinds, text)?);
-                self.append_conditions(text, into)
-            }
-            None => {
-                self.enter(formula_of(alloc, name, text)?);
-                Ok(())
-            }
-        }
-    }
-
-    fn enter(&mut self, subject: Held<Subject>) {
+    fn enter(&mut self, subject: Held<Asked>) {
         self.former = mem::replace(&mut self.current, subject);
     }
 
@@ -75,24 +54,44 @@ impl Subjects {
     }
 }
 
-fn without_clauses(alloc: Global) -> RowResult<Held<Subject>> {
+impl Subject for Subjects {
+    /// `conditions` and the kinds of the variables, and then the conditions.
+    fn replace(
+        &mut self,
+        alloc: Global,
+        name: &str,
+        text: &str,
+        into: &mut String,
+    ) -> RowResult<()> {
+        into.push_str(name)?;
+        let Some(kinds) = name.strip_prefix("conditions ") else {
+            return Err(RowStop::Malformed);
+        };
+        self.enter(conditions_of(alloc, kinds, text)?);
+        self.append_conditions(text, into)
+    }
+
+    fn append_answer(
+        &self,
+        alloc: Global,
+        question: &str,
+        words: &str,
+        into: &mut String,
+    ) -> RowResult<()> {
+        append_of_conditions(alloc, self, question, words, into)
+    }
+}
+
+fn without_clauses(alloc: Global) -> RowResult<Held<Asked>> {
     held(alloc, Formula::new(alloc, 0), None)
 }
 
-fn held(alloc: Global, formula: Formula, query: Option<Held<Query>>) -> RowResult<Held<Subject>> {
-    Ok(Held::new(alloc, Subject { formula, query })?)
-}
-
-fn formula_of(alloc: Global, name: &str, text: &str) -> RowResult<Held<Subject>> {
-    let Some((_, vars)) = name.rsplit_once(' ') else {
-        return Err(RowStop::Malformed);
-    };
-    let formula = read_formula(alloc, read_number(vars)?, text)?;
-    held(alloc, formula, None)
+fn held(alloc: Global, formula: Formula, query: Option<Held<Query>>) -> RowResult<Held<Asked>> {
+    Ok(Held::new(alloc, Asked { formula, query })?)
 }
 
 /// The conditions with their formula, or neither where some are no comparisons.
-pub fn conditions_of(alloc: Global, kinds: &str, text: &str) -> RowResult<Held<Subject>> {
+pub fn conditions_of(alloc: Global, kinds: &str, text: &str) -> RowResult<Held<Asked>> {
     let query = read_query(alloc, kinds, text)?;
     match formula_of_conditions(alloc, query.get())? {
         Some(formula) => held(alloc, formula, Some(query)),

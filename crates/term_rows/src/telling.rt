@@ -2,9 +2,9 @@
 ghost use Rattle.std.specs.Prelude.{◌<◌};
 
 use crate::asking::{append_call, solved};
-use crate::numbers::read_budget;
-use crate::subjects::{Subject, Subjects};
+use crate::subjects::{Asked, Subjects};
 use kb_oracle::{Answer, Told, ToldOracle};
+use kb_questions::read_budget;
 use kb_table::{RowResult, RowStop, read_number, read_words};
 use std::alloc::Global;
 
@@ -27,7 +27,7 @@ pub fn append_told(
 
 fn told_oracle(
     alloc: Global,
-    former: &Subject,
+    former: &Asked,
     budget: &str,
     words: &[String],
 ) -> RowResult<ToldOracle> {
@@ -38,7 +38,7 @@ fn told_oracle(
 
 fn read_all_told(
     alloc: Global,
-    former: &Subject,
+    former: &Asked,
     budget: u32,
     words: &[String],
 ) -> RowResult<Vec<(u64, Told)>>
@@ -52,7 +52,7 @@ fn read_all_told(
 }
 
 /// What is told for which call.
-fn read_told(alloc: Global, former: &Subject, budget: u32, word: &str) -> RowResult<(u64, Told)>
+fn read_told(alloc: Global, former: &Asked, budget: u32, word: &str) -> RowResult<(u64, Told)>
     requires { 0 < budget }
 {
     let Some((call, what)) = word.split_once(':') else {
@@ -62,7 +62,7 @@ fn read_told(alloc: Global, former: &Subject, budget: u32, word: &str) -> RowRes
     Ok((call, what_is_told(alloc, former, budget, what)?))
 }
 
-fn what_is_told(alloc: Global, former: &Subject, budget: u32, what: &str) -> RowResult<Told>
+fn what_is_told(alloc: Global, former: &Asked, budget: u32, what: &str) -> RowResult<Told>
     requires { 0 < budget }
 {
     if let Some(number) = what.strip_prefix("bad") {
@@ -84,7 +84,7 @@ fn undecided(answer: Answer) -> RowResult<Told> {
 fn append_calls(
     alloc: Global,
     oracle: &mut ToldOracle,
-    subject: &Subject,
+    subject: &Asked,
     calls: u32,
     into: &mut String,
 ) -> RowResult<()> {
