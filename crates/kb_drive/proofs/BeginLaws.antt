@@ -10,7 +10,8 @@ use Rattle.kb_picture.specs.declared.path.Path.{Path}
 use Rattle.kb_frames.specs.StandsFor.{IsInstanceOf}
 use Rattle.kb_drive.specs.declared.piece.Piece.{Piece}
 use Rattle.kb_drive.specs.declared.walk.Walk.{Walk}
-use Rattle.kb_drive.specs.Covers.{EachPath, decisions_of}
+use Rattle.kb_picture.specs.Carried.{EachPath}
+use Rattle.kb_drive.specs.Covers.{decisions_of}
 use Rattle.kb_picture.specs.Exactly.{ExactlyOneHas, NoneHas}
 use Rattle.kb_drive.specs.Division.{DivideThose, IsFrontOf}
 use Rattle.kb_drive.specs.Following.{waits_at, walk_with}

@@ -5,7 +5,8 @@ use Rattle.kb_picture.specs.declared.path.Leaf.{Leaf}
 use Rattle.kb_picture.specs.declared.path.Leaf.TheVariants.{Ended as EndedLeaf, Cut, Undecided, Open}
 use Rattle.kb_picture.specs.declared.path.Path.{Path}
 use Rattle.kb_drive.proofs.SumLaws.{count_first}
-use Rattle.kb_drive.specs.Covers.{AreOpenLast, EachPath, closed_count, is_open}
+use Rattle.kb_picture.specs.Carried.{EachPath}
+use Rattle.kb_drive.specs.Covers.{AreOpenLast, closed_count, is_open}
 
 -- what stands in a list with one more item: an earlier one in its place, or the last one
 pub record StandsIn {A : Type 0} (xs : List A) (last item : A) (i : ℕ) : Type 0 where

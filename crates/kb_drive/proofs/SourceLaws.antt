@@ -27,7 +27,7 @@ use Rattle.kb_drive.specs.declared.waiting.Taken.{Taken}
 use Rattle.kb_drive.specs.declared.waiting.Waiting.{Waiting}
 use Rattle.kb_drive.specs.declared.walk.Walk.{Walk}
 use Rattle.kb_drive.specs.Counts.{RoseBy}
-use Rattle.kb_drive.specs.Covers.{input_carried}
+use Rattle.kb_picture.specs.Carried.{input_carried}
 use Rattle.kb_input.specs.Emitted.{emitted_input}
 use Rattle.kb_drive.specs.Values.{followed_by_zeros}
 use Rattle.kb_drive.specs.Following.{follows, follows_outcome, given_after, has_more, input_of_piece, path_of_piece, waits_at, waits_on, walk_with}

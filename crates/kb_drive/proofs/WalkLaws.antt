@@ -21,7 +21,8 @@ use Rattle.kb_drive.specs.declared.piece.Piece.{Piece}
 use Rattle.kb_drive.specs.declared.waiting.Taken.{Taken}
 use Rattle.kb_drive.specs.declared.waiting.Waiting.{Waiting}
 use Rattle.kb_drive.specs.declared.walk.Walk.{Walk}
-use Rattle.kb_drive.specs.Covers.{AreOpenLast, EachPath, closed_count, is_open}
+use Rattle.kb_picture.specs.Carried.{EachPath}
+use Rattle.kb_drive.specs.Covers.{AreOpenLast, closed_count, is_open}
 use Rattle.kb_picture.specs.Exactly.{ExactlyOneHas, NoneHas}
 use Rattle.kb_drive.specs.EmittedLaws.{InputsAreOfStates}
 use Rattle.kb_drive.specs.Following.{IsAskedWithin, IsKnown, alternative_next, closed_with, follows, follows_outcome, has_more, input_of_piece, listed_with, path_of_piece, taken_from, waiting_with, waits_at, waits_on, walk_with}

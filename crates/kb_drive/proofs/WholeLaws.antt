@@ -6,7 +6,8 @@ use Rattle.kb_link.specs.World.{World}
 use Rattle.kb_picture.specs.declared.choice.Init.{Init}
 use Rattle.kb_picture.specs.declared.path.Path.{Path}
 use Rattle.kb_drive.specs.Compared.{ComparesAsRuns}
-use Rattle.kb_drive.specs.Covers.{Covers, EachPath}
+use Rattle.kb_picture.specs.Carried.{EachPath}
+use Rattle.kb_drive.specs.Covers.{Covers}
 use Rattle.kb_drive.specs.ReadFirst.{SeesWhatIsRead}
 use Rattle.kb_drive.specs.Whole.{CoversPiece}
 use Rattle.kb_drive.proofs.SettledLaws.{whole_has, whole_piece}

@@ -1,7 +1,7 @@
 -- When the paths of an exploration cover a method: each type-correct input is an instance of exactly one of them, and each path
 -- is true of its instances (the claim of generalised symbolic execution: Khurshid, Păsăreanu and Visser, TACAS 2003). The run
 -- is that of the machine; the bounds, the most paths and the budget are those of the exploration.
-use Rattle.std.specs.Prelude.{◌≡◌, ℕ, ◌<◌, ◌≤◌, Bool, true, false, not, List, Option, Some, None, slice_get, count_by}
+use Rattle.std.specs.Prelude.{◌≡◌, ℕ, ◌<◌, ◌≤◌, Bool, true, false, not, List, Some, slice_get, count_by}
 use Rattle.kb_chain.specs.declared.log.Log.{Log}
 use Rattle.kb_class.specs.declared.ids.MethodId.{MethodId}
 use Rattle.kb_heap.specs.declared.bounds.Bound.{Bound}
@@ -15,6 +15,7 @@ use Rattle.kb_picture.specs.declared.path.Ended.{Ended}
 use Rattle.kb_picture.specs.declared.path.Leaf.{Leaf}
 use Rattle.kb_picture.specs.declared.path.Leaf.TheVariants.{Ended as EndedLeaf, Cut, Undecided, Open}
 use Rattle.kb_picture.specs.declared.path.Path.{Path}
+use Rattle.kb_picture.specs.Carried.{EachPath, CarriesInstance}
 use Rattle.kb_picture.specs.Endings.{stated_end}
 use Rattle.kb_picture.specs.Instances.{IsInstance}
 use Rattle.kb_picture.specs.Queries.{query_of_path}
@@ -41,17 +42,7 @@ IsCutRightly world target bounds path =
     (bound : Bound) (carried input : Input) → path.leaf ≡ Cut bound carried → IsTypeCorrect world target input → IsInstance path input
     → IsLicensed world target bounds path.picture bound input
 
--- ---- 4: the input that an ended or cut path carries is one of its instances
-
-abbrev pub input_carried : Leaf → Option Input
-input_carried (EndedLeaf ended) = Some ended.input
-input_carried (Cut bound input) = Some input
-input_carried (Undecided log) = None
-input_carried Open = None
-
-abbrev pub CarriesInstance : World → MethodId → Path → Type 0
-CarriesInstance world target path =
-    (input : Input) → input_carried path.leaf ≡ Some input → IsTypeCorrect world target input × IsInstance path input
+-- ---- 4: the input that an ended or cut path carries is one of its instances: kb_picture `specs/Carried.antt`, `CarriesInstance`
 
 -- ---- 5: an undecided path carries a log that has spent the budget on the formula of its own conditions: so many entries, each new to
 -- unit propagation on the formula and the entries before it, and none of them empty
@@ -89,10 +80,6 @@ pub record AreFormed (world : World) (target : MethodId) (listed : List Path) : 
   pub decisions : AreDecisions decisions_of listed
 
 -- ---- all of them
-
--- it holds of each listed path
-abbrev pub EachPath : (Path → Type 0) → List Path → Type 0
-EachPath P listed = (i : ℕ) (path : Path) → slice_get listed i ≡ Some path → P path
 
 -- The listed paths cover the method `target`, explored within these bounds, up to so many paths, with a solver of that budget.
 pub record Covers (world : World) (target : MethodId) (bounds : Bounds) (paths budget : ℕ) (listed : List Path) : Type 0 where

@@ -12,7 +12,7 @@ use Rattle.kb_picture.specs.declared.path.Leaf.{Leaf}
 use Rattle.kb_picture.specs.declared.path.Leaf.TheVariants.{Ended as EndedLeaf, Cut, Undecided, Open}
 use Rattle.kb_picture.specs.declared.path.Path.{Path}
 use Rattle.kb_picture.specs.WellFormed.{variables_seen}
-use Rattle.kb_drive.specs.Covers.{EachPath, input_carried}
+use Rattle.kb_picture.specs.Carried.{EachPath, input_carried}
 use Rattle.kb_input.specs.Emitted.{emitted_input}
 
 -- ---- logs

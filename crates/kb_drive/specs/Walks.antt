@@ -19,7 +19,8 @@ use Rattle.kb_drive.specs.declared.walk.Walk.{Walk}
 use Rattle.kb_drive.specs.Counts.{RoseBy, undecided_count}
 use Rattle.kb_picture.specs.Exactly.{ExactlyOneHas, NoneHas}
 use Rattle.kb_drive.specs.Division.{IsFrontOf}
-use Rattle.kb_drive.specs.Covers.{StatesRuns, IsCutRightly, CarriesInstance, IsUndecidedRightly, AreOpenLast, EachPath, closed_count}
+use Rattle.kb_picture.specs.Carried.{CarriesInstance, EachPath}
+use Rattle.kb_drive.specs.Covers.{StatesRuns, IsCutRightly, IsUndecidedRightly, AreOpenLast, closed_count}
 use Rattle.kb_drive.specs.Compared.{ComparesAsRuns}
 use Rattle.kb_drive.specs.Explorable.{IsExplorable}
 use Rattle.kb_drive.specs.Parts.{IsInPart, decisions_of_part, parts_of}

@@ -8,7 +8,8 @@ use Rattle.kb_picture.specs.declared.path.Path.{Path}
 use Rattle.kb_picture.specs.Instances.{IsInstance}
 use Rattle.kb_frames.specs.StandsFor.{IsInstanceOf}
 use Rattle.kb_drive.specs.declared.piece.Piece.{Piece}
-use Rattle.kb_drive.specs.Covers.{AreOpenLast, EachPath, decisions_of}
+use Rattle.kb_picture.specs.Carried.{EachPath}
+use Rattle.kb_drive.specs.Covers.{AreOpenLast, decisions_of}
 use Rattle.kb_picture.specs.Exactly.{NoneHas}
 use Rattle.kb_drive.specs.Division.{AreDecisions, DivideThose, IsFrontOf}
 use Rattle.kb_drive.specs.Walks.{IsRightPath}

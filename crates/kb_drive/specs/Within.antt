@@ -16,7 +16,7 @@ use Rattle.kb_picture.specs.declared.path.SymEnding.TheVariants.{Threw}
 use Rattle.kb_picture.specs.Endings.{stated_end}
 use Rattle.kb_picture.specs.Instances.{IsInstance}
 use Rattle.kb_frames.specs.Cuts.{setting_of, RunsPast}
-use Rattle.kb_drive.specs.Covers.{EachPath}
+use Rattle.kb_picture.specs.Carried.{EachPath}
 
 -- the leaf is an ending or a cut
 abbrev pub IsLeafDecided : Leaf → Type 0

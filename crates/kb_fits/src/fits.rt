@@ -12,7 +12,7 @@ use kb_class::{MethodId, MethodInfo, is_static};
 use kb_heap::{Heap, Input, Object, Value};
 use kb_lookups::Typed;
 use kb_names::{ExactType, JType};
-use kb_world::World;
+use kb_semantics::World;
 
 /// Whether the input is type-correct for the method: as many arguments as parameters, each a value of its parameter's type, before
 /// them a receiver where the method is not static, and each object one of a type of the world's universe with values of the types

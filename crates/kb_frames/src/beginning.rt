@@ -9,7 +9,7 @@ use crate::state::{Stage, SymState};
 use crate::value::SymValue;
 use kb_lookups::max_locals;
 use kb_rows::Row;
-use kb_world::World;
+use kb_semantics::World;
 use std::alloc::Global;
 
 impl SymState {

@@ -13,8 +13,8 @@ use crate::value::{Cell, SymValue};
 use kb_names::ExactType;
 use kb_picture::{Choice, Length, Origin, PicLoc, PicObject, Seen, Standing};
 use kb_rows::Row;
+use kb_semantics::World;
 use kb_terms::VarKind;
-use kb_world::World;
 use std::alloc::Global;
 
 impl SymState {

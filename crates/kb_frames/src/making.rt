@@ -12,8 +12,8 @@ use kb_heap::Value;
 use kb_lookups::default_of;
 use kb_names::{ExactType, JType};
 use kb_rows::Row;
+use kb_semantics::{FieldSlot, World};
 use kb_terms::TermId;
-use kb_world::{FieldSlot, World};
 use std::alloc::Global;
 
 impl SymState {

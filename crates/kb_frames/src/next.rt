@@ -12,8 +12,8 @@ use kb_class::{MethodId, MethodInfo, is_static};
 use kb_code::Instr;
 use kb_lookups::{declaring_class, instruction_at};
 use kb_names::{JType, Name};
+use kb_semantics::World;
 use kb_terms::VarKind;
-use kb_world::World;
 use std::alloc::Global;
 
 /// An argument that is to be read.

@@ -15,8 +15,8 @@ use kb_names::ExactType;
 use kb_numbered::Conditions;
 use kb_picture::{GrowingPicture, Init};
 use kb_rows::{Held, Row};
+use kb_semantics::World;
 use kb_terms::Pool;
-use kb_world::World;
 use std::alloc::Global;
 use std::marker::Model;
 

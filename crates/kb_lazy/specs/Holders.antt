@@ -2,7 +2,7 @@
 use Rattle.std.specs.Prelude.{ℕ, nat_lt, Option, None}
 use Rattle.kb_picture.specs.declared.picture.Origin.{Origin}
 use Rattle.kb_picture.specs.declared.picture.Origin.TheVariants.{Arg, Field, Element}
-use Rattle.kb_world.specs.Lookup.{only_where}
+use Rattle.kb_semantics.specs.Looks.{only_where}
 
 -- the number of the object that has the slot or the element, where it is one of the first so many; an argument is in none
 abbrev pub holder_in : ℕ → Origin → Option ℕ

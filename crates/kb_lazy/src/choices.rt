@@ -8,7 +8,7 @@ use crate::fresh::{has_fitting, push_fresh};
 use kb_names::JType;
 use kb_picture::{Choice, Init, Origin, PicObject, Picture};
 use kb_rows::Row;
-use kb_world::World;
+use kb_semantics::World;
 use std::alloc::Global;
 
 /// The alternatives for a slot of the picture, of the declared type `kind`, that is read for the first time, in their order.

@@ -1,6 +1,6 @@
 //! How deep a new object would lie.
 ghost use Rattle.std.specs.Prelude.{◌≡◌, ◌<◌, nat_lt, IfSome};
-ghost use Rattle.kb_world.specs.Lookup.{only_where};
+ghost use Rattle.kb_semantics.specs.Looks.{only_where};
 ghost use Rattle.kb_picture.specs.Depths.{depth_at};
 ghost use Rattle.kb_lazy.specs.Holders.{holder_in};
 

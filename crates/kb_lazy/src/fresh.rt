@@ -11,7 +11,7 @@ use crate::depths::is_deeper;
 use kb_names::{ExactType, JType};
 use kb_picture::{Choice, Length, Origin, Picture};
 use kb_rows::Row;
-use kb_world::World;
+use kb_semantics::World;
 use std::alloc::Global;
 
 /// Adds what may be found in a slot for the first time: the new objects of the type, or one that is beyond in place of them all

@@ -7,7 +7,7 @@ ghost use Rattle.kb_lookups.specs.Callees.{plain_callee};
 
 use kb_class::{ClassId, MemberKind, MethodId, MethodInfo};
 use kb_names::{ExactType, MethodType};
-use kb_world::World;
+use kb_semantics::World;
 
 /// A call's entry: the type in which the method is sought, and the method's type.
 #[derive(Clone, Copy)]

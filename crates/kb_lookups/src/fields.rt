@@ -4,7 +4,7 @@ ghost use Rattle.std.specs.Prelude.{◌≡◌};
 ghost use Rattle.kb_semantics.specs.Instructions.{has_field};
 
 use kb_names::ExactType;
-use kb_world::{FieldSlot, World};
+use kb_semantics::{FieldSlot, World};
 
 /// Whether an object of the exact type has the slot. It takes no memory.
 pub fn has_field(world: &World, kind: &ExactType, field: &FieldSlot) -> bool

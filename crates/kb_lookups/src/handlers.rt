@@ -7,7 +7,7 @@ use crate::methods::declaring_class;
 use kb_class::{ClassId, MethodId};
 use kb_code::Handler;
 use kb_names::ExactType;
-use kb_world::World;
+use kb_semantics::World;
 
 /// Where the first handler of the method goes on that covers the offset and takes an object of the exact type. It takes no
 /// memory.

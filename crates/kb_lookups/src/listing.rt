@@ -7,7 +7,7 @@ ghost use Rattle.kb_lookups.specs.Listings.{from_place, plain_found};
 
 use kb_class::MethodId;
 use kb_code::Instr;
-use kb_world::World;
+use kb_semantics::World;
 
 /// An instruction, and the offset behind it.
 #[derive(Clone, Copy)]

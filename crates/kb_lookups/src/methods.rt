@@ -4,7 +4,7 @@ ghost use Rattle.std.specs.Prelude.{◌≡◌};
 ghost use Rattle.kb_semantics.specs.Config.{class_number, max_locals_of, max_stack_of};
 
 use kb_class::{ClassId, MethodId};
-use kb_world::World;
+use kb_semantics::World;
 
 /// The class that declares a method; of a number that no method has the first class. It takes no memory.
 pub fn declaring_class(world: &World, method: MethodId) -> ClassId

@@ -6,7 +6,7 @@ ghost use Rattle.kb_semantics.specs.Config.{no_target, target_of};
 use crate::NoMemory;
 use kb_class::MethodId;
 use kb_names::{MethodType, Name, SharedRow, Target};
-use kb_world::World;
+use kb_semantics::World;
 use std::alloc::Global;
 
 /// The method by its class's name, its name and its type; of a number that no method has, empty ones.

@@ -4,7 +4,7 @@ ghost use Rattle.std.specs.Prelude.{◌≡◌};
 ghost use Rattle.kb_names.specs.declared.types.JType.{JType};
 
 use kb_names::JType;
-use kb_world::FieldSlot;
+use kb_semantics::FieldSlot;
 
 /// What has a type: a slot, or the type itself.
 pub trait Typed {

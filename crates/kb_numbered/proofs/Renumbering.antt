@@ -19,7 +19,7 @@ use Rattle.kb_terms.specs.Numbering.{has_term, place_of, with_term, visit_node, 
 use Rattle.kb_terms.proofs.Walking.{first-before, second-before}
 use Rattle.kb_terms.proofs.Order.{earlier-place}
 use Rattle.kb_blast.specs.Query.{number_in, operand_from, operand_of, operands_of, listed_from, listed}
-use Rattle.kb_semantics.specs.Looks.{numbers_below}
+use Rattle.kb_picture.specs.WellFormed.{numbers_below}
 use Rattle.kb_picture.specs.Numbering.{terms_of_operand, terms_below, has_number, met_below, met_from}
 
 -- ---- numbers below one

@@ -2,6 +2,7 @@ pub mod Places
 pub mod Shapes
 pub mod Tables
 pub mod Instances
+pub mod Carried
 pub mod Endings
 pub mod Readings
 pub mod Numbering

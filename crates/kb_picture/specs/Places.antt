@@ -8,7 +8,7 @@ use Rattle.kb_heap.specs.declared.heap.Value.TheVariants.{Int, Null, Ref}
 use Rattle.kb_heap.specs.declared.heap.Heap.{Heap}
 use Rattle.kb_heap.specs.declared.heap.Input.{Input}
 use Rattle.kb_heap.specs.Heap.{value_at}
-use Rattle.kb_world.specs.Lookup.{only_where}
+use Rattle.kb_semantics.specs.Looks.{only_where}
 use Rattle.kb_picture.specs.declared.picture.Origin.{Origin}
 use Rattle.kb_picture.specs.declared.picture.Origin.TheVariants.{Arg, Field, Element}
 use Rattle.kb_picture.specs.declared.picture.PicLoc.{PicLoc}

@@ -17,7 +17,7 @@ use Rattle.kb_names.specs.declared.types.ExactType.{ExactType}
 use Rattle.kb_names.specs.declared.types.ExactType.TheVariants as exact
 use Rattle.kb_semantics.specs.Config.{info_of}
 use Rattle.kb_semantics.specs.Inputs.{argument_types}
-use Rattle.kb_semantics.specs.Looks.{numbers_below}
+pub use Rattle.kb_semantics.specs.Looks.{numbers_below}
 use Rattle.kb_semantics.specs.Values.{slots_of_class}
 use Rattle.kb_terms.specs.Op.{is_binary}
 use Rattle.kb_terms.specs.declared.listing.Operand.{Operand}

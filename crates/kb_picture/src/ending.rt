@@ -13,7 +13,7 @@ use crate::picture::{Origin, PlaceLists};
 use crate::values::{operand_value, term_values, variable_values};
 use kb_heap::{Ending, Heap, Input, Object, Value};
 use kb_rows::Row;
-use kb_world::World;
+use kb_semantics::World;
 use std::alloc::Global;
 
 /// What an input gives to the symbolic values of a path: the places of the picture's objects and locations, the values of the

@@ -13,7 +13,7 @@ use crate::picture::{Length, Origin, PicLoc, PicObject, Picture, PlaceLists, See
 use crate::placing::{object_named, slot_value};
 use crate::values::{are_met, term_values, variable_values};
 use kb_heap::{Heap, Input, Value};
-use kb_world::World;
+use kb_semantics::World;
 use std::alloc::Global;
 
 /// Whether the input is an instance of the path, where `places` are those that [`crate::places`] gives for the two. Each term

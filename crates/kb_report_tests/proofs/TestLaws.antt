@@ -5,7 +5,7 @@ use Rattle.std.proofs.lemmas.List.{length-map, length-replicate}
 use Rattle.kb_class.specs.declared.ids.MethodId.{MethodId}
 use Rattle.kb_class.specs.Naming.{Has}
 use Rattle.kb_class.proofs.Lists.{has_first, has_later}
-use Rattle.kb_drive.specs.Covers.{input_carried}
+use Rattle.kb_picture.specs.Carried.{input_carried}
 use Rattle.kb_heap.specs.declared.ending.Ending.{Ending}
 use Rattle.kb_heap.specs.declared.ending.Ending.TheVariants.{Returned, Threw, IllTyped, Past}
 use Rattle.kb_heap.specs.declared.heap.Heap.{Heap}

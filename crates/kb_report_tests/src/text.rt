@@ -2,7 +2,7 @@
 
 ghost use Rattle.std.specs.Prelude.{◌≡◌, ◌+◌, ◌++◌, ◌≤◌, IfOk, OnOk, drop, length, take};
 ghost use Rattle.kb_class.specs.declared.ids.MethodId.{MethodId};
-ghost use Rattle.kb_drive.specs.Covers.{EachPath};
+ghost use Rattle.kb_picture.specs.Carried.{EachPath};
 ghost use Rattle.kb_names.specs.Targets.{IsTarget};
 ghost use Rattle.kb_picture.specs.declared.path.Leaf.TheVariants.{Ended as EndedLeaf};
 ghost use Rattle.kb_test_lines.specs.Lines.{IsRunBounds};

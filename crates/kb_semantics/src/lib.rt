@@ -3,3 +3,5 @@
 //! `specs/` has the definitions, over which the machine is proved and of which every exploration speaks. `proofs/` has the laws
 //! of steps and runs.
 #![tactic(auto)]
+
+pub use kb_world::{FieldSlot, World};

@@ -6,7 +6,7 @@ use Rattle.kb_heap.specs.declared.heap.Value.{Value}
 use Rattle.kb_names.specs.declared.types.JType.{JType}
 use Rattle.kb_names.specs.declared.types.JType.TheVariants as types
 use Rattle.kb_class.specs.Platform.{object_name}
-use Rattle.kb_world.specs.Lookup.{only_where}
+use Rattle.kb_semantics.specs.Looks.{only_where}
 use Rattle.kb_semantics.specs.Operands.{are_of_kinds, arguments, receiver_and_arguments}
 
 take_left : {A : Type 0} (xs ys : List A) (n : ℕ) → n ≡ length xs → take n (xs ++ ys) ≡ xs

@@ -5,7 +5,7 @@ ghost use Rattle.std.specs.Option.{option_copied};
 ghost use Rattle.kb_semantics.specs.Config.{behind, class_number, first_frame, local_of, has_room, with_local};
 ghost use Rattle.kb_semantics.specs.Operands.{top_of};
 ghost use Rattle.kb_semantics.specs.Ways.{counted, pushed};
-ghost use Rattle.kb_world.specs.Lookup.{only_where};
+ghost use Rattle.kb_semantics.specs.Looks.{only_where};
 
 use crate::NoMemory;
 use crate::locals::Locals;
@@ -13,7 +13,7 @@ use crate::value_stack::ValueStack;
 use kb_class::{ClassId, MethodId};
 use kb_heap::{Row, RunBounds, Value};
 use kb_lookups::{behind, declaring_class, max_locals, max_stack};
-use kb_world::World;
+use kb_semantics::World;
 use std::alloc::Global;
 use std::marker::Model;
 

@@ -5,7 +5,7 @@ ghost use Rattle.std.specs.Prelude.{◌≡◌, IfOk, OnOk};
 ghost use Rattle.kb_semantics.specs.Instructions.{operands_of};
 ghost use Rattle.kb_semantics.specs.Operands.{a_reference, a_value_for, arguments, receiver_and_arguments, an_object_and_value, reference_of, top_of, an_element, an_int, two_ints, two_references, is_of_elem, a_value_where, an_element_and_value};
 ghost use Rattle.kb_stack.specs.Taken.{as_taken, kind_of};
-ghost use Rattle.kb_world.specs.Lookup.{only_where};
+ghost use Rattle.kb_semantics.specs.Looks.{only_where};
 
 use crate::NoMemory;
 use crate::call::Call;

@@ -1,7 +1,7 @@
 //! An operand stack (JVMS 8 section 2.6.2).
 
 ghost use Rattle.std.specs.Prelude.{◌≡◌, [], ◌∷◌, ◌++◌, length, drop, nat_le, reverse, take, IfOk, OnOk, OnErr, OnSome};
-ghost use Rattle.kb_world.specs.Lookup.{only_where};
+ghost use Rattle.kb_semantics.specs.Looks.{only_where};
 ghost use Rattle.kb_semantics.specs.Operands.{top_of};
 
 use crate::NoMemory;

@@ -11,7 +11,7 @@ use kb_code::Elem;
 use kb_heap::{Heap, Object, Row, Value};
 use kb_lookups::{default_of, place_in_array, takes_component};
 use kb_names::{ExactType, JType};
-use kb_world::World;
+use kb_semantics::World;
 use std::alloc::Global;
 
 /// The component and the elements of an array.

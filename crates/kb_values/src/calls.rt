@@ -9,7 +9,7 @@ use crate::types::truth;
 use kb_class::MethodInfo;
 use kb_heap::Value;
 use kb_lookups::is_equals;
-use kb_world::World;
+use kb_semantics::World;
 
 /// The receiver of these arguments.
 pub fn receiver_of(args: &[Value]) -> Option<u32>

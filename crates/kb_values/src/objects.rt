@@ -10,7 +10,7 @@ use crate::NoMemory;
 use kb_heap::{Heap, Object, Value};
 use kb_lookups::{default_values, has_field};
 use kb_names::{ExactType, Name};
-use kb_world::{FieldSlot, World};
+use kb_semantics::{FieldSlot, World};
 use std::alloc::Global;
 
 /// A new object of the class.

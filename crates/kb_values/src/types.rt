@@ -9,7 +9,7 @@ ghost use Rattle.kb_semantics.specs.Instructions.{is_instance};
 use crate::NoMemory;
 use kb_heap::Heap;
 use kb_names::{Component, ExactType, JType};
-use kb_world::World;
+use kb_semantics::World;
 use std::alloc::Global;
 
 /// Whether the reference leads to an object of the type: `null` for null.

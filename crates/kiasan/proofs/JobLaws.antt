@@ -4,7 +4,8 @@ use Rattle.std.specs.List.{AllByRecursion}
 use Rattle.kb_class.specs.declared.ids.MethodId.{MethodId}
 use Rattle.kb_drive.specs.Compared.{ComparesAsRuns}
 use Rattle.kb_drive.specs.ReadFirst.{SeesWhatIsRead}
-use Rattle.kb_drive.specs.Covers.{CarriesInstance, Covers, EachPath, StatesRuns, input_carried}
+use Rattle.kb_picture.specs.Carried.{CarriesInstance, EachPath, input_carried}
+use Rattle.kb_drive.specs.Covers.{Covers, StatesRuns}
 use Rattle.kb_frames.specs.State.{State, start_state}
 use Rattle.kb_heap.specs.declared.bounds.Bounds.{Bounds}
 use Rattle.kb_frames.specs.Cuts.{setting_of}

@@ -4,7 +4,8 @@ use Rattle.std.specs.Prelude.{◌≡◌, ℕ, Bool, ◌||◌, cond, List}
 use Rattle.kb_class.specs.declared.ids.MethodId.{MethodId}
 use Rattle.kb_drive.specs.Compared.{ComparesAsRuns}
 use Rattle.kb_drive.specs.Counts.{is_partial, is_undecided}
-use Rattle.kb_drive.specs.Covers.{Covers, EachPath, is_open}
+use Rattle.kb_picture.specs.Carried.{EachPath}
+use Rattle.kb_drive.specs.Covers.{Covers, is_open}
 use Rattle.kb_drive.specs.ReadFirst.{SeesWhatIsRead}
 use Rattle.kb_heap.specs.declared.bounds.Bounds.{Bounds}
 use Rattle.kb_link.specs.Targets.{IsTargetOf}

@@ -4,7 +4,7 @@ ghost use Rattle.std.specs.Prelude.{◌≡◌, IfOk};
 ghost use Rattle.std.specs.List.{AllByRecursion};
 ghost use Rattle.kb_class.specs.declared.ids.MethodId.{MethodId};
 ghost use Rattle.kb_diagram.specs.Diagram.{diagrams_text};
-ghost use Rattle.kb_drive.specs.Covers.{EachPath};
+ghost use Rattle.kb_picture.specs.Carried.{EachPath};
 ghost use Rattle.kb_link.specs.Links.{IsLinked};
 ghost use Rattle.kb_names.specs.Targets.{IsTarget};
 ghost use Rattle.kb_report_laws.specs.OneText.{IsSound};

@@ -9,7 +9,8 @@ use Rattle.kb_drive.specs.Reached.{IsHeapReached}
 use Rattle.kb_drive.proofs.HeapMethodLaws.{heap_methods_begin}
 use Rattle.kb_drive.specs.declared.piece.Piece.{Piece}
 use Rattle.kb_drive.specs.Compared.{ComparesAsRuns}
-use Rattle.kb_drive.specs.Covers.{Covers, EachPath}
+use Rattle.kb_picture.specs.Carried.{EachPath}
+use Rattle.kb_drive.specs.Covers.{Covers}
 use Rattle.kb_drive.specs.Explorable.{IsExplorable}
 use Rattle.kb_drive.specs.Pieces.{IsPiece}
 use Rattle.kb_drive.specs.ReadFirst.{SeesWhatIsRead}

@@ -1,6 +1,6 @@
 use Rattle.std.proofs.Common.{length}
 use Rattle.kb_class.specs.declared.ids.MethodId.{MethodId}
-use Rattle.kb_drive.specs.Covers.{EachPath}
+use Rattle.kb_picture.specs.Carried.{EachPath}
 use Rattle.kb_report_tests.specs.Tests.{IsCarried, literals_in, tests_of}
 use Rattle.kb_report_tests.proofs.TestTexts.{IsBehind, tests_on}
 use Rattle.kb_report_tests.proofs.text.tests_text.Given as goal
