@@ -315,6 +315,9 @@ def by_hand():
         "public.class": class_like_a(b"q/B", b"p/A", 1),
         "static.class": class_like_a(b"q/B", b"p/A", 8),
         "same_package.class": class_like_a(b"p/B", b"p/A", 0),
+        # three overloads in each of two packages, the third of which both may override inside their package alone
+        "high_overloads.class": HIGH,
+        "third_overload.class": class_of_overloads(b"q/Low", b"p/High", (1, 0, 0)),
     }
 
 
@@ -370,8 +373,21 @@ def class_d():
     return front + struct.pack(">HHHHHH", 0x21, 2, 4, 0, 0, len(methods)) + b"".join(methods) + b"\0\0"
 
 
+def class_of_overloads(name, parent, flags):
+    """A class with the methods `void m()`, `void m(int)` and `void m(boolean)`, with these access flags, and its superclass."""
+    entries = [utf8(name), b"\7\0\1", utf8(parent), b"\7\0\3", utf8(b"Code"), utf8(b"m"), utf8(b"()V"), utf8(b"(I)V"), utf8(b"(Z)V")]
+    methods = [struct.pack(">H", of) + method(6, kind, b"\xb1", 0, 2)[2:] for kind, of in zip((7, 8, 9), flags)]
+    front = struct.pack(">IHHH", 0xCAFEBABE, 0, 52, len(entries) + 1) + b"".join(entries)
+    return front + struct.pack(">HHHHHH", 0x21, 2, 4, 0, 0, len(methods)) + b"".join(methods) + b"\0\0"
+
+
+# p/High, of whose overloads the first and the third may be overridden inside its package alone
+HIGH = class_of_overloads(b"p/High", b"java/lang/Object", (0, 1, 0))
+
+
 def for_worlds():
-    """Class one is below two, and low below the interface six; java/lang/Object is above the others."""
+    """Class one is below two, and low below the interface six; java/lang/Object is above the others. q/Low is below p/High, and of
+    its overloads the second may be overridden inside its package alone."""
     return {
         "one.class": class_of_pattern(b"one"),
         "two.class": class_of_pattern(b"two", extends=6),
@@ -379,6 +395,8 @@ def for_worlds():
         "six.class": class_of_pattern(b"six", extends=6, flags=0x621),
         "T.class": class_t(),
         "D.class": class_d(),
+        "high_overloads.class": HIGH,
+        "low_overloads.class": class_of_overloads(b"q/Low", b"p/High", (1, 0, 2)),
         "plain_a.class": CLASS_A,
         "plain_b.class": CLASS_B,
     }
