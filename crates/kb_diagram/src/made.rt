@@ -11,7 +11,7 @@ use crate::fronts::{begin_element, begin_field};
 use kb_names::ExactType;
 use kb_path_words::{Text, write_exact, write_out};
 use kb_picture::{Made, Out};
-use kb_world::{FieldSlot, World};
+use kb_semantics::{FieldSlot, World};
 
 pub(crate) fn write_made(text: &mut Text, world: &World, made: &[Made]) -> Result<(), NoMemory>
     ensures { OnOk result (text.new ≡ text.old ++ lines_text (numbered_lines (made_line world.now) 0 made.now)) }

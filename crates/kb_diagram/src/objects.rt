@@ -13,7 +13,7 @@ use crate::fronts::{begin_element, begin_field};
 use kb_names::ExactType;
 use kb_path_words::{Text, write_exact};
 use kb_picture::{Length, PicObject};
-use kb_world::{FieldSlot, World};
+use kb_semantics::{FieldSlot, World};
 use std::collections::HashMap;
 
 pub(crate) fn write_objects(

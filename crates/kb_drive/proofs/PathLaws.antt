@@ -1,6 +1,6 @@
 -- What holds of the path of a state, by the laws of kb_frames.
 use Rattle.std.proofs.Common.{ℕ, List}
-use Rattle.kb_link.specs.World.{World}
+use Rattle.kb_classes.specs.World.{World}
 use Rattle.kb_picture.specs.declared.path.Leaf.{Leaf}
 use Rattle.kb_frames.specs.State.{State}
 use Rattle.kb_frames.specs.States.{IsLeafIn, IsState}

@@ -6,7 +6,7 @@ use Rattle.kb_chain.specs.declared.log.Log.{Log}
 use Rattle.kb_class.specs.declared.ids.MethodId.{MethodId}
 use Rattle.kb_heap.specs.declared.bounds.Bounds.{Bounds}
 use Rattle.kb_heap.specs.declared.heap.Input.{Input}
-use Rattle.kb_link.specs.World.{World}
+use Rattle.kb_classes.specs.World.{World}
 use Rattle.kb_oracle.specs.declared.answer.Answer.{Answer}
 use Rattle.kb_oracle.specs.declared.answer.Answer.TheVariants.{Model, Refuted, Undecided}
 use Rattle.kb_terms.specs.Terms.{variables_of}
@@ -29,11 +29,10 @@ use Rattle.kb_drive.specs.declared.walk.Walk.{Walk}
 use Rattle.kb_drive.specs.Counts.{RoseBy}
 use Rattle.kb_picture.specs.Carried.{input_carried}
 use Rattle.kb_input.specs.Emitted.{emitted_input}
-use Rattle.kb_drive.specs.Values.{followed_by_zeros}
+use Rattle.kb_drive.specs.Values.{followed_by_zeros, AreGiven, CarriesGiven, HaveValuesFrom, OfGiven, log_of, logs_given, logs_of}
 use Rattle.kb_drive.specs.Following.{follows, follows_outcome, given_after, has_more, input_of_piece, path_of_piece, waits_at, waits_on, walk_with}
 use Rattle.kb_frames_laws.specs.Endings.{ended_in}
 use Rattle.kb_drive.specs.Taking.{choices_at}
-use Rattle.kb_drive.specs.Values.{AreGiven, CarriesGiven, HaveValuesFrom, OfGiven, log_of, logs_given, logs_of}
 use Rattle.kb_drive.specs.Walks.{EachWaiting, IsFrom}
 use Rattle.kb_drive.proofs.GrowLaws.{variables_of_state}
 use Rattle.kb_drive.proofs.OpenLaws.{each_more}

@@ -1,6 +1,6 @@
 -- What an exploration takes from the paths of states: that the path of a state says of inputs what the state says.
 use Rattle.std.specs.Prelude.{ℕ, List}
-use Rattle.kb_link.specs.World.{World}
+use Rattle.kb_classes.specs.World.{World}
 use Rattle.kb_terms.specs.Terms.{AreTerms}
 use Rattle.kb_picture.specs.declared.path.Leaf.{Leaf}
 use Rattle.kb_picture.specs.WellFormed.{IsWellFormed}

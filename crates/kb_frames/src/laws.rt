@@ -2,7 +2,7 @@
 ghost use Rattle.std.specs.Prelude.{◌≡◌, ℕ, List, Some};
 ghost use Rattle.kb_class.specs.declared.ids.MethodId.{MethodId};
 ghost use Rattle.kb_class.specs.declared.members.MethodInfo.{MethodInfo};
-ghost use Rattle.kb_link.specs.World.{World};
+ghost use Rattle.kb_classes.specs.World.{World};
 ghost use Rattle.kb_semantics.specs.Config.{info_of};
 ghost use Rattle.kb_terms.specs.Terms.{AreTerms};
 ghost use Rattle.kb_picture.specs.declared.choice.Init.{Init};

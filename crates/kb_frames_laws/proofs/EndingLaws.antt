@@ -13,7 +13,7 @@ use Rattle.kb_heap.specs.declared.heap.Object.{Object}
 use Rattle.kb_heap.specs.declared.heap.Value.{Value}
 use Rattle.kb_heap.specs.declared.heap.Value.TheVariants.{Int as IntValue}
 use Rattle.kb_heap.specs.Heap.{with_value, literal}
-use Rattle.kb_link.specs.World.{World}
+use Rattle.kb_classes.specs.World.{World}
 use Rattle.kb_semantics.specs.Config.{Ended as RunEnded}
 use Rattle.kb_semantics.specs.Step.{first_heap}
 use Rattle.kb_terms.specs.Numbering.{IsNumbering, is_operation, place_of}

@@ -11,7 +11,7 @@ use Rattle.kb_heap.specs.declared.heap.Input.{Input}
 use Rattle.kb_heap.specs.declared.heap.Object.{Object}
 use Rattle.kb_heap.specs.declared.heap.Value.TheVariants.{Ref}
 use Rattle.kb_heap.specs.Heap.{object_at, value_at, literal}
-use Rattle.kb_link.specs.World.{World}
+use Rattle.kb_classes.specs.World.{World}
 use Rattle.kb_semantics.specs.Step.{first_heap}
 use Rattle.kb_terms.proofs.Entries.{slice_get-append-left}
 use Rattle.kb_picture.specs.declared.path.Out.TheVariants as outs

@@ -16,8 +16,8 @@ use Rattle.kb_heap.specs.declared.heap.Heap.{Heap}
 use Rattle.kb_heap.specs.declared.heap.Input.{Input}
 use Rattle.kb_heap.specs.Heap.{object_at}
 use Rattle.kb_link.specs.Links.{IsLinked}
-use Rattle.kb_link.specs.Subtypes.{fits}
-use Rattle.kb_link.specs.World.{World}
+use Rattle.kb_classes.specs.Subtypes.{fits}
+use Rattle.kb_classes.specs.World.{World}
 use Rattle.kb_names.specs.declared.types.ExactType.{ExactType}
 use Rattle.kb_names.specs.declared.types.ExactType.TheVariants as exact
 use Rattle.kb_names.specs.declared.types.JType.{JType}

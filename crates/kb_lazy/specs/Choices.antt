@@ -3,8 +3,8 @@
 -- 2006). The order of the alternatives, and the bound on the length of arrays, are own rules.
 use Rattle.std.specs.Prelude.{ℕ, suc, Bool, true, false, List, [], ◌∷◌, ◌++◌, map, filter, nat_lt, if◌then◌else◌}
 use Rattle.std.specs.List.{list_any, flat_map}
-use Rattle.kb_link.specs.Subtypes.{fits}
-use Rattle.kb_link.specs.World.{World}
+use Rattle.kb_classes.specs.Subtypes.{fits}
+use Rattle.kb_classes.specs.World.{World}
 use Rattle.kb_names.specs.declared.types.ExactType.{ExactType}
 use Rattle.kb_names.specs.declared.types.ExactType.TheVariants as exact
 use Rattle.kb_names.specs.declared.types.JType.{JType}

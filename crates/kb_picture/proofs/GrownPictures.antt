@@ -5,8 +5,8 @@ use Rattle.std.proofs.lemmas.List.Elements.{filter_map-append}
 use Rattle.std.proofs.lemmas.Option.{slice_get_cases, slice_get_within, slice_get-map}
 use Rattle.std.specs.Option.{option_map}
 use Rattle.kb_class.specs.Naming.{Has}
-use Rattle.kb_link.proofs.Places.{get_kept, get_last, get_pushed}
-use Rattle.kb_link.specs.World.{World}
+use Rattle.kb_classes.proofs.Places.{get_kept, get_last, get_pushed}
+use Rattle.kb_classes.specs.World.{World}
 use Rattle.kb_names.specs.declared.types.ExactType.{ExactType}
 use Rattle.kb_semantics.specs.Looks.{numbers_below}
 use Rattle.kb_picture.specs.declared.choice.Choice.{Choice}

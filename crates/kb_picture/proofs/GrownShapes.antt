@@ -6,8 +6,8 @@ use Rattle.kb_heap.specs.declared.heap.Value.{Value}
 use Rattle.kb_heap.specs.declared.heap.Heap.{Heap}
 use Rattle.kb_heap.specs.declared.heap.Input.{Input}
 use Rattle.kb_heap.specs.Heap.{value_at}
-use Rattle.kb_link.proofs.Places.{get_kept}
-use Rattle.kb_link.specs.World.{World}
+use Rattle.kb_classes.proofs.Places.{get_kept}
+use Rattle.kb_classes.specs.World.{World}
 use Rattle.kb_names.specs.declared.types.ExactType.{ExactType}
 use Rattle.kb_terms.proofs.Entries.{slice_get-append-left, slice_get-take}
 use Rattle.kb_picture.proofs.PlaceLaws.{ArePlaced, placed_parts, placed_behind, places_seen}

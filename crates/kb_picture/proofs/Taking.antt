@@ -6,8 +6,8 @@ use Rattle.kb_heap.specs.declared.heap.Value.{Value}
 use Rattle.kb_heap.specs.declared.heap.Value.TheVariants.{Ref}
 use Rattle.kb_heap.specs.declared.heap.Heap.{Heap}
 use Rattle.kb_heap.specs.declared.heap.Input.{Input}
-use Rattle.kb_link.proofs.Places.{get_kept, get_last, get_pushed}
-use Rattle.kb_link.specs.World.{World}
+use Rattle.kb_classes.proofs.Places.{get_kept, get_last, get_pushed}
+use Rattle.kb_classes.specs.World.{World}
 use Rattle.kb_names.specs.declared.types.ExactType.{ExactType}
 use Rattle.kb_terms.proofs.Entries.{slice_get-append-left}
 use Rattle.kb_picture.proofs.GrownShapes.{at_no_place, as_many, locs_many, slot_same, seen_places, choice_places, new_place, seen_each}

@@ -13,10 +13,10 @@ use Rattle.std.proofs.lemmas.Slice.Eq.{bytes_eq-Decides}
 use Rattle.indexmap.specs.IndexSet.{IndexSet, insert_key}
 use Rattle.kb_class.specs.Class.{Class}
 use Rattle.kb_class.specs.declared.members.FieldInfo.{FieldInfo}
-use Rattle.kb_link.proofs.Claiming.{taken_next}
-use Rattle.kb_link.proofs.Places.{zip_pushed}
-use Rattle.kb_link.specs.World.{World}
-use Rattle.kb_link.specs.declared.slots.FieldSlot.{FieldSlot}
+use Rattle.kb_classes.proofs.Walks.{taken_next}
+use Rattle.kb_classes.proofs.Places.{zip_pushed}
+use Rattle.kb_classes.specs.World.{World}
+use Rattle.kb_classes.specs.declared.slots.FieldSlot.{FieldSlot}
 use Rattle.kb_report.specs.Slots.{fields_named, has_namesake}
 use Rattle.kb_report.specs.Tables.{has_name, AreNamesOfMore, AreShared}
 

@@ -5,7 +5,7 @@ use Rattle.std.specs.Fmt.{decimal}
 use Rattle.kb_heap.specs.declared.heap.Value.{Value}
 use Rattle.kb_heap.specs.declared.heap.Object.{Object}
 use Rattle.kb_heap.specs.declared.heap.Input.{Input}
-use Rattle.kb_link.specs.World.{World}
+use Rattle.kb_classes.specs.World.{World}
 use Rattle.kb_log_text.specs.Lines.{learn_lines}
 use Rattle.kb_path_words.specs.Words.{exact_text, seen_text, standing_text, length_text, term_text, out_text, value_text}
 use Rattle.kb_path_words.specs.Lines.{numbered_lines, spaced, decisions_text, leaf_line}

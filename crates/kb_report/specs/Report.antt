@@ -5,7 +5,7 @@ use Rattle.std.specs.Fmt.{decimal}
 use Rattle.kb_grammar.specs.Lines.{lines_text}
 use Rattle.kb_heap.specs.declared.bounds.Bounds.{Bounds}
 use Rattle.kb_heap.specs.declared.bounds.RunBounds.{RunBounds}
-use Rattle.kb_link.specs.World.{World}
+use Rattle.kb_classes.specs.World.{World}
 use Rattle.kb_names.specs.Targets.{target_text}
 use Rattle.kb_names.specs.declared.types.Target.{Target}
 use Rattle.kb_picture.specs.declared.choice.Init.{Init}

@@ -5,8 +5,8 @@ use Rattle.std.specs.Fmt.{decimal}
 use Rattle.std.specs.Str.{bytes_eq}
 use Rattle.kb_class.specs.Class.{Class}
 use Rattle.kb_class.specs.declared.members.FieldInfo.{FieldInfo}
-use Rattle.kb_link.specs.World.{World}
-use Rattle.kb_link.specs.declared.slots.FieldSlot.{FieldSlot}
+use Rattle.kb_classes.specs.World.{World}
+use Rattle.kb_classes.specs.declared.slots.FieldSlot.{FieldSlot}
 use Rattle.kb_names.specs.Descriptors.{type_text}
 use Rattle.kb_names.specs.Escapes.{name_text}
 use Rattle.kb_names.specs.declared.class_names.Spelling.TheVariants.{Escaped}

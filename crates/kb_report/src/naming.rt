@@ -8,7 +8,7 @@ use crate::NoMemory;
 use indexmap::IndexSet;
 use kb_class::{ClassId, FieldInfo};
 use kb_names::Name;
-use kb_world::{FieldSlot, World};
+use kb_semantics::{FieldSlot, World};
 use std::alloc::Global;
 use std::marker::Model;
 
@@ -22,7 +22,7 @@ pub(crate) struct NamedWorld<'a> {
 }
 
 impl<'a> Model for NamedWorld<'a> {
-    ghost use Rattle.kb_link.specs.World.{World as PlainWorld};
+    ghost use Rattle.kb_classes.specs.World.{World as PlainWorld};
     ghost use Rattle.kb_report.specs.Tables.{AreShared};
 
     ghost Value = { PlainWorld };

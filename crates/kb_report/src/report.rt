@@ -17,7 +17,7 @@ use kb_names::Target;
 use kb_path_words::{Text, write_numbered};
 use kb_picture::{Init, Path};
 use kb_rows::Row;
-use kb_world::World;
+use kb_semantics::World;
 use std::alloc::Global;
 
 /// The paths of a method, with what it was explored with: when it is chosen which object a reference is, the bounds on inputs and

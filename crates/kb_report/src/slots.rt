@@ -11,7 +11,7 @@ use kb_class::ClassId;
 use kb_names::ExactType;
 use kb_path_words::{Text, write_numbered};
 use kb_picture::{Origin, PicObject};
-use kb_world::{FieldSlot, World};
+use kb_semantics::{FieldSlot, World};
 
 // The name of a class; nothing where there is no such class.
 fn write_class_name(text: &mut Text, world: &NamedWorld<'_>, class: ClassId) -> Result<(), NoMemory>

@@ -10,7 +10,7 @@ use Rattle.kb_heap.specs.declared.heap.Value.{Value}
 use Rattle.kb_chain.specs.declared.log.Chain.{Chain}
 use Rattle.kb_chain.specs.declared.log.Log.{Log}
 use Rattle.kb_terms.specs.declared.listing.Term.{Term}
-use Rattle.kb_link.specs.World.{World}
+use Rattle.kb_classes.specs.World.{World}
 use Rattle.kb_link.specs.Links.{IsLinked}
 use Rattle.kb_log_text.specs.Lines.{learn_line, learn_lines, IsChain}
 use Rattle.kb_log_text.proofs.LogLaws.{same_chains}

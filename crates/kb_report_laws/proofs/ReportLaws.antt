@@ -10,7 +10,7 @@ use Rattle.kb_grammar.proofs.LineLaws.{AreLines-++}
 use Rattle.kb_log_text.proofs.LogLaws.{same_lines, chains_are_lines}
 use Rattle.kb_heap.specs.declared.bounds.Bounds.{Bounds}
 use Rattle.kb_heap.specs.declared.heap.Input.{Input}
-use Rattle.kb_link.specs.World.{World}
+use Rattle.kb_classes.specs.World.{World}
 use Rattle.kb_link.specs.Links.{IsLinked}
 use Rattle.kb_names.specs.Targets.{target_text}
 use Rattle.kb_names.specs.declared.types.Target.{Target}

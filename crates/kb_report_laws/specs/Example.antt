@@ -4,7 +4,7 @@ use Rattle.std.specs.Prelude.{◌≡◌, pos, [], ◌∷◌, codes, length, Some
 use Rattle.kb_class.specs.declared.ids.MethodId.{MethodId}
 use Rattle.kb_class.specs.declared.members.MethodInfo.{MethodInfo}
 use Rattle.kb_heap.specs.declared.heap.Value.TheVariants.{Int as IntValue}
-use Rattle.kb_link.specs.World.{World}
+use Rattle.kb_classes.specs.World.{World}
 use Rattle.kb_names.specs.declared.types.JType.TheVariants.{Int as IntType}
 use Rattle.kb_semantics.specs.Config.{info_of}
 use Rattle.kb_semantics.specs.Inputs.{argument_types}

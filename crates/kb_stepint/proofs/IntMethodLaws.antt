@@ -8,10 +8,10 @@ use Rattle.kb_class.specs.declared.members.MethodInfo.{MethodInfo}
 use Rattle.kb_class.specs.Members.{is_static}
 use Rattle.kb_code.specs.declared.instruction.Instr.{Instr}
 use Rattle.kb_link.specs.Links.{IsLinked}
-use Rattle.kb_link.specs.World.{World}
+use Rattle.kb_classes.specs.World.{World}
 use Rattle.kb_names.specs.declared.types.JType.{JType}
 use Rattle.kb_names.specs.declared.types.JType.TheVariants as types
-use Rattle.kb_world.specs.Faults.{is_left_out}
+use Rattle.kb_resolution.specs.LeftOut.{is_left_out}
 use Rattle.kb_semantics.specs.Config.{code_of, info_of, instruction_at, instruction_in}
 use Rattle.kb_semantics.specs.Inputs.{argument_types}
 use Rattle.kb_picture.specs.declared.choice.Init.{Init}

@@ -4,7 +4,7 @@ use Rattle.std.proofs.lemmas.List.{length-set}
 use Rattle.kb_code.specs.declared.instruction.Instr.{Instr}
 use Rattle.kb_code.specs.declared.instruction.Instr.TheVariants as instrs
 use Rattle.kb_code.specs.declared.instruction.IntOp.{IntOp}
-use Rattle.kb_link.specs.World.{World, int_entry_of}
+use Rattle.kb_classes.specs.World.{World, int_entry_of}
 use Rattle.kb_semantics.specs.Config.{class_number, max_locals_of, result_of}
 use Rattle.kb_semantics.specs.Comparisons.{table_keys}
 use Rattle.kb_terms.specs.declared.op.Op.{Op}

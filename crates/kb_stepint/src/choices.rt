@@ -17,9 +17,9 @@ use kb_frames::SymState;
 use kb_heap::Bounds;
 use kb_lookups::instruction_at;
 use kb_picture::Choice;
+use kb_semantics::World;
 use kb_terms::TermId;
 use kb_ways::{Condition, Side, an_int, branch_condition, equals_number, is_against, two_ints};
-use kb_world::World;
 use std::alloc::Global;
 
 /// The alternatives of the next step of a state, in their order. Whether a branch is taken: not, then taken. Of a switch each

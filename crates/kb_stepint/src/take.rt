@@ -24,9 +24,9 @@ use kb_frames::{Outcome, SymState};
 use kb_heap::{Bound, Bounds};
 use kb_lookups::instruction_at;
 use kb_picture::{Choice, Origin, SymEnding};
+use kb_semantics::World;
 use kb_terms::TermId;
 use kb_ways::{Side, Turn, an_int, ask, branch_condition, equals_number, place_of, two_ints};
-use kb_world::World;
 use std::alloc::Global;
 
 /// Takes an alternative that [`crate::choices_int`] lists for the state. An argument that is read is a new variable, and the

@@ -10,8 +10,8 @@ use Rattle.kb_class.proofs.Lists.{has_left, has_right}
 use Rattle.kb_class.specs.Naming.{Has}
 use Rattle.kb_class.specs.declared.ids.MethodId.{MethodId}
 use Rattle.kb_heap.specs.declared.bounds.Bounds.{Bounds}
-use Rattle.kb_link.proofs.Places.{get_pushed}
-use Rattle.kb_link.specs.World.{World}
+use Rattle.kb_classes.proofs.Places.{get_pushed}
+use Rattle.kb_classes.specs.World.{World}
 use Rattle.kb_names.specs.declared.types.ExactType.{ExactType}
 use Rattle.kb_names.specs.declared.types.JType.{JType}
 use Rattle.kb_semantics.specs.Looks.{numbers_below}

@@ -9,8 +9,8 @@ use Rattle.kb_heap.specs.declared.heap.Heap.{Heap}
 use Rattle.kb_heap.specs.declared.heap.Input.{Input}
 use Rattle.kb_heap.specs.declared.heap.Value.TheVariants.{Int as IntValue, Ref}
 use Rattle.kb_heap.specs.Heap.{value_at}
-use Rattle.kb_link.proofs.MethodNumbers.{get_before}
-use Rattle.kb_link.specs.World.{World}
+use Rattle.kb_classes.proofs.MethodNumbers.{get_before}
+use Rattle.kb_classes.specs.World.{World}
 use Rattle.kb_terms.specs.declared.node.TermId.{TermId}
 use Rattle.kb_terms.specs.Terms.{IsTerm, int_at}
 use Rattle.kb_terms.proofs.Entries.{slice_get-append-left}

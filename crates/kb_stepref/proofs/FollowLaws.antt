@@ -11,10 +11,10 @@ use Rattle.kb_code.specs.declared.instruction.Instr.TheVariants as instrs
 use Rattle.kb_heap.specs.declared.bounds.Bound.{Bound}
 use Rattle.kb_heap.specs.declared.bounds.Bounds.{Bounds}
 use Rattle.kb_heap.specs.declared.heap.Input.{Input}
-use Rattle.kb_link.specs.World.{World}
-use Rattle.kb_link.specs.declared.slots.FieldSlot.{FieldSlot}
+use Rattle.kb_classes.specs.World.{World}
+use Rattle.kb_classes.specs.declared.slots.FieldSlot.{FieldSlot}
 use Rattle.kb_names.specs.declared.types.JType.{JType}
-use Rattle.kb_world.specs.Lookup.{resolved_field}
+use Rattle.kb_resolution.specs.Lookup.{resolved_field}
 use Rattle.kb_semantics.specs.Config.{Config, class_number, instruction_at}
 use Rattle.kb_semantics.specs.Inputs.{IsTypeCorrect}
 use Rattle.kb_terms.specs.declared.node.Node.TheVariants.{Var}

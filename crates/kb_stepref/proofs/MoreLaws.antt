@@ -2,7 +2,7 @@
 -- reached holds of one of which the stage, the picture, the heap and the terms are others that hold together.
 use Rattle.std.proofs.Common.{◌≡◌, ℕ, zero, suc, ◌<◌, ◌≤◌, List, [], ◌∷◌, ◌++◌, length, Option, Some, None, slice_get, sym, subst, arith}
 use Rattle.kb_blast.specs.Query.{kinds_of}
-use Rattle.kb_link.specs.World.{World}
+use Rattle.kb_classes.specs.World.{World}
 use Rattle.kb_terms.specs.declared.node.Node.{Node}
 use Rattle.kb_terms.specs.Terms.{Extends}
 use Rattle.kb_terms.proofs.Values.{IsTerm-extends}

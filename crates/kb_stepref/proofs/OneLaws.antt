@@ -7,7 +7,7 @@ use Rattle.kb_heap.specs.declared.heap.Input.{Input}
 use Rattle.kb_lazy.proofs.TakesLaws.{one_taken}
 use Rattle.kb_lazy.specs.Choices.{read_choices_of}
 use Rattle.kb_lazy.specs.Laws.{Takes}
-use Rattle.kb_link.specs.World.{World}
+use Rattle.kb_classes.specs.World.{World}
 use Rattle.kb_names.specs.declared.types.JType.{JType}
 use Rattle.kb_semantics.specs.Config.{Config}
 use Rattle.kb_semantics.specs.Inputs.{IsTypeCorrect}

@@ -9,10 +9,10 @@ use Rattle.kb_heap.specs.declared.heap.Object.{Object}
 use Rattle.kb_heap.specs.declared.heap.Value.{Value}
 use Rattle.kb_heap.specs.declared.heap.Value.TheVariants.{Null as NullValue, Ref}
 use Rattle.kb_heap.specs.Heap.{object_at}
-use Rattle.kb_link.specs.World.{World}
-use Rattle.kb_link.specs.declared.slots.FieldSlot.{FieldSlot}
+use Rattle.kb_classes.specs.World.{World}
+use Rattle.kb_classes.specs.declared.slots.FieldSlot.{FieldSlot}
 use Rattle.kb_names.specs.declared.types.JType.{JType}
-use Rattle.kb_world.specs.Lookup.{resolved_field, only_where}
+use Rattle.kb_resolution.specs.Lookup.{resolved_field, only_where}
 use Rattle.kb_semantics.specs.Config.{Setting, Config, Outcome, class_number, local_of, max_locals_of, result_of}
 use Rattle.kb_semantics.specs.Inputs.{IsTypeCorrect}
 use Rattle.kb_semantics.specs.Instructions.{field_of, is_wanted, on_object, same_reference, sets_local, with, is_null as is_null_reference}

@@ -6,7 +6,7 @@ use Rattle.kb_class.proofs.Lists.{all_has}
 use Rattle.kb_class.specs.Naming.{Has}
 use Rattle.kb_heap.specs.declared.bounds.Bound.{Bound}
 use Rattle.kb_heap.specs.declared.bounds.Bounds.{Bounds}
-use Rattle.kb_link.specs.World.{World}
+use Rattle.kb_classes.specs.World.{World}
 use Rattle.kb_names.specs.declared.types.JType.{JType}
 use Rattle.kb_terms.specs.Terms.{IsPool}
 use Rattle.kb_picture.specs.Growing.{is_receiver}

@@ -13,8 +13,8 @@ use kb_heap::Bounds;
 use kb_lazy::read_choices;
 use kb_names::JType;
 use kb_picture::{Choice, Origin};
+use kb_semantics::World;
 use kb_ways::Question;
-use kb_world::World;
 use std::alloc::Global;
 
 /// The alternatives of the next step of a state, in their order. Of a reference that is read for the first time they are null,

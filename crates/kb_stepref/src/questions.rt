@@ -10,8 +10,8 @@ use kb_frames::{Cell, SymState, SymValue};
 use kb_heap::Bounds;
 use kb_lookups::instruction_at;
 use kb_picture::Origin;
+use kb_semantics::{FieldSlot, World};
 use kb_ways::Question;
-use kb_world::{FieldSlot, World};
 use std::alloc::Global;
 
 /// The question of a state: its next argument, or what its next instruction must be told.

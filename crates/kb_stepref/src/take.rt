@@ -21,8 +21,8 @@ use kb_frames::{Outcome, SymState};
 use kb_heap::{Bound, Bounds};
 use kb_lookups::instruction_at;
 use kb_picture::{Choice, Origin, SymEnding};
+use kb_semantics::World;
 use kb_ways::{Question, Turn, answer, passed_by, place_of, slot_of};
-use kb_world::World;
 use std::alloc::Global;
 
 /// Takes an alternative that [`crate::choices_ref`] lists for the state. What was chosen for a slot that is read for the first

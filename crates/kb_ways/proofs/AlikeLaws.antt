@@ -5,7 +5,7 @@ use Rattle.std.specs.Option.{option_map}
 use Rattle.kb_heap.specs.declared.heap.Input.{Input}
 use Rattle.kb_heap.specs.declared.heap.Object.{Object}
 use Rattle.kb_heap.specs.declared.heap.Value.{Value}
-use Rattle.kb_link.specs.World.{World}
+use Rattle.kb_classes.specs.World.{World}
 use Rattle.kb_semantics.specs.Config.{Config, Frame}
 use Rattle.kb_picture.specs.Endings.{Reading}
 use Rattle.kb_frames.specs.declared.frame.SymFrame.{SymFrame}

@@ -3,7 +3,7 @@ use Rattle.std.proofs.Common.{◌≡◌, ℕ, zero, suc, Bool, true, false, List
 use Rattle.std.specs.List.{cons_option, list_any}
 use Rattle.std.specs.Option.{option_map_or, option_map, option_and_then}
 use Rattle.std.proofs.lemmas.Bool.{or_parts}
-use Rattle.kb_world.specs.Lookup.{only_where}
+use Rattle.kb_resolution.specs.Lookup.{only_where}
 use Rattle.kb_frames.specs.States.{Each}
 
 pub no_items : {A : Type 0} (P : A → Type 0) → Each P []

@@ -2,10 +2,10 @@
 use Rattle.std.proofs.Common.{◌≡◌, pos, Bool, true, false, Option, Some, None, refl, sym, ap, ◌∙◌}
 use Rattle.std.specs.Option.{option_and_then}
 use Rattle.std.proofs.lemmas.Option.{none-some, same_Some}
-use Rattle.kb_link.specs.World.{World}
+use Rattle.kb_classes.specs.World.{World}
 use Rattle.kb_names.specs.declared.types.JType.{JType}
 use Rattle.kb_names.specs.declared.types.JType.TheVariants as types
-use Rattle.kb_world.specs.Lookup.{only_where}
+use Rattle.kb_resolution.specs.Lookup.{only_where}
 use Rattle.kb_semantics.specs.Config.{result_of}
 use Rattle.kb_terms.specs.declared.op.Op.TheVariants.{And}
 use Rattle.kb_terms.specs.declared.node.Node.TheVariants.{Const}

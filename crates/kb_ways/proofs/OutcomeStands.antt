@@ -8,7 +8,7 @@ use Rattle.kb_class.specs.declared.members.MethodInfo.{MethodInfo}
 use Rattle.kb_heap.specs.declared.heap.Heap.{Heap}
 use Rattle.kb_heap.specs.declared.heap.Input.{Input}
 use Rattle.kb_heap.specs.declared.heap.Value.{Value}
-use Rattle.kb_link.specs.World.{World}
+use Rattle.kb_classes.specs.World.{World}
 use Rattle.kb_names.specs.declared.types.JType.{JType}
 use Rattle.kb_semantics.specs.Config.{Setting, Config, Frame, first_locals, max_locals_of}
 use Rattle.kb_semantics.specs.Inputs.{IsTypeCorrect, argument_types}

@@ -13,15 +13,15 @@ use Rattle.kb_blast.proofs.Listed.{is-operation}
 use Rattle.kb_class.specs.Naming.{Has}
 use Rattle.kb_class.specs.declared.members.MethodInfo.{MethodInfo}
 use Rattle.kb_class.specs.Members.{is_static}
-use Rattle.kb_link.proofs.Places.{get_pushed}
-use Rattle.kb_link.specs.World.{World}
-use Rattle.kb_link.specs.declared.slots.FieldSlot.{FieldSlot}
+use Rattle.kb_classes.proofs.Places.{get_pushed}
+use Rattle.kb_classes.specs.World.{World}
+use Rattle.kb_classes.specs.declared.slots.FieldSlot.{FieldSlot}
 use Rattle.kb_names.specs.declared.types.JType.{JType}
 use Rattle.kb_semantics.specs.Config.{class_name, info_of, max_locals_of}
 use Rattle.kb_semantics.specs.Inputs.{argument_types}
 use Rattle.kb_semantics.specs.Looks.{numbers_below}
 use Rattle.kb_semantics.specs.Values.{slots_of_class}
-use Rattle.kb_world.specs.Faults.{is_left_out}
+use Rattle.kb_resolution.specs.LeftOut.{is_left_out}
 use Rattle.kb_terms.specs.declared.node.TermId.{TermId}
 use Rattle.kb_terms.specs.declared.node.Node.{Node}
 use Rattle.kb_terms.specs.declared.node.Node.TheVariants.{Const, Var, Op as Apply}

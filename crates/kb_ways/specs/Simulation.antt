@@ -6,7 +6,7 @@ use Rattle.kb_class.specs.Naming.{Has}
 use Rattle.kb_heap.specs.declared.bounds.Bounds.{Bounds}
 use Rattle.kb_heap.specs.declared.heap.Heap.{Heap}
 use Rattle.kb_heap.specs.declared.heap.Input.{Input}
-use Rattle.kb_link.specs.World.{World}
+use Rattle.kb_classes.specs.World.{World}
 use Rattle.kb_semantics.specs.Config.{Setting, Config, Goes as StepGoes, Ends as StepEnds}
 use Rattle.kb_semantics.specs.Comparisons.{Comparison}
 use Rattle.kb_semantics.specs.Inputs.{IsTypeCorrect}

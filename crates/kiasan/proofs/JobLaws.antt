@@ -11,9 +11,9 @@ use Rattle.kb_heap.specs.declared.bounds.Bounds.{Bounds}
 use Rattle.kb_frames.specs.Cuts.{setting_of}
 use Rattle.kb_link.specs.Links.{IsLinked}
 use Rattle.kb_link.specs.Targets.{IsTargetOf}
-use Rattle.kb_link.specs.declared.linking.LinkRefusal.{LinkRefusal}
-use Rattle.kb_link.specs.declared.linking.LinkRefusal.TheVariants as links
-use Rattle.kb_link.specs.World.{World}
+use Rattle.kb_classes.specs.declared.refusal.LinkRefusal.{LinkRefusal}
+use Rattle.kb_classes.specs.declared.refusal.LinkRefusal.TheVariants as links
+use Rattle.kb_classes.specs.World.{World}
 use Rattle.kb_names.specs.declared.types.Target.{Target}
 use Rattle.kb_picture.specs.declared.choice.Init.{Init}
 use Rattle.kb_picture.specs.declared.choice.Init.TheVariants.{Lazy}

@@ -9,7 +9,7 @@ use Rattle.kb_drive.specs.Covers.{Covers, is_open}
 use Rattle.kb_drive.specs.ReadFirst.{SeesWhatIsRead}
 use Rattle.kb_heap.specs.declared.bounds.Bounds.{Bounds}
 use Rattle.kb_link.specs.Targets.{IsTargetOf}
-use Rattle.kb_link.specs.World.{World}
+use Rattle.kb_classes.specs.World.{World}
 use Rattle.kb_picture.specs.declared.path.Path.{Path}
 use Rattle.kb_report.specs.Ranges.{ReportFits}
 use Rattle.kb_report.specs.declared.report.Report.{Report}

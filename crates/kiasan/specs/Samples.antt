@@ -2,7 +2,7 @@
 use Rattle.std.specs.Prelude.{◌≡◌, ℕ, List, [], ◌∷◌, ◌++◌, codes, length, Some}
 use Rattle.std.specs.Fmt.{decimal}
 use Rattle.kb_asm.specs.Class.{IsAssembled}
-use Rattle.kb_link.specs.World.{World}
+use Rattle.kb_classes.specs.World.{World}
 use Rattle.kb_names.specs.declared.types.JType.TheVariants.{Int}
 use Rattle.kb_names.specs.declared.types.Target.{Target}
 use Rattle.kb_picture.specs.declared.choice.Init.TheVariants.{Lazy}

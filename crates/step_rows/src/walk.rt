@@ -2,7 +2,7 @@
 
 ghost use Rattle.std.specs.Prelude.{◌≡◌, true, false, IfOk, OnOk, if◌then◌else◌};
 ghost use Rattle.kb_class.specs.Naming.{Has};
-ghost use Rattle.kb_link.specs.World.{World};
+ghost use Rattle.kb_classes.specs.World.{World};
 ghost use Rattle.kb_frames.specs.Next.{next_is_int};
 ghost use Rattle.kb_frames.specs.State.{State};
 ghost use Rattle.kb_stepint.specs.Choices.{choices_of as int_choices};

@@ -2,7 +2,7 @@
 use Rattle.std.proofs.Common.{◌≡◌, ◌<◌, [], length, Result, Ok, Err, IfOk, sym, ap, ◌∙◌, subst}
 use Rattle.std.proofs.lemmas.Option.{slice_get_within}
 use Rattle.kb_class.specs.declared.ids.MethodId.{MethodId}
-use Rattle.kb_link.specs.World.{methods_in}
+use Rattle.kb_classes.specs.World.{methods_in}
 use Rattle.kb_frames.specs.State.{State, start_state}
 use Rattle.kb_picture.specs.declared.choice.Init.{Init}
 use Rattle.kb_drive.specs.Reached.{IsHeapReached}

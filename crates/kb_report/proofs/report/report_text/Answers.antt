@@ -1,7 +1,7 @@
 use Rattle.std.proofs.Common.{◌≡◌, ◌++◌, ◌∷◌, [], List, ℕ, ap, ◌∙◌}
 use Rattle.std.specs.List.{flat_map}
 use Rattle.kb_grammar.specs.Lines.{lines_text}
-use Rattle.kb_link.specs.World.{World}
+use Rattle.kb_classes.specs.World.{World}
 use Rattle.kb_picture.specs.declared.path.Path.{Path}
 use Rattle.kb_report.specs.Blocks.{path_lines}
 use Rattle.kb_report.specs.Report.{head_lines, total_line, report_lines, report_text}
