@@ -4,7 +4,7 @@ ghost use Rattle.kb_terms.specs.Terms.{IsTerm};
 ghost use Rattle.kb_frames.specs.Lent.{stack_of};
 ghost use Rattle.kb_frames.specs.Next.{next_is_int};
 ghost use Rattle.kb_ways.specs.Asked.{asked_truth, is_against, is_refuted};
-ghost use Rattle.kb_stepint.specs.Choices.{both_ways, branch_conditions, choices_of, division_conditions, divisor_conditions, divisors, key_conditions, keys_from, offered, only, takes_up_none};
+ghost use Rattle.kb_stepint.specs.Choices.{both_ways, branch_conditions, choices_of, division_conditions, divisor_conditions, divisors, key_conditions, keys_from, offered, takes_up_none};
 ghost use Rattle.kb_ways.specs.Needs.{AreSides, HasTerms, IsSide};
 ghost use Rattle.kb_ways.specs.Reached.{IsReached};
 ghost use Rattle.kb_stepint.specs.Keys.{keys_of};
@@ -18,7 +18,9 @@ use kb_heap::Bounds;
 use kb_lookups::instruction_at;
 use kb_picture::Choice;
 use kb_terms::TermId;
-use kb_ways::{Condition, Side, an_int, branch_condition, equals_number, is_against, two_ints};
+use kb_ways::{
+    Condition, Side, an_int, branch_condition, equals_number, is_against, only, two_ints,
+};
 use kb_world::World;
 use std::alloc::Global;
 
@@ -57,14 +59,6 @@ fn takes_up_none(world: &World, state: &SymState, bounds: &Bounds) -> bool
         Some(_) => true,
         None => bounds.run.steps <= state.carried(),
     }
-}
-
-fn only(alloc: Global) -> Result<Vec<Choice>, NoMemory>
-    ensures { IfOk result (λ choices. choices.items ≡ only) }
-{
-    let mut choices = Vec::new(alloc);
-    choices.push(Choice::Only)?;
-    Ok(choices)
 }
 
 // Those of an instruction that ask for nothing that is decided as false.

@@ -1,7 +1,7 @@
 //! The alternatives of the next step on references.
 ghost use Rattle.std.specs.Prelude.{◌≡◌, IfOk};
 ghost use Rattle.kb_picture.specs.Growing.{is_receiver};
-ghost use Rattle.kb_stepref.specs.Choices.{alternatives, choices_of, only};
+ghost use Rattle.kb_stepref.specs.Choices.{alternatives, choices_of};
 ghost use Rattle.kb_stepref.specs.Laws.{IsAtReferences};
 ghost use Rattle.kb_ways.specs.declared.question.Question.TheVariants.{Reads};
 
@@ -13,7 +13,7 @@ use kb_heap::Bounds;
 use kb_lazy::read_choices;
 use kb_names::JType;
 use kb_picture::{Choice, Origin};
-use kb_ways::Question;
+use kb_ways::{Question, only};
 use kb_world::World;
 use std::alloc::Global;
 
@@ -37,14 +37,6 @@ pub fn choices_ref(
         Some(question) => alternatives(alloc, world, state, bounds, &question),
         None => only(alloc),
     }
-}
-
-fn only(alloc: Global) -> Result<Vec<Choice>, NoMemory>
-    ensures { IfOk result (λ choices. choices.items ≡ only) }
-{
-    let mut choices = Vec::new(alloc);
-    choices.push(Choice::Only)?;
-    Ok(choices)
 }
 
 // The alternatives of a question.
