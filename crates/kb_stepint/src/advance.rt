@@ -8,7 +8,8 @@ ghost use Rattle.kb_ways.specs.Advancing.{IsAdvanced};
 ghost use Rattle.kb_ways.specs.Reached.{HasNoHandlers, IsAlone, IsReached};
 
 use crate::NoMemory;
-use crate::choices::choices_int;
+use crate::choices::alternatives;
+use crate::questions::question_next;
 use crate::take::take_int;
 use kb_frames::SymState;
 use kb_heap::Bounds;
@@ -34,10 +35,14 @@ pub fn advance_int(
     ensures advanced { IfOk result (IsAdvanced (choices_of world.now state.old bounds.now) (taken world.now bounds.now state.old Only) state.old state.new) }
     ensures reached { OnOk result (IsReached world.now state.new) }
 {
-    let choices = choices_int(alloc, world, state, bounds)?;
-    let [Choice::Only] = choices.as_slice() else {
-        return Ok(Advanced::Chooses(choices));
-    };
-    let outcome = take_int(alloc, world, state, &Choice::Only, bounds)?;
-    Ok(Advanced::Took(outcome))
+    match question_next(world, state, bounds) {
+        Some(question) => {
+            let choices = alternatives(alloc, state, &question)?;
+            Ok(Advanced::Chooses(choices))
+        }
+        None => {
+            let outcome = take_int(alloc, world, state, &Choice::Only, bounds)?;
+            Ok(Advanced::Took(outcome))
+        }
+    }
 }

@@ -1,6 +1,7 @@
 //! Symbolic steps of ints: the alternatives of the next step of a state, and what a state becomes when one is taken.
 //!
-//! `specs/Choices.antt` has the alternatives, `specs/Takes.antt` what a take makes of a state.
+//! `specs/Choices.antt` has the alternatives, `specs/Questions.antt` what an instruction must be told, `specs/Takes.antt` what a
+//! take makes of a state.
 #![tactic(auto)]
 
 mod advance;
@@ -13,6 +14,7 @@ mod int_methods;
 mod keys;
 mod laws;
 mod locals;
+mod questions;
 mod rearranging;
 mod returns;
 mod take;

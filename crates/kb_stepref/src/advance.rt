@@ -9,8 +9,9 @@ ghost use Rattle.kb_ways.specs.Advancing.{IsAdvanced};
 ghost use Rattle.kb_ways.specs.Reached.{IsReached};
 
 use crate::NoMemory;
-use crate::choices::choices_ref;
-use crate::take::take_ref;
+use crate::choices::offered;
+use crate::questions::{is_choice, question_of};
+use crate::take::take_told;
 use kb_frames::SymState;
 use kb_heap::Bounds;
 use kb_picture::Choice;
@@ -33,10 +34,11 @@ pub fn advance_ref(
     ensures advanced { IfOk result (IsAdvanced (choices_of world.now state.old bounds.now) (taken world.now bounds.now state.old Only) state.old state.new) }
     ensures reached { OnOk result (IsReached world.now state.new) }
 {
-    let choices = choices_ref(alloc, world, state, bounds)?;
-    let [Choice::Only] = choices.as_slice() else {
+    let question = question_of(alloc, world, state, bounds)?;
+    if is_choice(&question) {
+        let choices = offered(alloc, world, state, bounds, &question)?;
         return Ok(Advanced::Chooses(choices));
-    };
-    let outcome = take_ref(alloc, world, state, &Choice::Only, bounds)?;
+    }
+    let outcome = take_told(alloc, world, state, &Choice::Only, bounds, &question)?;
     Ok(Advanced::Took(outcome))
 }
