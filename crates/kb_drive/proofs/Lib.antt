@@ -22,6 +22,8 @@ pub mod PieceLaws
 pub mod ReferenceEnds
 pub mod ReferenceLeads
 pub mod RunLaws
+pub mod RunningLaws
+pub mod TurnLaws
 pub mod SettledLaws
 pub mod SizeLaws
 pub mod SourceLaws

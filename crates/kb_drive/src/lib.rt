@@ -14,6 +14,7 @@ mod laws;
 mod leaf;
 mod met;
 mod piece;
+mod running;
 mod steps;
 mod stop;
 mod taking;

@@ -1,13 +1,18 @@
 //! Pieces with the values of their terms.
-ghost use Rattle.std.specs.Prelude.{◌≡◌, ◌↔◌, IsTrue, IfOk, length, slice_get};
+ghost use Rattle.std.specs.Prelude.{◌≡◌, ◌↔◌, IsTrue, IfOk, OnOk, length, slice_get};
 ghost use Rattle.kb_blast.specs.Meaning.{AreMetInPool};
 ghost use Rattle.kb_ways.specs.Reached.{IsReached};
+ghost use Rattle.kb_lazy.specs.Laws.{AreInRange};
 ghost use Rattle.kb_drive.specs.Following.{HaveMetFirst, IsTakenOf};
+ghost use Rattle.kb_drive.specs.Reached.{GoesOnReached, IsHeapReached};
+ghost use Rattle.kb_drive.specs.Running.{AreReachedOn, TellsChoices, outcome_of, runs_on, told_ran};
+ghost use Rattle.kb_drive.specs.Steps.{EndsIn};
 ghost use Rattle.kb_drive.specs.Walks.{CanBeTaken};
 
 use crate::NoMemory;
 use crate::met::are_met_behind;
 use crate::piece::Piece;
+use crate::running::{Ran, run_on};
 use crate::taking::go_on;
 use kb_frames::Outcome;
 use kb_heap::Bounds;
@@ -94,6 +99,29 @@ impl Valued {
         let computed = self.computed;
         let outcome = go_on(alloc, world, bounds, piece.get_mut(), choices, next)?;
         Ok((Valued { piece, computed }, outcome))
+    }
+
+    /// The piece, gone on as long as nothing is chosen, and what has become of it.
+    pub(crate) fn run_on(
+        self,
+        alloc: Global,
+        world: &World,
+        bounds: &Bounds,
+    ) -> Result<(Valued, Ran), NoMemory>
+        requires reached { IsHeapReached world.now self.state }
+        requires range { AreInRange bounds.now }
+        ensures ran { IfOk result (λ went. told_ran went.0.state went.1 ≡ runs_on world.now bounds.now self.state) }
+        ensures same { IfOk result (λ went. went.0 ≡ record self { state = went.0.state }) }
+        ensures choices { IfOk result (λ went. TellsChoices world.now bounds.now went.0.state went.1) }
+        ensures way { OnOk result (AreReachedOn world.now bounds.now self.state) }
+        ensures reached { IfOk result (λ went. IsReached world.now went.0.state) }
+        ensures leads { IfOk result (λ went. GoesOnReached world.now went.0.state (outcome_of went.1)) }
+        ensures ending { IfOk result (λ went. EndsIn world.now went.0.state (outcome_of went.1)) }
+    {
+        let mut piece = self.piece;
+        let computed = self.computed;
+        let ran = run_on(alloc, world, bounds, &mut piece.get_mut().state)?;
+        Ok((Valued { piece, computed }, ran))
     }
 
     /// Whether the values meet all conditions, where they meet the first so many. Where there are others the values of the terms
