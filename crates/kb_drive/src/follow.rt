@@ -146,7 +146,7 @@ fn settle(alloc: Global, world: &World, piece: Valued, ran: Ran) -> Result<Next,
     }
 }
 
-/// A piece waits at its next choice.
+/// A piece waits at its next step, whether it chooses or not.
 pub(crate) fn begin(
     alloc: Global,
     world: &World,
