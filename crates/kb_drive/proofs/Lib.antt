@@ -21,6 +21,7 @@ pub mod PathLaws
 pub mod PieceLaws
 pub mod ReferenceEnds
 pub mod ReferenceLeads
+pub mod RanLaws
 pub mod RunLaws
 pub mod RunningLaws
 pub mod TurnLaws

@@ -3,23 +3,17 @@ use Rattle.std.proofs.Common.{◌≡◌, ℕ, List, [], ◌∷◌, ◌++◌, len
 use Rattle.kb_blast.specs.Query.{Query, query_of}
 use Rattle.kb_class.specs.declared.ids.MethodId.{MethodId}
 use Rattle.kb_heap.specs.declared.bounds.Bounds.{Bounds}
-use Rattle.kb_heap.specs.declared.heap.Input.{Input}
 use Rattle.kb_link.specs.World.{World}
 use Rattle.kb_oracle.specs.declared.answer.Answer.{Answer}
 use Rattle.kb_oracle.specs.declared.answer.Answer.TheVariants.{Model, Refuted, Undecided as UndecidedAnswer}
 use Rattle.kb_picture.specs.declared.choice.Choice.{Choice}
-use Rattle.kb_picture.specs.declared.path.Leaf.TheVariants.{Ended as EndedLeaf, Open as OpenLeaf}
+use Rattle.kb_picture.specs.declared.path.Leaf.TheVariants.{Open as OpenLeaf}
 use Rattle.kb_picture.specs.declared.path.Path.{Path}
-use Rattle.kb_picture.specs.WellFormed.{IsClosed}
-use Rattle.kb_terms.specs.Terms.{AreTerms}
-use Rattle.kb_frames.specs.declared.value.Outcome.{Outcome}
-use Rattle.kb_frames.specs.declared.value.Outcome.TheVariants.{Asks, Goes, Ends, Cut}
-use Rattle.kb_frames.specs.Paths.{path_of, path_roots}
+use Rattle.kb_frames.specs.Paths.{path_of}
 use Rattle.kb_frames.proofs.FormedPaths.{roots_are_terms}
 use Rattle.kb_ways.specs.Reached.{IsReached}
 use Rattle.kb_ways.specs.Ways.{Take}
-use Rattle.kb_drive.specs.Reached.{GoesOnReached, IsHeapReached}
-use Rattle.kb_drive.specs.declared.piece.Piece.{Piece}
+use Rattle.kb_drive.specs.Reached.{GoesOnReached}
 use Rattle.kb_drive.specs.declared.follow.Known.{Known}
 use Rattle.kb_drive.specs.declared.follow.Known.TheVariants.{Open, Met, Answered}
 use Rattle.kb_drive.specs.declared.follow.Next.{Next}
@@ -27,24 +21,24 @@ use Rattle.kb_drive.specs.declared.waiting.Taken.{Taken}
 use Rattle.kb_drive.specs.declared.waiting.Waiting.{Waiting}
 use Rattle.kb_drive.specs.declared.walk.Walk.{Walk}
 use Rattle.kb_drive.specs.Explorable.{IsExplorable}
-use Rattle.kb_drive.specs.Following.{CanFollow, CanFollowOutcome, IfMet, IsAskedWithin, IsKnown, IsReachedBehind, IsTakenFrom, IsTakenOf, StoodMet, alternative_next, follows, given_after, path_of_piece, taken_from, waits_on, walk_with}
+use Rattle.kb_drive.specs.Following.{CanFollow, IfMet, IsAskedWithin, IsKnown, IsReachedBehind, IsTakenFrom, IsTakenOf, StoodMet, alternative_next, follows, given_after, path_of_piece, taken_from, waits_on, walk_with}
 use Rattle.kb_drive.specs.Pieces.{IsBehind}
-use Rattle.kb_frames_laws.specs.Endings.{ended_in}
 use Rattle.kb_drive.specs.Running.{ran_behind}
-use Rattle.kb_drive.specs.Steps.{EndsIn, LeadsOn}
+use Rattle.kb_drive.specs.Steps.{LeadsOn}
 use Rattle.kb_drive.specs.declared.stop.DriveStop.{DriveStop}
 use Rattle.kb_drive.specs.declared.stop.DriveStop.TheVariants.{Oracle, NoMemory}
 use Rattle.kb_drive.specs.Stops.{IfOracle, IsRefused, IsUnserved}
 use Rattle.kb_drive.specs.Taking.{taken_at}
 use Rattle.kb_drive.specs.Values.{AreGiven, OfGiven}
 use Rattle.kb_drive.specs.Walks.{EachWaiting, IsFrom, IsRefined, IsWaiting, IsWalk, KeepsSources}
-use Rattle.kb_frames_laws.proofs.EndingLaws.{endings_mean, none_beyond}
+use Rattle.kb_frames_laws.proofs.EndingLaws.{endings_mean}
 use Rattle.kb_drive.proofs.GivenLaws.{one_places}
 use Rattle.kb_drive.proofs.InputLaws.{inputs_of_states}
 use Rattle.kb_drive.proofs.EachLeads.{steps_lead}
 use Rattle.kb_drive.proofs.LeafLaws.{unserved}
 use Rattle.kb_drive.proofs.PathLaws.{path_is}
 use Rattle.kb_drive.proofs.PieceLaws.{behind_piece}
+use Rattle.kb_drive.proofs.RanLaws.{can_follow_outcome}
 use Rattle.kb_drive.proofs.RunningLaws.{run_keeps_behind}
 use Rattle.kb_drive.proofs.SourceLaws.{IsFormedOf, given_behind, given_more, sources_with}
 use Rattle.kb_drive.proofs.StepLaws.{HasStepped, has_stepped}
@@ -93,24 +87,6 @@ was_taken world target bounds (first ∷ others) now taken each from = go (slice
         → WasTaken world target bounds (first ∷ others) now taken
     go None at of = absurd of
     go (Some choice) at of = record { first = first; others = others; choice = choice; waits = refl; at = at; is = of; now_is = from.1; waiting_is = each.0 }
-
--- an input without objects and arguments names no object that it has not
-no_input : Input
-no_input = record { heap = record { objects = [] }; args = [] }
-
-no_input_closed : IsClosed no_input
-unfolding no_input
-no_input_closed = record { arguments = λ i value at. absurd cc; objects = λ i j object value at there. absurd cc }
-
--- a piece can go on, or its path can be made, whatever input that carries
-pub can_follow_outcome : (world : World) (piece : Piece) (outcome : Outcome) → IsReached world piece.state → GoesOnReached world piece.state outcome
-    → EndsIn world piece.state outcome → CanFollowOutcome world piece outcome
-can_follow_outcome world piece Asks reached goes ends = goes
-can_follow_outcome world piece Goes reached goes ends = goes
-can_follow_outcome world piece (Ends ending) reached goes ends =
-    let means = endings_mean world piece.state [] ending no_input reached.sound (none_beyond piece.state.picture goes.known) ends no_input_closed in
-    roots_are_terms world piece.state (EndedLeaf (ended_in piece.state ending no_input)) reached.sound means.leaf
-can_follow_outcome world piece (Cut bound) reached goes ends = roots_are_terms world piece.state OpenLeaf reached.sound tt
 
 module _ (world : World) (target : MethodId) (bounds : Bounds) (waiting now : List Waiting) (taken : Taken) (was : WasTaken world target bounds waiting now taken)
     (explorable : IsExplorable world target bounds) (reached : IsReached world taken.piece.state) where

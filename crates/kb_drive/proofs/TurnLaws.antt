@@ -5,15 +5,9 @@ use Rattle.kb_heap.specs.declared.bounds.Bounds.{Bounds}
 use Rattle.kb_lazy.specs.Laws.{AreInRange}
 use Rattle.kb_link.specs.World.{World}
 use Rattle.kb_picture.specs.declared.choice.Choice.{Choice}
-use Rattle.kb_picture.specs.declared.choice.Choice.TheVariants.{Only}
 use Rattle.kb_frames.specs.declared.value.Outcome.{Outcome}
 use Rattle.kb_frames.specs.declared.value.Outcome.TheVariants.{Asks, Goes, Ends, Cut}
-use Rattle.kb_frames.specs.Next.{next_is_int}
 use Rattle.kb_frames.specs.State.{State}
-use Rattle.kb_stepint.specs.Choices.{choices_of as int_choices}
-use Rattle.kb_stepint.specs.Takes.{taken as int_taken}
-use Rattle.kb_stepref.specs.Choices.{choices_of as reference_choices}
-use Rattle.kb_stepref.specs.Takes.{taken as reference_taken}
 use Rattle.kb_terms.specs.Terms.{Extends}
 use Rattle.kb_ways.specs.Advancing.{IsAdvanced, only}
 use Rattle.kb_ways.specs.declared.advanced.Advanced.{Advanced}
@@ -215,18 +209,3 @@ advanced_terms world bounds old new (Chooses choices) range is advanced = subst 
 advanced_terms world bounds old new (Took outcome) range is advanced =
     let leads = way_leads steps_lead world bounds range old is (rw advanced.0 refl) in
     subst (λ (t : Take). Extends old.nodes t.state.nodes) (sym advanced.1) leads.kept.terms
-
--- which kind of step it was
-abbrev IsAdvancedBy : World → Bounds → State → State → Advanced → Bool → Type 0
-IsAdvancedBy world bounds old new advanced ints =
-    IsAdvanced (if ints then int_choices world old bounds else reference_choices world old bounds)
-    (if ints then int_taken world bounds old Only else reference_taken world bounds old Only) old new advanced
-
-pub advanced_by_ints : (world : World) (bounds : Bounds) (old new : State) (advanced : Advanced) → next_is_int world old ≡ true
-    → IsAdvanced (int_choices world old bounds) (int_taken world bounds old Only) old new advanced → IsAdvanced (choices_at world bounds old) (way_on world bounds old) old new advanced
-advanced_by_ints world bounds old new advanced ints is = subst (IsAdvancedBy world bounds old new advanced) (sym ints) is
-
-pub advanced_by_references : (world : World) (bounds : Bounds) (old new : State) (advanced : Advanced) → next_is_int world old ≡ false
-    → IsAdvanced (reference_choices world old bounds) (reference_taken world bounds old Only) old new advanced
-    → IsAdvanced (choices_at world bounds old) (way_on world bounds old) old new advanced
-advanced_by_references world bounds old new advanced none is = subst (IsAdvancedBy world bounds old new advanced) (sym none) is

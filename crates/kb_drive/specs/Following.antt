@@ -17,6 +17,7 @@ use Rattle.kb_terms.specs.Terms.{AreTerms, variables_of}
 use Rattle.kb_frames.specs.declared.value.Outcome.{Outcome}
 use Rattle.kb_frames.specs.declared.value.Outcome.TheVariants.{Asks, Goes, Ends, Cut}
 use Rattle.kb_frames.specs.Paths.{path_of, path_roots}
+use Rattle.kb_ways.specs.Ways.{Take}
 use Rattle.kb_drive.specs.Reached.{IsHeapReached}
 use Rattle.kb_drive.specs.declared.piece.Piece.{Piece}
 use Rattle.kb_drive.specs.declared.waiting.Waiting.{Waiting}
@@ -167,14 +168,12 @@ pub record CanFollow (world : World) (taken : Taken) : Type 0 where
   pub terms : AreTerms taken.piece.state.nodes (path_roots taken.piece.state OpenLeaf)
   pub outcome : CanFollowOutcome world taken.piece taken.outcome
 
--- A piece has gone on from a take as long as nothing was chosen: what it has become, with the alternatives of its next choice
--- where it has one. A path can be made of it.
-pub record HasRun (world : World) (bounds : Bounds) (old : Piece) (outcome : Outcome) (new : Piece) (ran : Ran) : Type 0 where
-  pub is : told_ran new.state ran ≡ ran_behind world bounds old.state outcome
+-- A piece has become this take, with the alternatives of its next choice where it has one; a path can be made of it.
+pub record HasBecome (world : World) (bounds : Bounds) (old : Piece) (after : Take) (new : Piece) (ran : Ran) : Type 0 where
+  pub is : told_ran new.state ran ≡ after
   pub same : new ≡ record old { state = new.state }
   pub choices : TellsChoices world bounds new.state ran
   pub can : CanFollowOutcome world new (outcome_of ran)
-  pub way : IfGoesOn outcome (AreReachedOn world bounds old.state)
 
 -- ---- the exploration behind it
 

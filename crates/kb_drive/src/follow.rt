@@ -4,10 +4,10 @@ ghost use Rattle.kb_frames.specs.Paths.{path_roots};
 ghost use Rattle.kb_drive.specs.Reached.{IsHeapReached};
 ghost use Rattle.kb_terms.specs.Terms.{AreTerms};
 ghost use Rattle.kb_lazy.specs.Laws.{AreInRange};
-ghost use Rattle.kb_drive.specs.Following.{CanFollow, CanFollowOutcome, HasRun, IsReachedBehind, follows, follows_answer, follows_on, follows_ran, path_of_piece, waits_at};
+ghost use Rattle.kb_drive.specs.Following.{CanFollow, CanFollowOutcome, HasBecome, IsReachedBehind, follows, follows_answer, follows_on, follows_ran, path_of_piece, waits_at};
 ghost use Rattle.kb_drive.specs.declared.follow.Known.TheVariants.{Answered};
 ghost use Rattle.kb_drive.specs.declared.follow.Next.TheVariants as nexts;
-ghost use Rattle.kb_drive.specs.Running.{AreReachedOn, IfGoesOn, outcome_of};
+ghost use Rattle.kb_drive.specs.Running.{AreReachedOn, IfGoesOn, outcome_of, ran_behind};
 ghost use Rattle.kb_drive.specs.Taking.{choices_at};
 
 use crate::NoMemory;
@@ -124,7 +124,8 @@ fn run_behind(
 ) -> Result<(Valued, Ran), NoMemory>
     requires piece { CanFollowOutcome world.now piece outcome }
     requires range { AreInRange bounds.now }
-    ensures { IfOk result (λ went. HasRun world.now bounds.now piece outcome went.0 went.1) }
+    ensures became { IfOk result (λ went. HasBecome world.now bounds.now piece (ran_behind world.now bounds.now piece.state outcome) went.0 went.1) }
+    ensures way { OnOk result (IfGoesOn outcome (AreReachedOn world.now bounds.now piece.state)) }
 {
     match outcome {
         Outcome::Asks => piece.run_on(alloc, world, bounds),

@@ -3,10 +3,9 @@ ghost use Rattle.std.specs.Prelude.{◌≡◌, ◌↔◌, IsTrue, IfOk, OnOk, le
 ghost use Rattle.kb_blast.specs.Meaning.{AreMetInPool};
 ghost use Rattle.kb_ways.specs.Reached.{IsReached};
 ghost use Rattle.kb_lazy.specs.Laws.{AreInRange};
-ghost use Rattle.kb_drive.specs.Following.{HaveMetFirst, IsTakenOf};
-ghost use Rattle.kb_drive.specs.Reached.{GoesOnReached, IsHeapReached};
-ghost use Rattle.kb_drive.specs.Running.{AreReachedOn, TellsChoices, outcome_of, runs_on, told_ran};
-ghost use Rattle.kb_drive.specs.Steps.{EndsIn};
+ghost use Rattle.kb_drive.specs.Following.{HasBecome, HaveMetFirst, IsTakenOf};
+ghost use Rattle.kb_drive.specs.Reached.{IsHeapReached};
+ghost use Rattle.kb_drive.specs.Running.{AreReachedOn, runs_on};
 ghost use Rattle.kb_drive.specs.Walks.{CanBeTaken};
 
 use crate::NoMemory;
@@ -110,13 +109,8 @@ impl Valued {
     ) -> Result<(Valued, Ran), NoMemory>
         requires reached { IsHeapReached world.now self.state }
         requires range { AreInRange bounds.now }
-        ensures ran { IfOk result (λ went. told_ran went.0.state went.1 ≡ runs_on world.now bounds.now self.state) }
-        ensures same { IfOk result (λ went. went.0 ≡ record self { state = went.0.state }) }
-        ensures choices { IfOk result (λ went. TellsChoices world.now bounds.now went.0.state went.1) }
+        ensures became { IfOk result (λ went. HasBecome world.now bounds.now self (runs_on world.now bounds.now self.state) went.0 went.1) }
         ensures way { OnOk result (AreReachedOn world.now bounds.now self.state) }
-        ensures reached { IfOk result (λ went. IsReached world.now went.0.state) }
-        ensures leads { IfOk result (λ went. GoesOnReached world.now went.0.state (outcome_of went.1)) }
-        ensures ending { IfOk result (λ went. EndsIn world.now went.0.state (outcome_of went.1)) }
     {
         let mut piece = self.piece;
         let computed = self.computed;
