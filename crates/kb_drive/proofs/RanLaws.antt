@@ -16,7 +16,7 @@ use Rattle.kb_drive.specs.declared.running.Ran.{Ran}
 use Rattle.kb_drive.specs.declared.running.Ran.TheVariants as rans
 use Rattle.kb_drive.specs.Following.{CanFollowOutcome, HasBecome, follows_on, follows_outcome, follows_ran, waits_at}
 use Rattle.kb_drive.specs.Reached.{GoesOnReached}
-use Rattle.kb_drive.specs.Running.{TellsChoices, outcome_of, ran_behind}
+use Rattle.kb_drive.specs.Running.{TellsChoices, outcome_of, ran_behind, told_ran}
 use Rattle.kb_drive.specs.Steps.{EndsIn}
 use Rattle.kb_frames_laws.specs.Endings.{ended_in}
 use Rattle.kb_frames_laws.proofs.EndingLaws.{endings_mean, none_beyond}
@@ -50,3 +50,14 @@ pub become_follows : (world : World) (bounds : Bounds) (old : Piece) (outcome : 
 become_follows world bounds old outcome new ran is =
     subst (λ (after : Take). follows_ran world new ran ≡ follows_outcome world bounds (record old { state = after.state }) after.outcome) is.is
     (subst (λ (piece : Piece). follows_ran world new ran ≡ follows_outcome world bounds piece (outcome_of ran)) is.same (told_follows world bounds new ran is.choices))
+
+-- as its calls tell it
+pub has_become : (world : World) (bounds : Bounds) (old : Piece) (after : Take) (new : Piece) (ran : Ran) → told_ran new.state ran ≡ after → new ≡ record old { state = new.state }
+    → TellsChoices world bounds new.state ran → IsReached world new.state → GoesOnReached world new.state (outcome_of ran) → EndsIn world new.state (outcome_of ran)
+    → HasBecome world bounds old after new ran
+has_become world bounds old after new ran is same choices reached goes ends = record {
+  is = is;
+  same = same;
+  choices = choices;
+  can = can_follow_outcome world new (outcome_of ran) reached goes ends;
+}
