@@ -101,7 +101,6 @@ impl Valued {
     }
 
     /// The piece, gone on as long as nothing is chosen, and what has become of it.
-    #[tactic(auto, using(crate::proofs::RanLaws::has_become))]
     pub(crate) fn run_on(
         self,
         alloc: Global,

@@ -2,7 +2,7 @@
 use Rattle.std.proofs.Common.{rules, ◌≡◌, Some, None}
 use Rattle.kb_terms.proofs.Values.{Extends-trans}
 use Rattle.kb_drive.specs.Running.{WentFurther}
-use Rattle.kb_drive.proofs.TurnLaws.{fewer_there, goes_on_there, leads_there, runs_further, runs_stop, way_there}
+use Rattle.kb_drive.proofs.TurnLaws.{ends_there, fewer_there, goes_on_there, leads_there, runs_further, runs_stop, way_there}
 use Rattle.kb_drive.proofs.running.run_on.Goals as goal
 
 pub returns-in-Some-clause-ran : goal.returns-in-Some-clause-ran
@@ -21,6 +21,11 @@ pub returns-in-Some-clause-leads : goal.returns-in-Some-clause-leads
 returns-in-Some-clause-leads c =
     let went : WentFurther c.args.world.now c.args.bounds.now c.loop-ran.state c.go_further.new.state (Some c.in-Some.ran) = search rules in
     leads_there c.args.world.now c.args.bounds.now c.loop-ran.state c.go_further.new.state c.requires.range c.loop-ran.invariant.reached c.in_ok-ran.ensures.reached c.in-Some.ran went
+
+pub returns-in-Some-clause-ending : goal.returns-in-Some-clause-ending
+returns-in-Some-clause-ending c =
+    let went : WentFurther c.args.world.now c.args.bounds.now c.loop-ran.state c.go_further.new.state (Some c.in-Some.ran) = search rules in
+    ends_there c.args.world.now c.args.bounds.now c.loop-ran.state c.go_further.new.state c.requires.range c.loop-ran.invariant.reached c.in_ok-ran.ensures.reached c.in-Some.ran went
 
 pub loop-ran-smaller : goal.loop-ran-smaller
 loop-ran-smaller c =
