@@ -1,5 +1,5 @@
 -- What a piece has become: its path can be made, and what follows it follows what it was.
-use Rattle.std.proofs.Common.{◌≡◌, [], refl, sym, ap, ◌∙◌, subst}
+use Rattle.std.proofs.Common.{◌≡◌, [], refl, ap, subst}
 use Rattle.kb_heap.specs.declared.bounds.Bounds.{Bounds}
 use Rattle.kb_heap.specs.declared.heap.Input.{Input}
 use Rattle.kb_link.specs.World.{World}
@@ -11,7 +11,6 @@ use Rattle.kb_frames.proofs.FormedPaths.{roots_are_terms}
 use Rattle.kb_ways.specs.Reached.{IsReached}
 use Rattle.kb_ways.specs.Ways.{Take}
 use Rattle.kb_drive.specs.declared.piece.Piece.{Piece}
-use Rattle.kb_drive.specs.declared.follow.Next.{Next}
 use Rattle.kb_drive.specs.declared.running.Ran.{Ran}
 use Rattle.kb_drive.specs.declared.running.Ran.TheVariants as rans
 use Rattle.kb_drive.specs.Following.{CanFollowOutcome, HasBecome, follows_on, follows_outcome, follows_ran, waits_at}

@@ -1,6 +1,6 @@
 -- The turns of a run by the only ways on: what one of them does, and what they come to.
-use Rattle.std.proofs.Common.{◌≡◌, ◌≢◌, ℕ, zero, suc, ◌<◌, ◌≤◌, Bool, true, false, List, length, Some, None, refl, sym, ap, ◌∙◌, subst, arith, take_all}
-use Rattle.std.specs.Prelude.{Option, if◌then◌else◌}
+use Rattle.std.proofs.Common.{◌≡◌, ◌≢◌, ℕ, zero, suc, ◌<◌, Bool, true, false, List, length, Some, None, refl, sym, ap, ◌∙◌, subst, arith, take_all}
+use Rattle.std.specs.Prelude.{if◌then◌else◌}
 use Rattle.kb_heap.specs.declared.bounds.Bounds.{Bounds}
 use Rattle.kb_lazy.specs.Laws.{AreInRange}
 use Rattle.kb_link.specs.World.{World}
@@ -19,8 +19,8 @@ use Rattle.kb_drive.specs.declared.running.Ran.{Ran}
 use Rattle.kb_drive.specs.declared.running.Ran.TheVariants as rans
 use Rattle.kb_drive.specs.Reached.{GoesOnReached, IsHeapReached}
 use Rattle.kb_drive.specs.Running.{AreReachedOn, AreReachedWithin, IfGoesOn, IfOnly, TellsChoices, WentFurther, is_only, outcome_of, ran_by, run_behind, runs_on, runs_within, stays, told_ran, way_on}
-use Rattle.kb_drive.specs.Steps.{EndsIn, GoesOn, LeadsOn, rank_of}
-use Rattle.kb_drive.specs.Taking.{choices_at, taken_at}
+use Rattle.kb_drive.specs.Steps.{EndsIn, GoesOn, rank_of}
+use Rattle.kb_drive.specs.Taking.{choices_at}
 use Rattle.kb_drive.proofs.EachLeads.{steps_lead}
 use Rattle.kb_drive.proofs.RunningLaws.{only_of, way_leads}
 
