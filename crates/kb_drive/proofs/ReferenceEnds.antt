@@ -24,7 +24,8 @@ use Rattle.kb_ways.specs.Ways.{with_stack, Take, Fails, ill_typed}
 use Rattle.kb_ways.proofs.GrowLaws.{if_has, option_has}
 use Rattle.kb_ways.proofs.ItemLaws.{option_has_at}
 use Rattle.kb_ways.proofs.SoundLaws.{begun_sound, sound_reached}
-use Rattle.kb_stepref.specs.Choices.{alternatives, only}
+use Rattle.kb_stepref.specs.Choices.{alternatives}
+use Rattle.kb_ways.specs.Advancing.{only}
 use Rattle.kb_ways.specs.Plans.{Planned, plain, planned, carried_out, takes_next, takes_up, returns_value}
 use Rattle.kb_stepref.specs.Effects.{branch_where, got, in_local, is_local, plan_of, put, put_where, puts_kept}
 use Rattle.kb_stepref.specs.Fields.{field_named, has_place, held}

@@ -39,7 +39,8 @@ use Rattle.kb_frames.specs.State.{State}
 use Rattle.kb_frames.proofs.RunLaws.{counters_agree}
 use Rattle.kb_ways.specs.declared.condition.Condition.{Condition}
 use Rattle.kb_ways.specs.Asked.{all_asked, is_refuted}
-use Rattle.kb_stepint.specs.Choices.{choices_of, conditions_of, listed, offered, only}
+use Rattle.kb_stepint.specs.Choices.{choices_of, conditions_of, listed, offered}
+use Rattle.kb_ways.specs.Advancing.{only}
 use Rattle.kb_ways.specs.Plans.{Planned, carried_out, takes_next, takes_up, followed}
 use Rattle.kb_stepint.specs.Effects.{plan_of, effect_of}
 use Rattle.kb_stepint.specs.Laws.{IsAtInts}

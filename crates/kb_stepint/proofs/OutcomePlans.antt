@@ -53,8 +53,9 @@ use Rattle.kb_frames.specs.State.{State}
 use Rattle.kb_ways.specs.declared.condition.Side.{Side}
 use Rattle.kb_ways.specs.declared.condition.Side.TheVariants.{Term, Number}
 use Rattle.kb_ways.specs.Asked.{interned_op}
-use Rattle.kb_stepint.specs.Choices.{both_ways, branch_conditions, conditions_of, division_conditions, divisor_conditions, divisors, key_conditions, keys_from, listed, only}
+use Rattle.kb_stepint.specs.Choices.{both_ways, branch_conditions, conditions_of, division_conditions, divisor_conditions, divisors, key_conditions, keys_from, listed}
 use Rattle.kb_ways.specs.Kept.{kept as sym_kept, masked}
+use Rattle.kb_ways.specs.Advancing.{only}
 use Rattle.kb_ways.specs.Plans.{returns_value as returns_value_sym, leaves_with, Planned, plain, planned}
 use Rattle.kb_stepint.specs.Effects.{pushes, pushes_int, int_local, loads, in_local, stores, adds, increases, picked, rearranges, op_of, op_of_cut, computes, computes_by, computes_two, branch_way, switch_way, switches, returns_int, branches as branches_sym, returns_nothing as returns_nothing_sym, effect_of}
 use Rattle.kb_ways.specs.Ways.{with_stack, Goes, Jumps, Leaves, Fails}

@@ -43,7 +43,8 @@ use Rattle.kb_ways.proofs.GrowLaws.{if_has}
 use Rattle.kb_ways.proofs.OneAsked.{conditions_there}
 use Rattle.kb_ways.proofs.OneInstances.{met_of_instance}
 use Rattle.kb_ways.proofs.ValueLaws.{IsOrdered, ordered_more, pool_ordered}
-use Rattle.kb_stepref.specs.Choices.{alternatives, only}
+use Rattle.kb_stepref.specs.Choices.{alternatives}
+use Rattle.kb_ways.specs.Advancing.{only}
 use Rattle.kb_stepref.specs.Fields.{field_named, has_slot_of}
 use Rattle.kb_ways.specs.Built.{is_reference_instruction}
 use Rattle.kb_lazy.specs.Laws.{AreInRange}

@@ -323,7 +323,7 @@ module _ (world : World) (bounds : Bounds) (old : State) (choice : Choice) where
 
   -- ---- what is compared
 
-  taken_when : (taken world bounds old choice).state.when ≡ old.when
+  pub taken_when : (taken world bounds old choice).state.when ≡ old.when
   taken_when =
       option_has (λ (take : Take). take.state.when ≡ old.when) (question_of world old bounds) (answers plan_of world bounds choice old) (takes_next plan_of world bounds Only old)
       (λ question. (answers_untold world bounds choice old question).when ∙ answered_when world choice old question) (takes_next_untold world bounds old).when

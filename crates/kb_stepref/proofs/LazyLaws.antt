@@ -31,8 +31,9 @@ use Rattle.kb_stepref.proofs.FieldSlots.{all_joined}
 
 -- ---- what is offered
 
--- the choice is no location
+-- something was chosen, and no location
 abbrev pub IsKnown : Choice → Type 0
+IsKnown choices.Only = ⊥
 IsKnown choices.Location = ⊥
 IsKnown _ = Unit {0}
 

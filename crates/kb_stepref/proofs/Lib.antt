@@ -14,6 +14,7 @@ pub mod MethodLaws
 pub mod MoreLaws
 pub mod ObjectLaws
 pub mod OneLaws
+pub mod OnlyLaws
 pub mod OutcomeLaws
 pub mod OutcomePlans
 pub mod PutHeaps

@@ -34,7 +34,8 @@ use Rattle.kb_ways.specs.Simulation.{HasInputOfState}
 use Rattle.kb_ways.specs.Ways.{Take}
 use Rattle.kb_ways.proofs.SoundLaws.{Sound, begun_sound, reached_sound, sound_reached}
 use Rattle.kb_ways.proofs.TakeLaws.{sound_terms}
-use Rattle.kb_stepref.specs.Choices.{alternatives, only}
+use Rattle.kb_stepref.specs.Choices.{alternatives}
+use Rattle.kb_ways.specs.Advancing.{only}
 use Rattle.kb_stepref.specs.Laws.{IsAtReferences, OfTakes}
 use Rattle.kb_ways.specs.declared.question.Question.{Question}
 use Rattle.kb_ways.specs.declared.question.Question.TheVariants.{Reads}

@@ -38,7 +38,8 @@ use Rattle.kb_ways.proofs.ItemLaws.{each_cons, each_drop, each_set, option_has_a
 use Rattle.kb_ways.proofs.KeepLaws.{went_stays}
 use Rattle.kb_ways.proofs.GoodWays.{IsGood, running_now, went_sound}
 use Rattle.kb_ways.proofs.SoundLaws.{Sound, begun_sound, frame_sound, receiver_seen, sound_reached}
-use Rattle.kb_stepref.specs.Choices.{alternatives, choices_of, only}
+use Rattle.kb_stepref.specs.Choices.{alternatives, choices_of}
+use Rattle.kb_ways.specs.Advancing.{only}
 use Rattle.kb_ways.specs.Plans.{Planned, plain, planned, carried_out, takes_next, takes_up, returns_value}
 use Rattle.kb_stepref.specs.Effects.{branch_where, got, in_local, is_local, plan_of, put, put_kept, put_where, puts_kept}
 use Rattle.kb_ways.specs.Kept.{kept_in, kept, is_of_kind}

@@ -77,6 +77,10 @@ pub record Keeps (old new : State) : Type 0 where
   -- whoever has the shape now had it before
   pub shapes : (input : Input) → HasShape new.picture input → HasShape old.picture input
 
+-- no condition is added
+abbrev pub AddsNoCondition : State → State → Type 0
+AddsNoCondition old new = new.when ≡ old.when
+
 -- An input can be made of the picture of a state: it keeps the types of its slots, and the receiver was read.
 pub record HasInputOfState (world : World) (state : State) : Type 0 where
   pub typed : IsWellTyped world state.method state.picture

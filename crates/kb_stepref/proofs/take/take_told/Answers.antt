@@ -5,7 +5,7 @@ use Rattle.kb_ways.specs.Reached.{IsReached}
 use Rattle.kb_ways.specs.Ways.{Take}
 use Rattle.kb_stepref.specs.Takes.{taken}
 use Rattle.kb_stepref.proofs.ReachedLaws.{is_reached}
-use Rattle.kb_stepref.proofs.take.take_ref.Goals as goal
+use Rattle.kb_stepref.proofs.take.take_told.Goals as goal
 
 pub returns-clause-reached : goal.returns-clause-reached
 returns-clause-reached c =
