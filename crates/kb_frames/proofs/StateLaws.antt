@@ -42,6 +42,7 @@ start_is_state world init method info e = record {
   info = info;
   info_is = e;
   picture = no_picture world (length (argument_types world info));
+  found = λ i slot e. absurd (nothing_there i slot e);
   pool = no_terms;
   kinds = refl;
   conditions = refl;

@@ -167,7 +167,7 @@ module _ (world : World) (id : MethodId) (picture : Picture) (values : List ℤ)
   -- the slot that was read
   read_there : (i : ℕ) (slot : Origin) (how : Seen) → slice_get picture.seen i ≡ Some (slot, how) → IsSlot world (length (argument_types world h.typed.method)) picture.objects slot
   read_there i slot how at =
-      (h.typed.formed.slots i slot (slice_get-map (λ (x : Origin × Seen). x.0) picture.seen i ∙ ap (option_map (λ (x : Origin × Seen). x.0)) at)).0
+      h.typed.formed.slots i slot (slice_get-map (λ (x : Origin × Seen). x.0) picture.seen i ∙ ap (option_map (λ (x : Origin × Seen). x.0)) at)
 
   held_takes : (i : ℕ) (x : Origin × Value) → slice_get held i ≡ Some x → HeldTakes world (arguments_of world id) base x
   held_takes i x at =

@@ -225,7 +225,7 @@ module _ (world : World) where
   pub seen_there : (params : ℕ) (picture : Picture) → IsPicture world params picture → AllByRecursion SlotFits picture.seen → AllByRecursion (IsSeenThere world params picture.objects) picture.seen
   seen_there params picture is all =
       all_from (IsSeenThere world params picture.objects) picture.seen
-      (λ place slot at. ((is.slots place slot.0 (map_at (λ (s : Origin × Seen). s.0) picture.seen place slot at)).0, all_at SlotFits picture.seen place slot all at))
+      (λ place slot at. (is.slots place slot.0 (map_at (λ (s : Origin × Seen). s.0) picture.seen place slot at), all_at SlotFits picture.seen place slot all at))
 
   pub found_there : (params : ℕ) (picture : Picture) → IsPicture world params picture → AllByRecursion ObjectFits picture.objects → AllByRecursion (IsFoundThere world params picture.objects) picture.objects
   found_there params picture is all =
