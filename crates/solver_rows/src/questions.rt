@@ -4,7 +4,7 @@ use crate::asking::{append_alike, append_ask, append_computes, append_values};
 use crate::dimacs_texts::{append_cnf, append_full, append_run, append_said, append_words};
 use crate::formulas::append_clauses;
 use crate::heuristics::{append_intervals, append_levels, append_order, append_ranks};
-use crate::log_lines::append_log_lines;
+use crate::log_lines::{append_log, append_log_lines};
 use crate::pools::{append_applied, append_chain, append_numbers, append_pool};
 use crate::searches::{
     append_eliminate, append_fresh, append_needed, append_refutation, append_resolvent,
@@ -72,6 +72,7 @@ fn append_of_itself(
 ) -> RowResult<()> {
     match question {
         "lines" => append_log_lines(alloc, words, into),
+        "log" => append_log(alloc, words, into),
         "order" => append_order(alloc, words, into),
         "intervals" => append_intervals(words, into),
         "ranks" => append_ranks(alloc, words, into),
