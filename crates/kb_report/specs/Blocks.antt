@@ -7,7 +7,8 @@ use Rattle.kb_heap.specs.declared.heap.Object.{Object}
 use Rattle.kb_heap.specs.declared.heap.Input.{Input}
 use Rattle.kb_link.specs.World.{World}
 use Rattle.kb_log_text.specs.Lines.{learn_lines}
-use Rattle.kb_path_words.specs.Words.{exact_text, seen_text, standing_text, length_text, term_text, out_text, value_text}
+use Rattle.kb_heap_words.specs.Words.{exact_text}
+use Rattle.kb_path_words.specs.Words.{seen_text, standing_text, length_text, term_text, out_text, value_text}
 use Rattle.kb_path_words.specs.Lines.{numbered_lines, spaced, decisions_text, leaf_line}
 use Rattle.kb_terms.specs.declared.listing.Term.{Term}
 use Rattle.kb_picture.specs.declared.path.Write.{Write}

@@ -1,21 +1,15 @@
 -- The ranges of a report's numbers: numbers of 32 bits, ints of 32 bits with sign, and how many items a list has. They are
 -- those of the types of the code, so that each report that is a value of the code keeps them. A text tells a number in such a
 -- range: std's decimal texts go on to 10 ^ 64 alone.
-use Rattle.std.specs.Prelude.{ℕ, ◌<◌, ◌^◌, Bool, length, Option, Some, None}
+use Rattle.std.specs.Prelude.{ℕ, ◌<◌, ◌^◌, Bool, length, Some, None}
 use Rattle.std.specs.List.{AllByRecursion}
-use Rattle.std.specs.Int.{w32}
-use Rattle.std.specs.Int.RustNames.{FitsSigned}
 use Rattle.kb_heap.specs.declared.bounds.Bounds.{Bounds}
 use Rattle.kb_heap.specs.declared.ending.Place.{Place}
-use Rattle.kb_heap.specs.declared.heap.Value.{Value}
 use Rattle.kb_heap.specs.declared.heap.Value.TheVariants as values
 use Rattle.kb_heap.specs.declared.heap.Object.{Object}
 use Rattle.kb_heap.specs.declared.heap.Input.{Input}
 use Rattle.kb_log_text.specs.Lines.{IsChain}
-use Rattle.kb_terms.specs.declared.listing.Operand.{Operand}
-use Rattle.kb_terms.specs.declared.listing.Operand.TheVariants.{Const, Var, Term as TermOperand}
-use Rattle.kb_terms.specs.declared.listing.Term.{Term}
-use Rattle.kb_picture.specs.declared.path.Out.{Out}
+use Rattle.kb_path_words.specs.Ranges.{IsSmall, IsSeenInRange, IsStandingInRange, LengthFits, OutFits, ValueFits, IsTermInRange}
 use Rattle.kb_picture.specs.declared.path.Out.TheVariants as outs
 use Rattle.kb_picture.specs.declared.path.Write.{Write}
 use Rattle.kb_picture.specs.declared.path.Made.{Made}
@@ -25,20 +19,14 @@ use Rattle.kb_picture.specs.declared.path.Ended.{Ended}
 use Rattle.kb_picture.specs.declared.path.Leaf.{Leaf}
 use Rattle.kb_picture.specs.declared.path.Leaf.TheVariants.{Ended as EndedLeaf, Cut, Undecided, Open}
 use Rattle.kb_picture.specs.declared.path.Path.{Path}
-use Rattle.kb_picture.specs.declared.picture.Length.{Length}
-use Rattle.kb_picture.specs.declared.picture.Length.TheVariants.{Plain, Is, Above}
 use Rattle.kb_picture.specs.declared.picture.Origin.{Origin}
 use Rattle.kb_picture.specs.declared.picture.Origin.TheVariants.{Arg, Field, Element}
 use Rattle.kb_picture.specs.declared.picture.PicLoc.{PicLoc}
 use Rattle.kb_picture.specs.declared.picture.PicObject.{PicObject}
 use Rattle.kb_picture.specs.declared.picture.Seen.{Seen}
 use Rattle.kb_picture.specs.declared.picture.Seen.TheVariants as seens
-use Rattle.kb_picture.specs.declared.picture.Standing.{Standing}
 use Rattle.kb_picture.specs.declared.picture.Standing.TheVariants as standings
 use Rattle.kb_report.specs.declared.report.Report.{Report}
-
-abbrev pub IsSmall : ℕ → Type 0
-IsSmall n = n < 2 ^ 32
 
 -- how many items a list has
 abbrev pub IsCount : ℕ → Type 0
@@ -50,45 +38,6 @@ abbrev pub OriginFits : Origin → Type 0
 OriginFits (Arg number) = IsSmall number
 OriginFits (Field object slot) = IsSmall object × IsSmall slot
 OriginFits (Element array index) = IsSmall array × IsSmall index
-
-abbrev pub IsSeenInRange : Seen → Type 0
-IsSeenInRange (seens.Int number) = IsSmall number
-IsSeenInRange seens.Null = Unit {0}
-IsSeenInRange (seens.Loc number) = IsSmall number
-IsSeenInRange (seens.Obj number) = IsSmall number
-IsSeenInRange seens.Beyond = Unit {0}
-
-abbrev pub IsStandingInRange : Standing → Type 0
-IsStandingInRange standings.Open = Unit {0}
-IsStandingInRange (standings.Obj number) = IsSmall number
-IsStandingInRange standings.Beyond = Unit {0}
-
-abbrev pub LengthFits : Length → Type 0
-LengthFits Plain = Unit {0}
-LengthFits (Is n) = IsSmall n
-LengthFits (Above n) = IsSmall n
-
-abbrev pub IsOperandInRange : Operand → Type 0
-IsOperandInRange (Const z) = FitsSigned w32 z
-IsOperandInRange (Var number) = IsSmall number
-IsOperandInRange (TermOperand number) = IsSmall number
-
-abbrev pub SecondFits : Option Operand → Type 0
-SecondFits None = Unit {0}
-SecondFits (Some operand) = IsOperandInRange operand
-
-abbrev pub OutFits : Out → Type 0
-OutFits (outs.Int operand) = IsOperandInRange operand
-OutFits outs.Null = Unit {0}
-OutFits (outs.Loc number) = IsSmall number
-OutFits (outs.Obj number) = IsSmall number
-OutFits (outs.Literal number) = IsSmall number
-OutFits (outs.New number) = IsSmall number
-
-abbrev pub ValueFits : Value → Type 0
-ValueFits (values.Int z) = FitsSigned w32 z
-ValueFits values.Null = Unit {0}
-ValueFits (values.Ref object) = IsSmall object
 
 abbrev pub PlaceFits : Place → Type 0
 PlaceFits place = IsSmall place.at
@@ -104,10 +53,6 @@ pub record ObjectFits (object : PicObject) : Type 0 where
 
 abbrev pub IsLocInRange : PicLoc → Type 0
 IsLocInRange loc = IsStandingInRange loc.standing
-
-pub record IsTermInRange (term : Term) : Type 0 where
-  pub left : IsOperandInRange term.left
-  pub right : SecondFits term.right
 
 abbrev pub ConditionFits : ℕ × Bool → Type 0
 ConditionFits condition = IsSmall condition.0

@@ -8,9 +8,7 @@ use crate::NoMemory;
 use crate::leaves::write_leaf;
 use crate::naming::NamedWorld;
 use crate::slots::write_slot;
-use kb_path_words::{
-    Text, write_decisions, write_exact, write_length, write_seen, write_standing, write_term,
-};
+use kb_path_words::{Text, write_decisions, write_length, write_seen, write_standing, write_term};
 use kb_picture::{Origin, Path, PicLoc, PicObject, Picture, Seen, Term};
 
 /// The block of a path.
@@ -125,7 +123,7 @@ fn write_obj_line(
     text.put("obj o")?;
     text.count(number)?;
     text.put(" ")?;
-    write_exact(text, &object.kind)?;
+    text.exact(&object.kind)?;
     write_length(text, object.length)?;
     text.put(" ")?;
     write_slot(text, world, objects, object.origin)?;

@@ -9,7 +9,7 @@ use crate::NoMemory;
 use crate::naming::NamedWorld;
 use crate::slots::write_slot;
 use kb_heap::{Input, Object, Value};
-use kb_path_words::{Text, write_exact, write_leaf_line, write_out, write_value};
+use kb_path_words::{Text, write_leaf_line, write_out, write_value};
 use kb_picture::{Ended, Leaf, Made, Out, PicObject, Write};
 
 /// The lines of a leaf.
@@ -105,7 +105,7 @@ fn write_new_line(text: &mut Text, number: usize, made: &Made) -> Result<(), NoM
     text.put("new n")?;
     text.count(number)?;
     text.put(" ")?;
-    write_exact(text, &made.kind)?;
+    text.exact(&made.kind)?;
     write_outs(text, made.values.as_slice())?;
     text.end_line()
 }
@@ -163,7 +163,7 @@ fn write_in_line(text: &mut Text, number: usize, object: &Object) -> Result<(), 
     text.put("in i")?;
     text.count(number)?;
     text.put(" ")?;
-    write_exact(text, &object.kind)?;
+    text.exact(&object.kind)?;
     write_values(text, object.values.as_slice())?;
     text.end_line()
 }

@@ -7,7 +7,8 @@ ghost use Rattle.std.specs.Int.{w32};
 ghost use Rattle.std.specs.Int.RustNames.{FitsSigned};
 ghost use Rattle.std.specs.List.{AllByRecursion};
 ghost use Rattle.kb_log_text.specs.Lines.{IsStep, IsChain};
-ghost use Rattle.kb_report.specs.Ranges.{IsSmall, IsCount, OriginFits, IsSeenInRange, LengthFits, IsOperandInRange, OutFits, ValueFits, SlotFits, ObjectFits, IsLocInRange, IsTermInRange, ConditionFits, WriteFits, MadeFits, InputObjectFits, InputFits, EndingFits, EndedFits, LeafFits, HasCounts, PathFits, BoundsFit, ReportFits};
+ghost use Rattle.kb_path_words.specs.Ranges.{IsSmall, IsSeenInRange, LengthFits, IsOperandInRange, OutFits, ValueFits, IsTermInRange};
+ghost use Rattle.kb_report.specs.Ranges.{IsCount, OriginFits, SlotFits, ObjectFits, IsLocInRange, ConditionFits, WriteFits, MadeFits, InputObjectFits, InputFits, EndingFits, EndedFits, LeafFits, HasCounts, PathFits, BoundsFit, ReportFits};
 
 use crate::report::Report;
 use kb_chain::Chain;

@@ -1,21 +1,20 @@
 -- The texts of names, types and targets: each is that of one thing alone. Nothing is asked of a name, whose items may be any
 -- numbers, nor of the dimensions of a type.
 use Rattle.std.proofs.Common.{◌≡◌, ℕ, zero, suc, ◌+◌, ◌≤◌, ◌<◌, ◌/◌, ◌%◌, Bool, true, false, List, [], ◌∷◌, ◌++◌, Option, Some, None, refl, sym, ap, ◌∙◌, arith, append_assoc, append-nil}
-use Rattle.std.specs.Prelude.{codes, replicate, nat_lt, is_some, ◌==◌, ◌||◌, if◌then◌else◌}
+use Rattle.std.specs.Prelude.{replicate, nat_lt, is_some, ◌==◌, ◌||◌, if◌then◌else◌}
 use Rattle.std.specs.List.{flat_map}
 use Rattle.std.proofs.lemmas.Bool.Decides.{nat_tests}
-use Rattle.kb_grammar.proofs.WordLaws.{same_cut, same_behind}
-use Rattle.kb_names.specs.Shape.{Base, bool_base, byte_base, char_base, short_base, int_base, long_base, float_base, double_base, class_base, Shape}
+use Rattle.kb_grammar.proofs.WordLaws.{same_cut}
+use Rattle.kb_names.specs.Shape.{Base, bool_base, byte_base, char_base, short_base, int_base, long_base, float_base, double_base, class_base}
 use Rattle.kb_names.specs.Types.{shape_of, arrays_of}
 use Rattle.kb_names.specs.Escapes.{is_plain, hex_digit, byte_text, name_text}
 use Rattle.kb_names.specs.Descriptors.{base_text, type_text, result_text, method_text}
 use Rattle.kb_names.specs.Targets.{target_text}
 use Rattle.kb_names.specs.declared.class_names.Spelling.TheVariants.{Escaped}
 use Rattle.kb_names.specs.declared.types.JType.{JType}
-use Rattle.kb_names.specs.declared.types.MethodType.{MethodType}
 use Rattle.kb_names.specs.declared.types.Target.{Target}
 use Rattle.kb_names.proofs.ShapeLaws.{arrays_of-shape_of}
-use Rattle.kb_report_laws.proofs.Lacking.{name_lacks, opening, dot, semicolon}
+use Rattle.kb_heap_words.proofs.Lacking.{name_lacks, opening, dot, semicolon}
 
 heads : (x y : ℕ) (xs ys : List ℕ) → x ∷ xs ≡ y ∷ ys → (x ≡ y) × (xs ≡ ys)
 heads x y xs ys e = (cc, cc)

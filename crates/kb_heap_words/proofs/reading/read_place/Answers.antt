@@ -1,5 +1,5 @@
-use Rattle.kb_test_lines.proofs.Parts.{no_gap, bad_offset, bad_method}
-use Rattle.kb_test_lines.proofs.outcomes.read_place.Goals as goal
+use Rattle.kb_heap_words.proofs.WordLaws.{no_gap, bad_offset, bad_method}
+use Rattle.kb_heap_words.proofs.reading.read_place.Goals as goal
 
 pub returns-in_default : goal.returns-in_default
 returns-in_default c = no_gap c.args.text.now c.in_default.ensures
