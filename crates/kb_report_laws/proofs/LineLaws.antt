@@ -33,12 +33,12 @@ use Rattle.kb_picture.specs.declared.picture.PicObject.{PicObject}
 use Rattle.kb_picture.specs.declared.picture.Seen.{Seen}
 use Rattle.kb_heap_words.specs.Words.{exact_text, place_text, bound_name}
 use Rattle.kb_path_words.specs.Words.{seen_text, standing_text, length_text, term_text, operand_text, second_text, out_text, value_text}
-use Rattle.kb_report.specs.Slots.{slot_text}
+use Rattle.kb_report_text.specs.Slots.{slot_text}
 use Rattle.kb_path_words.specs.Lines.{spaced, further_decisions, decisions_text, ending_line}
-use Rattle.kb_report.specs.Blocks.{path_line, see_line, loc_line, obj_line, let_line, when_line, set_line, new_line, arg_line, in_line}
+use Rattle.kb_report_text.specs.Blocks.{path_line, see_line, loc_line, obj_line, let_line, when_line, set_line, new_line, arg_line, in_line}
 use Rattle.kb_terms.specs.Op.{op_name}
 use Rattle.kb_path_words.specs.Ranges.{IsSmall, LengthFits, IsTermInRange, SecondFits, OutFits, ValueFits}
-use Rattle.kb_report.specs.Ranges.{IsCount, SlotFits, IsLocInRange, ObjectFits, ConditionFits, WriteFits, MadeFits, InputObjectFits, EndingFits, PlaceFits}
+use Rattle.kb_report_text.specs.Ranges.{IsCount, SlotFits, IsLocInRange, ObjectFits, ConditionFits, WriteFits, MadeFits, InputObjectFits, EndingFits, PlaceFits}
 use Rattle.kb_heap_words.proofs.Lacking.{digits_lack, count_lacks, target_lacks, lacks_is, space, line_feed, dot}
 use Rattle.kb_path_words.proofs.ReadBack.{same_seen, same_standing, same_out, same_value}
 use Rattle.kb_heap_words.proofs.WordLaws.{place_lacks, same_digits, same_exact, same_place, exact_lacks}

@@ -5,7 +5,7 @@ use Rattle.std.specs.Str.{bytes_eq}
 use Rattle.kb_heap_words.proofs.WordLaws.{same_read}
 use Rattle.kb_picture.specs.declared.choice.Init.{Init}
 use Rattle.kb_picture.specs.declared.choice.Init.TheVariants.{Lazy, Lazier}
-use Rattle.kb_report.specs.Report.{init_name}
+use Rattle.kb_report_text.specs.Report.{init_name}
 
 abbrev init_of : List ℕ → Option Init
 init_of text = if bytes_eq text (codes "lazy") then Some Lazy else Some Lazier

@@ -28,9 +28,9 @@ use Rattle.kb_picture.specs.WellFormed.{HasSlot, IsSlot}
 use Rattle.kb_picture.specs.declared.picture.Origin.{Origin}
 use Rattle.kb_picture.specs.declared.picture.Origin.TheVariants.{Arg, Field, Element}
 use Rattle.kb_picture.specs.declared.picture.PicObject.{PicObject}
-use Rattle.kb_report.specs.Slots.{fields_named, has_namesake, kind_text, field_text, field_of_type, field_of, slot_text}
+use Rattle.kb_report_text.specs.Slots.{fields_named, has_namesake, kind_text, field_text, field_of_type, field_of, slot_text}
 use Rattle.kb_path_words.specs.Ranges.{IsSmall}
-use Rattle.kb_report.specs.Ranges.{OriginFits}
+use Rattle.kb_report_text.specs.Ranges.{OriginFits}
 use Rattle.kb_heap_words.proofs.Lacking.{IsGap, digits_lack, name_lacks, gap_in_name, type_lacks, above, space, dot, colon, bracket, bracket_end}
 use Rattle.kb_heap_words.proofs.NameLaws.{same_name, same_type}
 use Rattle.kb_report_laws.proofs.Sections.{unlike}
