@@ -12,7 +12,8 @@ use Rattle.kb_names.specs.Escapes.{name_text}
 use Rattle.kb_names.specs.declared.types.ExactType.{ExactType}
 use Rattle.kb_names.specs.declared.types.ExactType.TheVariants as exact
 use Rattle.kb_semantics.specs.Values.{slots_of_class}
-use Rattle.kb_path_words.specs.Words.{exact_text, out_text}
+use Rattle.kb_heap_words.specs.Words.{exact_text}
+use Rattle.kb_path_words.specs.Words.{out_text}
 use Rattle.kb_path_words.specs.Lines.{numbered_lines, decisions_text, leaf_line}
 use Rattle.kb_picture.specs.declared.path.Out.{Out}
 use Rattle.kb_picture.specs.declared.path.Made.{Made}

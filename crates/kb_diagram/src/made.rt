@@ -9,7 +9,7 @@ ghost use Rattle.kb_diagram.specs.Diagram.{numbered_words, cell_front, cell_word
 use crate::NoMemory;
 use crate::fronts::{begin_element, begin_field};
 use kb_names::ExactType;
-use kb_path_words::{Text, write_exact, write_out};
+use kb_path_words::{Text, write_out};
 use kb_picture::{Made, Out};
 use kb_semantics::{FieldSlot, World};
 
@@ -34,7 +34,7 @@ fn write_made_line(
     text.put("n")?;
     text.count(number)?;
     text.put(" ")?;
-    write_exact(text, &made.kind)?;
+    text.exact(&made.kind)?;
     write_values(text, world, made)?;
     text.end_line()
 }

@@ -22,7 +22,7 @@ use Rattle.kb_picture.specs.declared.picture.Origin.{Origin}
 use Rattle.kb_picture.specs.declared.picture.Origin.TheVariants.{Arg}
 use Rattle.kb_picture.specs.declared.picture.Seen.{Seen}
 use Rattle.kb_picture.specs.declared.picture.Seen.TheVariants.{Int as SeenInt}
-use Rattle.kb_report.specs.Ranges.{InputFits, EndedFits, PathFits, ReportFits}
+use Rattle.kb_report_text.specs.Ranges.{InputFits, EndedFits, PathFits, ReportFits}
 use Rattle.kb_report_laws.specs.OneText.{IsReport}
 use Rattle.kb_report_laws.specs.Example.{example_picture, example_ended, example_path, example_report, ExampleIsReport}
 

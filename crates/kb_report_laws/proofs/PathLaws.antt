@@ -30,11 +30,12 @@ use Rattle.kb_picture.specs.declared.picture.PicLoc.{PicLoc}
 use Rattle.kb_picture.specs.declared.picture.PicObject.{PicObject}
 use Rattle.kb_picture.specs.declared.picture.Picture.{Picture}
 use Rattle.kb_picture.specs.declared.picture.Seen.{Seen}
-use Rattle.kb_path_words.specs.Words.{bound_name}
+use Rattle.kb_heap_words.specs.Words.{bound_name}
 use Rattle.kb_path_words.specs.Lines.{numbered_lines, ending_line, leaf_line}
-use Rattle.kb_report.specs.Blocks.{path_line, see_line, loc_line, obj_line, picture_lines, let_line, when_line, set_line, new_line, arg_line, in_line, input_lines, further_lines, leaf_lines, path_lines}
-use Rattle.kb_report.specs.Ranges.{SlotFits, IsLocInRange, ObjectFits, IsTermInRange, ConditionFits, WriteFits, MadeFits, ValueFits, InputObjectFits, InputFits, EndedFits, LeafFits, PathFits}
-use Rattle.kb_report_laws.proofs.Reading.{same_bound}
+use Rattle.kb_report_text.specs.Blocks.{path_line, see_line, loc_line, obj_line, picture_lines, let_line, when_line, set_line, new_line, arg_line, in_line, input_lines, further_lines, leaf_lines, path_lines}
+use Rattle.kb_report_text.specs.Ranges.{SlotFits, IsLocInRange, ObjectFits, ConditionFits, WriteFits, MadeFits, InputObjectFits, InputFits, EndedFits, LeafFits, PathFits}
+use Rattle.kb_path_words.specs.Ranges.{IsTermInRange, ValueFits}
+use Rattle.kb_heap_words.proofs.WordLaws.{same_bound}
 use Rattle.kb_report_laws.proofs.FieldLaws.{all_at}
 use Rattle.kb_report_laws.proofs.WordLaws.{kinds_of, map_at, same_slot}
 use Rattle.kb_grammar.proofs.WordLaws.{same_behind}

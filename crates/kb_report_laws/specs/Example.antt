@@ -19,7 +19,7 @@ use Rattle.kb_picture.specs.declared.path.Path.{Path}
 use Rattle.kb_picture.specs.declared.picture.Origin.TheVariants.{Arg}
 use Rattle.kb_picture.specs.declared.picture.Picture.{Picture}
 use Rattle.kb_picture.specs.declared.picture.Seen.TheVariants.{Int as SeenInt}
-use Rattle.kb_report.specs.declared.report.Report.{Report}
+use Rattle.kb_report_text.specs.declared.report.Report.{Report}
 use Rattle.kb_report_laws.specs.OneText.{IsReport}
 
 abbrev pub example_picture : Picture

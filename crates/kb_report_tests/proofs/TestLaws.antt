@@ -25,8 +25,9 @@ use Rattle.kb_picture.specs.declared.picture.PlaceLists.{PlaceLists}
 use Rattle.kb_picture.specs.Laws.{FinalHeapsAreWhole, HasWholeHeap, IsEndingWithin, form_of}
 use Rattle.kb_picture.specs.Places.{places_of}
 use Rattle.kb_picture.specs.WellFormed.{IsClosed, IsLeaf, IsWithin}
-use Rattle.kb_report.specs.declared.report.Report.{Report}
-use Rattle.kb_test_lines.specs.Lines.{IsExact, IsRunBounds}
+use Rattle.kb_report_text.specs.declared.report.Report.{Report}
+use Rattle.kb_heap_words.specs.Words.{IsExact}
+use Rattle.kb_test_lines.specs.Lines.{IsRunBounds}
 use Rattle.kb_test.specs.Tests.{AreObjects, AreValues, IsEnding, IsTest, IsValue, kinds_of, literal_objects}
 use Rattle.kb_test_laws.specs.Texts.{EndHasTexts, EndingHasText}
 use Rattle.kb_report_tests.specs.Tests.{IsCarried, literals_in, test_of}

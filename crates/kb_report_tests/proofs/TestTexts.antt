@@ -8,7 +8,7 @@ use Rattle.kb_picture.specs.declared.path.Ended.{Ended}
 use Rattle.kb_picture.specs.declared.path.Leaf.{Leaf}
 use Rattle.kb_picture.specs.declared.path.Leaf.TheVariants.{Ended as EndedLeaf, Cut, Undecided, Open}
 use Rattle.kb_picture.specs.declared.path.Path.{Path}
-use Rattle.kb_report.specs.declared.report.Report.{Report}
+use Rattle.kb_report_text.specs.declared.report.Report.{Report}
 use Rattle.kb_test.specs.declared.test_case.Test.{Test}
 use Rattle.kb_test.specs.Refusals.{Appends}
 use Rattle.kb_test.specs.Tests.{SpellsTests}

@@ -10,7 +10,7 @@ use Rattle.kb_picture.specs.declared.path.Leaf.TheVariants.{Ended as EndedLeaf, 
 use Rattle.kb_picture.specs.declared.path.Path.{Path}
 use Rattle.kb_picture.specs.Endings.{ending_of, final_heap_of, stated_end}
 use Rattle.kb_picture.specs.WellFormed.{IsWellFormed}
-use Rattle.kb_report.specs.declared.report.Report.{Report}
+use Rattle.kb_report_text.specs.declared.report.Report.{Report}
 use Rattle.kb_test.specs.declared.test_case.Test.{Test}
 use Rattle.kb_test_laws.specs.Texts.{EndHasTexts}
 

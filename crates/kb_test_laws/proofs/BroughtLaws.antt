@@ -32,7 +32,7 @@ use Rattle.kb_resolution.specs.LeftOut.{has_left_out}
 use Rattle.kb_resolution.specs.Lookup.{method_of_sought, only_where, resolved_method, selected_special, sought_at, special_of_sought}
 use Rattle.kb_semantics.specs.Config.{Setting, info_of}
 use Rattle.kb_semantics.specs.Instructions.{BySelection, Callee, Special, Static, callee_of, component_of_entry}
-use Rattle.kb_test_lines.specs.Lines.{IsExact}
+use Rattle.kb_heap_words.specs.Words.{IsExact}
 use Rattle.kb_test_laws.specs.Texts.{NamesHaveTexts}
 use Rattle.kb_test_laws.proofs.CallLaws.{SelectsNoCode, arrays_select_none, row_selects_none}
 use Rattle.kb_test_laws.proofs.PlatformLaws.{given_or_row}

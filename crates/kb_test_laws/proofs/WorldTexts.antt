@@ -26,7 +26,7 @@ use Rattle.kb_link.proofs.Loaded.{classes_many}
 use Rattle.kb_classes.proofs.MethodNumbers.{get_either, stands_in}
 use Rattle.kb_link.proofs.SharingLaws.{in_filter}
 use Rattle.kb_semantics.specs.Config.{class_name, info_of, no_target, target_of}
-use Rattle.kb_test_lines.specs.Lines.{IsExact}
+use Rattle.kb_heap_words.specs.Words.{IsExact}
 use Rattle.kb_test_laws.specs.Texts.{IsOfBytes, NamesHaveTexts}
 use Rattle.kb_test_laws.proofs.DescriptorLaws.{held_has_text, exact_of_has_text, part_has_text}
 use Rattle.kb_test_laws.proofs.PlatformTable.{row_named, row_methods}

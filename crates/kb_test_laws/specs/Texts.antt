@@ -16,7 +16,7 @@ use Rattle.kb_heap.specs.declared.ending.Ending.TheVariants.{Returned, Threw, Il
 use Rattle.kb_heap.specs.declared.heap.Object.{Object}
 use Rattle.kb_classes.specs.World.{World, type_entry_of}
 use Rattle.kb_semantics.specs.Config.{Ended, info_of, target_of}
-use Rattle.kb_test_lines.specs.Lines.{IsExact}
+use Rattle.kb_heap_words.specs.Words.{IsExact}
 
 -- the class's file is spelled by bytes
 pub record IsOfBytes (given : GivenClass) : Type 0 where

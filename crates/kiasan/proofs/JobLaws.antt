@@ -18,8 +18,8 @@ use Rattle.kb_names.specs.declared.types.Target.{Target}
 use Rattle.kb_picture.specs.declared.choice.Init.{Init}
 use Rattle.kb_picture.specs.declared.choice.Init.TheVariants.{Lazy}
 use Rattle.kb_picture.specs.declared.path.Path.{Path}
-use Rattle.kb_report.specs.Ranges.{ReportFits}
-use Rattle.kb_report.specs.declared.report.Report.{Report}
+use Rattle.kb_report_text.specs.Ranges.{ReportFits}
+use Rattle.kb_report_text.specs.declared.report.Report.{Report}
 use Rattle.kb_report_laws.specs.OneText.{IsSound}
 use Rattle.kb_report_tests.specs.Tests.{IsCarried, StatesTexts, literals_in, tests_of}
 use Rattle.kb_report_tests.proofs.TestTexts.{TestHolds, tests_all}

@@ -11,8 +11,8 @@ use Rattle.kb_heap.specs.declared.bounds.Bounds.{Bounds}
 use Rattle.kb_link.specs.Targets.{IsTargetOf}
 use Rattle.kb_classes.specs.World.{World}
 use Rattle.kb_picture.specs.declared.path.Path.{Path}
-use Rattle.kb_report.specs.Ranges.{ReportFits}
-use Rattle.kb_report.specs.declared.report.Report.{Report}
+use Rattle.kb_report_text.specs.Ranges.{ReportFits}
+use Rattle.kb_report_text.specs.declared.report.Report.{Report}
 use Rattle.kb_words.specs.declared.orders.Job.{Job}
 use Rattle.kb_world.specs.Reach.{IsAccepted}
 use Rattle.kb_refusals.specs.declared.status.Status.{Status}

@@ -10,8 +10,8 @@ use Rattle.kb_picture.specs.declared.path.Path.{Path}
 use Rattle.kb_replay.specs.declared.replays.Replayed.{Replayed}
 use Rattle.kb_replay.specs.declared.workers.Ran.{Ran}
 use Rattle.kb_replay.specs.Replays.{AreReplayed}
-use Rattle.kb_report.specs.declared.report.Report.{Report}
-use Rattle.kb_report.specs.Report.{kinds_text}
+use Rattle.kb_report_text.specs.declared.report.Report.{Report}
+use Rattle.kb_report_text.specs.Report.{kinds_text}
 use Rattle.kb_report_tests.specs.Tests.{tests_of}
 use Rattle.kb_sample.specs.Sample.{sample_text}
 use Rattle.kb_test.specs.declared.test_case.Test.{Test}
