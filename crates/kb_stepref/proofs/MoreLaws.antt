@@ -8,6 +8,7 @@ use Rattle.kb_terms.specs.Terms.{Extends}
 use Rattle.kb_terms.proofs.Values.{IsTerm-extends}
 use Rattle.kb_picture.specs.declared.picture.PicObject.{PicObject}
 use Rattle.kb_picture.specs.declared.picture.Picture.{Picture}
+use Rattle.kb_picture.specs.Finding.{IsFoundFirst}
 use Rattle.kb_picture.specs.Queries.{kinds_seen}
 use Rattle.kb_picture.specs.WellTyped.{IsWellTyped}
 use Rattle.kb_frames.specs.declared.frame.SymFrame.{SymFrame}
@@ -108,10 +109,11 @@ module _ (world : World) (state : State) (stage : Stage) (picture : Picture) (ce
   abbrev pub changed : State
   changed = record state { stage = stage; picture = picture; cells = cells; made = made; nodes = nodes }
 
-  pub changed_sound : Sound world state → Extends state.nodes nodes → IsWellTyped world state.method picture → kinds_of nodes ≡ kinds_seen world state.method picture → IsStage world changed stage
+  pub changed_sound : Sound world state → Extends state.nodes nodes → IsWellTyped world state.method picture → IsFoundFirst picture → kinds_of nodes ≡ kinds_seen world state.method picture → IsStage world changed stage
       → AreCells world changed → Each (IsMade world changed) made → HasReadReceiver world state.method stage picture → IsAlone state.method stage → Sound world changed
-  changed_sound sound terms typed kinds is_stage are_cells are_made receiver alone = record {
+  changed_sound sound terms typed found kinds is_stage are_cells are_made receiver alone = record {
     typed = typed;
+    found = found;
     kinds = kinds;
     conditions = conditions_still state.nodes nodes state.when terms sound.conditions;
     stage = is_stage;

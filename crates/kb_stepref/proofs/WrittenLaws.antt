@@ -119,7 +119,7 @@ module _ (world : World) (state : State) (sound : Sound world state) (frame : Sy
 
     wrote_sound : Sound world (wrote number slot value state)
     wrote_sound =
-        changed_sound world state state.stage state.picture all state.made state.nodes sound (Extends-refl state.nodes) sound.typed sound.kinds (stage_more wrote_state wrote_more)
+        changed_sound world state state.stage state.picture all state.made state.nodes sound (Extends-refl state.nodes) sound.typed sound.found sound.kinds (stage_more wrote_state wrote_more)
         (record {
           count = with_cell_length state.cells number slot (Written value) ∙ sound.cells.count;
           each =
@@ -167,7 +167,7 @@ module _ (world : World) (state : State) (sound : Sound world state) (frame : Sy
 
     made_sound : Sound world (wrote_made number slot value state)
     made_sound =
-        changed_sound world state state.stage state.picture state.cells (with_made_value state.made number slot value) state.nodes sound (Extends-refl state.nodes) sound.typed sound.kinds
+        changed_sound world state state.stage state.picture state.cells (with_made_value state.made number slot value) state.nodes sound (Extends-refl state.nodes) sound.typed sound.found sound.kinds
         (stage_more made_state made_state_more)
         (record {
           count = sound.cells.count;
