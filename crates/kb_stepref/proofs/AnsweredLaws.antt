@@ -54,17 +54,18 @@ use Rattle.kb_frames.specs.Heaps.{find_cell, with_cell}
 use Rattle.kb_frames.specs.State.{State, cell_at}
 use Rattle.kb_frames.specs.States.{Each, HasCells, IsBeginning, IsCell, IsStage, IsSymValue, IsTouched}
 use Rattle.kb_ways.specs.Reached.{HasReadReceiver}
-use Rattle.kb_ways.proofs.ItemLaws.{each_append, each_cons, each_copy, no_items}
+use Rattle.kb_frames.proofs.ItemLaws.{each_append, each_cons, each_copy, no_items}
 use Rattle.kb_ways.proofs.SoundLaws.{Sound, sound_reached}
 use Rattle.kb_stepref.specs.Choices.{alternatives}
 use Rattle.kb_stepref.specs.Laws.{IsAtReferences}
 use Rattle.kb_ways.specs.declared.question.Question.TheVariants.{Reads}
 use Rattle.kb_stepref.specs.Questions.{question_of}
 use Rattle.kb_ways.specs.Questions.{answered}
-use Rattle.kb_stepref.proofs.CellLaws.{front_found, front_touched, with_cell_length, with_here, with_touched}
+use Rattle.kb_frames.proofs.CellLaws.{front_found, front_touched, with_cell_length, with_here, with_touched}
 use Rattle.kb_stepref.proofs.FieldSlots.{get_front}
 use Rattle.kb_stepref.proofs.FirstReadLaws.{IsAsked, IsAskedAt, asked, first_read, holds_int}
-use Rattle.kb_stepref.proofs.MoreLaws.{HaveRows, IsMore, changed, changed_sound, made_more, rows_joined, rows_more, rows_with, running_more, values_more}
+use Rattle.kb_frames.proofs.MoreLaws.{HaveRows, IsMore, made_more, rows_joined, rows_more, rows_with, running_more, values_more}
+use Rattle.kb_stepref.proofs.MoreLaws.{changed, changed_sound}
 use Rattle.kb_names.specs.declared.types.ExactType.TheVariants as exact
 use Rattle.kb_picture.specs.declared.choice.Choice.TheVariants as choices
 use Rattle.kb_picture.specs.declared.picture.Seen.TheVariants as seens

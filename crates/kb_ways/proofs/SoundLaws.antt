@@ -63,7 +63,7 @@ use Rattle.kb_ways.specs.Reached.{HasNoHandlers, HasNoneLeftOut, HasReadReceiver
 use Rattle.kb_ways.specs.Ways.{carries_out}
 use Rattle.kb_ways.proofs.AskedLaws.{interned_is_term, interned_node, later_node, no_constant, not_folded}
 use Rattle.kb_ways.proofs.GrowLaws.{GoesOn, Grows, all_asked_grows, condition_goes_on, interned_goes_on}
-use Rattle.kb_ways.proofs.ItemLaws.{each_append, each_cons, each_copy, each_map, each_mapped, no_items, none_passes}
+use Rattle.kb_frames.proofs.ItemLaws.{each_append, each_cons, each_copy, each_map, each_mapped, no_items, none_passes}
 use Rattle.kb_ways.proofs.PictureLaws.{receiver_still, slots_are}
 use Rattle.kb_names.specs.declared.types.JType.TheVariants as types
 use Rattle.kb_picture.specs.declared.picture.Seen.TheVariants as seens
