@@ -22,7 +22,7 @@ use Rattle.kb_frames.specs.State.{State}
 use Rattle.kb_frames.specs.States.{Each, IsOutIn, IsStage, IsSymValue}
 use Rattle.kb_ways.specs.Ways.{with_stack, Take, Fails, ill_typed}
 use Rattle.kb_ways.proofs.GrowLaws.{if_has, option_has}
-use Rattle.kb_ways.proofs.ItemLaws.{option_has_at}
+use Rattle.kb_frames.proofs.ItemLaws.{option_has_at}
 use Rattle.kb_ways.proofs.SoundLaws.{begun_sound, sound_reached}
 use Rattle.kb_stepref.specs.Choices.{alternatives}
 use Rattle.kb_ways.specs.Advancing.{only}

@@ -46,7 +46,7 @@ use Rattle.kb_stepint.specs.Takes.{reads_argument, taken}
 use Rattle.kb_ways.specs.Ways.{ill_typed}
 use Rattle.kb_ways.proofs.KeepLaws.{went_when, went_stays}
 use Rattle.kb_ways.proofs.OperandLaws.{int_is_term}
-use Rattle.kb_ways.proofs.ItemLaws.{two_parts}
+use Rattle.kb_frames.proofs.ItemLaws.{two_parts}
 use Rattle.kb_ways.proofs.GrowLaws.{Grows, all_asked_grows, HasMore}
 use Rattle.kb_stepint.proofs.KeepLaws.{effect_makes}
 use Rattle.kb_ways.proofs.OneAsked.{AllHold, AllSides, IsReady, conditions_there}

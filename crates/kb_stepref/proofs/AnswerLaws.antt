@@ -69,12 +69,12 @@ use Rattle.kb_lazy.specs.Laws.{AreInRange}
 use Rattle.kb_stepref.specs.Laws.{IsAtReferences}
 use Rattle.kb_ways.specs.declared.question.Question.TheVariants.{Reads}
 use Rattle.kb_ways.specs.Questions.{answered, passed_by}
-use Rattle.kb_ways.proofs.AlikeLaws.{AreAlike, stage_alike, values_alike}
-use Rattle.kb_stepref.proofs.CellLaws.{chosen_blank}
-use Rattle.kb_stepref.proofs.FindLaws.{Grows, grown_alike, learns_none, learns_slot, places_same, read_places}
+use Rattle.kb_frames.proofs.AlikeLaws.{AreAlike, stage_alike, values_alike}
+use Rattle.kb_frames.proofs.CellLaws.{chosen_blank}
+use Rattle.kb_frames.proofs.FindLaws.{Grows, grown_alike, learns_none, learns_slot, places_same, read_places}
 use Rattle.kb_stepref.proofs.ReadInstances.{int_values, told_values}
 use Rattle.kb_stepref.proofs.FirstReadLaws.{IsAsked, IsAskedAt, first_read}
-use Rattle.kb_stepref.proofs.LearnLaws.{Learns, heap_learns, written_back, written_more}
+use Rattle.kb_frames.proofs.LearnLaws.{Learns, heap_learns, written_back, written_more}
 
 -- nothing is kept of the slot: an argument is the next one, and the cell of a slot of an object is untouched
 abbrev pub IsBlank : State → Origin → Type 0

@@ -44,7 +44,7 @@ use Rattle.kb_stepref.specs.Laws.{IsAtReferences}
 use Rattle.kb_ways.specs.declared.question.Question.{Question}
 use Rattle.kb_ways.specs.declared.question.Question.TheVariants.{Reads}
 use Rattle.kb_stepref.specs.Questions.{asked_at, asked_by, asks_cell, asks_field, question_of}
-use Rattle.kb_stepref.proofs.CellLaws.{found_cell}
+use Rattle.kb_frames.proofs.CellLaws.{found_cell}
 use Rattle.kb_stepref.proofs.FieldSlots.{resolved_at, slot_in, slot_typed}
 
 -- ---- what is asked for

@@ -55,7 +55,7 @@ use Rattle.kb_stepref.specs.Takes.{taken}
 use Rattle.kb_stepref.proofs.FirstReadLaws.{IsAsked, asked}
 use Rattle.kb_picture.specs.declared.choice.Choice.TheVariants.{Only}
 use Rattle.kb_ways.proofs.KeptLaws.{returns_has, kept_more}
-use Rattle.kb_ways.proofs.ItemLaws.{only_has}
+use Rattle.kb_frames.proofs.ItemLaws.{only_has}
 
 -- ---- what an instruction writes
 

@@ -1,14 +1,11 @@
 pub mod AnswerLaws
 pub mod AnsweredLaws
-pub mod CellLaws
 pub mod CutLaws
 pub mod FieldSlots
-pub mod FindLaws
 pub mod FirstReadLaws
 pub mod FollowLaws
 pub mod KeepLaws
 pub mod LazyLaws
-pub mod LearnLaws
 pub mod MeasureLaws
 pub mod MethodLaws
 pub mod MoreLaws

@@ -29,7 +29,7 @@ use Rattle.kb_frames.specs.StandsFor.{FrameStandsFor, StandsFor, reading_at, val
 use Rattle.kb_frames.specs.State.{State}
 use Rattle.kb_frames.specs.States.{IsSymValue}
 use Rattle.kb_ways.specs.Ways.{with_stack}
-use Rattle.kb_ways.proofs.ItemLaws.{two_parts}
+use Rattle.kb_frames.proofs.ItemLaws.{two_parts}
 use Rattle.kb_ways.proofs.LocalLaws.{led_to, local_set, local_value}
 use Rattle.kb_ways.proofs.SoundLaws.{Sound}
 use Rattle.kb_ways.specs.Kept.{kept as sym_kept, is_of_kind}

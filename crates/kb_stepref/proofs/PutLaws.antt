@@ -53,7 +53,7 @@ use Rattle.kb_ways.specs.Kept.{kept as sym_kept, masked, kept_in, is_of_kind}
 use Rattle.kb_ways.specs.Simulation.{IsOutcome}
 use Rattle.kb_ways.specs.Ways.{Take, Goes, Fails, carries_out, ill_typed, went}
 use Rattle.kb_ways.proofs.GrowLaws.{interned_extends, op_extends}
-use Rattle.kb_ways.proofs.ItemLaws.{each_drop, two_parts}
+use Rattle.kb_frames.proofs.ItemLaws.{each_drop, two_parts}
 use Rattle.kb_ways.proofs.OutcomeStands.{none_standing}
 use Rattle.kb_ways.proofs.OutcomeValues.{IsLater, frame_later, heap_later, reading_int, reading_later, there}
 use Rattle.kb_ways.proofs.OutcomeWays.{ill_typed_is, room_same, throws_is, writes_stand}

@@ -70,7 +70,7 @@ use Rattle.kb_stepref.specs.Questions.{question_of}
 use Rattle.kb_ways.specs.Questions.{answers}
 use Rattle.kb_stepref.specs.Takes.{taken}
 use Rattle.kb_ways.specs.Plans.{takes_next}
-use Rattle.kb_stepref.proofs.CellLaws.{found_cell}
+use Rattle.kb_frames.proofs.CellLaws.{found_cell}
 use Rattle.kb_stepref.proofs.FirstReadLaws.{IsAsked, IsAskedField, asked}
 use Rattle.kb_stepref.proofs.KeepLaws.{int_tells, reference_tells, take_by, take_untold, takes_next_untold}
 use Rattle.kb_picture.specs.declared.choice.Choice.TheVariants.{Only}

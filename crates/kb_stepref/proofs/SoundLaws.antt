@@ -34,7 +34,7 @@ use Rattle.kb_frames.specs.State.{State}
 use Rattle.kb_frames.specs.States.{Each, IsLocal, IsSymValue}
 use Rattle.kb_ways.specs.Ways.{with_stack, Take, Way, Goes, Jumps, Throws, Fails, ill_typed}
 use Rattle.kb_ways.proofs.GrowLaws.{if_has, option_has}
-use Rattle.kb_ways.proofs.ItemLaws.{each_cons, each_drop, each_set, option_has_at, only_has}
+use Rattle.kb_frames.proofs.ItemLaws.{each_cons, each_drop, each_set, option_has_at, only_has}
 use Rattle.kb_ways.proofs.KeepLaws.{went_stays}
 use Rattle.kb_ways.proofs.GoodWays.{IsGood, running_now, went_sound}
 use Rattle.kb_ways.proofs.SoundLaws.{Sound, begun_sound, frame_sound, receiver_seen, sound_reached}
@@ -55,7 +55,7 @@ use Rattle.kb_ways.specs.Questions.{answered, answers, cut_where, goes_behind, p
 use Rattle.kb_stepref.specs.Takes.{taken}
 use Rattle.kb_stepref.proofs.AnsweredLaws.{answered_receiver, answered_sound}
 use Rattle.kb_stepref.proofs.FirstReadLaws.{IsAskedAt, asked, where_so}
-use Rattle.kb_stepref.proofs.MoreLaws.{locals_more, values_more}
+use Rattle.kb_frames.proofs.MoreLaws.{locals_more, values_more}
 use Rattle.kb_stepref.proofs.WrittenLaws.{SoundBehind, held_there, kept_behind, put_kept_behind, sound_itself}
 use Rattle.kb_ways.proofs.KeptLaws.{returns_has, of_kind_is, reference_is}
 

@@ -21,7 +21,7 @@ use Rattle.kb_ways.specs.Plans.{Planned, leaves_with, plain, planned, returns_va
 use Rattle.kb_ways.specs.Ways.{Fails}
 use Rattle.kb_ways.proofs.AskedLaws.{interned_is_term}
 use Rattle.kb_ways.proofs.GrowLaws.{HasMore, goes_on_behind, interned_goes_on, more_itself, more_terms, op_goes_on}
-use Rattle.kb_ways.proofs.ItemLaws.{only_has}
+use Rattle.kb_frames.proofs.ItemLaws.{only_has}
 
 -- ---- values of a kind
 

@@ -25,7 +25,7 @@ use Rattle.kb_frames.specs.StandsFor.{FrameStandsFor, FramesStandFor, IsOfRun, S
 use Rattle.kb_frames.specs.State.{State}
 use Rattle.kb_frames.specs.States.{Each, IsFrame, IsLocal, IsStage, IsSymValue}
 use Rattle.kb_ways.specs.Reached.{IsAlone}
-use Rattle.kb_ways.proofs.ItemLaws.{each_append, each_copy, each_mapped, no_items}
+use Rattle.kb_frames.proofs.ItemLaws.{each_append, each_copy, each_mapped, no_items}
 
 -- The frame of a state whose arguments are read.
 pub record Running (world : World) (old : State) (stage : Stage) (r : Reading) (c : Config) : Type 0 where
