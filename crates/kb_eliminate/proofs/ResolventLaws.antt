@@ -12,19 +12,19 @@ use Rattle.kb_chain.proofs.OrderLaws.{has-clause_of}
 use Rattle.kb_chain.proofs.ChainLaws.{resolved_with}
 use Rattle.kb_chain.proofs.LogLaws.{derived-push}
 use Rattle.kb_chain.proofs.PropagationLaws.{taken_part}
-use Rattle.kb_eliminate.specs.Tables.{IsDistinct}
-use Rattle.kb_eliminate.specs.Trail.{Assigned, IsTrail, level_zero}
-use Rattle.kb_eliminate.specs.Store.{IsRow, IsStored, IsJustified}
-use Rattle.kb_eliminate.specs.Watches.{IsWatching, Quiet, paired, put_pair}
-use Rattle.kb_eliminate.specs.Base.{IsBase, IsSecondLiteral}
+use Rattle.kb_propagate.specs.Tables.{IsDistinct}
+use Rattle.kb_propagate.specs.Trail.{Assigned, IsTrail, level_zero}
+use Rattle.kb_propagate.specs.Store.{IsRow, IsStored, IsJustified}
+use Rattle.kb_propagate.specs.Watches.{IsWatching, Quiet, paired, put_pair}
+use Rattle.kb_propagate.specs.Base.{IsBase, IsSecondLiteral}
 use Rattle.kb_eliminate.specs.Resolvents.{IsResolvent, IsMerged}
-use Rattle.kb_eliminate.specs.declared.watch.Pair.{Pair}
-use Rattle.kb_eliminate.specs.declared.watch.Watch.{Watch}
-use Rattle.kb_eliminate.proofs.Places.{at_pushed, at_inside, at_within, at_last, at_has, at_same, has_at, get_or_at_place}
-use Rattle.kb_eliminate.proofs.TrailLaws.{has_pushed}
-use Rattle.kb_eliminate.proofs.WatchLaws.{IsWatching-push, AllListed-push, Quiet-push, Quiet_more}
-use Rattle.kb_eliminate.proofs.JustifyLaws.{pushed, IsJustified-push, push_part}
-use Rattle.kb_eliminate.proofs.JustifyLaws.{IsJustified-grow}
+use Rattle.kb_propagate.specs.declared.watch.Pair.{Pair}
+use Rattle.kb_propagate.specs.declared.watch.Watch.{Watch}
+use Rattle.kb_propagate.proofs.Places.{at_pushed, at_inside, at_within, at_last, at_has, at_same, has_at, get_or_at_place}
+use Rattle.kb_propagate.proofs.TrailLaws.{has_pushed}
+use Rattle.kb_propagate.proofs.WatchLaws.{IsWatching-push, AllListed-push, Quiet-push, Quiet_more}
+use Rattle.kb_propagate.proofs.JustifyLaws.{pushed, IsJustified-push, push_part}
+use Rattle.kb_propagate.proofs.JustifyLaws.{IsJustified-grow}
 
 -- a row that is merged literal by literal
 

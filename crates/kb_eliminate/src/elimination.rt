@@ -3,15 +3,13 @@
 ghost use Rattle.std.specs.Prelude.{◌≡◌, ◌++◌, false, [], OnOk, IfOk, IfSome};
 ghost use Rattle.std.specs.Bool.{OnTrue};
 ghost use Rattle.kb_chain.specs.Literal.{has, negated};
-ghost use Rattle.kb_eliminate.specs.Base.{Stands, IsReady};
+ghost use Rattle.kb_propagate.specs.Base.{Stands, IsReady};
 ghost use Rattle.kb_eliminate.specs.Elimination.{IsUndecided, IsResolventAt, each_with, AreGone};
 
-use crate::NoMemory;
-use crate::base::Base;
 use crate::occurrences::Occurrences;
 use crate::resolvents::{add_resolvent, resolvent};
-use crate::trail::Trail;
 use kb_chain::{Lit, Row};
+use kb_propagate::{Base, NoMemory, Trail};
 use std::alloc::Global;
 
 /// How far an elimination goes.

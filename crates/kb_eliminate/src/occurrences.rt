@@ -1,10 +1,7 @@
 //! Occurrence lists: the clauses that have a literal, for variable elimination. Free: what they name is looked at again before
 //! use.
-use crate::NoMemory;
-use crate::base::Base;
-use crate::trail::Trail;
-use crate::watch::Pair;
 use kb_chain::Lit;
+use kb_propagate::{Base, NoMemory, Pair, Trail};
 use std::alloc::Global;
 
 /// The numbers of the clauses that have a literal, by its place. Of those some may have been let go since.

@@ -4,13 +4,10 @@ ghost use Rattle.std.specs.Bool.{OnTrue};
 ghost use Rattle.kb_chain.specs.Literal.{Literal, has, negated};
 ghost use Rattle.kb_chain.specs.Clause.{has_only};
 ghost use Rattle.kb_eliminate.specs.Resolvents.{IsResolvent, IsMerged};
-ghost use Rattle.kb_eliminate.specs.Base.{Stands, IsReady};
+ghost use Rattle.kb_propagate.specs.Base.{Stands, IsReady};
 
-use crate::NoMemory;
-use crate::base::{Base, second_of};
-use crate::begin::watch_pair;
-use crate::trail::Trail;
 use kb_chain::{Chain, Lit, Row};
+use kb_propagate::{Base, NoMemory, Trail, second_of, watch_pair};
 use std::alloc::Global;
 
 /// The resolvent of two clauses, without what is false at level 0. None where a clause has both literals of the pivot's

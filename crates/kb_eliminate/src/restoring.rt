@@ -4,14 +4,11 @@ ghost use Rattle.std.specs.Prelude.{◌≡◌, ◌≤◌, true, List, length, sl
 ghost use Rattle.std.specs.Bool.{OnTrue};
 ghost use Rattle.kb_chain.specs.Literal.{Literal, has, is_true};
 ghost use Rattle.kb_chain.specs.Clause.{Satisfies, assignment_of, clause_true};
-ghost use Rattle.kb_eliminate.specs.Base.{Stands};
+ghost use Rattle.kb_propagate.specs.Base.{Stands};
 
-use crate::NoMemory;
-use crate::base::Base;
-use crate::clauses::Clauses;
-use crate::complete::model;
 use crate::elimination::Eliminated;
 use kb_chain::{Clause, Lit, Row};
+use kb_propagate::{Base, Clauses, NoMemory, model};
 use std::alloc::Global;
 
 /// The model that the trail is, with values of the eliminated variables that make the clauses true that were let go; none where

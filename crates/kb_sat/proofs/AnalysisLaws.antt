@@ -8,14 +8,14 @@ use Rattle.kb_chain.specs.Index.{has_number}
 use Rattle.kb_chain.specs.declared.log.Chain.{Chain}
 use Rattle.kb_chain.proofs.LiteralLaws.{negated-negated}
 use Rattle.kb_chain.proofs.PropagationLaws.{all_negated-from, all_negated-at, has-others}
-use Rattle.kb_eliminate.specs.Trail.{Assigned, IsTrail, level_start, before_level}
-use Rattle.kb_eliminate.specs.Store.{IsJustified}
-use Rattle.kb_eliminate.specs.Base.{IsConflict}
+use Rattle.kb_propagate.specs.Trail.{Assigned, IsTrail, level_start, before_level}
+use Rattle.kb_propagate.specs.Store.{IsJustified}
+use Rattle.kb_propagate.specs.Base.{IsConflict}
 use Rattle.kb_sat.specs.Search.{IsLearned}
 use Rattle.kb_sat.specs.Analysis.{is_seen, IsLevels, AreFalseBefore, AreMarked, IsClean, MarksOthers, IsReached, ArePut}
 use Rattle.kb_sat.specs.declared.analysis.Levels.{Levels}
 use Rattle.kb_sat.specs.declared.analysis.Marks.{Marks}
-use Rattle.kb_eliminate.proofs.Places.{at_within, at_inside, has_at, at_has, at_same}
+use Rattle.kb_propagate.proofs.Places.{at_within, at_inside, has_at, at_has, at_same}
 use Rattle.kb_sat.proofs.MarkLaws.{IsOnce, at_has_taken, pending_none}
 use Rattle.kb_sat.proofs.HeldLaws.{not_before, has_fewer, held_start}
 use Rattle.kb_sat.proofs.LevelLaws.{level_done}

@@ -12,10 +12,10 @@ use Rattle.kb_chain.proofs.OrderLaws.{has-clause_of}
 use Rattle.kb_chain.proofs.PropagationLaws.{all_negated-from, all_negated-at, has-others, taken_part}
 use Rattle.kb_chain.proofs.ChainLaws.{resolved_with}
 use Rattle.kb_sat.specs.Analysis.{is_seen, IsHeld, IsReached}
-use Rattle.kb_eliminate.specs.Store.{IsRow, IsStored}
-use Rattle.kb_eliminate.specs.Trail.{IsReason}
-use Rattle.kb_eliminate.proofs.Places.{at_same, at_has}
-use Rattle.kb_eliminate.proofs.TrailLaws.{same_variable}
+use Rattle.kb_propagate.specs.Store.{IsRow, IsStored}
+use Rattle.kb_propagate.specs.Trail.{IsReason}
+use Rattle.kb_propagate.proofs.Places.{at_same, at_has}
+use Rattle.kb_propagate.proofs.TrailLaws.{same_variable}
 use Rattle.kb_sat.proofs.MarkLaws.{IsOnce, has_taken_at, at_has_taken}
 
 -- a literal of the trail is not among those before it

@@ -7,12 +7,12 @@ use Rattle.std.specs.List.Sorted.{IsNonDecreasingBy}
 use Rattle.kb_chain.specs.Literal.{Literal, has, negated}
 use Rattle.kb_chain.specs.Index.{has_number}
 use Rattle.kb_chain.proofs.LiteralLaws.{negated-negated}
-use Rattle.kb_eliminate.specs.Trail.{Assigned, IsTrail}
-use Rattle.kb_eliminate.specs.Store.{IsJustified}
+use Rattle.kb_propagate.specs.Trail.{Assigned, IsTrail}
+use Rattle.kb_propagate.specs.Store.{IsJustified}
 use Rattle.kb_sat.specs.Analysis.{is_seen, at_position, pending_below, IsLevels, AreMarked, AreCovered, IsReached, IsClean, ArePut}
 use Rattle.kb_sat.specs.declared.analysis.Levels.{Levels}
 use Rattle.kb_sat.specs.declared.analysis.Marks.{Marks}
-use Rattle.kb_eliminate.proofs.Places.{at_same, at_within}
+use Rattle.kb_propagate.proofs.Places.{at_same, at_within}
 use Rattle.kb_sat.proofs.MarkLaws.{IsOnce, at_has_taken, at_position-is, seen_set, seen_other, pending_none}
 use Rattle.kb_sat.proofs.HeldLaws.{not_before, reached_skip, reached_keep, reached_resolve}
 use Rattle.kb_sat.proofs.LevelLaws.{others_same}

@@ -6,11 +6,11 @@ use Rattle.kb_chain.specs.Literal.{Literal, has, same, negated}
 use Rattle.kb_chain.specs.Propagation.{others}
 use Rattle.kb_chain.proofs.LiteralLaws.{same-true}
 use Rattle.kb_chain.proofs.PropagationLaws.{all_negated-at, has-others}
-use Rattle.kb_eliminate.specs.Trail.{Assigned, IsTrail, level_start, level_zero}
-use Rattle.kb_eliminate.specs.Store.{IsStored, IsJustified}
+use Rattle.kb_propagate.specs.Trail.{Assigned, IsTrail, level_start, level_zero}
+use Rattle.kb_propagate.specs.Store.{IsStored, IsJustified}
 use Rattle.kb_sat.specs.Analysis.{IsLevels, AreFalseBefore}
 use Rattle.kb_sat.specs.declared.analysis.Levels.{Levels}
-use Rattle.kb_eliminate.proofs.Places.{at_inside}
+use Rattle.kb_propagate.proofs.Places.{at_inside}
 
 pub front : {X : Type 0} (n : ℕ) (xs ys : List X) → n ≡ length xs → take n (xs ++ ys) ≡ xs
 front n xs ys e = ap (λ k. take k (xs ++ ys)) e ∙ take-append_seam xs ys

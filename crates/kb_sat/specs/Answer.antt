@@ -4,7 +4,7 @@ use Rattle.kb_chain.specs.Cnf.{Cnf}
 use Rattle.kb_chain.specs.Clause.{Satisfies, assignment_of}
 use Rattle.kb_chain.specs.Chains.{IsRefutation}
 use Rattle.kb_chain.specs.Propagation.{IsFresh, UnitRefutes}
-use Rattle.kb_eliminate.specs.Base.{Stands, IsComplete, IsConflict, IsDoomed, IsReady}
+use Rattle.kb_propagate.specs.Base.{Stands, IsComplete, IsConflict, IsDoomed, IsReady}
 use Rattle.kb_sat.specs.Solver.{Equipped}
 use Rattle.kb_sat.specs.declared.search.Search.{Search}
 use Rattle.kb_sat.specs.declared.solver.Begun.{Begun}

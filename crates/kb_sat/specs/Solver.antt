@@ -1,7 +1,7 @@
 -- The state of a search.
 use Rattle.std.specs.Prelude.{◌≡◌, ℕ, ◌+◌, ◌*◌, ◌<◌, ◌≤◌, Bool, List, length}
-use Rattle.kb_eliminate.specs.Base.{Stands, IsReady, IsConflict, IsComplete}
-use Rattle.kb_eliminate.specs.Watches.{IsAwake}
+use Rattle.kb_propagate.specs.Base.{Stands, IsReady, IsConflict, IsComplete}
+use Rattle.kb_propagate.specs.Watches.{IsAwake}
 use Rattle.kb_sat.specs.Analysis.{IsClean}
 use Rattle.kb_sat.specs.declared.analysis.Marks.{Marks}
 use Rattle.kb_sat.specs.declared.search.Search.{Search}

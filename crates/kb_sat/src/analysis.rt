@@ -10,15 +10,15 @@ ghost use Rattle.kb_chain.specs.Propagation.{all_negated};
 ghost use Rattle.kb_chain.specs.Index.{has_number};
 ghost use Rattle.kb_chain.specs.Chains.{derived};
 ghost use Rattle.kb_chain.specs.Needed.{cites};
-ghost use Rattle.kb_eliminate.specs.Trail.{level_start, before_level, HasReasons};
-ghost use Rattle.kb_eliminate.specs.Store.{IsJustified};
-ghost use Rattle.kb_eliminate.specs.Base.{IsConflict};
+ghost use Rattle.kb_propagate.specs.Trail.{level_start, before_level, HasReasons};
+ghost use Rattle.kb_propagate.specs.Store.{IsJustified};
+ghost use Rattle.kb_propagate.specs.Base.{IsConflict};
 ghost use Rattle.kb_sat.specs.Search.{IsLearned, IsRefuting};
 ghost use Rattle.kb_sat.specs.Analysis.{is_seen, is_pivot, AreFalseBefore, AreMarked, IsClean, MarksOthers, IsLevels, AreCovered, IsReached, IsLastSeen, NoneSeen, ArePut, MayCite, at_position};
 
 use crate::order::ActivityOrder;
 use kb_chain::{Chain, Formula, Lit, Row, Store, derive_needed};
-use kb_eliminate::{Clauses, NoMemory, Trail};
+use kb_propagate::{Clauses, NoMemory, Trail};
 use std::alloc::Global;
 
 /// What a conflict teaches: a clause by its chain, without the literals that are false at level 0. The first one becomes true

@@ -1,13 +1,13 @@
 //! Clause database reduction: learned clauses of little use are let go (as in Glucose: Audemard and Simon, 2009). Which ones is
 //! free; that nothing relies on them any longer is under proof.
 ghost use Rattle.std.specs.Prelude.{◌≡◌, ◌<◌, length, OnOk};
-ghost use Rattle.kb_eliminate.specs.Base.{Stands, IsReady, Forgets};
+ghost use Rattle.kb_propagate.specs.Base.{Stands, IsReady, Forgets};
 ghost use Rattle.kb_sat.specs.Solver.{Equipped};
 
 use crate::parameters::STAYING_LEVELS;
 use crate::search::Search;
 use kb_chain::Lit;
-use kb_eliminate::{NoMemory, Trail};
+use kb_propagate::{NoMemory, Trail};
 use std::alloc::Global;
 
 /// A learned clause that may be let go.

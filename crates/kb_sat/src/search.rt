@@ -2,9 +2,9 @@
 //! jump back. That it stays within what the log derives is under proof; which literals it tries is free.
 ghost use Rattle.std.specs.Prelude.{◌≡◌, ℕ, ◌+◌, ◌*◌, ◌<◌, ◌≤◌, true, false, Some, [], ◌∷◌, ◌++◌, length, OnOk, IfOk, IfSome, IfNone};
 ghost use Rattle.kb_chain.specs.Literal.{Literal, has, negated, place_of};
-ghost use Rattle.kb_eliminate.specs.Trail.{TrailGrows, level_start, cut_back};
-ghost use Rattle.kb_eliminate.specs.Watches.{IsAwake, paired, put_pair};
-ghost use Rattle.kb_eliminate.specs.Base.{Stands, IsReady, IsConflict, IsComplete, IsPropagated, IsDoomed};
+ghost use Rattle.kb_propagate.specs.Trail.{TrailGrows, level_start, cut_back};
+ghost use Rattle.kb_propagate.specs.Watches.{IsAwake, paired, put_pair};
+ghost use Rattle.kb_propagate.specs.Base.{Stands, IsReady, IsConflict, IsComplete, IsPropagated, IsDoomed};
 ghost use Rattle.kb_sat.specs.Solver.{Equipped, IsEquipped, GoesOn, Keeps, StepIs};
 
 use crate::analysis::{Marks, analyse};
@@ -14,7 +14,7 @@ use crate::parameters::FIRST_PHASE;
 use crate::pick::pick;
 use crate::ranks::{Ranks, levels_of};
 use kb_chain::{Formula, Lit};
-use kb_eliminate::{Base, NoMemory, second_of, watch_pair};
+use kb_propagate::{Base, NoMemory, second_of, watch_pair};
 use kb_rows::Held;
 use std::alloc::Global;
 

@@ -5,7 +5,7 @@ ghost use Rattle.kb_chain.specs.Clause.{Satisfies, assignment_of};
 ghost use Rattle.kb_chain.specs.Chains.{IsRefutation};
 ghost use Rattle.kb_chain.specs.Cnf.{Cnf};
 ghost use Rattle.kb_chain.specs.Propagation.{IsFresh, UnitRefutes};
-ghost use Rattle.kb_eliminate.specs.Base.{Stands, IsReady, IsComplete, IsDoomed};
+ghost use Rattle.kb_propagate.specs.Base.{Stands, IsReady, IsComplete, IsDoomed};
 ghost use Rattle.kb_sat.specs.Solver.{Equipped, GoesOn};
 ghost use Rattle.kb_sat.specs.Answer.{Solves, BegunIs, EndedIs, at_end, KeepsAll, IfSat, IfUnsat, IfUndecided, IsOpenOnly, ProgressIs};
 
@@ -17,7 +17,8 @@ use crate::pace::{Crowding, Pace};
 use crate::parameters::{ELIMINATION, ELIMINATION_CLAUSES, SMALL_BUDGET};
 use crate::search::Search;
 use kb_chain::{Clause, Formula, Log, Row};
-use kb_eliminate::{Eliminated, NoMemory, eliminate, model, restored};
+use kb_eliminate::{Eliminated, eliminate, restored};
+use kb_propagate::{NoMemory, model};
 use kb_rows::Held;
 use std::alloc::Global;
 

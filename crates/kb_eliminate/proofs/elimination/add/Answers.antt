@@ -2,7 +2,7 @@ use Rattle.std.proofs.Common.{sym, subst}
 use Rattle.kb_chain.specs.Literal.{has}
 use Rattle.kb_eliminate.specs.Resolvents.{IsResolvent}
 use Rattle.kb_eliminate.specs.Elimination.{IsResolventAt}
-use Rattle.kb_eliminate.proofs.WatchLaws.{at_some}
+use Rattle.kb_propagate.proofs.WatchLaws.{at_some}
 use Rattle.kb_eliminate.proofs.elimination.add.Goals as goal
 
 pub add_resolvent-requires-clause-resolvent : goal.add_resolvent-requires-clause-resolvent

@@ -1,7 +1,7 @@
 use Rattle.std.proofs.Common.{◌≡◌, ◌-◌, ◌∙◌, ◌++◌, ◌∷◌, [], sym, ap, subst, length, ℕ, List}
 use Rattle.kb_chain.specs.declared.log.Chain.{Chain}
 use Rattle.kb_chain.specs.Literal.{Literal, negated}
-use Rattle.kb_eliminate.specs.Trail.{level_start}
+use Rattle.kb_propagate.specs.Trail.{level_start}
 use Rattle.kb_sat.specs.Analysis.{IsLevels, IsReached, ArePut}
 use Rattle.kb_sat.specs.declared.analysis.Levels.{Levels}
 use Rattle.kb_sat.proofs.MarkedLaws.{once_of}

@@ -6,7 +6,7 @@ use Rattle.kb_chain.specs.Literal.{Literal, negated}
 use Rattle.kb_chain.specs.Index.{has_number}
 use Rattle.kb_sat.specs.Analysis.{is_seen, AreMarked, IsReached, ArePut}
 use Rattle.kb_sat.specs.declared.analysis.Marks.{Marks}
-use Rattle.kb_eliminate.proofs.Places.{at_has}
+use Rattle.kb_propagate.proofs.Places.{at_has}
 use Rattle.kb_sat.proofs.MarkedLaws.{variable_inside, once_of, read_at, seen_read}
 use Rattle.kb_sat.proofs.ReasonLaws.{front, zero_below}
 use Rattle.kb_sat.proofs.MinimiseLaws.{number_last, front_rising, AreMarked-sorted, AreMarked-done, popped, AreMarked-popped, reached_kept, reached_away, IsPlaced, put_more, reached_end, clean_end}

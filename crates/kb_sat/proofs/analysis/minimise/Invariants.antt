@@ -2,7 +2,7 @@ use Rattle.std.proofs.Common.{◌≤◌, List, length, ℕ}
 use Rattle.std.specs.Option.{IfSome}
 use Rattle.std.specs.List.Sorted.{IsNonDecreasingBy}
 use Rattle.kb_chain.specs.Literal.{Literal}
-use Rattle.kb_eliminate.specs.Store.{IsJustified}
+use Rattle.kb_propagate.specs.Store.{IsJustified}
 use Rattle.kb_sat.specs.Analysis.{AreMarked, IsReached, ArePut}
 use Rattle.kb_sat.proofs.analysis.minimise.Given as goal
 

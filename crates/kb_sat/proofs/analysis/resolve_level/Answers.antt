@@ -2,7 +2,7 @@ use Rattle.std.proofs.Common.{◌-◌, ◌<◌, ◌≤◌, ◌∙◌, sym, subst
 use Rattle.kb_sat.specs.Analysis.{AreMarked, IsLastSeen, NoneSeen, IsReached}
 use Rattle.kb_sat.specs.declared.analysis.Marks.{Marks}
 use Rattle.std.specs.Vec.{with_item}
-use Rattle.kb_eliminate.proofs.Places.{at_has}
+use Rattle.kb_propagate.proofs.Places.{at_has}
 use Rattle.kb_sat.proofs.MarkedLaws.{variable_inside, once_of, read_at}
 use Rattle.kb_sat.proofs.ReasonLaws.{reason_inside, reason_before, decision_at, zero_below}
 use Rattle.kb_sat.proofs.LevelLaws.{found_above, found_marked, none_found, AreMarked-start, reached_point, reached_step, pending_grows, decision_last}

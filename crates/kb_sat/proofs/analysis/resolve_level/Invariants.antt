@@ -1,6 +1,6 @@
 use Rattle.std.proofs.Common.{◌≡◌, ◌<◌, List, [], length, ℕ}
 use Rattle.kb_chain.specs.Literal.{Literal}
-use Rattle.kb_eliminate.specs.Store.{IsJustified}
+use Rattle.kb_propagate.specs.Store.{IsJustified}
 use Rattle.kb_sat.specs.Analysis.{AreMarked, IsReached}
 use Rattle.kb_sat.proofs.analysis.resolve_level.Given as goal
 

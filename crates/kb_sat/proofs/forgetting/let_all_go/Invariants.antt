@@ -1,4 +1,4 @@
-use Rattle.kb_eliminate.specs.Base.{Stands, IsReady, Forgets}
+use Rattle.kb_propagate.specs.Base.{Stands, IsReady, Forgets}
 use Rattle.kb_sat.specs.Solver.{Equipped}
 use Rattle.kb_sat.proofs.forgetting.let_all_go.Given as goal
 

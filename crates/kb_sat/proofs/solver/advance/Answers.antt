@@ -2,10 +2,10 @@ use Rattle.std.proofs.Common.{◌≡◌, ◌+◌, ◌<◌, ◌∙◌, ap, sym, s
 use Rattle.std.proofs.lemmas.List.{nil_from_length}
 use Rattle.kb_chain.specs.Cnf.{Cnf}
 use Rattle.kb_chain.specs.Propagation.{UnitRefutes}
-use Rattle.kb_eliminate.specs.Base.{IsConflict}
-use Rattle.kb_eliminate.specs.Watches.{IsAwake}
-use Rattle.kb_eliminate.proofs.BaseLaws.{doomed_from, not_refuted}
-use Rattle.kb_eliminate.proofs.WatchLaws.{at_some}
+use Rattle.kb_propagate.specs.Base.{IsConflict}
+use Rattle.kb_propagate.specs.Watches.{IsAwake}
+use Rattle.kb_propagate.proofs.BaseLaws.{doomed_from, not_refuted}
+use Rattle.kb_propagate.proofs.WatchLaws.{at_some}
 use Rattle.kb_sat.proofs.solver.advance.Goals as goal
 
 pub returns-then-level-eq0-clause-advance : goal.returns-then-level-eq0-clause-advance

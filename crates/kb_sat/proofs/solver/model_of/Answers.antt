@@ -1,4 +1,4 @@
-use Rattle.kb_eliminate.proofs.BaseLaws.{model_satisfies}
+use Rattle.kb_propagate.proofs.BaseLaws.{model_satisfies}
 use Rattle.kb_sat.proofs.solver.model_of.Goals as goal
 
 pub returns-clause-satisfies : goal.returns-clause-satisfies

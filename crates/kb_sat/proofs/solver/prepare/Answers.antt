@@ -1,11 +1,11 @@
 use Rattle.std.proofs.Common.{◌≡◌, ◌∙◌, ap, sym, subst, length, arith}
 use Rattle.std.proofs.lemmas.List.{take_all}
 use Rattle.kb_chain.specs.Literal.{has}
-use Rattle.kb_eliminate.specs.Base.{IsConflict}
-use Rattle.kb_eliminate.specs.Base.{IsPropagated, IsReady}
-use Rattle.kb_eliminate.specs.Watches.{IsAwake, Quiet}
-use Rattle.kb_eliminate.proofs.BaseLaws.{doomed_from}
-use Rattle.kb_eliminate.proofs.WatchLaws.{at_none, at_some}
+use Rattle.kb_propagate.specs.Base.{IsConflict}
+use Rattle.kb_propagate.specs.Base.{IsPropagated, IsReady}
+use Rattle.kb_propagate.specs.Watches.{IsAwake, Quiet}
+use Rattle.kb_propagate.proofs.BaseLaws.{doomed_from}
+use Rattle.kb_propagate.proofs.WatchLaws.{at_none, at_some}
 use Rattle.kb_sat.specs.declared.search.Search.{Search}
 use Rattle.kb_sat.proofs.solver.prepare.Goals as goal
 

@@ -1,11 +1,11 @@
 use Rattle.std.proofs.Common.{◌≡◌, ◌+◌, ◌-◌, ◌*◌, ◌<◌, ◌≤◌, ◌∙◌, ap, sym, subst, length, take, [], ◌∷◌, ◌++◌, arith, Some, get_or}
 use Rattle.kb_chain.specs.Literal.{has, negated, place_of}
-use Rattle.kb_eliminate.specs.Trail.{Assigned, before_level, level_start}
-use Rattle.kb_eliminate.specs.Watches.{Quiet, paired, put_pair}
-use Rattle.kb_eliminate.specs.Base.{IsSecondLiteral}
-use Rattle.kb_eliminate.specs.declared.watches.Watches.{Watches}
-use Rattle.kb_eliminate.proofs.JustifyLaws.{pushed}
-use Rattle.kb_eliminate.proofs.BaseLaws.{not_false_before, IsBase_same}
+use Rattle.kb_propagate.specs.Trail.{Assigned, before_level, level_start}
+use Rattle.kb_propagate.specs.Watches.{Quiet, paired, put_pair}
+use Rattle.kb_propagate.specs.Base.{IsSecondLiteral}
+use Rattle.kb_propagate.specs.declared.watches.Watches.{Watches}
+use Rattle.kb_propagate.proofs.JustifyLaws.{pushed}
+use Rattle.kb_propagate.proofs.BaseLaws.{not_false_before, IsBase_same}
 use Rattle.kb_sat.proofs.LearnLaws.{learned_false, IsAsserting-from, IsBase-learn, ready-learn, learned_trail, asserting_place, asserting_absent}
 use Rattle.kb_sat.specs.Analysis.{IsClean}
 use Rattle.kb_sat.specs.declared.analysis.Marks.{Marks}

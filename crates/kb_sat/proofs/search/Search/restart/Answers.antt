@@ -1,9 +1,9 @@
 use Rattle.std.proofs.Common.{◌<◌, ◌≤◌, ap, sym, subst, length, take, arith}
 use Rattle.kb_chain.specs.Literal.{has}
-use Rattle.kb_eliminate.specs.Trail.{Assigned, cut_back, before_level, level_start}
-use Rattle.kb_eliminate.specs.Watches.{Quiet}
-use Rattle.kb_eliminate.specs.declared.watches.Watches.{Watches}
-use Rattle.kb_eliminate.proofs.BaseLaws.{IsBase_same, IsBase-cut, quiet-cut}
+use Rattle.kb_propagate.specs.Trail.{Assigned, cut_back, before_level, level_start}
+use Rattle.kb_propagate.specs.Watches.{Quiet}
+use Rattle.kb_propagate.specs.declared.watches.Watches.{Watches}
+use Rattle.kb_propagate.proofs.BaseLaws.{IsBase_same, IsBase-cut, quiet-cut}
 use Rattle.kb_sat.proofs.search.Search.restart.Goals as goal
 
 pub returns-clause-keeps : goal.returns-clause-keeps

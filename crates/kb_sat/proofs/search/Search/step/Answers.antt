@@ -2,11 +2,11 @@ use Rattle.std.proofs.Common.{◌≡◌, ◌+◌, ◌≤◌, ◌∙◌, ap, sym,
 use Rattle.std.proofs.lemmas.List.{length_push}
 use Rattle.kb_chain.specs.Literal.{has}
 use Rattle.kb_chain.proofs.PropagationLaws.{IsFrontOf-length}
-use Rattle.kb_eliminate.specs.Trail.{Assigned}
-use Rattle.kb_eliminate.specs.Watches.{Quiet}
-use Rattle.kb_eliminate.specs.Base.{IsBase, IsPropagated}
-use Rattle.kb_eliminate.proofs.WatchLaws.{at_none}
-use Rattle.kb_eliminate.proofs.BaseLaws.{IsBase-decided, quiet-decided}
+use Rattle.kb_propagate.specs.Trail.{Assigned}
+use Rattle.kb_propagate.specs.Watches.{Quiet}
+use Rattle.kb_propagate.specs.Base.{IsBase, IsPropagated}
+use Rattle.kb_propagate.proofs.WatchLaws.{at_none}
+use Rattle.kb_propagate.proofs.BaseLaws.{IsBase-decided, quiet-decided}
 use Rattle.kb_sat.specs.Analysis.{IsClean}
 use Rattle.kb_sat.proofs.search.Search.step.Goals as goal
 

@@ -1,0 +1,21 @@
+//! What a search for a model stands on, and what can be done with it without any decision: the clauses with their derivations in
+//! the log, and unit propagation by two watched literals.
+#![tactic(auto)]
+
+mod base;
+mod begin;
+mod clauses;
+mod complete;
+mod propagation;
+mod trail;
+mod watch;
+mod watches;
+
+pub use base::{Base, second_of};
+pub use begin::watch_pair;
+pub use clauses::Clauses;
+pub use complete::model;
+pub use std::alloc::AllocError as NoMemory;
+pub use trail::Trail;
+pub use watch::{Pair, Watch};
+pub use watches::{WatchList, Watches};
