@@ -4,6 +4,7 @@ ghost use Rattle.std.specs.Prelude.{◌≡◌, ◌≤◌, true, List, length, sl
 ghost use Rattle.std.specs.Bool.{OnTrue};
 ghost use Rattle.kb_chain.specs.Literal.{Literal, has, is_true};
 ghost use Rattle.kb_chain.specs.Clause.{Satisfies, assignment_of, clause_true};
+ghost use Rattle.kb_propagate.specs.Rows.{rows_of};
 ghost use Rattle.kb_propagate.specs.Base.{Stands};
 
 use crate::elimination::Eliminated;
@@ -40,7 +41,7 @@ fn restore_all(bits: &mut [bool], clauses: &Clauses, eliminated: &Eliminated) {
 
 /// Makes a literal of the clause of a number true, unless another one is.
 fn restore(bits: &mut [bool], clauses: &Clauses, literal: Lit, number: u32)
-    ensures { (row : List Literal) → slice_get clauses.now number ≡ Some row → has row literal ≡ true → literal.variable ≤ length bits.old
+    ensures { (row : List Literal) → slice_get (rows_of clauses.now) number ≡ Some row → has row literal ≡ true → literal.variable ≤ length bits.old
         → clause_true (assignment_of bits.new) row ≡ true }
 {
     if number >= clauses.len() {

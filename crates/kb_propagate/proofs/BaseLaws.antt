@@ -14,13 +14,12 @@ use Rattle.kb_chain.proofs.PropagationLaws.{IsPart, all_negated-from, all_negate
 use Rattle.kb_chain.proofs.LeastSets.{not_unit_refuted}
 use Rattle.kb_propagate.specs.Trail.{Assigned, IsTrail, HasReasons, level_zero, level_start, before_level, TrailGrows, cut_back}
 use Rattle.kb_propagate.specs.Store.{IsRow, IsStored, IsJustified}
-use Rattle.kb_propagate.specs.Rows.{AreNamed}
+use Rattle.kb_propagate.specs.Rows.{StoredClause, AreNamed, rows_of}
 use Rattle.kb_propagate.specs.Base.{IsConflict}
-use Rattle.kb_propagate.specs.Watches.{is_met, IsQuiet, Quiet, IsAwake, AllAwake, IsWatching, AllListed, StaysQuiet}
+use Rattle.kb_propagate.specs.Watches.{Pair, pairs_of, is_met, IsQuiet, Quiet, IsAwake, AllAwake, IsWatching, AllListed, StaysQuiet}
 use Rattle.kb_propagate.specs.Base.{IsBase, AllAssigned, IsModelOf}
-use Rattle.kb_propagate.specs.declared.watch.Pair.{Pair}
 use Rattle.kb_propagate.specs.declared.watch.Watch.{Watch}
-use Rattle.kb_propagate.proofs.Places.{at_kept, at_inside, at_within}
+use Rattle.kb_propagate.proofs.Places.{some_in, at_kept, at_inside, at_within}
 use Rattle.kb_propagate.proofs.TrailLaws.{length_taken, start_pushed, start_taken}
 use Rattle.kb_propagate.proofs.WatchLaws.{is_met-from, is_met-some, Quiet_more}
 use Rattle.kb_propagate.proofs.JustifyLaws.{pushed, level_zero_part, IsJustified-decide, IsJustified-cut, push_part}
@@ -92,7 +91,8 @@ quiet_all set low clauses rows pairs lists vars h stored w awake q k clause e =
     let row = at_within rows k (omega (arith, count, inside)) in
     let both : length pairs ≡ length rows = w.count in
     let pair = at_within pairs k (omega (arith, count, inside, both)) in
-    quiet_settled set low row.0 clause pair.0 h (q k row.0 pair.0 row.1 pair.1 (awake k pair.0 pair.1)) (w.own k row.0 pair.0 row.1 pair.1) (stored.each k clause row.0 e row.1)
+    let own = w.own k row.0 pair.0 row.1 pair.1 (awake k pair.0 pair.1) in
+    quiet_settled set low row.0 clause pair.0 h (q k row.0 pair.0 row.1 pair.1 (awake k pair.0 pair.1)) own (stored.each k clause row.0 e row.1 (some_in row.0 pair.0.first own.0))
 
 pub closed_from : (clauses : List (List Literal)) (set : Literal → Bool)
     → ((k : ℕ) (clause : List Literal) → slice_get clauses k ≡ Some clause → IsSettled set set clause) → IsClosed clauses set × (NegatesSome clauses set → ⊥)
@@ -133,15 +133,15 @@ not_false_before formula entries rows pairs lists t whole s h j lt k row e awake
     let both : length pairs ≡ length rows = s.watching.count in
     let inside : k < length rows = at_inside rows k row e in
     let pair = at_within pairs k (omega (arith, both, inside)) in
-    false_from_ne_true _ (quiet_row (has (before_level t j)) row pair.0 (taken_consistent t (level_start t.starts j) h) (s.cuts j lt k row pair.0 e pair.1 (awake pair.0 pair.1)) (s.watching.own k row pair.0 e pair.1).0)
+    false_from_ne_true _ (quiet_row (has (before_level t j)) row pair.0 (taken_consistent t (level_start t.starts j) h) (s.cuts j lt k row pair.0 e pair.1 (awake pair.0 pair.1)) (s.watching.own k row pair.0 e pair.1 (awake pair.0 pair.1)).0)
 
 -- a conflict of a row is one of its clause
-pub conflict_clause : (clauses rows : List (List Literal)) (t : Assigned) (k : ℕ) → IsJustified clauses rows t → IsConflict rows t k → IsConflict clauses t k
-conflict_clause clauses rows t k j c =
+conflict_clause : (clauses rows : List (List Literal)) (t : Assigned) (k : ℕ) → IsJustified clauses rows t → (c : IsConflict rows t k) → 0 < length c.row → IsConflict clauses t k
+conflict_clause clauses rows t k j c some =
     let count : length rows ≡ length clauses = j.stored.count in
     let inside : k < length rows = at_inside rows k c.row c.numbered in
     let clause = at_within clauses k (omega (arith, count, inside)) in
-    let r = j.stored.each k clause.0 c.row clause.1 c.numbered in record {
+    let r = j.stored.each k clause.0 c.row clause.1 c.numbered some in record {
       row = clause.0;
       numbered = clause.1;
       false_all = all_negated-from (has t.literals) clause.0 (λ l i. elim (cases_Bool (has c.row l)) [
@@ -151,10 +151,11 @@ conflict_clause clauses rows t k j c =
     }
 
 -- propagation
-pub IsBase-propagated : (formula : Cnf) (entries : List Chain) (rows : List (List Literal)) (pairs pairs' : List Pair) (lists lists' : List (List Watch)) (t t' : Assigned) (whole : Bool)
-    → IsBase formula entries rows pairs lists t whole → IsTrail t → IsWatching rows pairs' lists' t'.vars → AllListed lists' pairs' → StaysQuiet rows pairs pairs' (has t.literals) → TrailGrows t t'
-    → ((all : List (List Literal)) → IsJustified all rows t → IsJustified all rows t') → IsBase formula entries rows pairs' lists' t' whole
-IsBase-propagated formula entries rows pairs pairs' lists lists' t t' whole s h watching listed stays grows justified = record {
+pub IsBase-propagated : (formula : Cnf) (entries : List Chain) (old new : List StoredClause) (lists lists' : List (List Watch)) (t t' : Assigned) (whole : Bool)
+    → IsBase formula entries (rows_of old) (pairs_of old) lists t whole → IsTrail t → IsWatching (rows_of new) (pairs_of new) lists' t'.vars → AllListed lists' (pairs_of new)
+    → StaysQuiet old new (has t.literals) → TrailGrows t t'
+    → ((all : List (List Literal)) → IsJustified all (rows_of old) t → IsJustified all (rows_of new) t') → IsBase formula entries (rows_of new) (pairs_of new) lists' t' whole
+IsBase-propagated formula entries old new lists lists' t t' whole s h watching listed stays grows justified = record {
   clauses = s.clauses;
   derives = s.derives;
   fresh = λ w. (stays.0 (s.fresh w).0, (s.fresh w).1);
@@ -162,11 +163,11 @@ IsBase-propagated formula entries rows pairs pairs' lists lists' t t' whole s h 
   justified = justified s.clauses s.justified;
   watching = watching;
   listed = listed;
-  cuts = λ j lt. (let old : j < length t.starts = subst (λ (z : List ℕ). j < length z) grows.starts lt in
-      let inside : level_start t.starts j < length t.literals = h.inside j old in
+  cuts = λ j lt. (let before : j < length t.starts = subst (λ (z : List ℕ). j < length z) grows.starts lt in
+      let inside : level_start t.starts j < length t.literals = h.inside j before in
       let e : before_level t' j ≡ before_level t j =
       ap (λ (z : List ℕ). take (level_start z j) t'.literals) grows.starts ∙ IsFrontOf-take t.literals t'.literals (level_start t.starts j) grows.literals (omega (arith, inside)) in
-      subst (λ z. Quiet rows pairs' (has z) (has z)) (sym e) (stays.1 (has (before_level t j)) (taken_part t.literals (level_start t.starts j)) (s.cuts j old)));
+      subst (λ z. Quiet (rows_of new) (pairs_of new) (has z) (has z)) (sym e) (stays.1 (has (before_level t j)) (taken_part t.literals (level_start t.starts j)) (s.cuts j before)));
 }
 
 -- a decision
@@ -253,8 +254,8 @@ formula_clause formula entries rows pairs lists t whole s h awake named assigned
     let row = at_within rows k (omega (arith, count, inside)) in
     let pair = at_within pairs k (omega (arith, count, inside, both)) in
     let x = pair.0.first in
-    let own = (s.watching.own k row.0 pair.0 row.1 pair.1).0 in
-    let r = s.justified.stored.each k clause row.0 there row.1 in
+    let own = (s.watching.own k row.0 pair.0 row.1 pair.1 (awake k pair.0 pair.1)).0 in
+    let r = s.justified.stored.each k clause row.0 there row.1 (some_in row.0 x own) in
     let found = is_met-some (has t.literals) row.0 (meets row.0 x (quiet k row.0 pair.0 row.1 pair.1 (awake k pair.0 pair.1)).first own (low x (s.watching.within k row.0 row.1 x own)) (named k row.0 row.1 x own)) in
     let bounds = named k row.0 row.1 found.0 found.1 in
     (found.0, r.part found.0 found.1, found.2, bounds.0, bounds.1, low found.0 (s.watching.within k row.0 row.1 found.0 found.1))
@@ -311,6 +312,11 @@ model_satisfies formula entries rows pairs lists t bits whole s h awake named as
 
 -- a row that is false at level 0 dooms the search
 pub doomed_from : (formula : Cnf) (entries : List Chain) (rows : List (List Literal)) (pairs : List Pair) (lists : List (List Watch)) (t : Assigned) (whole : Bool) (number : ℕ)
-    → (s : IsBase formula entries rows pairs lists t whole) → IsConflict rows t number
+    → (s : IsBase formula entries rows pairs lists t whole) → IsConflict rows t number → IsAwake pairs number
     → HasReasons s.clauses t × IsConflict s.clauses t number
-doomed_from formula entries rows pairs lists t whole number s c = (s.justified.reasons, conflict_clause s.clauses rows t number s.justified c)
+doomed_from formula entries rows pairs lists t whole number s c awake =
+    let count : length pairs ≡ length rows = s.watching.count in
+    let inside : number < length rows = at_inside rows number c.row c.numbered in
+    let pair = at_within pairs number (omega (arith, count, inside)) in
+    let own = s.watching.own number c.row pair.0 c.numbered pair.1 (awake pair.0 pair.1) in
+    (s.justified.reasons, conflict_clause s.clauses rows t number s.justified c (some_in c.row pair.0.first own.0))

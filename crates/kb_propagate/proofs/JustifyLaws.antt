@@ -1,6 +1,6 @@
 -- Reasons and stored clauses as the trail changes.
 use Rattle.std.proofs.Common.{◌≡◌, ℕ, ◌+◌, ◌<◌, List, [], ◌∷◌, ◌++◌, Bool, true, false, arith, refl, ap, sym, ◌∙◌, inl, inr, subst, length, get_or, take, zero, suc, Option, Some, None, slice_get}
-use Rattle.std.proofs.lemmas.Bool.{or_left, and_parts, not-true, cases_Bool}
+use Rattle.std.proofs.lemmas.Bool.{false≢true, or_left, and_parts, not-true, cases_Bool}
 use Rattle.std.proofs.lemmas.List.{take_all, take-append-le, take-take, length_push}
 use Rattle.kb_chain.specs.Literal.{Literal, has, same, negated}
 use Rattle.kb_chain.specs.Propagation.{all_negated, others}
@@ -8,7 +8,7 @@ use Rattle.kb_chain.proofs.LiteralLaws.{has-append}
 use Rattle.kb_chain.proofs.PropagationLaws.{IsPart, all_negated-from, has-others, taken_part, IsFrontOf-part, IsFrontOf-trans}
 use Rattle.kb_propagate.specs.Trail.{Assigned, IsTrail, IsReason, HasReasons, level_zero, level_start, TrailGrows, cut_back}
 use Rattle.kb_propagate.specs.Store.{IsRow, IsStored, IsJustified}
-use Rattle.kb_propagate.proofs.Places.{at_pushed, at_kept, at_inside, at_within, at_taken}
+use Rattle.kb_propagate.proofs.Places.{some_in, at_has, at_pushed, at_kept, at_inside, at_within, at_taken, at_same}
 use Rattle.kb_propagate.proofs.TrailLaws.{length_taken}
 
 abbrev pub pushed : Assigned → Literal → Option ℕ → List ℕ → Assigned
@@ -41,7 +41,7 @@ IsRow_more low more row clause f h = record { part = h.part; rest = λ l e n. f 
 pub IsStored_more : (zero more : Literal → Bool) (clauses rows : List (List Literal)) → IsPart zero more → IsStored zero clauses rows → IsStored more clauses rows
 IsStored_more low more clauses rows f h = record {
   count = h.count;
-  each = λ k clause row e g. IsRow_more low more row clause f (h.each k clause row e g);
+  each = λ k clause row e g some. IsRow_more low more row clause f (h.each k clause row e g some);
 }
 
 -- all literals of the clause beside one are false, since those of the row are
@@ -81,6 +81,10 @@ IsJustified-push clauses rows t l c row h j is inside forced = record {
               (subst (λ z. IsReason clauses (has z) l c) (sym (front i g.0)) now)))
         ]
       ];
+  kept = λ i k r f g. elim (at_pushed t.reasons (Some c) i (Some k) f) [
+    | inl q ↦ j.kept i k r q g
+    | inr q ↦ (let n : c ≡ k = cc (q.1) in some_in r l (ap (λ z. has z l) (at_same rows k r row g (ap (slice_get rows) (sym n) ∙ is)) ∙ inside))
+  ];
 }
   where
     front : (i : ℕ) → i ≡ length t.literals → take i (t.literals ++ l ∷ []) ≡ t.literals
@@ -91,7 +95,7 @@ IsJustified-push clauses rows t l c row h j is inside forced = record {
         let lt : c < length rows = at_inside rows c row is in
         let count : length rows ≡ length clauses = j.stored.count in
         let at = at_within clauses c (omega (arith, lt, count)) in
-        let stored = j.stored.each c at.0 row at.1 is in record {
+        let stored = j.stored.each c at.0 row at.1 is (some_in row l inside) in record {
           clause = at.0;
           numbered = at.1;
           member = stored.part l inside;
@@ -126,6 +130,10 @@ IsJustified-decide clauses rows t l h j = record {
         ]
         | inr q ↦ (let n : None ≡ Some k = q.1 in cc)
       ];
+  kept = λ i k r f g. elim (at_pushed t.reasons None i (Some k) f) [
+    | inl q ↦ j.kept i k r q g
+    | inr q ↦ (let n : None ≡ Some k = q.1 in cc)
+  ];
 }
 
 first_kept : (starts : List ℕ) (d e : ℕ) (n : ℕ) → get_or (take (suc n) starts) 0 d ≡ get_or starts 0 d
@@ -161,7 +169,35 @@ IsJustified-cut clauses rows t level h j lt = record {
       let q = at_taken (level_start t.starts level) t.reasons i (Some k) f in
       let inside : i < level_start t.starts level = p.1 in
       subst (λ z. IsReason clauses (has z) m k) (sym (take-take i (level_start t.starts level) t.literals (omega (arith, inside)))) (j.reasons i k m p.0 q.0));
+  kept = λ i k r f g. j.kept i k r (at_taken (level_start t.starts level) t.reasons i (Some k) f).0 g;
 }
+
+-- a reason is the number of a row
+pub reason_inside : (clauses rows : List (List Literal)) (t : Assigned) → IsJustified clauses rows t → IsTrail t → (i c : ℕ) → slice_get t.reasons i ≡ Some (Some c) → c < length rows
+reason_inside clauses rows t j h i c e =
+    let in_reasons : i < length t.reasons = at_inside t.reasons i (Some c) e in
+    let size : length t.reasons ≡ length t.literals = h.reasons in
+    let l = at_within t.literals i (omega (arith, in_reasons, size)) in
+    let r = j.reasons i c l.0 l.1 e in
+    let inside : c < length clauses = at_inside clauses c r.clause r.numbered in
+    omega (arith, inside, j.stored.count)
+
+-- the literal that it forced is one of the row's
+pub reason_in_row : (clauses rows : List (List Literal)) (t : Assigned) → IsJustified clauses rows t → IsTrail t → (i c : ℕ) (row : List Literal) → slice_get t.reasons i ≡ Some (Some c)
+    → slice_get rows c ≡ Some row → (l : Literal) × (slice_get t.literals i ≡ Some l) × (has row l ≡ true)
+reason_in_row clauses rows t j h i c row e at =
+    let in_reasons : i < length t.reasons = at_inside t.reasons i (Some c) e in
+    let size : length t.reasons ≡ length t.literals = h.reasons in
+    let l = at_within t.literals i (omega (arith, in_reasons, size)) in
+    let r = j.reasons i c l.0 l.1 e in
+    let stored = j.stored.each c r.clause row r.numbered at (j.kept i c row e at) in (
+      l.0,
+      l.1,
+      elim (cases_Bool (has row l.0)) [
+        | inl q ↦ q
+        | inr n ↦ absurd (false≢true (sym (h.consistent l.0 (at_has t.literals i l.0 l.1)) ∙ level_zero_part t (negated l.0) (stored.rest l.0 r.member n)))
+      ],
+    )
 
 -- a trail with one more literal goes on
 pub TrailGrows-push : (t : Assigned) (l : Literal) (reason : Option ℕ) → TrailGrows t (pushed t l reason t.starts)
@@ -188,17 +224,17 @@ TrailGrows-trans a b c g h = record {
 }
 
 -- the clauses with one more, and its row
-pub IsJustified-grow : (clauses rows : List (List Literal)) (t : Assigned) (clause row : List Literal) → IsJustified clauses rows t → IsRow (has (level_zero t)) row clause
+pub IsJustified-grow : (clauses rows : List (List Literal)) (t : Assigned) (clause row : List Literal) → IsJustified clauses rows t → IsRow (has (level_zero t)) row clause → 0 < length row
     → IsJustified (clauses ++ clause ∷ []) (rows ++ row ∷ []) t
-IsJustified-grow clauses rows t clause row j r =
+IsJustified-grow clauses rows t clause row j r some_row =
     let more_clauses : length (clauses ++ clause ∷ []) ≡ length clauses + 1 = length_push clauses clause in
     let more_rows : length (rows ++ row ∷ []) ≡ length rows + 1 = length_push rows row in
     let count : length rows ≡ length clauses = j.stored.count in record {
       stored = record {
         count = omega (arith, more_clauses, more_rows, count);
-        each = λ k c w e f. elim (at_pushed clauses clause k c e) [
+        each = λ k c w e f some. elim (at_pushed clauses clause k c e) [
           | inl a ↦ elim (at_pushed rows row k w f) [
-            | inl b ↦ j.stored.each k c w a b
+            | inl b ↦ j.stored.each k c w a b some
             | inr b ↦ absurd (let lt : k < length clauses = at_inside clauses k c a in let at : k ≡ length rows = b.0 in omega (arith, lt, at, count))
           ]
           | inr a ↦ elim (at_pushed rows row k w f) [
@@ -213,4 +249,8 @@ IsJustified-grow clauses rows t clause row j r =
         member = q.member;
         forced = q.forced;
       });
+      kept = λ i n w f g. elim (at_pushed rows row n w g) [
+        | inl b ↦ j.kept i n w f b
+        | inr b ↦ subst (λ (z : List Literal). 0 < length z) b.1 some_row
+      ];
     }

@@ -1,5 +1,5 @@
 -- Elements of lists by their places.
-use Rattle.std.proofs.Common.{◌≡◌, ℕ, ◌+◌, ◌*◌, drop, ◌<◌, ◌≤◌, List, [], ◌∷◌, ◌++◌, Bool, true, false, arith, refl, ap, sym, ◌∙◌, inl, inr, ◌⊎◌, length, get_or, set, take, zero, suc, Some, slice_get}
+use Rattle.std.proofs.Common.{◌≡◌, ℕ, ◌+◌, ◌*◌, drop, ◌<◌, ◌≤◌, List, [], ◌∷◌, ◌++◌, Bool, true, false, arith, refl, ap, sym, ◌∙◌, inl, inr, ◌⊎◌, length, map, get_or, set, take, zero, suc, Some, slice_get}
 use Rattle.std.proofs.lemmas.Bool.{false≢true, or_cases, or_left, or_right}
 use Rattle.kb_chain.specs.Literal.{Literal, literal, same, has, place_of}
 use Rattle.kb_chain.proofs.LiteralLaws.{same-true, same_refl}
@@ -77,6 +77,16 @@ get_or_at_place (z ∷ zs) (suc k) d h = get_or_at_place zs k d (omega arith)
 pub at_same : {X : Type 0} (xs : List X) (k : ℕ) (y z : X) → slice_get xs k ≡ Some y → slice_get xs k ≡ Some z → y ≡ z
 at_same xs k y z e f = let g : Some y ≡ Some z = sym e ∙ f in cc
 
+pub at_mapped : {X Y : Type 0} (f : X → Y) (xs : List X) (k : ℕ) (x : X) → slice_get xs k ≡ Some x → slice_get (map f xs) k ≡ Some (f x)
+at_mapped f [] k x e = cc
+at_mapped f (z ∷ zs) zero x e = let s : z ≡ x = cc in ap (λ w. Some (f w)) s
+at_mapped f (z ∷ zs) (suc k) x e = at_mapped f zs k x e
+
+pub mapped_at : {X Y : Type 0} (f : X → Y) (xs : List X) (k : ℕ) (y : Y) → slice_get (map f xs) k ≡ Some y → (x : X) × (slice_get xs k ≡ Some x) × (f x ≡ y)
+mapped_at f [] k y e = cc
+mapped_at f (z ∷ zs) zero y e = let s : f z ≡ y = cc in (z, refl, s)
+mapped_at f (z ∷ zs) (suc k) y e = mapped_at f zs k y e
+
 -- a list has what stands at its places, and the other way round
 pub has_at : (xs : List Literal) (l : Literal) → has xs l ≡ true → (i : ℕ) × (slice_get xs i ≡ Some l)
 has_at [] l e = absurd (false≢true e)
@@ -89,6 +99,11 @@ pub at_has : (xs : List Literal) (i : ℕ) (l : Literal) → slice_get xs i ≡ 
 at_has [] i l e = cc
 at_has (x ∷ xs) zero l e = let s : x ≡ l = cc in or_left _ _ (ap (same l) s ∙ same_refl l)
 at_has (x ∷ xs) (suc i) l e = or_right _ _ (at_has xs i l e)
+
+-- a list with a literal is not empty
+pub some_in : (row : List Literal) (l : Literal) → has row l ≡ true → 0 < length row
+some_in [] l e = absurd (false≢true e)
+some_in (x ∷ row) l e = omega arith
 
 pub dropped_part : (i : ℕ) (xs : List Literal) (l : Literal) → has (drop i xs) l ≡ true → has xs l ≡ true
 dropped_part zero xs l e = e

@@ -9,13 +9,13 @@ use Rattle.kb_chain.proofs.LiteralLaws.{same-true, same_refl, has_head, negated-
 use Rattle.std.specs.Option.{IfNone, IfSome}
 use Rattle.kb_chain.proofs.OrderLaws.{has_take-suc, has_get_or}
 use Rattle.kb_chain.proofs.PropagationLaws.{IsPart, place_of-negated}
-use Rattle.kb_propagate.specs.declared.watch.Pair.{Pair}
 use Rattle.kb_propagate.specs.declared.watch.Watch.{Watch}
-use Rattle.kb_propagate.specs.Watches.{is_met, IsQuiet, Quiet, AllAwake, watches_clause, at_literal, with_list, IsWatchListed, is_blocked, all_blocked, AreOwn, IsWatching, IsSettledOrWaiting, IsPending, Walks, AllListed, StaysQuiet, IsOther, put, paired, put_pair}
+use Rattle.kb_propagate.specs.Rows.{StoredClause}
+use Rattle.kb_propagate.specs.Watches.{Pair, is_met, IsQuiet, Quiet, AllAwake, watches_clause, at_literal, with_list, IsWatchListed, is_blocker, blocks, is_blocked, all_blocked, AreOwn, IsWatching, IsSettledOrWaiting, IsPending, Walks, AllListed, StaysQuiet, IsOther, put, paired, put_pair}
 use Rattle.kb_propagate.specs.Walking.{IfKept, IfConflict}
 use Rattle.kb_propagate.specs.declared.propagation.Outcome.{Outcome}
 use Rattle.kb_propagate.specs.declared.propagation.Outcome.TheVariants.{Kept, Removed, Conflict}
-use Rattle.kb_propagate.proofs.Places.{at_pushed, at_last, at_inside, at_set, at_get_or, at_same}
+use Rattle.kb_propagate.proofs.Places.{at_pushed, at_kept, at_last, at_inside, at_set, at_get_or, at_same}
 
 pub listed_more : (lists : List (List Watch)) (l : Literal) (w : Watch) (m : Literal) (k : ℕ) → watches_clause (at_literal lists m) k ≡ true
     → watches_clause (at_literal (put lists l w) m) k ≡ true
@@ -56,18 +56,26 @@ blocked_put rows lists l w h e =
     all_set (all_blocked rows) lists (place_of l) (at_literal lists l ++ w ∷ []) h
     (list_all-append (is_blocked rows) (at_literal lists l) (w ∷ []) ∙ and_from _ _ (all_get_or (all_blocked rows) lists (place_of l) [] h refl) (and_from _ _ e refl))
 
+-- a row that is there blocks by its literals
+
+blocker_in : (row : List Literal) (l : Literal) → has row l ≡ true → is_blocker row l ≡ true
+blocker_in [] l e = refl
+blocker_in (x ∷ row) l e = e
+
+pub blocker_has : (row : List Literal) (l : Literal) → is_blocker row l ≡ true → 0 < length row → has row l ≡ true
+blocker_has [] l e lt = absurd (omega (arith, lt))
+blocker_has (x ∷ row) l e lt = e
+
 -- a blocked watch is of a clause that is there
-pub blocked_row : (rows : List (List Literal)) (w : Watch) → is_blocked rows w ≡ true
-    → (row : List Literal) × (slice_get rows w.clause ≡ Some row) × (has row w.blocker ≡ true)
-blocked_row rows w e = go rows w.clause e
+pub blocked_row : (rows : List (List Literal)) (w : Watch) → is_blocked rows w ≡ true → (row : List Literal) × (slice_get rows w.clause ≡ Some row) × (is_blocker row w.blocker ≡ true)
+blocked_row rows w e = go (slice_get rows w.clause) refl e
   where
-    go : (rows : List (List Literal)) (k : ℕ) → has (get_or rows k []) w.blocker ≡ true → (row : List Literal) × (slice_get rows k ≡ Some row) × (has row w.blocker ≡ true)
-    go [] k e = absurd (false≢true e)
-    go (r ∷ rs) zero e = (r, refl, e)
-    go (r ∷ rs) (suc k) e = go rs k e
+    go : (o : Option (List Literal)) → slice_get rows w.clause ≡ o → blocks o w.blocker ≡ true → (row : List Literal) × (slice_get rows w.clause ≡ Some row) × (is_blocker row w.blocker ≡ true)
+    go None f e = absurd (false≢true e)
+    go (Some row) f e = (row, f, e)
 
 pub is_blocked-from : (rows : List (List Literal)) (w : Watch) (row : List Literal) → slice_get rows w.clause ≡ Some row → has row w.blocker ≡ true → is_blocked rows w ≡ true
-is_blocked-from rows w row e h = ap (λ z. has z w.blocker) (at_get_or rows w.clause row [] e) ∙ h
+is_blocked-from rows w row e h = ap (λ z. blocks z w.blocker) e ∙ blocker_in row w.blocker h
 
 pub is_met-from : (set : Literal → Bool) (row : List Literal) (l : Literal) → has row l ≡ true → set l ≡ true → is_met set row ≡ true
 is_met-from set [] l e h = absurd (false≢true e)
@@ -132,14 +140,14 @@ Walks-step early late later rows pairs pairs' lists lists' w rest f h grown more
 -- the watch stays where it was, since its clause has a true literal
 pub Walks-keep : (early late later : Literal → Bool) (rows : List (List Literal)) (pairs : List Pair) (lists : List (List Watch)) (w w' : Watch) (rest : List Watch) (f : Literal)
     → Walks early late rows pairs lists (w ∷ rest) f → IsPart late later → place_of f < length lists → w'.clause ≡ w.clause
-    → ((row : List Literal) → slice_get rows w.clause ≡ Some row → is_met later row ≡ true)
+    → ((row : List Literal) (pair : Pair) → slice_get rows w.clause ≡ Some row → slice_get pairs w.clause ≡ Some pair → pair.awake ≡ true → is_met later row ≡ true)
     → Walks early later rows pairs (put lists f w') rest f
 Walks-keep early late later rows pairs lists w w' rest f h grown lt same_clause met =
     Walks-step early late later rows pairs pairs lists (put lists f w') w rest f h grown (listed_more lists f w') (λ k pair e n. e)
     (λ pair e aw. (here pair.first (h.listed.first w.clause pair e aw), here pair.second (h.listed.second w.clause pair e aw)))
     (λ row pair r e aw. record {
-      first = λ g. inl (met row r);
-      second = λ g. inl (met row r);
+      first = λ g. inl (met row pair r e aw);
+      second = λ g. inl (met row pair r e aw);
       single = λ g. grown pair.first ((h.pending w.clause row pair r e aw).single g);
     })
   where
@@ -173,26 +181,43 @@ Walks-drop early late rows pairs lists w rest f h apart =
     waits row m n (inl e) = inl e
     waits row m n (inr e) = absurd (not_same m f n e.0)
 
+-- what both watched literals have
+both_of : (pair : Pair) (l other : Literal) (P : Literal → Type 0) → IsOther pair l other → P l → P other → P pair.first × P pair.second
+both_of pair l other P (inl e) p q = (subst P e.0 p, subst P e.1 q)
+both_of pair l other P (inr e) p q = (subst P e.1 q, subst P e.0 p)
+
+-- two literals that differ are not one literal that is watched twice
+never_single : (pair : Pair) (l other : Literal) → IsOther pair l other → same l other ≡ false → same pair.first pair.second ≡ true → ⊥
+never_single pair l other o apart s = go o (same-true pair.first pair.second s)
+  where
+    differ : l ≡ other → ⊥
+    differ e = false≢true (sym apart ∙ (ap (λ z. same z other) e ∙ same_refl other))
+
+    go : IsOther pair l other → pair.first ≡ pair.second → ⊥
+    go (inl e) s = differ (e.0 ∙ (s ∙ sym e.1))
+    go (inr e) s = differ (e.0 ∙ (sym s ∙ sym e.1))
+
 -- a clause watches another literal in place of the false one
 pub Walks-move : (early late : Literal → Bool) (rows : List (List Literal)) (pairs : List Pair) (lists : List (List Watch)) (w w' : Watch) (rest : List Watch) (f : Literal)
-    (pair : Pair) (other next : Literal)
+    (pair pair' : Pair) (other next : Literal)
     → Walks early late rows pairs lists (w ∷ rest) f → IsPart early late → place_of next < length lists → w'.clause ≡ w.clause
-    → slice_get pairs w.clause ≡ Some pair → pair.awake ≡ true → IsOther pair f other → late f ≡ false → late (negated next) ≡ false → same next other ≡ false
+    → slice_get pairs w.clause ≡ Some pair → pair.awake ≡ true → IsOther pair f other → IsOther pair' next other → late f ≡ false → late (negated next) ≡ false → same next other ≡ false
     → (row : List Literal) → slice_get rows w.clause ≡ Some row
-    → Walks early late rows (set pairs w.clause (paired other next)) (put lists next w') rest f
-Walks-move early late rows pairs lists w w' rest f pair other next h part lt same_clause was awake is_other lacks free apart row is_row =
-    Walks-step early late late rows pairs (set pairs w.clause (paired other next)) lists (put lists next w') w rest f h (λ l e. e) (listed_more lists next w')
-    (λ k p e n. elim (at_set pairs w.clause (paired other next) k p e) [ inl s ↦ s.0 | inr s ↦ absurd (n (sym s.0)) ])
-    (λ p e aw. subst (λ z. IsWatchListed (put lists next w') rest f w.clause z.first × IsWatchListed (put lists next w') rest f w.clause z.second) (is_new p e)
-    (still (listed_other is_other), inl (listed_new lists next w' w.clause lt same_clause)))
-    (λ r p g e aw. subst (λ z. IsPending early late r z rest f w.clause) (is_new p e) (record {
-      first = λ n. waits r (pending_other r g is_other n);
-      second = λ n. absurd (false≢true (sym free ∙ part (negated next) n));
-      single = λ s. absurd (false≢true (sym apart ∙ (ap (λ z. same z other) (sym (same-true other next s)) ∙ same_refl other)));
+    → Walks early late rows (set pairs w.clause pair') (put lists next w') rest f
+Walks-move early late rows pairs lists w w' rest f pair pair' other next h part lt same_clause was awake is_other is_next lacks free apart row is_row =
+    Walks-step early late late rows pairs (set pairs w.clause pair') lists (put lists next w') w rest f h (λ l e. e) (listed_more lists next w')
+    (λ k p e n. elim (at_set pairs w.clause pair' k p e) [ inl s ↦ s.0 | inr s ↦ absurd (n (sym s.0)) ])
+    (λ p e aw. subst (λ (z : Pair). IsWatchListed (put lists next w') rest f w.clause z.first × IsWatchListed (put lists next w') rest f w.clause z.second) (is_new p e)
+    (both_of pair' next other (IsWatchListed (put lists next w') rest f w.clause) is_next (inl (listed_new lists next w' w.clause lt same_clause)) (still (listed_other is_other))))
+    (λ r p g e aw. subst (λ z. IsPending early late r z rest f w.clause) (is_new p e) (let both = both_of pair' next other (IsSettledOrWaiting early late r rest f w.clause) is_next
+    (λ n. absurd (false≢true (sym free ∙ part (negated next) n))) (λ n. waits r (pending_other r g is_other n)) in record {
+      first = both.0;
+      second = both.1;
+      single = λ s. absurd (never_single pair' next other is_next apart s);
     }))
   where
-    is_new : (p : Pair) → slice_get (set pairs w.clause (paired other next)) w.clause ≡ Some p → paired other next ≡ p
-    is_new p e = elim (at_set pairs w.clause (paired other next) w.clause p e) [ inl s ↦ absurd (s.1 refl) | inr s ↦ s.1 ]
+    is_new : (p : Pair) → slice_get (set pairs w.clause pair') w.clause ≡ Some p → pair' ≡ p
+    is_new p e = elim (at_set pairs w.clause pair' w.clause p e) [ inl s ↦ absurd (s.1 refl) | inr s ↦ s.1 ]
 
     single : pair.first ≡ f → pair.second ≡ f → ⊥
     single a b = false≢true (sym lacks ∙ (ap late (sym a) ∙ (h.pending w.clause row pair is_row was awake).single (ap (λ z. same z pair.second) (a ∙ sym b) ∙ same_refl pair.second)))
@@ -219,27 +244,28 @@ Walks-move early late rows pairs lists w w' rest f pair other next h part lt sam
     waits r (inr e) = absurd (other_apart is_other e.0)
 
 -- sets within the trail stay quiet as a watch moves to a literal that is not false
-pub StaysQuiet-move : (rows : List (List Literal)) (pairs : List Pair) (k : ℕ) (trail : Literal → Bool) (pair : Pair) (f other next : Literal)
-    → slice_get pairs k ≡ Some pair → pair.awake ≡ true → IsOther pair f other → trail (negated next) ≡ false → same next other ≡ false
-    → StaysQuiet rows pairs (set pairs k (paired other next)) trail
-StaysQuiet-move rows pairs k trail pair f other next was awake is_other free apart = (
-  λ all j p e. elim (at_set pairs k (paired other next) j p e) [
-    | inl s ↦ all j p s.0
-    | inr s ↦ ap (λ z. z.awake) (sym s.1)
-  ],
-  λ set' part quiet j row p r e aw. elim (at_set pairs k (paired other next) j p e) [
-    | inl s ↦ quiet j row p r s.0 aw
-    | inr s ↦ subst (λ z. IsQuiet set' set' row z) s.1 (record {
-      first = λ n. met set' row (quiet j row pair r (ap (slice_get pairs) s.0 ∙ was) awake) is_other n;
-      second = λ n. absurd (false≢true (sym free ∙ part (negated next) n));
-      single = λ n. absurd (false≢true (sym apart ∙ (ap (λ z. same z other) (sym (same-true other next n)) ∙ same_refl other)));
-    })
-  ],
-)
+pub AllAwake-move : (pairs : List Pair) (k : ℕ) (pair' : Pair) → pair'.awake ≡ true → AllAwake pairs → AllAwake (set pairs k pair')
+AllAwake-move pairs k pair' awake all j p e = elim (at_set pairs k pair' j p e) [
+  | inl s ↦ all j p s.0
+  | inr s ↦ ap (λ (z : Pair). z.awake) (sym s.1) ∙ awake
+]
+
+pub Quiet-move : (rows : List (List Literal)) (pairs : List Pair) (k : ℕ) (trail set' : Literal → Bool) (pair pair' : Pair) (f other next : Literal)
+    → slice_get pairs k ≡ Some pair → pair.awake ≡ true → IsOther pair f other → IsOther pair' next other → trail (negated next) ≡ false → same next other ≡ false
+    → IsPart set' trail → Quiet rows pairs set' set' → Quiet rows (set pairs k pair') set' set'
+Quiet-move rows pairs k trail set' pair pair' f other next was awake is_other is_next free apart part quiet j row p r e aw = elim (at_set pairs k pair' j p e) [
+  | inl s ↦ quiet j row p r s.0 aw
+  | inr s ↦ subst (λ z. IsQuiet set' set' row z) s.1 (let both = both_of pair' next other (λ l. set' (negated l) ≡ true → is_met set' row ≡ true) is_next
+      (λ n. absurd (false≢true (sym free ∙ part (negated next) n))) (met (quiet j row pair r (ap (slice_get pairs) s.0 ∙ was) awake) is_other) in record {
+        first = both.0;
+        second = both.1;
+        single = λ n. absurd (never_single pair' next other is_next apart n);
+      })
+]
   where
-    met : (set' : Literal → Bool) (row : List Literal) → IsQuiet set' set' row pair → IsOther pair f other → set' (negated other) ≡ true → is_met set' row ≡ true
-    met set' row q (inl o) n = q.second (ap (λ z. set' (negated z)) (sym o.1) ∙ n)
-    met set' row q (inr o) n = q.first (ap (λ z. set' (negated z)) (sym o.1) ∙ n)
+    met : IsQuiet set' set' row pair → IsOther pair f other → set' (negated other) ≡ true → is_met set' row ≡ true
+    met q (inl o) n = q.second (ap (λ z. set' (negated z)) (sym o.1) ∙ n)
+    met q (inr o) n = q.first (ap (λ z. set' (negated z)) (sym o.1) ∙ n)
 
 -- the tables
 pub IsWatching-put : (rows : List (List Literal)) (pairs : List Pair) (lists : List (List Watch)) (vars : ℕ) (l : Literal) (w : Watch) → IsWatching rows pairs lists vars
@@ -252,17 +278,16 @@ IsWatching-put rows pairs lists vars l w h e = record {
   within = h.within;
 }
 
-pub IsWatching-move : (rows : List (List Literal)) (pairs : List Pair) (lists : List (List Watch)) (vars k : ℕ) (row : List Literal) (a b : Literal) → IsWatching rows pairs lists vars
-    → slice_get rows k ≡ Some row → has row a ≡ true → has row b ≡ true → IsWatching rows (set pairs k (paired a b)) lists vars
-IsWatching-move rows pairs lists vars k row a b h is has_a has_b = record {
-  count = length-set pairs k (paired a b) ∙ h.count;
+pub IsWatching-move : (rows : List (List Literal)) (pairs : List Pair) (lists : List (List Watch)) (vars k : ℕ) (row : List Literal) (pair' : Pair) (a b : Literal)
+    → IsWatching rows pairs lists vars → slice_get rows k ≡ Some row → IsOther pair' a b → has row a ≡ true → has row b ≡ true → IsWatching rows (set pairs k pair') lists vars
+IsWatching-move rows pairs lists vars k row pair' a b h is o has_a has_b = record {
+  count = length-set pairs k pair' ∙ h.count;
   places = h.places;
-  own = λ j r p g e. elim (at_set pairs k (paired a b) j p e) [
-    | inl s ↦ h.own j r p g s.0
-    | inr s ↦ (let same_row : row ≡ r = at_same rows k row r is (ap (slice_get rows) (sym s.0) ∙ g) in (
-      ap (has r) (sym (ap (λ z. z.first) s.1)) ∙ (ap (λ z. has z a) (sym same_row) ∙ has_a),
-      ap (has r) (sym (ap (λ z. z.second) s.1)) ∙ (ap (λ z. has z b) (sym same_row) ∙ has_b),
-    ))
+  own = λ j r p g e aw. elim (at_set pairs k pair' j p e) [
+    | inl s ↦ h.own j r p g s.0 aw
+    | inr s ↦ (let same_row : row ≡ r = at_same rows k row r is (ap (slice_get rows) (sym s.0) ∙ g) in
+        subst (λ (z : Pair). (has r z.first ≡ true) × (has r z.second ≡ true)) s.1
+        (both_of pair' a b (λ l. has r l ≡ true) o (ap (λ z. has z a) (sym same_row) ∙ has_a) (ap (λ z. has z b) (sym same_row) ∙ has_b)))
   ];
   blocked = h.blocked;
   within = h.within;
@@ -289,9 +314,9 @@ Walks-end early late rows pairs lists f h = (
     met row m k (inr e) = absurd (false≢true e.1)
 
 pub other_own : (rows : List (List Literal)) (pairs : List Pair) (k : ℕ) (row : List Literal) (pair : Pair) (f other : Literal) → AreOwn rows pairs
-    → slice_get rows k ≡ Some row → slice_get pairs k ≡ Some pair → IsOther pair f other → has row other ≡ true
-other_own rows pairs k row pair f other h r e (inl o) = ap (has row) o.1 ∙ (h k row pair r e).1
-other_own rows pairs k row pair f other h r e (inr o) = ap (has row) o.1 ∙ (h k row pair r e).0
+    → slice_get rows k ≡ Some row → slice_get pairs k ≡ Some pair → pair.awake ≡ true → IsOther pair f other → has row other ≡ true
+other_own rows pairs k row pair f other h r e aw (inl o) = ap (has row) o.1 ∙ (h k row pair r e aw).1
+other_own rows pairs k row pair f other h r e aw (inr o) = ap (has row) o.1 ∙ (h k row pair r e aw).0
 
 -- the list at a literal is taken out of its place, and what is kept of it and what is still to come are two parts of it
 
@@ -312,22 +337,22 @@ put_beside lists f m kept w apart =
 pub Walks-stay : (early late later : Literal → Bool) (rows : List (List Literal)) (pairs : List Pair) (lists : List (List Watch)) (kept : List Watch) (w w' : Watch) (rest : List Watch)
     (f : Literal)
     → Walks early late rows pairs (with_list lists f kept) (w ∷ rest) f → IsPart late later → place_of f < length lists → w'.clause ≡ w.clause
-    → ((row : List Literal) → slice_get rows w.clause ≡ Some row → is_met later row ≡ true)
+    → ((row : List Literal) (pair : Pair) → slice_get rows w.clause ≡ Some row → slice_get pairs w.clause ≡ Some pair → pair.awake ≡ true → is_met later row ≡ true)
     → Walks early later rows pairs (with_list lists f (kept ++ w' ∷ [])) rest f
 Walks-stay early late later rows pairs lists kept w w' rest f h grown lt same_clause met =
     subst (λ z. Walks early later rows pairs z rest f) (put_kept lists f kept w' lt)
     (Walks-keep early late later rows pairs (with_list lists f kept) w w' rest f h grown (subst (λ n. place_of f < n) (sym (length-set lists (place_of f) kept)) lt) same_clause met)
 
 pub Walks-away : (early late : Literal → Bool) (rows : List (List Literal)) (pairs : List Pair) (lists : List (List Watch)) (kept : List Watch) (w w' : Watch) (rest : List Watch) (f : Literal)
-    (pair : Pair) (other next : Literal)
+    (pair pair' : Pair) (other next : Literal)
     → Walks early late rows pairs (with_list lists f kept) (w ∷ rest) f → IsPart early late → place_of next < length lists → w'.clause ≡ w.clause
-    → slice_get pairs w.clause ≡ Some pair → pair.awake ≡ true → IsOther pair f other → late f ≡ false → late (negated f) ≡ true → late (negated next) ≡ false → same next other ≡ false
-    → (row : List Literal) → slice_get rows w.clause ≡ Some row
-    → Walks early late rows (set pairs w.clause (paired other next)) (with_list (put lists next w') f kept) rest f
-Walks-away early late rows pairs lists kept w w' rest f pair other next h part lt same_clause was awake is_other lacks falsified free apart row is_row =
-    subst (λ z. Walks early late rows (set pairs w.clause (paired other next)) z rest f) (put_beside lists f next kept w' beside)
-    (Walks-move early late rows pairs (with_list lists f kept) w w' rest f pair other next h part (subst (λ n. place_of next < n) (sym (length-set lists (place_of f) kept)) lt) same_clause
-    was awake is_other lacks free apart row is_row)
+    → slice_get pairs w.clause ≡ Some pair → pair.awake ≡ true → IsOther pair f other → IsOther pair' next other → late f ≡ false → late (negated f) ≡ true → late (negated next) ≡ false
+    → same next other ≡ false → (row : List Literal) → slice_get rows w.clause ≡ Some row
+    → Walks early late rows (set pairs w.clause pair') (with_list (put lists next w') f kept) rest f
+Walks-away early late rows pairs lists kept w w' rest f pair pair' other next h part lt same_clause was awake is_other is_next lacks falsified free apart row is_row =
+    subst (λ z. Walks early late rows (set pairs w.clause pair') z rest f) (put_beside lists f next kept w' beside)
+    (Walks-move early late rows pairs (with_list lists f kept) w w' rest f pair pair' other next h part (subst (λ n. place_of next < n) (sym (length-set lists (place_of f) kept)) lt) same_clause
+    was awake is_other is_next lacks free apart row is_row)
   where
     beside : place_of next ≡ place_of f → ⊥
     beside s = false≢true (sym free ∙ (ap (λ z. late (negated z)) (place_of-injective next f s) ∙ falsified))
@@ -467,9 +492,8 @@ IsWatching-out rows pairs lists vars f h = (
   all_get_or (all_blocked rows) lists (place_of f) [] h.blocked refl,
 )
 
-pub StaysQuiet-trans : (rows : List (List Literal)) (a b c : List Pair) (early late : Literal → Bool) → IsPart early late → StaysQuiet rows a b early → StaysQuiet rows b c late
-    → StaysQuiet rows a c early
-StaysQuiet-trans rows a b c early late part f g = (
+pub StaysQuiet-trans : (a b c : List StoredClause) (early late : Literal → Bool) → IsPart early late → StaysQuiet a b early → StaysQuiet b c late → StaysQuiet a c early
+StaysQuiet-trans a b c early late part f g = (
   λ all. g.0 (f.0 all),
   λ set' inside q. g.1 set' (λ l e. part l (inside l e)) (f.1 set' inside q),
 )
@@ -516,15 +540,10 @@ at_none (Some x) P e p = cc
 
 -- one more clause, with two watched literals
 
-get_or_kept : {X : Type 0} (xs ys : List X) (k : ℕ) (d : X) → k < length xs → get_or (xs ++ ys) k d ≡ get_or xs k d
-get_or_kept [] ys k d lt = absurd (omega arith)
-get_or_kept (x ∷ xs) ys zero d lt = refl
-get_or_kept (x ∷ xs) ys (suc k) d lt = get_or_kept xs ys k d (omega arith)
-
 blocked_kept : (rows : List (List Literal)) (row : List Literal) (w : Watch) → is_blocked rows w ≡ true → is_blocked (rows ++ row ∷ []) w ≡ true
 blocked_kept rows row w e =
     let r = blocked_row rows w e in
-    ap (λ z. has z w.blocker) (get_or_kept rows (row ∷ []) w.clause [] (at_inside rows w.clause r.0 r.1)) ∙ e
+    ap (λ z. blocks z w.blocker) (at_kept rows (row ∷ []) w.clause r.0 r.1) ∙ r.2
 
 all_more : {X : Type 0} (p q : X → Bool) (xs : List X) → ((x : X) → p x ≡ true → q x ≡ true) → list_all p xs ≡ true → list_all q xs ≡ true
 all_more p q [] f h = refl
@@ -547,9 +566,9 @@ IsWatching-push rows pairs lists vars row a b n h e has_a has_b within =
     record {
       count = omega (arith, size_rows, size_pairs, count);
       places = length-set (put lists a (record { clause = n; blocker = b })) (place_of b) _ ∙ (length-set lists (place_of a) _ ∙ h.places);
-      own = λ k r p f g. elim (at_pushed rows row k r f) [
+      own = λ k r p f g aw. elim (at_pushed rows row k r f) [
         | inl i ↦ elim (at_pushed pairs (paired a b) k p g) [
-          | inl j ↦ h.own k r p i j
+          | inl j ↦ h.own k r p i j aw
           | inr j ↦ absurd (let lt : k < length rows = at_inside rows k r i in let at : k ≡ length pairs = j.0 in omega (arith, lt, at, count))
         ]
         | inr i ↦ elim (at_pushed pairs (paired a b) k p g) [

@@ -7,8 +7,8 @@ use Rattle.kb_chain.specs.Propagation.{all_negated, IsFresh}
 use Rattle.kb_chain.specs.declared.log.Chain.{Chain}
 use Rattle.kb_propagate.specs.Trail.{Assigned, before_level, HasReasons}
 use Rattle.kb_propagate.specs.Store.{IsJustified}
-use Rattle.kb_propagate.specs.Watches.{IsWatching, AllListed, AllAwake, Quiet}
-use Rattle.kb_propagate.specs.declared.watch.Pair.{Pair}
+use Rattle.kb_propagate.specs.Rows.{rows_of}
+use Rattle.kb_propagate.specs.Watches.{Pair, pairs_of, IsWatching, AllListed, AllAwake, Quiet}
 use Rattle.kb_propagate.specs.declared.watch.Watch.{Watch}
 use Rattle.kb_propagate.specs.declared.base.Base.{Base}
 
@@ -31,12 +31,12 @@ pub record IsBase (formula : Cnf) (entries : List Chain) (rows : List (List Lite
   pub cuts : (j : ℕ) → j < length t.starts → Quiet rows pairs (has (before_level t j)) (has (before_level t j))
 
 abbrev pub Stands : Base → Type 0
-Stands b = IsBase b.formula.now b.entries b.clauses b.watches.pairs.items b.watches.lists.items b.trail b.whole
+Stands b = IsBase b.formula.now b.entries (rows_of b.clauses) (pairs_of b.clauses) b.watches.lists.items b.trail b.whole
 
 -- what the head of the trail has passed was taken up
 pub record IsReady (b : Base) : Type 0 where
   pub head : b.head ≤ length b.trail.literals
-  pub quiet : Quiet b.clauses b.watches.pairs.items (has (take b.head b.trail.literals)) (has b.trail.literals)
+  pub quiet : Quiet (rows_of b.clauses) (pairs_of b.clauses) (has (take b.head b.trail.literals)) (has b.trail.literals)
 
 -- what propagation keeps
 pub record KeepsBase (old new : Base) : Type 0 where
@@ -50,7 +50,6 @@ pub record Forgets (old new : Base) : Type 0 where
   pub stands : Stands new
   pub ready : IsReady new
   pub trail : new.trail ≡ old.trail
-  pub clauses : new.clauses ≡ old.clauses
   pub entries : new.entries ≡ old.entries
   pub formula : new.formula.now ≡ old.formula.now
 
@@ -70,12 +69,12 @@ pub record HasNoValue (t : Assigned) (l : Literal) : Type 0 where
 -- the trail is a model
 pub record IsComplete (b : Base) : Type 0 where
   pub assigned : AllAssigned b.trail
-  pub quiet : Quiet b.clauses b.watches.pairs.items (has b.trail.literals) (has b.trail.literals)
+  pub quiet : Quiet (rows_of b.clauses) (pairs_of b.clauses) (has b.trail.literals) (has b.trail.literals)
 
 -- all true literals were taken up
 pub record IsPropagated (b : Base) : Type 0 where
   pub head : b.head ≡ length b.trail.literals
-  pub quiet : Quiet b.clauses b.watches.pairs.items (has b.trail.literals) (has b.trail.literals)
+  pub quiet : Quiet (rows_of b.clauses) (pairs_of b.clauses) (has b.trail.literals) (has b.trail.literals)
 
 -- the second literal of a row, or the only one
 abbrev pub IsSecondLiteral : List Literal → Literal → Type 0

@@ -2,6 +2,7 @@ pub mod Trail
 pub mod Tables
 pub mod Store
 pub mod Rows
+pub mod FlatLog
 pub mod Watches
 pub mod Walking
 pub mod Base

@@ -1,10 +1,42 @@
 -- Two watched literals a clause (Moskewicz, Madigan, Zhao, Zhang and Malik, 2001).
-use Rattle.std.specs.Prelude.{◌≡◌, ℕ, ◌+◌, ◌*◌, ◌<◌, ◌==◌, ◌⊎◌, Bool, true, List, [], ◌∷◌, ◌++◌, length, slice_set, Some, slice_get, slice_index_or}
+use Rattle.std.specs.Prelude.{◌≡◌, ℕ, ◌+◌, ◌*◌, ◌<◌, ◌==◌, ◌⊎◌, Bool, true, false, List, [], ◌∷◌, ◌++◌, length, map, zero, suc, slice_set, Option, Some, None, slice_get, slice_index_or}
 use Rattle.std.specs.List.{list_any, list_all}
-use Rattle.kb_chain.specs.Literal.{Literal, has, negated, same, place_of}
+use Rattle.kb_chain.specs.Literal.{Literal, literal, has, negated, same, place_of}
 use Rattle.kb_propagate.specs.Trail.{Assigned}
-use Rattle.kb_propagate.specs.declared.watch.Pair.{Pair}
+use Rattle.kb_propagate.specs.Rows.{StoredClause, rows_of}
 use Rattle.kb_propagate.specs.declared.watch.Watch.{Watch}
+
+-- the literals that a clause watches, and whether it is watched still
+pub record Pair : Type 0 where
+  pub first : Literal
+  pub second : Literal
+  pub awake : Bool
+
+-- a clause watches the first two literals of its row, or its only one twice
+
+abbrev pub first_watched : List Literal → Literal
+first_watched [] = literal 0 true
+first_watched (a ∷ row) = a
+
+abbrev pub second_watched : List Literal → Literal
+second_watched [] = literal 0 true
+second_watched (a ∷ []) = a
+second_watched (a ∷ b ∷ row) = b
+
+abbrev pub pair_of : StoredClause → Pair
+pair_of clause = record { first = first_watched clause.literals; second = second_watched clause.literals; awake = clause.awake }
+
+abbrev pub pairs_of : List StoredClause → List Pair
+pairs_of clauses = map pair_of clauses
+
+-- the literal that is watched at this place of a row
+abbrev pub IsWatchedAt : List Literal → Literal → ℕ → Type 0
+IsWatchedAt row l place = ((place ≡ 0) × (l ≡ first_watched row)) ⊎ ((place ≡ 1) × (1 < length row) × (l ≡ second_watched row))
+
+-- and the other one
+abbrev pub other_watched : List Literal → ℕ → Literal
+other_watched row zero = second_watched row
+other_watched row (suc n) = first_watched row
 
 -- a literal of the row is in the set
 abbrev pub is_met : (Literal → Bool) → List Literal → Bool
@@ -50,17 +82,26 @@ pub record AreListed (lists : List (List Watch)) (rest : List Watch) (falsified 
   pub first : (k : ℕ) (pair : Pair) → slice_get pairs k ≡ Some pair → pair.awake ≡ true → IsWatchListed lists rest falsified k pair.first
   pub second : (k : ℕ) (pair : Pair) → slice_get pairs k ≡ Some pair → pair.awake ≡ true → IsWatchListed lists rest falsified k pair.second
 
+-- a row has the literal, unless its clause was deleted
+abbrev pub is_blocker : List Literal → Literal → Bool
+is_blocker [] l = true
+is_blocker (x ∷ row) l = has (x ∷ row) l
+
+abbrev pub blocks : Option (List Literal) → Literal → Bool
+blocks None l = false
+blocks (Some row) l = is_blocker row l
+
 -- the blocking literal is one of the clause's
 abbrev pub is_blocked : List (List Literal) → Watch → Bool
-is_blocked rows w = has (slice_index_or rows w.clause []) w.blocker
+is_blocked rows w = blocks (slice_get rows w.clause) w.blocker
 
 abbrev pub all_blocked : List (List Literal) → List Watch → Bool
 all_blocked rows list = list_all (is_blocked rows) list
 
--- the watched literals are literals of their rows
+-- the literals that awake clauses watch are literals of their rows
 abbrev pub AreOwn : List (List Literal) → List Pair → Type 0
 AreOwn rows pairs =
-    (k : ℕ) (row : List Literal) (pair : Pair) → slice_get rows k ≡ Some row → slice_get pairs k ≡ Some pair
+    (k : ℕ) (row : List Literal) (pair : Pair) → slice_get rows k ≡ Some row → slice_get pairs k ≡ Some pair → pair.awake ≡ true
     → (has row pair.first ≡ true) × (has row pair.second ≡ true)
 
 abbrev pub AreEmpty : List (List Watch) → Type 0
@@ -98,10 +139,10 @@ AllListed lists pairs =
     → (watches_clause (at_literal lists pair.first) k ≡ true) × (watches_clause (at_literal lists pair.second) k ≡ true)
 
 -- what stays as the watches move: all clauses awake, and each set within the trail quiet
-abbrev pub StaysQuiet : List (List Literal) → List Pair → List Pair → (Literal → Bool) → Type 0
-StaysQuiet rows old new trail =
-    (AllAwake old → AllAwake new)
-    × ((set : Literal → Bool) → ((l : Literal) → set l ≡ true → trail l ≡ true) → Quiet rows old set set → Quiet rows new set set)
+abbrev pub StaysQuiet : List StoredClause → List StoredClause → (Literal → Bool) → Type 0
+StaysQuiet old new trail =
+    (AllAwake (pairs_of old) → AllAwake (pairs_of new))
+    × ((set : Literal → Bool) → ((l : Literal) → set l ≡ true → trail l ≡ true) → Quiet (rows_of old) (pairs_of old) set set → Quiet (rows_of new) (pairs_of new) set set)
 
 -- one of two watched literals, and the other one
 abbrev pub IsOther : Pair → Literal → Literal → Type 0

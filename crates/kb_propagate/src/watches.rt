@@ -3,10 +3,11 @@ ghost use Rattle.std.specs.Prelude.{◌≡◌, ℕ, ◌+◌, ◌*◌, ◌<◌, �
 ghost use Rattle.std.specs.List.{remove_range};
 ghost use Rattle.kb_chain.specs.Literal.{place_of};
 ghost use Rattle.kb_propagate.specs.Watches.{at_literal, AreEmpty};
-ghost use Rattle.kb_propagate.specs.Forgetting.{has_awake_clause, only_awake, asleep};
+ghost use Rattle.kb_propagate.specs.Forgetting.{has_awake_clause, only_awake};
 
 use crate::NoMemory;
-use crate::watch::{Pair, Watch};
+use crate::clauses::Clauses;
+use crate::watch::Watch;
 use kb_chain::Lit;
 use std::alloc::Global;
 use std::marker::Model;
@@ -87,10 +88,10 @@ impl WatchList {
     }
 
     /// Keeps only the watches of clauses that are awake.
-    fn keep_awake(&mut self, pairs: &[Pair])
-        ensures { self.new ≡ filter (has_awake_clause pairs.now) self.old }
+    fn keep_awake(&mut self, clauses: &Clauses)
+        ensures { self.new ≡ filter (has_awake_clause clauses.now) self.old }
     {
-        self.inner.retain(|watch| has_awake_clause(pairs, watch));
+        self.inner.retain(|watch| clauses.is_awake(watch.clause));
     }
 }
 
@@ -105,20 +106,9 @@ fn cut(watches: &mut Vec<Watch>, start: usize, end: usize)
     watches.truncate(left);
 }
 
-/// Whether a watch is of a clause that is awake.
-fn has_awake_clause(pairs: &[Pair], watch: &Watch) -> bool
-    ensures { result ≡ has_awake_clause pairs.now watch.now }
-{
-    match pairs.get(watch.clause as usize) {
-        Some(pair) => pair.awake,
-        None => false,
-    }
-}
-
-/// The watched literals by clause number, and the watches by the place of the literal that is watched.
+/// The watches by the place of the literal that is watched.
 #[derive(Drop)]
 pub struct Watches {
-    pub pairs: Vec<Pair>,
     pub lists: Vec<WatchList>,
     /// Where a list is as long as its watches are taken up; empty otherwise.
     pub waiting: WatchList,
@@ -127,7 +117,6 @@ pub struct Watches {
 impl Watches {
     /// No watches at the literals of the variables up to `vars`.
     pub fn new(alloc: Global, vars: u32) -> Result<Watches, NoMemory>
-        ensures pairs { IfOk result (λ w. w.pairs.items ≡ []) }
         ensures places { IfOk result (λ w. length w.lists.items ≡ 2 * vars + 2) }
         ensures lists { IfOk result (λ w. AreEmpty w.lists.items) }
     {
@@ -136,30 +125,17 @@ impl Watches {
             lists.push(WatchList::new(alloc))?;
         }
         Ok(Watches {
-            pairs: Vec::new(alloc),
             lists,
             waiting: WatchList::new(alloc),
         })
     }
 
-    /// Notes that a clause is watched no longer.
-    pub fn let_go(&mut self, number: u32)
-        ensures pairs { self.new.pairs.items ≡ asleep self.old.pairs.items number }
-        ensures lists { self.new.lists ≡ self.old.lists }
-    {
-        if let Some(pair) = self.pairs.get_mut(number as usize) {
-            pair.awake = false;
-        }
-    }
-
     /// Takes the watches of clauses that are watched no longer out of the lists.
-    pub fn purge(&mut self)
-        ensures pairs { self.new.pairs ≡ self.old.pairs }
-        ensures lists { self.new.lists.items ≡ map (only_awake self.old.pairs.items) self.old.lists.items }
+    pub fn purge(&mut self, clauses: &Clauses)
+        ensures { self.new.lists.items ≡ map (only_awake clauses.now) self.old.lists.items }
     {
-        let pairs = self.pairs.as_slice();
         for list in self.lists.iter_mut() {
-            list.keep_awake(pairs);
+            list.keep_awake(clauses);
         }
     }
 }

@@ -112,7 +112,7 @@ reached_step all rows t number steps levels end p seen cleared later stored l c 
     let below : p < end = last.below in
     subst (λ z. IsReached all number (steps ++ (z, c) ∷ []) t.literals levels.zero p later []) (sym same)
     (reached_resolve all rows number steps t.literals levels.zero p seen later [] stored l c once trail.consistent at low (last.marked l at)
-    (justified.reasons p c l at reason) (stored_of all rows t levels is justified) row
+    (justified.reasons p c l at reason) (stored_of all rows t levels is justified) row (justified.kept p c stored reason row)
     (λ q m ge lt e. marks q m e
     ∙ (joined_marks (is_seen cleared m.variable) (has stored (negated m)) (not (v == m.variable)) (nat_le levels.zero q)
     (ap not (ne_eqb v m.variable (λ w. (let i : p ≡ q = once p q l m at e (sym w ∙ same) in absurd (omega (arith, i, lt))))))

@@ -191,7 +191,7 @@ reached_away all rows t number steps levels end p seen row l c v trail once is j
     let stored = at_within rows c (reason_inside all rows t justified p c l at reason) in
     subst (λ z. IsReached all number (steps ++ (z, c) ∷ []) t.literals levels.zero p (set seen v false) row) (sym same)
     (reached_resolve all rows number steps t.literals levels.zero p seen (set seen v false) row stored.0 l c once trail.consistent at low marked
-    (justified.reasons p c l at reason) (stored_of all rows t levels is justified) stored.1
+    (justified.reasons p c l at reason) (stored_of all rows t levels is justified) stored.1 (justified.kept p c stored.0 reason stored.1)
     (λ q m ge lt e. others_same t.literals seen p l v once at same q m lt e
     ∙ covered_same (is_seen seen m.variable) (has stored.0 (negated m)) (λ h. known stored.0 stored.1 q m ge lt e h))
     (reached_skip all number steps t.literals levels.zero (p + 1) end seen row (omega (arith, low)) (omega (arith, inside))

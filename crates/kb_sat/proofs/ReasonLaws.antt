@@ -42,7 +42,7 @@ pub reason_false : (all rows : List (List Literal)) (t : Assigned) → IsJustifi
     → has (take p t.literals) (negated k) ≡ true
 reason_false all rows t h p c l row e f stored k i n =
     let r = h.reasons p c l e f in
-    let is = h.stored.each c r.clause row r.numbered stored in
+    let is = h.stored.each c r.clause row r.numbered stored (h.kept p c row f stored) in
     all_negated-at (has (take p t.literals)) (others l r.clause) r.forced k (has-others l r.clause k ∙ and_from _ _ (is.part k i) (ap not (not_same k l n)))
 
 pub reason_before : (all rows : List (List Literal)) (t : Assigned) → IsJustified all rows t → (p c : ℕ) (l : Literal) (row : List Literal) → slice_get t.literals p ≡ Some l

@@ -2,14 +2,15 @@ use Rattle.std.proofs.Common.{◌+◌, ◌<◌, ◌≤◌, subst, length, take, 
 use Rattle.std.proofs.lemmas.List.{take_all}
 use Rattle.kb_chain.specs.Literal.{Literal, has}
 use Rattle.kb_chain.proofs.PropagationLaws.{IsFrontOf-length}
-use Rattle.kb_propagate.specs.Watches.{Quiet}
+use Rattle.kb_propagate.specs.Rows.{rows_of}
+use Rattle.kb_propagate.specs.Watches.{pairs_of, Quiet}
 use Rattle.kb_propagate.proofs.JustifyLaws.{TrailGrows-part, TrailGrows-trans}
 use Rattle.kb_propagate.proofs.WatchLaws.{StaysQuiet-trans, at_none}
 use Rattle.kb_propagate.proofs.propagation.propagate.Goals as goal
 
 pub returns-in-Some-clause-stays : goal.returns-in-Some-clause-stays
 returns-in-Some-clause-stays c =
-    StaysQuiet-trans c.args.clauses.now c.args.watches.now.pairs.items c.loop-next.watches.pairs.items c.visit.new.watches.pairs.items (has c.args.trail.now.literals)
+    StaysQuiet-trans c.args.clauses.now c.loop-next.clauses c.visit.new.clauses (has c.args.trail.now.literals)
     (has c.loop-next.trail.literals) (TrailGrows-part c.args.trail.now c.loop-next.trail c.loop-next.invariant.grows) c.loop-next.invariant.stays c.in_ok-number.ensures.stays
 
 pub loop-next-preserved : goal.loop-next-preserved
@@ -22,9 +23,9 @@ loop-next-preserved c =
       listed = c.in_ok-number.ensures.listed;
       inside = omega (arith, lt, grown);
       quiet = at_none c.in_ok-number.field-0
-          (Quiet c.args.clauses.now c.visit.new.watches.pairs.items (has (take (c.loop-next.next + 1) c.visit.new.trail.literals)) (has c.visit.new.trail.literals))
+          (Quiet (rows_of c.visit.new.clauses) (pairs_of c.visit.new.clauses) (has (take (c.loop-next.next + 1) c.visit.new.trail.literals)) (has c.visit.new.trail.literals))
           c.in-None.is c.in_ok-number.ensures.quiet;
-      stays = StaysQuiet-trans c.args.clauses.now c.args.watches.now.pairs.items c.loop-next.watches.pairs.items c.visit.new.watches.pairs.items (has c.args.trail.now.literals)
+      stays = StaysQuiet-trans c.args.clauses.now c.loop-next.clauses c.visit.new.clauses (has c.args.trail.now.literals)
           (has c.loop-next.trail.literals) (TrailGrows-part c.args.trail.now c.loop-next.trail c.loop-next.invariant.grows) c.loop-next.invariant.stays c.in_ok-number.ensures.stays;
       grows = TrailGrows-trans c.args.trail.now c.loop-next.trail c.visit.new.trail c.loop-next.invariant.grows c.in_ok-number.ensures.grows;
       justified = λ all j. c.in_ok-number.ensures.justified all (c.loop-next.invariant.justified all j);
@@ -33,5 +34,5 @@ loop-next-preserved c =
 pub returns-clause-quiet : goal.returns-clause-quiet
 returns-clause-quiet c =
     let done : length c.loop-next.trail.literals ≤ c.loop-next.next = subst (λ (z : List Literal). length z ≤ c.loop-next.next) c.literals.ensures.value c.loop-next-test.false in
-    subst (λ z. Quiet c.args.clauses.now c.loop-next.watches.pairs.items (has z) (has c.loop-next.trail.literals)) (take_all c.loop-next.next c.loop-next.trail.literals done)
+    subst (λ z. Quiet (rows_of c.loop-next.clauses) (pairs_of c.loop-next.clauses) (has z) (has c.loop-next.trail.literals)) (take_all c.loop-next.next c.loop-next.trail.literals done)
     c.loop-next.invariant.quiet

@@ -3,7 +3,8 @@ use Rattle.std.proofs.lemmas.List.{get_or_read}
 use Rattle.kb_chain.specs.Literal.{Literal, has, negated, place_of}
 use Rattle.kb_chain.proofs.OrderLaws.{has_get_or}
 use Rattle.kb_chain.proofs.PropagationLaws.{taken_part, IsFrontOf-take, place_of-negated}
-use Rattle.kb_propagate.specs.Watches.{IsWatching, Walks, AllListed, Quiet, all_blocked, at_literal, with_list}
+use Rattle.kb_propagate.specs.Rows.{rows_of}
+use Rattle.kb_propagate.specs.Watches.{pairs_of, IsWatching, Walks, AllListed, Quiet, all_blocked, at_literal, with_list}
 use Rattle.kb_propagate.proofs.WatchLaws.{IsWatching-out, IsWatching-list, Walks-taken, if_none}
 use Rattle.kb_propagate.proofs.propagation.visit.Goals as goal
 use Rattle.kb_propagate.proofs.propagation.visit.Goals.{After-swap, After-swap-2}
@@ -34,13 +35,13 @@ taken c =
 
 pub walk-requires-clause-watching : goal.walk-requires-clause-watching
 walk-requires-clause-watching c =
-    subst (λ z. IsWatching c.args.clauses.now c.args.watches.now.pairs.items z c.args.trail.now.vars) (sym (emptied (goal.at.walk-requires-clause-watching c).After-swap))
-    (IsWatching-out c.args.clauses.now c.args.watches.now.pairs.items c.args.watches.now.lists.items c.args.trail.now.vars (negated c.index-literals-position.result) c.requires.watching).0
+    subst (λ z. IsWatching (rows_of c.args.clauses.now) (pairs_of c.args.clauses.now) z c.args.trail.now.vars) (sym (emptied (goal.at.walk-requires-clause-watching c).After-swap))
+    (IsWatching-out (rows_of c.args.clauses.now) (pairs_of c.args.clauses.now) c.args.watches.now.lists.items c.args.trail.now.vars (negated c.index-literals-position.result) c.requires.watching).0
 
 pub walk-requires-clause-blocked : goal.walk-requires-clause-blocked
 walk-requires-clause-blocked c =
-    ap (all_blocked c.args.clauses.now) (taken (goal.at.walk-requires-clause-blocked c).After-swap)
-    ∙ (IsWatching-out c.args.clauses.now c.args.watches.now.pairs.items c.args.watches.now.lists.items c.args.trail.now.vars (negated c.index-literals-position.result) c.requires.watching).1
+    ap (all_blocked (rows_of c.args.clauses.now)) (taken (goal.at.walk-requires-clause-blocked c).After-swap)
+    ∙ (IsWatching-out (rows_of c.args.clauses.now) (pairs_of c.args.clauses.now) c.args.watches.now.lists.items c.args.trail.now.vars (negated c.index-literals-position.result) c.requires.watching).1
 
 -- the list goes back into its place
 returned : (c : After-swap-2) → set c.walk.new.lists.items c.place-place.result c.swap-2.new.x ≡ with_list c.walk.new.lists.items c.negated-falsified.result c.walk.new.list
@@ -48,24 +49,24 @@ returned c =
     ap (λ k. set c.walk.new.lists.items k c.swap-2.new.x) c.place-place.ensures.value
     ∙ ap (λ z. set c.walk.new.lists.items (place_of c.negated-falsified.result) z) c.swap-2.ensures.x_after
 
-walks : (c : After-swap) → Walks (has (take (c.args.position + 1) c.args.trail.now.literals)) (has c.args.trail.now.literals) c.args.clauses.now c.args.watches.now.pairs.items
+walks : (c : After-swap) → Walks (has (take (c.args.position + 1) c.args.trail.now.literals)) (has c.args.trail.now.literals) (rows_of c.args.clauses.now) (pairs_of c.args.clauses.now)
     (with_list (set c.args.watches.now.lists.items c.place-place.result c.swap.new.x) c.negated-falsified.result []) c.swap.new.y c.negated-falsified.result
 walks c =
     let xs = c.args.trail.now.literals in
     let x = c.index-literals-position.result in
-    Walks-taken c.args.clauses.now c.args.watches.now.pairs.items c.args.watches.now.lists.items c.args.trail.now.vars xs c.args.position x c.negated-falsified.result c.place-place.result
+    Walks-taken (rows_of c.args.clauses.now) (pairs_of c.args.clauses.now) c.args.watches.now.lists.items c.args.trail.now.vars xs c.args.position x c.negated-falsified.result c.place-place.result
     c.swap.new.x c.swap.new.y c.index_mut.result.now c.requires.inside (read c) c.requires.watching c.literals.ensures.trail.within c.requires.listed c.requires.quiet
     c.negated-falsified.ensures c.place-place.ensures.value c.swap.ensures.y_after c.index_mut.ensures.value
 
 pub returns-clause-watching : goal.returns-clause-watching
 returns-clause-watching c =
-    subst (λ z. IsWatching c.args.clauses.now c.walk.new.pairs.items z c.walk.new.trail.vars) (sym (returned (goal.at.returns-clause-watching c).After-swap-2))
-    (IsWatching-list c.args.clauses.now c.walk.new.pairs.items c.walk.new.lists.items c.walk.new.trail.vars c.negated-falsified.result c.walk.new.list c.in_ok-conflict.ensures.watching
+    subst (λ z. IsWatching (rows_of c.walk.new.clauses) (pairs_of c.walk.new.clauses) z c.walk.new.trail.vars) (sym (returned (goal.at.returns-clause-watching c).After-swap-2))
+    (IsWatching-list (rows_of c.walk.new.clauses) (pairs_of c.walk.new.clauses) c.walk.new.lists.items c.walk.new.trail.vars c.negated-falsified.result c.walk.new.list c.in_ok-conflict.ensures.watching
     c.in_ok-conflict.ensures.blocked)
 
 pub returns-clause-listed : goal.returns-clause-listed
 returns-clause-listed c =
-    subst (λ z. AllListed z c.walk.new.pairs.items) (sym (returned (goal.at.returns-clause-listed c).After-swap-2))
+    subst (λ z. AllListed z (pairs_of c.walk.new.clauses)) (sym (returned (goal.at.returns-clause-listed c).After-swap-2))
     (c.in_ok-conflict.ensures.walked (has (take (c.args.position + 1) c.args.trail.now.literals)) (λ l e. taken_part c.args.trail.now.literals (c.args.position + 1) l e) (walks (goal.at.returns-clause-listed c).After-swap))
 
 pub returns-clause-quiet : goal.returns-clause-quiet
@@ -75,10 +76,10 @@ returns-clause-quiet c =
     IsFrontOf-take xs c.walk.new.trail.literals (c.args.position + 1) c.in_ok-conflict.ensures.grows.literals (let lt : c.args.position < length xs = c.requires.inside in omega (arith, lt)) in
     if_none c.in_ok-conflict.conflict
     ((early : Literal → Bool) → ((l : Literal) → early l ≡ true → has xs l ≡ true)
-    → Walks early (has xs) c.args.clauses.now c.args.watches.now.pairs.items
+    → Walks early (has xs) (rows_of c.args.clauses.now) (pairs_of c.args.clauses.now)
     (with_list (set c.args.watches.now.lists.items c.place-place.result c.swap.new.x) c.negated-falsified.result []) c.swap.new.y c.negated-falsified.result
-    → Quiet c.args.clauses.now c.walk.new.pairs.items early (has c.walk.new.trail.literals))
-    (Quiet c.args.clauses.now c.walk.new.pairs.items (has (take (c.args.position + 1) c.walk.new.trail.literals)) (has c.walk.new.trail.literals))
-    (λ f. subst (λ z. Quiet c.args.clauses.now c.walk.new.pairs.items (has z) (has c.walk.new.trail.literals)) (sym front)
+    → Quiet (rows_of c.walk.new.clauses) (pairs_of c.walk.new.clauses) early (has c.walk.new.trail.literals))
+    (Quiet (rows_of c.walk.new.clauses) (pairs_of c.walk.new.clauses) (has (take (c.args.position + 1) c.walk.new.trail.literals)) (has c.walk.new.trail.literals))
+    (λ f. subst (λ z. Quiet (rows_of c.walk.new.clauses) (pairs_of c.walk.new.clauses) (has z) (has c.walk.new.trail.literals)) (sym front)
     (f (has (take (c.args.position + 1) xs)) (λ l e. taken_part xs (c.args.position + 1) l e) (walks (goal.at.returns-clause-quiet c).After-swap)))
     c.in_ok-conflict.ensures.quiet

@@ -5,5 +5,5 @@ use Rattle.kb_propagate.proofs.watches.WatchList.keep_awake.Goals as goal
 
 pub returns : goal.returns
 returns c =
-    filter_same _ (has_awake_clause c.args.pairs.now) _ (λ x b f' k. search rules) _ _ c.retain.ensures.filtered
-    ∙ ap (filter (has_awake_clause c.args.pairs.now)) c.self.view_is
+    filter_same _ (has_awake_clause c.args.clauses.now) _ (λ x b f' k. search rules) _ _ c.retain.ensures.filtered
+    ∙ ap (filter (has_awake_clause c.args.clauses.now)) c.self.view_is

@@ -8,5 +8,5 @@ loop-list-preserved c =
     let now = c.loop-list.list-items in
     let i = c.loop-list.list-index in
     ap (set now i) c.keep_awake.ensures
-    ∙ map_over_more (only_awake c.as_slice-pairs.result.now) c.deref_mut-list-items.result.now now i (get_or now i c.list-item.result) c.loop-list-test.true c.loop-list.invariant
+    ∙ map_over_more (only_awake c.args.clauses.now) c.deref_mut-list-items.result.now now i (get_or now i c.list-item.result) c.loop-list-test.true c.loop-list.invariant
     (ap (get_or now i) c.list-item.is)

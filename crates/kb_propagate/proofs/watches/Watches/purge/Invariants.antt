@@ -4,4 +4,4 @@ use Rattle.kb_propagate.proofs.watches.Watches.purge.Given as goal
 
 abbrev pub invariant-loop-list : goal.invariant-loop-list
 invariant-loop-list l =
-    l.list-items ≡ map (only_awake l.pairs) (take l.list-index l.initial.list-items) ++ drop l.list-index l.initial.list-items
+    l.list-items ≡ map (only_awake l.clauses) (take l.list-index l.initial.list-items) ++ drop l.list-index l.initial.list-items

@@ -1,6 +1,6 @@
 use Rattle.kb_propagate.specs.Base.{Stands, IsReady, Forgets}
 use Rattle.kb_sat.specs.Solver.{Equipped}
-use Rattle.kb_sat.proofs.forgetting.let_all_go.Given as goal
+use Rattle.kb_sat.proofs.forgetting.delete_all.Given as goal
 
 abbrev pub invariant-loop-candidate : goal.invariant-loop-candidate
 invariant-loop-candidate l = record {
