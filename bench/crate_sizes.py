@@ -1,7 +1,8 @@
 #!/usr/bin/env python3
 """Prints the sizes of all crates: lines of code, of definitions and of proofs, functions, tests and must-fail edits, with a mark
 at what is above the rules of docs/ARCHITECTURE.md ('How code is written here'), or
-more than a dozen edits.
+more than a dozen edits. Below stands the number of paths through the lines of crates.txt, each of which `rt` walks again and
+again before its first proof.
 
 Usage: bench/crate_sizes.py [--above]      (--above: only crates that are above a rule)
 """
@@ -9,6 +10,7 @@ Usage: bench/crate_sizes.py [--above]      (--above: only crates that are above 
 import argparse
 import re
 import sys
+from functools import cache
 from pathlib import Path
 
 ROOT = Path(__file__).resolve().parent.parent
@@ -41,6 +43,21 @@ def above(name, found):
     return over + ["tests"] * (found["tests"] > 0 and name not in HAVE_TESTS)
 
 
+def paths(text):
+    """How many paths lead down from the crates, through the lines of crates.txt."""
+    below = {}
+    for line in text.splitlines():
+        name, found, libraries = line.partition(":")
+        if found and not line.startswith("#"):
+            below[name] = libraries.split()
+
+    @cache
+    def from_one(name):
+        return 1 + sum(from_one(library) for library in below.get(name, ()))
+
+    return sum(from_one(name) for name in below)
+
+
 def main():
     parser = argparse.ArgumentParser(description=__doc__.split("\n\n")[0])
     parser.add_argument("--above", action="store_true")
@@ -53,6 +70,7 @@ def main():
         if over or not options.above:
             print(f"{name:16}" + "".join(f"{found[kind]:>11}" for kind in kinds) + (f"   above: {', '.join(over)}" if over else ""))
     print(f"{'all':16}" + "".join(f"{sum(found[kind] for found in crates.values()):>11}" for kind in kinds))
+    print(f"paths through crates.txt: {paths((ROOT / 'crates.txt').read_text(encoding='utf-8')):,}")
     return 0
 
 
