@@ -24,10 +24,9 @@ use crate::questions::{IntQuestion, question_of};
 use kb_code::{Cond, Instr};
 use kb_frames::{Outcome, SymState};
 use kb_heap::{Bound, Bounds};
-use kb_lookups::instruction_at;
-use kb_picture::{Choice, Origin, SymEnding};
+use kb_picture::{Choice, Origin};
 use kb_terms::TermId;
-use kb_ways::{Side, Turn, ask, branch_condition, equals_number, place_of};
+use kb_ways::{Side, ask, branch_condition, equals_number, runs_off, turn_at};
 use kb_world::World;
 use std::alloc::Global;
 
@@ -92,19 +91,11 @@ fn take_up(
     requires { CanStep bounds.now state.old }
     ensures { IfOk result (λ outcome. told state.new outcome ≡ takes_up plan_of world.now bounds.now choice.now state.old) }
 {
-    let (method, at) = state.stands_at();
-    let Some(found) = instruction_at(world, method, at) else {
-        let place = place_of(alloc, world, state)?;
-        return Ok(Outcome::Ends(SymEnding::IllTyped(place)));
+    let Some(turn) = turn_at(alloc, world, bounds, state) else {
+        return runs_off(alloc, world, state);
     };
-    ask_for(state, found.instr, choice)?;
-    let turn = Turn {
-        alloc,
-        world,
-        bounds: *bounds,
-        next: found.next,
-    };
-    carry_out(&turn, state, choice, found.instr)
+    ask_for(state, turn.instr, choice)?;
+    carry_out(&turn, state, choice)
 }
 
 // Adds the conditions that an alternative of an instruction asks for.

@@ -1,7 +1,7 @@
 //! The fields of objects: getfield and putfield (JVMS 8 section 6.5).
-ghost use Rattle.std.specs.Prelude.{◌≡◌, ◌<◌, drop, Some, IfOk, if◌then◌else◌};
+ghost use Rattle.std.specs.Prelude.{◌≡◌, drop, Some, IfOk, if◌then◌else◌};
 ghost use Rattle.std.specs.Option.{option_copied};
-ghost use Rattle.kb_ways.specs.Needs.{CanStep, IsTermOf};
+ghost use Rattle.kb_ways.specs.Needs.{HasTerms, IsFor, IsTermOf};
 ghost use Rattle.kb_ways.specs.Turns.{led, led_by, told};
 ghost use Rattle.kb_frames.specs.Lent.{stack_of};
 ghost use Rattle.kb_ways.specs.Ways.{Fails, with_stack};
@@ -81,7 +81,7 @@ pub(crate) fn get_field(
     state: &mut SymState,
     entry: u16,
 ) -> Result<Outcome, NoMemory>
-    requires { state.old.carried < turn.now.bounds.run.steps }
+    requires { IsFor turn.now state.old }
     ensures { IfOk result (λ outcome. told state.new outcome ≡ led_by turn.now (gets turn.now.world.now state.old entry)) }
 {
     let Some(field) = field_named(turn.world, state, entry) else {
@@ -99,7 +99,7 @@ fn get(
     field: &FieldSlot,
     object: SymValue,
 ) -> Result<Outcome, NoMemory>
-    requires { state.old.carried < turn.now.bounds.run.steps }
+    requires { IsFor turn.now state.old }
     ensures { IfOk result (λ outcome. told state.new outcome ≡ led_by turn.now (got turn.now.world.now state.old field.now object)) }
 {
     if let SymValue::Null = object {
@@ -134,7 +134,8 @@ pub(crate) fn put_field(
     state: &mut SymState,
     entry: u16,
 ) -> Result<Outcome, NoMemory>
-    requires { CanStep turn.now.bounds state.old }
+    requires terms { HasTerms state.old }
+    requires stands { IsFor turn.now state.old }
     ensures { IfOk result (λ outcome. told state.new outcome ≡ led_by turn.now (puts turn.now.world.now state.old entry)) }
 {
     let Some(field) = field_named(turn.world, state, entry) else {
@@ -153,7 +154,8 @@ fn put(
     object: SymValue,
     value: SymValue,
 ) -> Result<Outcome, NoMemory>
-    requires step { CanStep turn.now.bounds state.old }
+    requires terms { HasTerms state.old }
+    requires stands { IsFor turn.now state.old }
     requires term { IsTermOf state.old.nodes (Some value) }
     ensures { IfOk result (λ outcome. told state.new outcome ≡ led_by turn.now (put turn.now.world.now state.old field.now object value)) }
 {
@@ -171,7 +173,8 @@ fn put_on(
     object: SymValue,
     value: SymValue,
 ) -> Result<Outcome, NoMemory>
-    requires step { CanStep turn.now.bounds state.old }
+    requires terms { HasTerms state.old }
+    requires stands { IsFor turn.now state.old }
     requires term { IsTermOf state.old.nodes (Some value) }
     ensures { IfOk result (λ outcome. told state.new outcome ≡ led_by turn.now (if has_place turn.now.world.now state.old field.now object then put_where turn.now.world.now state.old field.now object value else plain state.old Fails)) }
 {
@@ -196,7 +199,7 @@ fn put_kept(
     object: SymValue,
     value: SymValue,
 ) -> Result<Outcome, NoMemory>
-    requires { state.old.carried < turn.now.bounds.run.steps }
+    requires { IsFor turn.now state.old }
     ensures { IfOk result (λ outcome. told state.new outcome ≡ led turn.now (put_in object slot value state.old) (with_stack state.old (drop 2 (stack_of state.old.stage)))) }
 {
     put_in(state, object, slot, value);

@@ -1,6 +1,6 @@
 //! What each instruction on references does to a state (JVMS 8 section 6.5).
 ghost use Rattle.std.specs.Prelude.{◌≡◌, IfOk};
-ghost use Rattle.kb_ways.specs.Needs.{CanStep};
+ghost use Rattle.kb_ways.specs.Needs.{HasTerms, IsFor};
 ghost use Rattle.kb_ways.specs.Turns.{told, led_by};
 ghost use Rattle.kb_stepref.specs.Effects.{plan_of};
 ghost use Rattle.kb_picture.specs.declared.choice.Choice.TheVariants.{Only};
@@ -14,16 +14,13 @@ use kb_code::Instr;
 use kb_frames::{Outcome, SymState, SymValue};
 use kb_ways::{Turn, ill_typed, replaces};
 
-/// Carries out an instruction to which nothing is left to be told.
-pub(crate) fn carry_out(
-    turn: &Turn<'_>,
-    state: &mut SymState,
-    instr: &Instr,
-) -> Result<Outcome, NoMemory>
-    requires { CanStep turn.now.bounds state.old }
-    ensures { IfOk result (λ outcome. told state.new outcome ≡ led_by turn.now (plan_of turn.now.world.now state.old Only instr.now)) }
+/// Carries out the instruction of a turn, to which nothing is left to be told.
+pub(crate) fn carry_out(turn: &Turn<'_>, state: &mut SymState) -> Result<Outcome, NoMemory>
+    requires terms { HasTerms state.old }
+    requires stands { IsFor turn.now state.old }
+    ensures { IfOk result (λ outcome. told state.new outcome ≡ led_by turn.now (plan_of turn.now.world.now state.old Only turn.now.instr.now)) }
 {
-    match instr {
+    match turn.instr {
         Instr::PushNull => replaces(turn, state, 0, &[SymValue::Null]),
         Instr::LoadRef(local) => load(turn, state, *local),
         Instr::StoreRef(local) => store(turn, state, *local),

@@ -19,9 +19,8 @@ use crate::instructions::carry_out;
 use crate::questions::question_of;
 use kb_frames::{Outcome, SymState};
 use kb_heap::{Bound, Bounds};
-use kb_lookups::instruction_at;
-use kb_picture::{Choice, Origin, SymEnding};
-use kb_ways::{Question, Turn, answer, passed_by, place_of, slot_of};
+use kb_picture::{Choice, Origin};
+use kb_ways::{Question, answer, passed_by, runs_off, slot_of, turn_at};
 use kb_world::World;
 use std::alloc::Global;
 
@@ -146,16 +145,8 @@ fn take_up(
     requires { CanStep bounds.now state.old }
     ensures { IfOk result (λ outcome. told state.new outcome ≡ takes_up plan_of world.now bounds.now Only state.old) }
 {
-    let (method, at) = state.stands_at();
-    let Some(found) = instruction_at(world, method, at) else {
-        let place = place_of(alloc, world, state)?;
-        return Ok(Outcome::Ends(SymEnding::IllTyped(place)));
-    };
-    let turn = Turn {
-        alloc,
-        world,
-        bounds: *bounds,
-        next: found.next,
-    };
-    carry_out(&turn, state, found.instr)
+    match turn_at(alloc, world, bounds, state) {
+        Some(turn) => carry_out(&turn, state),
+        None => runs_off(alloc, world, state),
+    }
 }
