@@ -11,6 +11,7 @@ use Rattle.kb_picture.specs.declared.choice.Init.{Init}
 use Rattle.kb_picture.specs.declared.choice.Init.TheVariants.{Lazy}
 use Rattle.kb_picture.specs.declared.picture.Origin.{Origin}
 use Rattle.kb_picture.specs.Growing.{is_receiver}
+use Rattle.kb_picture.specs.WellTyped.{is_reference_type}
 use Rattle.kb_frames.specs.State.{State}
 use Rattle.kb_ways.specs.declared.question.Question.{Question}
 use Rattle.kb_ways.specs.declared.question.Question.TheVariants.{Reads}
@@ -22,7 +23,9 @@ use Rattle.kb_stepref.proofs.LazyLaws.{IsKnown, known_choices}
 module _ (world : World) (bounds : Bounds) (state : State) where
   only_where : (question : Option Question) → is_choice question ≡ false → option_map_or (alternatives world state bounds) question only ≡ only
   only_where None none = refl
-  only_where (Some (Reads slot type)) none = rw none refl
+  only_where (Some (Reads slot type)) none =
+      let int : is_reference_type type ≡ false = none in
+      rw int refl
 
   -- the alternatives of a reference
   abbrev read : Origin → JType → Init → List Choice
@@ -32,7 +35,8 @@ module _ (world : World) (bounds : Bounds) (state : State) where
   chosen_not_only : state.init ≡ Lazy → (question : Option Question) → is_choice question ≡ true → option_map_or (alternatives world state bounds) question only ≡ only → ⊥
   chosen_not_only lazy None chosen is = absurd cc
   chosen_not_only lazy (Some (Reads slot type)) chosen is =
-      let here : alternatives world state bounds (Reads slot type) ≡ read slot type state.init = rw chosen refl in
+      let reference : is_reference_type type ≡ true = chosen in
+      let here : alternatives world state bounds (Reads slot type) ≡ read slot type state.init = rw reference refl in
       let known : AllByRecursion IsKnown (read slot type Lazy) = known_choices world state.picture slot type bounds.k bounds.array (is_receiver world state.method slot) in
       (subst (AllByRecursion IsKnown) (sym (here ∙ ap (read slot type) lazy) ∙ is) known).0
 

@@ -1,10 +1,9 @@
-use Rattle.std.proofs.Common.{◌≡◌, List, Option, refl, sym, ap, subst, ◌∙◌}
+use Rattle.std.proofs.Common.{List, Option, refl, sym, ap, subst, ◌∙◌}
 use Rattle.std.specs.Option.{option_map_or}
 use Rattle.kb_picture.specs.declared.choice.Choice.{Choice}
 use Rattle.kb_picture.specs.declared.choice.Choice.TheVariants.{Only}
 use Rattle.kb_class.specs.Naming.{Has}
 use Rattle.kb_ways.specs.declared.question.Question.{Question}
-use Rattle.kb_ways.specs.Advancing.{only}
 use Rattle.kb_stepref.specs.Choices.{alternatives}
 use Rattle.kb_stepref.proofs.OnlyLaws.{chosen_at, only_at}
 use Rattle.kb_stepref.proofs.advance.advance_ref.Goals as goal
